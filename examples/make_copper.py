@@ -1,0 +1,141 @@
+#!/usr/bin/env python3
+"""Writes the small mine of examples/copper: a dipping ore body under three benches.
+
+    python3 examples/make_copper.py [FOLDER]
+
+writes copper.blocks, copper.prec, copper.upit and copper.cert (a pit with a flow that proves it).
+Standard library alone, no random numbers: the files are the same on every machine.
+The certificate's flow comes from a plain maximum-flow search made here, not from `pit`.
+"""
+import sys
+from collections import deque
+from pathlib import Path
+
+ACROSS, ALONG, BENCHES = 11, 9, 3
+COST = 1_400            # dollars to dig a block, whatever it holds
+PRICE = 260             # dollars for a unit of grade
+BIG = 1 << 60           # a block's count in the number that stands for a pair of worth and count
+
+
+def number(x, y, z):
+    return (z * ALONG + y) * ACROSS + x
+
+
+def grade(x, y, z):
+    """Grade falls off with the distance from an axis that dips as it goes along."""
+    middle = 3.2 + 0.55 * y
+    depth = 0.25 + 0.18 * y
+    distance = abs(x - middle) + 1.6 * abs(z - depth)
+    return max(0, round(24 - 7 * distance))
+
+
+def value(x, y, z):
+    """Whole dollars; benches are numbered from the lowest, which costs most to haul from."""
+    return PRICE * grade(x, y, z) - COST - 150 * (BENCHES - 1 - z)
+
+
+def predecessors(x, y, z):
+    """The blocks on the bench above that keep a one-to-one slope: five of them inside the model."""
+    if z + 1 == BENCHES:
+        return []
+    steps = [(0, 0), (1, 0), (-1, 0), (0, 1), (0, -1)]
+    return sorted(number(x + dx, y + dy, z + 1) for dx, dy in steps
+                  if 0 <= x + dx < ACROSS and 0 <= y + dy < ALONG)
+
+
+class Network:
+    """Maximum flow by shortest augmenting paths in layers."""
+
+    def __init__(self, nodes):
+        self.arcs = [[] for _ in range(nodes)]
+        self.head, self.room = [], []
+
+    def add(self, tail, head, capacity):
+        self.arcs[tail].append(len(self.head))
+        self.head.append(head)
+        self.room.append(capacity)
+        self.arcs[head].append(len(self.head))
+        self.head.append(tail)
+        self.room.append(0)
+        return len(self.head) - 2
+
+    def layers(self, source):
+        level = {source: 0}
+        queue = deque([source])
+        while queue:
+            node = queue.popleft()
+            for arc in self.arcs[node]:
+                if self.room[arc] > 0 and self.head[arc] not in level:
+                    level[self.head[arc]] = level[node] + 1
+                    queue.append(self.head[arc])
+        return level
+
+    def push(self, node, sink, most, level, place):
+        if node == sink:
+            return most
+        while place[node] < len(self.arcs[node]):
+            arc = self.arcs[node][place[node]]
+            head = self.head[arc]
+            if self.room[arc] > 0 and level.get(head) == level[node] + 1:
+                moved = self.push(head, sink, min(most, self.room[arc]), level, place)
+                if moved:
+                    self.room[arc] -= moved
+                    self.room[arc ^ 1] += moved
+                    return moved
+            place[node] += 1
+        return 0
+
+    def run(self, source, sink, endless):
+        while sink in (level := self.layers(source)):
+            place = [0] * len(self.arcs)
+            while self.push(source, sink, endless, level, place):
+                pass
+
+
+def parts(amount):
+    """The worth in billionths of a dollar and the count of blocks that the number stands for."""
+    worth, count = divmod(amount + BIG // 2, BIG)
+    return worth, count - BIG // 2
+
+
+def certificate(values, pairs):
+    count = len(values)
+    source, sink = count, count + 1
+    network = Network(count + 2)
+    amounts = [v * 10**9 * BIG - 1 for v in values]
+    endless = 1 + sum(a for a in amounts if a > 0)
+    drawn = {b: network.add(source, b, a) for b, a in enumerate(amounts) if a > 0}
+    given = {b: network.add(b, sink, -a) for b, a in enumerate(amounts) if a < 0}
+    carried = {pair: network.add(*pair, endless) for pair in pairs}
+    network.run(source, sink, endless)
+    reached = network.layers(source)
+    moved = lambda arc: network.room[arc ^ 1]
+    lines = ["PITCERT 1", "BLOCKS %d" % count, "PRICE OBJECTIVE", "GROUP PAIR"]
+    lines += ["PIT %d" % b for b in range(count) if b in reached]
+    for word, arcs in (("SOURCE", drawn), ("REST", carried), ("SINK", given)):
+        for key in sorted(arcs):
+            if moved(arcs[key]):
+                name = "%d %d" % key if word == "REST" else "%d" % key
+                lines.append("%s %s %d %d" % (word, name, *parts(moved(arcs[key]))))
+    return lines + ["END"]
+
+
+def main():
+    folder = Path(sys.argv[1]) if len(sys.argv) > 1 else Path(__file__).parent / "copper"
+    places = [(x, y, z) for z in range(BENCHES) for y in range(ALONG) for x in range(ACROSS)]
+    values = [value(*place) for place in places]
+    above = [predecessors(*place) for place in places]
+    pairs = [(b, p) for b, ps in enumerate(above) for p in ps]
+
+    def write(name, lines):
+        (folder / name).write_text("".join(line + "\n" for line in lines))
+
+    write("copper.blocks", ["%d %d %d %d %d %d" % (b, *place, grade(*place), values[b]) for b, place in enumerate(places)])
+    write("copper.prec", ["%d %d%s" % (b, len(ps), "".join(" %d" % p for p in ps)) for b, ps in enumerate(above)])
+    write("copper.upit", ["NAME: copper", "TYPE: UPIT", "NBLOCKS: %d" % len(values), "OBJECTIVE_FUNCTION:"]
+          + ["%d %d" % pair for pair in enumerate(values)] + ["EOF"])
+    write("copper.cert", certificate(values, pairs))
+
+
+if __name__ == "__main__":
+    main()
