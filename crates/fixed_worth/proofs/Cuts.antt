@@ -1,0 +1,167 @@
+-- Where a text is cut into lines, and a line into fields.
+use Rattle.std.proofs.Common.{◌≡◌, ℕ, suc, get_or, ◌+◌, ◌<◌, ◌≤◌, Bool, true, false, cond, not, eqb, List, [], ◌∷◌, length, take, drop, Some, None, refl, sym, ap, ◌∙◌, subst, arith}
+use Rattle.std.specs.Prelude.{unwrap_or, position}
+use Rattle.std.specs.List.{onto_first, position_or_len}
+use Rattle.std.proofs.lemmas.List.Sums.{prefix_len-le-length}
+use Rattle.std.proofs.lemmas.List.Folds.{length-prefix_len}
+use Rattle.std.proofs.lemmas.List.{drop-drop}
+use Rattle.std.proofs.lemmas.Bool.Decides.{nat_tests}
+use Rattle.fixed_worth.specs.Text.{lines_of, BeginsTooLong, is_separator, Run, run_before, runs_from}
+
+one-add : (n : ℕ) → 1 + n ≡ suc n
+one-add n = omega arith
+
+pub position_some : {X : Type 0} (p : X → Bool) (xs : List X) (i : ℕ) → position p xs ≡ Some i → i ≡ position_or_len p xs
+position_some p xs i e = grind arith
+
+pub position_none : {X : Type 0} (p : X → Bool) (xs : List X) → position p xs ≡ None → length xs ≡ position_or_len p xs
+position_none p xs e =
+    let small : position_or_len p xs ≤ length xs = prefix_len-le-length _ xs in
+    grind (arith, nat_tests)
+
+pub unwrap_position : {X : Type 0} (p : X → Bool) (xs : List X) → unwrap_or (position p xs) (length xs) ≡ position_or_len p xs
+unwrap_position p xs =
+    let small : position_or_len p xs ≤ length xs = prefix_len-le-length _ xs in
+    grind (arith, nat_tests)
+
+-- The first line ends at the first line feed.
+longer : (b : ℕ) (bs : List ℕ) (j : ℕ) → lines_of bs ≡ take j bs ∷ lines_of (drop (j + 1) bs)
+    → onto_first b (lines_of bs) ≡ take (1 + j) (b ∷ bs) ∷ lines_of (drop (1 + j + 1) (b ∷ bs))
+longer b bs j ih =
+    let e : 1 + j + 1 ≡ suc (j + 1) = omega arith in
+    rw (e, one-add j) (ap (onto_first b) ih)
+
+first_at : (b : ℕ) (bs : List ℕ) (t : Bool) → eqb b 10 ≡ t → (0 < length bs → lines_of bs ≡ take (position_or_len (λ x. eqb x 10) bs) bs ∷ lines_of (drop (position_or_len (λ x. eqb x 10) bs + 1) bs))
+    → lines_of (b ∷ bs) ≡ take (position_or_len (λ x. eqb x 10) (b ∷ bs)) (b ∷ bs) ∷ lines_of (drop (position_or_len (λ x. eqb x 10) (b ∷ bs) + 1) (b ∷ bs))
+first_at b bs true e ih = rw e refl
+first_at b [] false e ih = rw e refl
+first_at b (c ∷ cs) false e ih =
+    rw e (longer b (c ∷ cs) (position_or_len (λ x. eqb x 10) (c ∷ cs)) (ih (omega arith)))
+
+pub first_line : (bs : List ℕ) → 0 < length bs → lines_of bs ≡ take (position_or_len (λ x. eqb x 10) bs) bs ∷ lines_of (drop (position_or_len (λ x. eqb x 10) bs + 1) bs)
+first_line [] h = absurd (omega arith)
+first_line (b ∷ bs) h = first_at b bs (eqb b 10) refl (first_line bs)
+
+-- What stands from a place on begins there or later.
+abbrev BeginsFrom : ℕ → List Run → Type 0
+BeginsFrom p [] = Unit {0}
+BeginsFrom p (r ∷ rs) = p ≤ r.place
+
+begins_before : (b p : ℕ) (rs : List Run) → BeginsFrom p (run_before b p rs)
+begins_before b p [] = omega arith
+begins_before b p (r ∷ rs) = elim (eqb r.place (p + 1)) as (λ t. BeginsFrom p (cond t (record { text = b ∷ r.text; place = p } ∷ rs) (record { text = b ∷ []; place = p } ∷ r ∷ rs))) [ true ↦ omega arith | false ↦ omega arith ]
+
+begins_later : (p : ℕ) (rs : List Run) → BeginsFrom (p + 1) rs → BeginsFrom p rs
+begins_later p [] h = tt
+begins_later p (r ∷ rs) h = omega arith
+
+begins_from : (p : ℕ) (bs : List ℕ) → BeginsFrom p (runs_from p bs)
+begins_from p [] = tt
+begins_from p (b ∷ bs) = elim (is_separator b) as (λ t. BeginsFrom p (cond t (runs_from (p + 1) bs) (run_before b p (runs_from (p + 1) bs)))) [ true ↦ begins_later p (runs_from (p + 1) bs) (begins_from (p + 1) bs) | false ↦ begins_before b p (runs_from (p + 1) bs) ]
+
+-- A byte with a gap behind it is a run of its own.
+alone : (b p : ℕ) (rs : List Run) → BeginsFrom (p + 1 + 1) rs → run_before b p rs ≡ record { text = b ∷ []; place = p } ∷ rs
+alone b p [] h = refl
+alone b p (r ∷ rs) h = let e : eqb r.place (p + 1) ≡ false = grind (arith, nat_tests) in rw e refl
+
+joined : (b p : ℕ) (text : List ℕ) (rs : List Run) → run_before b p (record { text = text; place = p + 1 } ∷ rs) ≡ record { text = b ∷ text; place = p } ∷ rs
+joined b p text rs = let e : eqb (p + 1) (p + 1) ≡ true = grind (arith, nat_tests) in rw e refl
+
+-- The first w bytes are the first run.
+abbrev pub Runs : ℕ → List ℕ → ℕ → Type 0
+Runs p bs w = runs_from p bs ≡ record { text = take w bs; place = p } ∷ runs_from (p + w) (drop w bs)
+
+extend : (p b : ℕ) (bs : List ℕ) (w : ℕ) → is_separator b ≡ false → Runs (p + 1) bs w → Runs p (b ∷ bs) (1 + w)
+extend p b bs w e ih =
+    let f : p + (1 + w) ≡ p + 1 + w = omega arith in
+    rw (e, f, one-add w) (ap (run_before b p) ih ∙ joined b p (take w bs) (runs_from (p + 1 + w) (drop w bs)))
+
+run_step : (p b c : ℕ) (cs : List ℕ) → is_separator b ≡ false → (t : Bool) → is_separator c ≡ t
+    → (is_separator c ≡ false → Runs (p + 1) (c ∷ cs) (1 + position_or_len is_separator cs)) → Runs p (b ∷ c ∷ cs) (1 + position_or_len is_separator (c ∷ cs))
+run_step p b c cs e true f ih = rw (e, f, f) (alone b p (runs_from (p + 1 + 1) cs) (begins_from (p + 1 + 1) cs))
+run_step p b c cs e false f ih =
+    let n : position_or_len is_separator (c ∷ cs) ≡ 1 + position_or_len is_separator cs = rw f refl in
+    subst (λ (w : ℕ). Runs p (b ∷ c ∷ cs) (1 + w)) (sym n) (extend p b (c ∷ cs) (1 + position_or_len is_separator cs) e (ih f))
+
+run_from : (p b : ℕ) (bs : List ℕ) → is_separator b ≡ false → Runs p (b ∷ bs) (1 + position_or_len is_separator bs)
+run_from p b [] e = rw e refl
+run_from p b (c ∷ cs) e = run_step p b c cs e (is_separator c) refl (run_from (p + 1) c cs)
+
+pub first_run : (p : ℕ) (bs : List ℕ) → 0 < length bs → is_separator (get_or bs 0 0) ≡ false → Runs p bs (position_or_len is_separator bs)
+first_run p [] h e = absurd (omega arith)
+first_run p (b ∷ bs) h e =
+    let n : position_or_len is_separator (b ∷ bs) ≡ 1 + position_or_len is_separator bs = rw e refl in
+    subst (λ (w : ℕ). Runs p (b ∷ bs) w) (sym n) (run_from p b bs e)
+
+abbrev pub gap : List ℕ → ℕ
+gap bs = position_or_len (λ b. not (is_separator b)) bs
+
+-- What is left behind the separators.
+skip : (p b : ℕ) (bs : List ℕ) (t : Bool) → is_separator b ≡ t → runs_from (p + 1) bs ≡ runs_from (p + 1 + gap bs) (drop (gap bs) bs)
+    → runs_from p (b ∷ bs) ≡ runs_from (p + gap (b ∷ bs)) (drop (gap (b ∷ bs)) (b ∷ bs))
+skip p b bs true e ih =
+    let n : gap (b ∷ bs) ≡ 1 + gap bs = rw e refl in
+    let f : p + (1 + gap bs) ≡ p + 1 + gap bs = omega arith in
+    subst (λ (w : ℕ). runs_from p (b ∷ bs) ≡ runs_from (p + w) (drop w (b ∷ bs))) (sym n) (rw (e, f, one-add (gap bs)) ih)
+skip p b bs false e ih =
+    let n : gap (b ∷ bs) ≡ 0 = rw e refl in
+    let z : p + 0 ≡ p = omega arith in
+    subst (λ (w : ℕ). runs_from p (b ∷ bs) ≡ runs_from (p + w) (drop w (b ∷ bs))) (sym n) (subst (λ (q : ℕ). runs_from p (b ∷ bs) ≡ runs_from q (b ∷ bs)) (sym z) refl)
+
+pub gap_skipped : (p : ℕ) (bs : List ℕ) → runs_from p bs ≡ runs_from (p + gap bs) (drop (gap bs) bs)
+gap_skipped p [] = refl
+gap_skipped p (b ∷ bs) = skip p b bs (is_separator b) refl (gap_skipped (p + 1) bs)
+
+stops : (b : ℕ) (bs : List ℕ) (t : Bool) → is_separator b ≡ t → (0 < length (drop (gap bs) bs) → is_separator (get_or (drop (gap bs) bs) 0 0) ≡ false)
+    → 0 < length (drop (gap (b ∷ bs)) (b ∷ bs)) → is_separator (get_or (drop (gap (b ∷ bs)) (b ∷ bs)) 0 0) ≡ false
+stops b bs true e ih =
+    let n : gap (b ∷ bs) ≡ suc (gap bs) = rw e (one-add (gap bs)) in
+    subst (λ (w : ℕ). 0 < length (drop w (b ∷ bs)) → is_separator (get_or (drop w (b ∷ bs)) 0 0) ≡ false) (sym n) ih
+stops b bs false e ih =
+    let n : gap (b ∷ bs) ≡ 0 = rw e refl in
+    subst (λ (w : ℕ). 0 < length (drop w (b ∷ bs)) → is_separator (get_or (drop w (b ∷ bs)) 0 0) ≡ false) (sym n) (λ _. e)
+
+pub gap_stops : (bs : List ℕ) → 0 < length (drop (gap bs) bs) → is_separator (get_or (drop (gap bs) bs) 0 0) ≡ false
+gap_stops [] h = absurd (omega arith)
+gap_stops (b ∷ bs) h = stops b bs (is_separator b) refl (gap_stops bs) h
+
+-- The steps of the readers.
+pub line_given : (bs line back rest : List ℕ) (j : ℕ) → 0 < length bs → j ≡ position_or_len (λ x. eqb x 10) bs → line ≡ take j bs → back ≡ drop j bs → rest ≡ drop 1 back → lines_of bs ≡ line ∷ lines_of rest
+line_given bs line back rest j h e f g k =
+    let m : rest ≡ drop (position_or_len (λ x. eqb x 10) bs + 1) bs = k ∙ ap (drop 1) g ∙ drop-drop 1 j bs ∙ ap (λ n. drop (n + 1) bs) e in
+    rw (f, m, e) (first_line bs h)
+
+pub line_too_long : (bs : List ℕ) (j : ℕ) → 65536 < j → j ≡ position_or_len (λ x. eqb x 10) bs → BeginsTooLong (lines_of bs)
+line_too_long bs j h e =
+    let small : position_or_len (λ x. eqb x 10) bs ≤ length bs = prefix_len-le-length _ bs in
+    let all : length (take (position_or_len (λ x. eqb x 10) bs) bs) ≡ position_or_len (λ x. eqb x 10) bs = length-prefix_len _ bs in
+    let long : 65536 < length (take (position_or_len (λ x. eqb x 10) bs) bs) = omega arith in
+    let some : 0 < length bs = omega arith in
+    subst BeginsTooLong (sym (first_line bs some)) long
+
+empty_runs : (p : ℕ) (bs : List ℕ) → eqb (length bs) 0 ≡ true → runs_from p bs ≡ []
+empty_runs p [] h = refl
+empty_runs p (b ∷ bs) h = absurd (grind (arith, nat_tests))
+
+pub field_none : (p g : ℕ) (bs back : List ℕ) → g ≡ gap bs → back ≡ drop g bs → eqb (length back) 0 ≡ true → (runs_from p bs ≡ []) × (runs_from (p + g) back ≡ [])
+field_none p g bs back e f h =
+    let none : runs_from (p + g) back ≡ [] = empty_runs (p + g) back h in
+    let same : runs_from (p + g) back ≡ runs_from (p + gap bs) (drop (gap bs) bs) = rw (f, e) refl in
+    (gap_skipped p bs ∙ sym same ∙ none, none)
+
+pub field_given : (p g w : ℕ) (bs back text rest : List ℕ) → g ≡ gap bs → back ≡ drop g bs → eqb (length back) 0 ≡ false → w ≡ position_or_len is_separator back → text ≡ take w back → rest ≡ drop w back
+    → runs_from p bs ≡ record { text = text; place = p + g } ∷ runs_from (p + g + w) rest
+field_given p g w bs back text rest e f h k m n =
+    let here : back ≡ drop (gap bs) bs = f ∙ ap (λ i. drop i bs) e in
+    let some : 0 < length back = grind (arith, nat_tests) in
+    let head : is_separator (get_or back 0 0) ≡ false = rw here (gap_stops bs (subst (λ (l : List ℕ). 0 < length l) here some)) in
+    let same : runs_from p bs ≡ runs_from (p + g) back = gap_skipped p bs ∙ rw (here, e) refl in
+    same ∙ rw (m, n, k) (first_run (p + g) back some head)
+
+few_before : (b p : ℕ) (rs : List Run) (n : ℕ) → length rs ≤ n → length (run_before b p rs) ≤ suc n
+few_before b p [] n h = omega arith
+few_before b p (r ∷ rs) n h = elim (eqb r.place (p + 1)) as (λ t. length (cond t (record { text = b ∷ r.text; place = p } ∷ rs) (record { text = b ∷ []; place = p } ∷ r ∷ rs)) ≤ suc n) [ true ↦ omega arith | false ↦ omega arith ]
+
+pub few_runs : (p : ℕ) (bs : List ℕ) → length (runs_from p bs) ≤ length bs
+few_runs p [] = omega arith
+few_runs p (b ∷ bs) = let ih = few_runs (p + 1) bs in elim (is_separator b) as (λ t. length (cond t (runs_from (p + 1) bs) (run_before b p (runs_from (p + 1) bs))) ≤ suc (length bs)) [ true ↦ omega arith | false ↦ few_before b p (runs_from (p + 1) bs) (length bs) ih ]

@@ -1,0 +1,179 @@
+-- The fields of a line are its longest runs of bytes that are no separators.
+use Rattle.std.proofs.Common.{◌≡◌, ℕ, suc, zero, ◌+◌, ◌-◌, ◌<◌, ◌≤◌, ◌⊎◌, inl, inr, Bool, true, false, not, eqb, List, [], ◌∷◌, length, take, drop, get_or, refl, sym, ap, ◌∙◌, subst, arith, length-drop, All}
+use Rattle.std.specs.List.{position_or_len}
+use Rattle.std.proofs.lemmas.List.{get_or-drop, drop-drop, drop_all, get_or-take}
+use Rattle.std.proofs.lemmas.List.Elements.{All-nil, All-cons}
+use Rattle.std.proofs.lemmas.List.Folds.{length-prefix_len}
+use Rattle.std.proofs.lemmas.List.Sums.{prefix_len-le-length, prefix_len_passes, prefix_len_stops}
+use Rattle.std.proofs.lemmas.Bool.{cases_lt}
+use Rattle.fixed_worth.specs.Text.{is_separator, Run, runs_from}
+use Rattle.fixed_worth.specs.Laws.{IsField, AreInOrder, LiesIn, AreFields}
+use Rattle.fixed_worth.proofs.Cuts.{gap, gap_skipped, gap_stops, first_run}
+
+not_not : (t : Bool) → not (not t) ≡ true → t ≡ true
+not_not true e = refl
+not_not false e = cc
+
+not_true : (t : Bool) → not t ≡ true → t ≡ false
+not_true true e = cc
+not_true false e = refl
+
+not_false : (t : Bool) → not t ≡ false → t ≡ true
+not_false true e = refl
+not_false false e = cc
+
+-- the bytes of a gap, and of a run
+gap_byte : (line : List ℕ) (p k : ℕ) → k < gap (drop p line) → is_separator (get_or line (p + k) 0) ≡ true
+gap_byte line p k h =
+    let e = prefix_len_passes (λ b. not (not (is_separator b))) (drop p line) k 0 h in
+    ap is_separator (sym (get_or-drop p line k 0)) ∙ not_not (is_separator (get_or (drop p line) k 0)) e
+
+run_byte : (line : List ℕ) (p k : ℕ) → k < position_or_len is_separator (drop p line) → is_separator (get_or (drop p line) k 0) ≡ false
+run_byte line p k h = not_true (is_separator (get_or (drop p line) k 0)) (prefix_len_passes (λ b. not (is_separator b)) (drop p line) k 0 h)
+
+run_ends : (line : List ℕ) (p : ℕ) → position_or_len is_separator (drop p line) < length (drop p line) → is_separator (get_or line (p + position_or_len is_separator (drop p line)) 0) ≡ true
+run_ends line p h =
+    let w = position_or_len is_separator (drop p line) in
+    ap is_separator (sym (get_or-drop p line w 0)) ∙ not_false (is_separator (get_or (drop p line) w 0)) (prefix_len_stops (λ b. not (is_separator b)) (drop p line) 0 h)
+
+-- a field that begins at p has no byte before it
+abbrev Fresh : List ℕ → ℕ → Type 0
+Fresh line p = p < length line → is_separator (get_or line p 0) ≡ false → (k : ℕ) → k + 1 ≡ p → is_separator (get_or line k 0) ≡ true
+
+record FieldsFrom (line : List ℕ) (p : ℕ) (fields : List Run) : Type 0 where
+  each : All (IsField line) fields
+  ordered : AreInOrder p fields
+  complete : (k : ℕ) → p ≤ k → k < length line → is_separator (get_or line k 0) ≡ false → LiesIn k fields
+
+abbrev end_of_gap : List ℕ → ℕ → ℕ
+end_of_gap line p = p + gap (drop p line)
+
+abbrev width : List ℕ → ℕ → ℕ
+width line q = position_or_len is_separator (drop q line)
+
+abbrev first : List ℕ → ℕ → Run
+first line q = record { text = take (width line q) (drop q line); place = q }
+
+behind_gap : (line : List ℕ) (p : ℕ) → runs_from p (drop p line) ≡ runs_from (end_of_gap line p) (drop (end_of_gap line p) line)
+behind_gap line p = gap_skipped p (drop p line) ∙ ap (λ bs. runs_from (end_of_gap line p) bs) (drop-drop (gap (drop p line)) p line)
+
+gap_ends : (line : List ℕ) (p : ℕ) → end_of_gap line p < length line → is_separator (get_or line (end_of_gap line p) 0) ≡ false
+gap_ends line p h =
+    let g = gap (drop p line) in
+    let e : drop g (drop p line) ≡ drop (p + g) line = drop-drop g p line in
+    let l : 0 < length (drop g (drop p line)) = rw e (omega (arith, length-drop (p + g) line)) in
+    let z : p + g + 0 ≡ p + g = omega arith in
+    ap (λ i. is_separator (get_or line i 0)) (sym z) ∙ ap is_separator (sym (get_or-drop (p + g) line 0 0)) ∙ ap (λ bs. is_separator (get_or bs 0 0)) (sym e) ∙ gap_stops (drop p line) l
+
+run_given : (line : List ℕ) (q : ℕ) → q < length line → is_separator (get_or line q 0) ≡ false
+    → runs_from q (drop q line) ≡ first line q ∷ runs_from (q + width line q) (drop (q + width line q) line)
+run_given line q h e =
+    let l : 0 < length (drop q line) = omega (arith, length-drop q line) in
+    let z : q + 0 ≡ q = omega arith in
+    let head : is_separator (get_or (drop q line) 0 0) ≡ false = ap is_separator (get_or-drop q line 0 0) ∙ ap (λ i. is_separator (get_or line i 0)) z ∙ e in
+    first_run q (drop q line) l head ∙ ap (λ bs. first line q ∷ runs_from (q + width line q) bs) (drop-drop (width line q) q line)
+
+wide_by : (line : List ℕ) (q w : ℕ) → width line q ≡ w → q < length line → is_separator (get_or line q 0) ≡ false → 0 < w
+wide_by line q zero n h e =
+    let z : q + width line q ≡ q = omega arith in
+    let l : width line q < length (drop q line) = omega (arith, length-drop q line) in
+    let s : is_separator (get_or line q 0) ≡ true = ap (λ i. is_separator (get_or line i 0)) (sym z) ∙ run_ends line q l in
+    let no : true ≡ false = sym s ∙ e in
+    cc
+wide_by line q (suc w) n h e = omega arith
+
+is_field : (line : List ℕ) (q : ℕ) → q < length line → is_separator (get_or line q 0) ≡ false → ((k : ℕ) → k + 1 ≡ q → is_separator (get_or line k 0) ≡ true) → IsField line (first line q)
+is_field line q h e before =
+    let w = width line q in
+    let len : length (take (width line q) (drop q line)) ≡ width line q = length-prefix_len (λ b. not (is_separator b)) (drop q line) in
+    let most : width line q ≤ length (drop q line) = prefix_len-le-length (λ b. not (is_separator b)) (drop q line) in
+    let wide : 0 < width line q = wide_by line q (width line q) refl h e in
+    record {
+      some = omega arith;
+      inside = omega (arith, length-drop q line);
+      slice = ap (λ n. take n (drop q line)) (sym len);
+      bytes = λ k l. ap is_separator (get_or-take w (drop q line) k 0 (omega arith)) ∙ run_byte line q k (omega arith);
+      before = before;
+      behind = λ l. ap (λ n. is_separator (get_or line (q + n) 0)) len ∙ run_ends line q (omega (arith, length-drop q line));
+    }
+
+finished : (line : List ℕ) (p : ℕ) → length line ≤ end_of_gap line p → FieldsFrom line p []
+finished line p h = record {
+  each = All-nil (IsField line);
+  ordered = tt;
+  complete = λ k l m e.
+      let i : p + (k - p) ≡ k = omega arith in
+      let s : is_separator (get_or line k 0) ≡ true = ap (λ j. is_separator (get_or line j 0)) (sym i) ∙ gap_byte line p (k - p) (omega arith) in
+      let no : true ≡ false = sym s ∙ e in
+      cc;
+}
+
+nothing_left : (line : List ℕ) (p : ℕ) → length line ≤ end_of_gap line p → [] ≡ runs_from p (drop p line)
+nothing_left line p h = sym (behind_gap line p ∙ ap (λ bs. runs_from (end_of_gap line p) bs) (drop_all (end_of_gap line p) line h))
+
+lies : (line : List ℕ) (p k : ℕ) (fields : List Run) → FieldsFrom line (end_of_gap line p + width line (end_of_gap line p)) fields → end_of_gap line p < length line
+    → p ≤ k → k < length line → is_separator (get_or line k 0) ≡ false → LiesIn k (first line (end_of_gap line p) ∷ fields)
+lies line p k fields more h l m e =
+    let q = end_of_gap line p in
+    let len : length (take (width line q) (drop q line)) ≡ width line q = length-prefix_len (λ b. not (is_separator b)) (drop q line) in
+    elim (cases_lt k (end_of_gap line p)) [
+      | inl short ↦
+          let i : p + (k - p) ≡ k = omega arith in
+          let s : is_separator (get_or line k 0) ≡ true = ap (λ j. is_separator (get_or line j 0)) (sym i) ∙ gap_byte line p (k - p) (omega arith) in
+          let no : true ≡ false = sym s ∙ e in
+          cc
+      | inr long ↦ elim (cases_lt k (end_of_gap line p + width line (end_of_gap line p))) [
+        | inl inside ↦ inl (omega arith, omega arith)
+        | inr behind ↦ inr (more.complete k behind m e)
+      ]
+    ]
+
+gap_before : (line : List ℕ) (p : ℕ) → Fresh line p → end_of_gap line p < length line → (k : ℕ) → k + 1 ≡ end_of_gap line p → is_separator (get_or line k 0) ≡ true
+gap_before line p fresh h k e =
+    elim (cases_lt k p) [
+      | inl short ↦
+          let z : end_of_gap line p ≡ p = omega arith in
+          fresh (omega arith) (ap (λ i. is_separator (get_or line i 0)) (sym z) ∙ gap_ends line p h) k (omega arith)
+      | inr long ↦
+          let i : p + (k - p) ≡ k = omega arith in
+          ap (λ j. is_separator (get_or line j 0)) (sym i) ∙ gap_byte line p (k - p) (omega arith)
+    ]
+
+one_more : (line : List ℕ) (p : ℕ) (fields : List Run) → Fresh line p → end_of_gap line p < length line → FieldsFrom line (end_of_gap line p + width line (end_of_gap line p)) fields
+    → FieldsFrom line p (first line (end_of_gap line p) ∷ fields)
+one_more line p fields fresh h more =
+    let q = end_of_gap line p in
+    let head = gap_ends line p h in
+    let len : length (take (width line q) (drop q line)) ≡ width line q = length-prefix_len (λ b. not (is_separator b)) (drop q line) in
+    record {
+      each = All-cons (IsField line) (first line q) fields (is_field line q h head (gap_before line p fresh h)) more.each;
+      ordered = (omega arith, subst (λ n. AreInOrder (q + n) fields) (sym len) more.ordered);
+      complete = λ k l m e. lies line p k fields more h l m e;
+    }
+
+stays_fresh : (line : List ℕ) (q : ℕ) → q < length line → Fresh line (q + width line q)
+stays_fresh line q h l e =
+    let s : is_separator (get_or line (q + width line q) 0) ≡ true = run_ends line q (omega (arith, length-drop q line)) in
+    let no : true ≡ false = sym s ∙ e in
+    cc
+
+found : (n : ℕ) (line : List ℕ) (p : ℕ) → length line ≤ p + n → Fresh line p → FieldsFrom line p (runs_from p (drop p line))
+found zero line p h fresh =
+    let l : length line ≤ end_of_gap line p = omega arith in
+    subst (FieldsFrom line p) (nothing_left line p l) (finished line p l)
+found (suc n) line p h fresh =
+    elim (cases_lt (end_of_gap line p) (length line)) [
+      | inl short ↦
+          let q = end_of_gap line p in
+          let head : is_separator (get_or line (end_of_gap line p) 0) ≡ false = gap_ends line p short in
+          let wide : 0 < width line (end_of_gap line p) = wide_by line q (width line q) refl short head in
+          let rest : FieldsFrom line (q + width line q) (runs_from (q + width line q) (drop (q + width line q) line)) = found n line (q + width line q) (omega arith) (stays_fresh line q short) in
+          subst (FieldsFrom line p) (sym (behind_gap line p ∙ run_given line q short head)) (one_more line p (runs_from (q + width line q) (drop (q + width line q) line)) fresh short rest)
+      | inr long ↦ subst (FieldsFrom line p) (nothing_left line p long) (finished line p long)
+    ]
+
+-- The fields of a line are its longest runs.
+pub fields_are : (line : List ℕ) → AreFields line (runs_from 0 line)
+fields_are line =
+    let all : FieldsFrom line 0 (runs_from 0 line) = found (length line) line 0 (omega arith) (λ l e k f. absurd (omega arith)) in
+    record { each = all.each; ordered = all.ordered; complete = λ k l e. all.complete k (omega arith) l e }

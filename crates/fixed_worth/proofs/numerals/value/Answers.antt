@@ -1,0 +1,18 @@
+use Rattle.std.proofs.Common.{◌≡◌, arith}
+use Rattle.fixed_worth.specs.Numeral.{value_of}
+use Rattle.fixed_worth.proofs.Digits.{overflows, carried, finished}
+use Rattle.fixed_worth.proofs.numerals.value.Goals as goal
+
+pub returns-in-None : goal.returns-in-None
+returns-in-None c = overflows c.loop-b.all c.loop-b.b-index (value_of c.args.text.now) c.args.text.now c.loop-b-test.true c.loop-b.invariant.whole c.in-None.ensures
+
+pub loop-b-preserved : goal.loop-b-preserved
+loop-b-preserved c = record {
+  whole = carried c.loop-b.all c.in-Some.more c.loop-b.b-index (value_of c.args.text.now) c.args.text.now c.loop-b-test.true c.loop-b.invariant.whole c.in-Some.ensures.1;
+  fits = omega (arith, c.in-Some.ensures);
+}
+
+pub returns : goal.returns
+returns c =
+    let e : c.loop-b.all ≡ value_of c.args.text.now = finished c.loop-b.all c.loop-b.b-index (value_of c.args.text.now) c.args.text.now c.loop-b-test.false c.loop-b.invariant.whole in
+    (omega arith, e)

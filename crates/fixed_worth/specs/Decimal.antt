@@ -1,0 +1,54 @@
+-- Numerals with a point and an exponent, in millionths.
+use Rattle.std.specs.Prelude.{ℕ, ℤ, ◌+◌, ◌^◌, ◌==◌, ◌||◌, ◌&&◌, Bool, not, cond, List, ◌++◌, length, nat_lt, nat_le, Result, Ok, Err}
+use Rattle.std.specs.List.{list_all, before_first, after_first, position_or_len}
+use Rattle.fixed_worth.specs.declared.numerals.NumberFault.{NumberFault}
+use Rattle.fixed_worth.specs.declared.numerals.NumberFault.TheVariants.{NotANumber, TooLong, TooLarge}
+use Rattle.fixed_worth.specs.Numeral.{is_digit, is_number, value_of, is_minus, unsigned_of, with_sign}
+use Rattle.fixed_worth.specs.Rounding.{rounded_of}
+
+-- e or E
+unfoldable pub is_mark : ℕ → Bool
+is_mark b = (b == 101) || (b == 69)
+
+unfoldable pub is_point : ℕ → Bool
+is_point b = b == 46
+
+-- What stands before the mark without its sign, and there before the point and behind it.
+abbrev pub mantissa_of : List ℕ → List ℕ
+mantissa_of text = unsigned_of (before_first is_mark text)
+
+unfoldable pub whole_part : List ℕ → List ℕ
+whole_part text = before_first is_point (mantissa_of text)
+
+unfoldable pub fraction_part : List ℕ → List ℕ
+fraction_part text = after_first is_point (mantissa_of text)
+
+-- What stands behind the mark, with its sign and without.
+unfoldable pub exponent_of : List ℕ → List ℕ
+exponent_of text = after_first is_mark text
+
+unfoldable pub has_mark : List ℕ → Bool
+has_mark text = nat_lt (position_or_len is_mark text) (length text)
+
+abbrev pub digits_in : List ℕ → List ℕ
+digits_in text = whole_part text ++ fraction_part text
+
+abbrev pub exponent_digits : List ℕ → List ℕ
+exponent_digits text = unsigned_of (exponent_of text)
+
+-- Digits, at least one; and behind a mark digits, at least one.
+abbrev pub is_decimal : List ℕ → Bool
+is_decimal text = is_number (digits_in text) && (not (has_mark text) || nat_lt 0 (length (exponent_digits text))) && list_all is_digit (exponent_digits text)
+
+abbrev pub is_too_long : List ℕ → Bool
+is_too_long text = nat_lt 36 (length (digits_in text)) || nat_lt 40 (value_of (exponent_digits text))
+
+-- The value in millionths, without the sign: to the nearest, and away from zero from the middle.
+abbrev pub millionths_of : List ℕ → ℕ
+millionths_of text = rounded_of (value_of (digits_in text)) (cond (is_minus (exponent_of text)) 6 (6 + value_of (exponent_digits text))) (cond (is_minus (exponent_of text)) (length (fraction_part text) + value_of (exponent_digits text)) (length (fraction_part text)))
+
+abbrev pub most : ℕ → ℕ → Result ℕ NumberFault
+most limit n = cond (nat_le n limit) (Ok n) (Err TooLarge)
+
+abbrev pub decimal_of : List ℕ → Result ℤ NumberFault
+decimal_of text = cond (not (is_decimal text)) (Err NotANumber) (cond (is_too_long text) (Err TooLong) (with_sign (is_minus text) (most (10 ^ 18) (millionths_of text))))

@@ -1,0 +1,45 @@
+-- What the lines of a text and the fields of a line are.
+use Rattle.std.specs.Prelude.{◌≡◌, ℕ, ◌+◌, ◌<◌, ◌≤◌, ◌==◌, ◌⊎◌, true, false, cond, List, [], ◌∷◌, ◌++◌, length, take, drop, slice_index, EachIndex, All}
+use Rattle.fixed_worth.specs.Text.{is_separator, Run}
+
+-- the text with a line feed (10) behind its last line
+abbrev pub ended : List ℕ → List ℕ
+ended [] = []
+ended (b ∷ []) = cond (b == 10) (b ∷ []) (b ∷ 10 ∷ [])
+ended (b ∷ c ∷ bs) = b ∷ ended (c ∷ bs)
+
+-- the lines in a row, a line feed behind each
+abbrev pub with_line_feeds : List (List ℕ) → List ℕ
+with_line_feeds [] = []
+with_line_feeds (line ∷ lines) = line ++ (10 ∷ with_line_feeds lines)
+
+-- the lines give the text back, and none holds a line feed
+pub record AreLines (text : List ℕ) (lines : List (List ℕ)) : Type 0 where
+  pub together : with_line_feeds lines ≡ ended text
+  pub whole : All (λ line. EachIndex line (λ k. (slice_index line k == 10) ≡ false)) lines
+
+-- a field is the slice of its line at its place, has a byte, and none that is a separator;
+-- on each side of it is a separator or an end of the line
+pub record IsField (line : List ℕ) (field : Run) : Type 0 where
+  pub some : 0 < length field.text
+  pub inside : field.place + length field.text ≤ length line
+  pub slice : field.text ≡ take (length field.text) (drop field.place line)
+  pub bytes : EachIndex field.text (λ k. is_separator (slice_index field.text k) ≡ false)
+  pub before : (k : ℕ) → k + 1 ≡ field.place → is_separator (slice_index line k) ≡ true
+  pub behind : field.place + length field.text < length line → is_separator (slice_index line (field.place + length field.text)) ≡ true
+
+-- each begins where the one before ends, or later
+abbrev pub AreInOrder : ℕ → List Run → Type 0
+AreInOrder p [] = Unit {0}
+AreInOrder p (field ∷ fields) = (p ≤ field.place) × AreInOrder (field.place + length field.text) fields
+
+-- the place lies in one of the fields
+abbrev pub LiesIn : ℕ → List Run → Type 0
+LiesIn k [] = ⊥
+LiesIn k (field ∷ fields) = ((field.place ≤ k) × (k < field.place + length field.text)) ⊎ LiesIn k fields
+
+-- all fields of the line, in its order: each byte that is no separator lies in one
+pub record AreFields (line : List ℕ) (fields : List Run) : Type 0 where
+  pub each : All (IsField line) fields
+  pub ordered : AreInOrder 0 fields
+  pub complete : (k : ℕ) → k < length line → is_separator (slice_index line k) ≡ false → LiesIn k fields

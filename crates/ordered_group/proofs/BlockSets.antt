@@ -1,0 +1,126 @@
+-- Worths, numbers and sums of sets of blocks.
+use Rattle.std.proofs.Common.{◌≡◌, ℕ, zero, suc, ◌<◌, ◌≤◌, Bool, true, false, cond, ◌==◌, ◌⊎◌, refl, sym, ap, ap₂, ◌∙◌, arith, ℤ, pos, ◌<ℤ◌, inl, inr, below_more, Ordering}
+use Rattle.std.specs.declared.cmp.Ordering.TheVariants.{Less, Equal, Greater}
+use Rattle.std.specs.Ordering.{MatchOrdering, int_cmp}
+use Rattle.std.specs.Cmp.{int_ranks}
+use Rattle.std.proofs.lemmas.Int.{ints}
+use Rattle.std.proofs.lemmas.Bool.{cases_eq, eq-eqb, ne_eqb, and_parts}
+use Rattle.ordered_group.specs.Amount.{Amount, plus, AtMost, Below, Amount_eq}
+use Rattle.ordered_group.specs.Sums.{where_so}
+use Rattle.ordered_group.specs.Sets.{worth_in, count_in, group_sum, IsBefore}
+use Rattle.ordered_group.specs.Laws.{SumsTellWorth, BlocksTellWorth, SumsOrderSets}
+use Rattle.ordered_group.proofs.Totals.Sets.{both, either, total-one, two_sets}
+use Rattle.ordered_group.proofs.Totals.Ranges.{total-same}
+
+-- equal sets are worth the same, have as many blocks, and have one sum
+pub worth_in-same : (v : ℕ → ℤ) (e c : ℕ → Bool) (n : ℕ) → ((b : ℕ) → b < n → e b ≡ c b) → worth_in v e n ≡ worth_in v c n
+worth_in-same v e c zero h = refl
+worth_in-same v e c (suc n) h = rw (worth_in-same v e c n (λ b l. h b (omega (arith, l))), h n (omega arith)) refl
+
+pub count_in-same : (e c : ℕ → Bool) (n : ℕ) → ((b : ℕ) → b < n → e b ≡ c b) → count_in e n ≡ count_in c n
+count_in-same e c zero h = refl
+count_in-same e c (suc n) h = rw (count_in-same e c n (λ b l. h b (omega (arith, l))), h n (omega arith)) refl
+
+pub group_sum-same : (block : ℤ → ℕ → Amount) (v : ℕ → ℤ) (e c : ℕ → Bool) (n : ℕ) → ((b : ℕ) → b < n → e b ≡ c b) → group_sum block v e n ≡ group_sum block v c n
+group_sum-same block v e c n h = total-same _ _ n (λ b l. ap (λ t. where_so t (block (v b) n)) (h b l))
+
+one_or_none : (t : Bool) → cond t 1 0 ≤ 1
+one_or_none true = omega arith
+one_or_none false = omega arith
+
+-- no set has more blocks than there are
+pub count_in-most : (e : ℕ → Bool) (n : ℕ) → count_in e n ≤ n
+count_in-most e zero = omega arith
+count_in-most e (suc n) = omega (arith, count_in-most e n, one_or_none (e n))
+
+-- the set of one block
+none_before : (v : ℤ) (c n : ℕ) → n ≤ c → (worth_in (λ b. v) (λ b. c == b) n ≡ pos 0) × (count_in (λ b. c == b) n ≡ 0)
+none_before v c zero h = (refl, refl)
+none_before v c (suc n) h =
+    let p = none_before v c n (omega (arith, h)) in
+    let q = ne_eqb c n (λ k. omega (arith, h, k)) in
+    (rw q (omega (arith, ints, p.0)), rw q (omega (arith, p.1)))
+
+pub one_block : (v : ℤ) (c n : ℕ) → c < n → (worth_in (λ b. v) (λ b. c == b) n ≡ v) × (count_in (λ b. c == b) n ≡ 1)
+one_block v c zero h = absurd (omega (arith, h))
+one_block v c (suc n) h =
+    elim (cases_eq c n) [
+      | inl i ↦
+          let p = none_before v c n (omega (arith, i)) in
+          let q = eq-eqb c n i in
+          (rw q (omega (arith, ints, p.0)), rw q (omega (arith, p.1)))
+      | inr d ↦
+          let p = one_block v c n (omega (arith, h, d)) in
+          let q = ne_eqb c n d in
+          (rw q (omega (arith, ints, p.0)), rw q (omega (arith, p.1)))
+    ]
+
+-- where sums tell the worths of sets, they tell those of single blocks
+pub blocks_from_sums : (block : ℤ → ℕ → Amount) (worth : Amount → ℕ → ℕ → ℤ) → SumsTellWorth block worth → BlocksTellWorth block worth
+blocks_from_sums block worth told v n h =
+    let sum = total-one (λ b. true) 0 (block v n) n h in
+    let one = one_block v 0 n h in
+    ap₂ (λ a k. worth a n k) (sym sum) (sym one.1) ∙ told (λ b. v) (λ b. 0 == b) n ∙ one.0
+
+abbrev number : Bool → ℕ
+number t = cond t 1 0
+
+count_term : (u v : Bool) → (u ≡ true → v ≡ true) → (cond u 1 0 ≤ cond v 1 0) × (number u ≡ number v → u ≡ v)
+count_term true true s = (omega arith, λ e. refl)
+count_term true false s = absurd (let i = s refl in cc)
+count_term false true s = (omega arith, λ e. absurd (omega (arith, e)))
+count_term false false s = (omega arith, λ e. refl)
+
+-- a set within another has no more blocks, and as many only where it is that set
+pub count_in-within : (a e : ℕ → Bool) (n : ℕ) → ((b : ℕ) → b < n → a b ≡ true → e b ≡ true) → (count_in a n ≤ count_in e n) × (count_in a n ≡ count_in e n → (b : ℕ) → b < n → a b ≡ e b)
+count_in-within a e zero s = (omega arith, λ p b l. absurd (omega (arith, l)))
+count_in-within a e (suc n) s =
+    let i = count_in-within a e n (λ b l. s b (omega (arith, l))) in
+    let t = count_term (a n) (e n) (s n (omega arith)) in (
+      omega (arith, i.0, t.0),
+      λ p b l. below_more (λ k. a k ≡ e k) n (i.1 (omega (arith, i.0, t.0, p))) (t.1 (omega (arith, i.0, t.0, p))) b (omega (arith, l)),
+    )
+
+either_less : (k l : ℕ) → (k ≡ l → ⊥) → (k < l) ⊎ (l < k)
+either_less zero zero d = absurd (d refl)
+either_less zero (suc l) d = inl (omega arith)
+either_less (suc k) zero d = inr (omega arith)
+either_less (suc k) (suc l) d = elim (either_less k l (λ e. d (ap suc e))) [ inl h ↦ inl (omega (arith, h)) | inr h ↦ inr (omega (arith, h)) ]
+
+unordered : (v : ℕ → ℤ) (e c : ℕ → Bool) (n : ℕ) (o : Ordering) → MatchOrdering o (worth_in v e n <ℤ worth_in v c n) (worth_in v e n ≡ worth_in v c n) (worth_in v c n <ℤ worth_in v e n) → ¬ (IsBefore v n e c) → ¬ (IsBefore v n c e) → (worth_in v e n ≡ worth_in v c n) × (count_in e n ≡ count_in c n)
+unordered v e c n Less r h k = absurd (h (inl r))
+unordered v e c n Equal r h k = (
+  r,
+  elim (cases_eq (count_in e n) (count_in c n)) [
+    | inl i ↦ i
+    | inr d ↦ elim (either_less (count_in e n) (count_in c n) d) [ inl l ↦ absurd (k (inr (sym r, l))) | inr l ↦ absurd (h (inr (r, l))) ]
+  ],
+)
+unordered v e c n Greater r h k = absurd (k (inl r))
+
+not_below : (x y : Amount) → x ≡ y → Below x y → ⊥
+not_below x y e h = absurd (omega (arith, ints, h, ap (λ a. a.w) e, ap (λ a. a.c) e))
+
+-- u and i make two of g, and neither is above it
+meet : (u i c g : Amount) → AtMost u g → AtMost i g → c ≡ g → plus u i ≡ plus c g → i ≡ g
+meet u i c g p q h e = Amount_eq i g (omega (arith, ints, p, q, ap (λ a. a.w) h, ap (λ a. a.w) e)) (omega (arith, ints, p, q, ap (λ a. a.w) h, ap (λ a. a.w) e, ap (λ a. a.c) h, ap (λ a. a.c) e))
+
+module _ (block : ℤ → ℕ → Amount) (orders : SumsOrderSets block) (v : ℕ → ℤ) where
+  -- where sums are ordered as the sets, sets with one sum are worth the same and have as many blocks
+  pub same_sums : (e c : ℕ → Bool) (n : ℕ) → group_sum block v e n ≡ group_sum block v c n → (worth_in v e n ≡ worth_in v c n) × (count_in e n ≡ count_in c n)
+  same_sums e c n h =
+      unordered v e c n (int_cmp (worth_in v e n) (worth_in v c n)) (int_ranks (worth_in v e n) (worth_in v c n))
+      (λ i. not_below _ _ h ((orders v e c n).1 i))
+      (λ i. not_below _ _ (sym h) ((orders v c e n).1 i))
+
+  -- and where one of them is within the other, they are one set
+  pub same_within : (a e : ℕ → Bool) (n : ℕ) → ((b : ℕ) → b < n → a b ≡ true → e b ≡ true) → group_sum block v a n ≡ group_sum block v e n → (b : ℕ) → b < n → a b ≡ e b
+  same_within a e n s h = (count_in-within a e n s).1 (same_sums a e n h).1
+
+  -- two sets with one sum that neither their union nor their intersection exceeds are one set
+  pub one_greatest : (e c : ℕ → Bool) (n : ℕ) → AtMost (group_sum block v (either c e) n) (group_sum block v e n) → AtMost (group_sum block v (both c e) n) (group_sum block v e n) → group_sum block v c n ≡ group_sum block v e n → (b : ℕ) → b < n → c b ≡ e b
+  one_greatest e c n u i same b l =
+      let m = meet _ _ _ _ u i same (two_sets (λ k. block (v k) n) c e n) in
+      let in_e = same_within (both c e) e n (λ k h t. (and_parts _ _ t).1) m b l in
+      let in_c = same_within (both c e) c n (λ k h t. (and_parts _ _ t).0) (m ∙ sym same) b l in
+      sym in_c ∙ in_e

@@ -1,0 +1,134 @@
+-- Sums over sets of numbers, a set being a test.
+use Rattle.std.proofs.Common.{◌≡◌, ℕ, zero, suc, ◌<◌, ◌≤◌, Bool, true, false, not, ◌==◌, ◌&&◌, ◌||◌, ◌⊎◌, inl, inr, sym, refl, ◌∙◌, arith, negsuc, ◌≤ℤ◌, below_more}
+use Rattle.std.proofs.lemmas.Int.{ints}
+use Rattle.std.proofs.lemmas.Bool.{cases_eq, eq-eqb, ne_eqb}
+use Rattle.ordered_group.specs.Amount.{Amount, zero_amount, plus, minus, AtMost, Amount_eq}
+use Rattle.ordered_group.specs.Sums.{total, where_so, at_end}
+use Rattle.ordered_group.proofs.Order.{AtMost-refl}
+use Rattle.ordered_group.proofs.Signs.{NonNeg, NonNeg-zero}
+use Rattle.ordered_group.proofs.Totals.Ranges.{total-same, total-plus, total-zero, total-none, total_mono, plus-zero_left, plus-zero_right}
+
+pub where_so-zero : (b : Bool) → where_so b zero_amount ≡ zero_amount
+where_so-zero true = refl
+where_so-zero false = refl
+
+pub where_so-plus : (b : Bool) (x y : Amount) → where_so b (plus x y) ≡ plus (where_so b x) (where_so b y)
+where_so-plus true x y = refl
+where_so-plus false x y = refl
+
+pub where_so-minus : (b : Bool) (x y : Amount) → where_so b (minus x y) ≡ minus (where_so b x) (where_so b y)
+where_so-minus true x y = refl
+where_so-minus false x y = refl
+
+pub where_at : (b : Bool) (x : Amount) → b ≡ true → where_so b x ≡ x
+where_at b x h = rw h refl
+
+pub where_not : (b : Bool) (x : Amount) → b ≡ false → where_so b x ≡ zero_amount
+where_not b x h = rw h refl
+
+pub where_nonneg : (b : Bool) (x : Amount) → NonNeg x → NonNeg (where_so b x)
+where_nonneg true x h = h
+where_nonneg false x h = NonNeg-zero
+
+-- a smaller amount under a narrower test
+pub where_most : (s t : Bool) (x y : Amount) → (s ≡ true → t ≡ true) → AtMost x y → NonNeg y → AtMost (where_so s x) (where_so t y)
+where_most true true x y i h k = h
+where_most true false x y i h k = absurd (let e = i refl in cc)
+where_most false true x y i h k = k
+where_most false false x y i h k = NonNeg-zero
+
+-- the wider test may lack what is at most zero
+pub where_most_or : (s t : Bool) (x : Amount) → (s ≡ true → (t ≡ true) ⊎ AtMost x zero_amount) → NonNeg x → AtMost (where_so s x) (where_so t x)
+where_most_or true true x i h = AtMost-refl x
+where_most_or true false x i h = elim (i refl) [ inl e ↦ absurd cc | inr m ↦ m ]
+where_most_or false true x i h = h
+where_most_or false false x i h = NonNeg-zero
+
+apart : (e b : Bool) (x : Amount) → b ≡ false → where_so e (where_so b x) ≡ zero_amount
+apart e b x h = rw h (where_so-zero e)
+
+here : (e : ℕ → Bool) (c n : ℕ) (x : Amount) → c ≡ n → where_so (e n) (where_so (c == n) x) ≡ where_so (e c) x
+here e c n x h = rw (eq-eqb c n h, h) refl
+
+total_before : (e : ℕ → Bool) (c : ℕ) (x : Amount) (n : ℕ) → n ≤ c → total (λ b. where_so (e b) (where_so (c == b) x)) n ≡ zero_amount
+total_before e c x n h = total-none _ n (λ b l. apart (e b) (c == b) x (ne_eqb c b (λ k. omega (arith, h, l, k))))
+
+-- the one term that is not zero is the one at c
+pub total-one : (e : ℕ → Bool) (c : ℕ) (x : Amount) (n : ℕ) → c < n → total (λ b. where_so (e b) (where_so (c == b) x)) n ≡ where_so (e c) x
+total-one e c x zero h = absurd (omega arith)
+total-one e c x (suc n) h =
+    elim (cases_eq c n) [
+      | inl i ↦
+          let p = total_before e c x n (omega arith) in
+          let q = here e c n x i in
+          rw (p, q) (plus-zero_left _)
+      | inr d ↦
+          let p = total-one e c x n (omega arith) in
+          let q = apart (e n) (c == n) x (ne_eqb c n d) in
+          rw (p, q) (plus-zero_right _)
+    ]
+
+-- what ends at each number of a set, summed by those numbers, is the sum over the pairs that end in the set
+pub route : (e : ℕ → Bool) (end : ℕ → ℕ) (f : ℕ → Amount) (n m : ℕ) → ((k : ℕ) → k < m → end k < n) → total (λ b. where_so (e b) (at_end end f m b)) n ≡ total (λ k. where_so (e (end k)) (f k)) m
+route e end f n zero h = total-same _ _ n (λ b k. where_so-zero (e b)) ∙ total-zero n
+route e end f n (suc m) h =
+    let p = route e end f n m (λ k l. h k (omega arith)) in
+    let q = total-one e (end m) (f m) n (h m (omega arith)) in
+    total-same _ (λ b. plus (where_so (e b) (at_end end f m b)) (where_so (e b) (where_so (end m == b) (f m)))) n (λ b k. where_so-plus (e b) _ _)
+    ∙ total-plus (λ b. where_so (e b) (at_end end f m b)) (λ b. where_so (e b) (where_so (end m == b) (f m))) n
+    ∙ rw (p, q) refl
+
+-- the same over all numbers: each pair is counted once
+pub route_all : (end : ℕ → ℕ) (f : ℕ → Amount) (n m : ℕ) → ((k : ℕ) → k < m → end k < n) → total (at_end end f m) n ≡ total f m
+route_all end f n m h = route (λ b. true) end f n m h
+
+split_one : (b : Bool) (x : Amount) → x ≡ plus (where_so b x) (where_so (not b) x)
+split_one true x = sym (plus-zero_right x)
+split_one false x = sym (plus-zero_left x)
+
+-- a sum is that over a set and that over the rest
+pub split_sum : (e : ℕ → Bool) (w : ℕ → Amount) (n : ℕ) → total w n ≡ plus (total (λ b. where_so (e b) (w b)) n) (total (λ b. where_so (not (e b)) (w b)) n)
+split_sum e w n =
+    total-same w (λ b. plus (where_so (e b) (w b)) (where_so (not (e b)) (w b))) n (λ b l. split_one (e b) (w b))
+    ∙ total-plus (λ b. where_so (e b) (w b)) (λ b. where_so (not (e b)) (w b)) n
+
+-- what is in both sets
+abbrev pub both : (ℕ → Bool) → (ℕ → Bool) → ℕ → Bool
+both a b k = a k && b k
+
+-- what is in one of the sets
+abbrev pub either : (ℕ → Bool) → (ℕ → Bool) → ℕ → Bool
+either a b k = a k || b k
+
+share : (a b : Bool) (x : Amount) → plus (where_so (a || b) x) (where_so (a && b) x) ≡ plus (where_so a x) (where_so b x)
+share true true x = refl
+share true false x = refl
+share false true x = Amount_eq _ _ (omega (arith, ints)) (omega (arith, ints))
+share false false x = refl
+
+-- the sums over a union and an intersection make those over the two sets
+pub two_sets : (w : ℕ → Amount) (a b : ℕ → Bool) (n : ℕ) → plus (total (λ k. where_so (either a b k) (w k)) n) (total (λ k. where_so (both a b k) (w k)) n) ≡ plus (total (λ k. where_so (a k) (w k)) n) (total (λ k. where_so (b k) (w k)) n)
+two_sets w a b n =
+    sym (total-plus (λ k. where_so (either a b k) (w k)) (λ k. where_so (both a b k) (w k)) n)
+    ∙ total-same _ (λ k. plus (where_so (a k) (w k)) (where_so (b k) (w k))) n (λ k h. share (a k) (b k) (w k))
+    ∙ total-plus (λ k. where_so (a k) (w k)) (λ k. where_so (b k) (w k)) n
+
+-- where no amount of the wider set is negative, the sum of a set within it is at most its own
+pub within_most : (w : ℕ → Amount) (a e : ℕ → Bool) (n : ℕ) → ((b : ℕ) → b < n → a b ≡ true → e b ≡ true) → ((b : ℕ) → b < n → NonNeg (w b)) → AtMost (total (λ b. where_so (a b) (w b)) n) (total (λ b. where_so (e b) (w b)) n)
+within_most w a e n s h = total_mono _ _ n (λ b l. where_most (a b) (e b) (w b) (w b) (s b l) (AtMost-refl (w b)) (h b l))
+
+term_count : (x : Amount) (u v : Bool) → x.c ≡ negsuc 0 → (u ≡ true → v ≡ true) → ((where_so v x).c ≤ℤ (where_so u x).c) × ((where_so v x).c ≡ (where_so u x).c → u ≡ v)
+term_count x true true h s = (omega (arith, ints), λ e. refl)
+term_count x true false h s = let i = s refl in absurd cc
+term_count x false true h s = (omega (arith, ints, h), λ e. absurd (omega (arith, ints, h, e)))
+term_count x false false h s = (omega (arith, ints), λ e. refl)
+
+-- where each block counts as -1, a set within another has no lower count, and the same one only where it is that set
+pub within_counts : (w : ℕ → Amount) (a e : ℕ → Bool) (n : ℕ) → ((b : ℕ) → b < n → (w b).c ≡ negsuc 0) → ((b : ℕ) → b < n → a b ≡ true → e b ≡ true) → ((total (λ b. where_so (e b) (w b)) n).c ≤ℤ (total (λ b. where_so (a b) (w b)) n).c) × ((total (λ b. where_so (e b) (w b)) n).c ≡ (total (λ b. where_so (a b) (w b)) n).c → (b : ℕ) → b < n → a b ≡ e b)
+within_counts w a e zero h s = (omega (arith, ints), λ p b l. absurd (omega (arith, l)))
+within_counts w a e (suc n) h s =
+    let i = within_counts w a e n (λ b l. h b (omega arith)) (λ b l. s b (omega arith)) in
+    let t = term_count (w n) (a n) (e n) (h n (omega arith)) (s n (omega arith)) in (
+      omega (arith, ints, i.0, t.0),
+      λ p b l. below_more (λ k. a k ≡ e k) n (i.1 (omega (arith, ints, i.0, t.0, p))) (t.1 (omega (arith, ints, i.0, t.0, p))) b (omega (arith, l)),
+    )

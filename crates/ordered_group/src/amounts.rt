@@ -1,0 +1,72 @@
+//! Functions of amounts of any kind.
+
+ghost use Rattle.std.specs.Prelude.{◌≡◌, ◌↔◌, IsTrue, MatchOption, length, map};
+ghost use Rattle.ordered_group.specs.Amount.{zero_amount, minus, AtMost, FitsPair, positive, negative, least};
+ghost use Rattle.ordered_group.specs.Sums.{total, amount_at, SumFits, SumLeaves};
+
+use crate::groups::OrderedGroup;
+use std::cmp::Ordering;
+
+/// Whether a is at most b.
+pub fn at_most<G: OrderedGroup>(a: G, b: G) -> bool
+    ensures { IsTrue result ↔ AtMost (G.parts_of a) (G.parts_of b) }
+{
+    a.cmp(&b).is_le()
+}
+
+/// Whether a and b are the same amount.
+pub fn same<G: OrderedGroup>(a: G, b: G) -> bool
+    ensures { IsTrue result ↔ (G.parts_of a ≡ G.parts_of b) }
+{
+    a.cmp(&b).is_eq()
+}
+
+/// The amount where it is positive, and else zero.
+pub fn positive_part<G: OrderedGroup>(worth: G) -> G
+    ensures { G.parts_of result ≡ positive (G.parts_of worth) }
+{
+    let zero = G::zero();
+    match worth.cmp(&zero) {
+        Ordering::Less => zero,
+        _ => worth,
+    }
+}
+
+/// The opposite of the amount where that is positive, and else zero. `None` exactly where the
+/// opposite doesn't fit.
+pub fn negative_part<G: OrderedGroup>(worth: G) -> Option<G>
+    ensures { let opposite = minus zero_amount (G.parts_of worth) in
+        MatchOption result (¬ (FitsPair opposite))
+        (λ r. FitsPair opposite × (G.parts_of r ≡ negative (G.parts_of worth))) }
+{
+    let opposite = G::zero().try_sub(worth)?;
+    Some(positive_part(opposite))
+}
+
+/// The lesser of two amounts.
+pub fn smaller<G: OrderedGroup>(a: G, b: G) -> G
+    ensures { G.parts_of result ≡ least (G.parts_of a) (G.parts_of b) }
+{
+    match a.cmp(&b) {
+        Ordering::Greater => b,
+        _ => a,
+    }
+}
+
+/// The sum of the amounts, taken in their order, which is zero where there are none. `None` exactly
+/// where the sum of the first few leaves its type, though a later one would bring it back.
+pub fn try_sum<G: OrderedGroup>(amounts: &[G]) -> Option<G>
+    ensures { let xs = map G.parts_of amounts.now in
+        MatchOption result (SumLeaves (amount_at xs) (length xs))
+        (λ r. SumFits (amount_at xs) (length xs)
+        × (G.parts_of r ≡ total (amount_at xs) (length xs))) }
+{
+    let mut sum = G::zero();
+    for x in amounts {
+        match sum.try_add(*x) {
+            Some(more) => sum = more,
+            None => return None,
+        }
+    }
+    Some(sum)
+}

@@ -1,0 +1,29 @@
+//! Amounts of money, alone or with a count of blocks, as an ordered group.
+//!
+//! The solver and the checker add, subtract and compare amounts, and nothing else. What an
+//! amount is differs: worth alone, or worth with a count of blocks that breaks ties, so that the
+//! smallest of the best pits is found. `OrderedGroup` is what they need of either. Every value
+//! stands for an `Amount`, a pair of whole numbers of any size, and the contracts speak of that.
+//!
+//! Stands on nothing. Promises upward: exact sums, or `None` exactly where a number leaves its
+//! type; the order of the amounts; that the sum of a set of blocks tells its worth; and for a
+//! `SizeGroup` that sums are ordered as the sets are, by worth and then by the fewer blocks. The
+//! functions of `laws` state these for every group. Lemmas on sums of amounts, for the crates
+//! above, are in `proofs`.
+#![tactic(auto)]
+
+mod amounts;
+mod groups;
+pub mod laws;
+mod size;
+mod worth_alone;
+mod worth_with_size;
+
+pub use amounts::{at_most, negative_part, positive_part, same, smaller, try_sum};
+pub use groups::{Group, OrderedGroup};
+pub use size::SizeGroup;
+pub use worth_alone::Worth;
+pub use worth_with_size::WorthSize;
+
+#[cfg(test)]
+mod tests;

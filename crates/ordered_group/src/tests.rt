@@ -1,0 +1,116 @@
+//! The groups at the ends of their numbers, and their order.
+
+use crate::{
+    Group, OrderedGroup, Worth, WorthSize, at_most, laws, negative_part, positive_part, same,
+    smaller, try_sum,
+};
+use std::test::Fail;
+
+const MOST: i128 = i128::MAX;
+
+const LEAST: i128 = i128::MIN;
+
+fn worth(nanos: i128) -> Worth {
+    Worth { nanos }
+}
+
+fn pair(nanos: i128, size: i128) -> WorthSize {
+    WorthSize { nanos, size }
+}
+
+#[test]
+fn worths_at_the_ends(rt: HostRuntime) {
+    assert_eq!(rt; worth(MOST - 1).try_add(worth(1)), Some(worth(MOST)));
+    assert_eq!(rt; worth(MOST).try_add(worth(1)), None);
+    assert_eq!(rt; worth(LEAST).try_add(worth(-1)), None);
+    assert_eq!(rt; worth(LEAST + 1).try_sub(worth(1)), Some(worth(LEAST)));
+    assert_eq!(rt; worth(LEAST).try_sub(worth(1)), None);
+    assert_eq!(rt; worth(0).try_sub(worth(LEAST)), None);
+    assert_eq!(rt; worth(-1).try_sub(worth(LEAST)), Some(worth(MOST)));
+}
+
+#[test]
+fn pairs_at_the_ends(rt: HostRuntime) {
+    assert_eq!(rt; pair(MOST, 0).try_add(pair(1, 0)), None);
+    assert_eq!(rt; pair(0, MOST).try_add(pair(0, 1)), None);
+    assert_eq!(rt; pair(0, LEAST).try_add(pair(0, -1)), None);
+    assert_eq!(rt;
+        pair(MOST, LEAST).try_add(pair(-1, 1)),
+        Some(pair(MOST - 1, LEAST + 1))
+    );
+    assert_eq!(rt; pair(LEAST, 0).try_sub(pair(1, 0)), None);
+    assert_eq!(rt; pair(5, MOST).try_sub(pair(4, -MOST)), None);
+    assert_eq!(rt; pair(5, MOST).try_sub(pair(4, MOST)), Some(pair(1, 0)));
+}
+
+#[test]
+fn sums_in_order(rt: HostRuntime) {
+    assert_eq!(rt; try_sum(&[worth(MOST), worth(1), worth(-1)]), None);
+    assert_eq!(rt;
+        try_sum(&[worth(MOST), worth(-1), worth(1)]),
+        Some(worth(MOST))
+    );
+    assert_eq!(rt;
+        try_sum(&[pair(6, -1), pair(5, -1), pair(-10, -1)]),
+        Some(pair(1, -3))
+    );
+    let none: [Worth; 0] = [];
+    assert_eq!(rt; try_sum(&none), Some(worth(0)));
+}
+
+#[test]
+fn worth_before_size(rt: HostRuntime) {
+    let (more_blocks, fewer_blocks, more_worth) = (pair(5, -3), pair(5, -2), pair(6, -9));
+    assert!(rt; more_blocks < fewer_blocks && fewer_blocks < more_worth);
+    assert!(rt; at_most(more_blocks, fewer_blocks) && !at_most(more_worth, fewer_blocks));
+    assert!(rt; same(pair(5, -3), more_blocks) && !same(more_blocks, fewer_blocks));
+    assert_eq!(rt; smaller(more_worth, fewer_blocks), fewer_blocks);
+    assert_eq!(rt; smaller(more_blocks, fewer_blocks), more_blocks);
+    assert!(rt; fewer_blocks.is_positive() && pair(0, 1).is_positive());
+    assert!(rt; !pair(0, -1).is_positive() && !pair(0, 0).is_positive() && !worth(0).is_positive());
+}
+
+#[test]
+fn parts_of_either_sign(rt: HostRuntime) {
+    assert_eq!(rt; positive_part(pair(0, -1)), pair(0, 0));
+    assert_eq!(rt; positive_part(pair(4, -1)), pair(4, -1));
+    assert_eq!(rt; negative_part(pair(0, -1)), Some(pair(0, 1)));
+    assert_eq!(rt; negative_part(pair(4, -1)), Some(pair(0, 0)));
+    assert_eq!(rt; negative_part(worth(LEAST)), None);
+    assert_eq!(rt; negative_part(pair(3, LEAST)), None);
+}
+
+#[test]
+fn blocks_and_their_numbers(rt: HostRuntime) {
+    assert_eq!(rt; Worth::of_block(-7, 3), Some(worth(-7)));
+    assert_eq!(rt; WorthSize::of_block(-7, 3), Some(pair(-7, -1)));
+    assert_eq!(rt; worth(-7).parts(), (-7, 0));
+    assert_eq!(rt; pair(-7, -2).parts(), (-7, -2));
+    assert_eq!(rt; Worth::from_parts(-7, 0), Some(worth(-7)));
+    assert_eq!(rt; Worth::from_parts(-7, 1), None);
+    assert_eq!(rt; WorthSize::from_parts(-7, 1), Some(pair(-7, 1)));
+    assert_eq!(rt; pair(1, -3).nanos_of_set(3, 3), Some(1));
+    assert_eq!(rt; worth(1).nanos_of_set(3, 3), Some(1));
+    assert!(rt; Worth::group() == Group::Worth && WorthSize::group() == Group::Pair);
+}
+
+#[test]
+fn laws_at_each_group(rt: HostRuntime) {
+    laws::amounts_are_an_ordered_group();
+    laws::set_sums_tell_worth::<Worth>();
+    laws::set_sums_tell_worth::<WorthSize>();
+    laws::block_amounts_tell_worth::<Worth>();
+    laws::block_amounts_tell_worth::<WorthSize>();
+    laws::set_sums_order_sets::<WorthSize>();
+    laws::values_are_ordered_as_amounts(worth(5), worth(6));
+    laws::values_are_ordered_as_amounts(pair(5, -3), pair(5, -2));
+    assert!(rt; worth(5) < worth(6));
+}
+
+#[test]
+fn words_of_the_kinds(rt: HostRuntime) -> Result<(), Fail> {
+    let alloc = rt.alloc();
+    assert_eq!(rt; format!(in alloc; "{}", Group::Worth)?.as_str(), "WORTH");
+    assert_eq!(rt; format!(in alloc; "{}", Group::Pair)?.as_str(), "PAIR");
+    Ok(())
+}
