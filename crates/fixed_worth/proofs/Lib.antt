@@ -6,3 +6,6 @@ pub mod Lengths
 pub mod LineLaws
 pub mod Powers
 pub mod Shown
+pub mod Pieces
+pub mod Sources
+pub mod DigitsFromEnd

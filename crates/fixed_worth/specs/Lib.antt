@@ -5,3 +5,5 @@ pub mod Decimal
 pub mod Printed
 pub mod Laws
 pub mod Faults
+pub mod Device
+pub mod Record

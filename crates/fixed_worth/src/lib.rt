@@ -1,28 +1,48 @@
-//! Numbers, lines and fields of text files.
+//! Numbers, lines and fields of text files, and the devices that the texts come from and go to.
 //!
-//! Everything that reads or prints a number goes through this crate: whole numbers, decimals in millionths, and sums
-//! in millionths and in billionths. It also cuts a text into lines and a line into fields. It stands on `std` alone.
+//! Everything that reads or prints a number goes through this crate: whole numbers, decimals in
+//! millionths, and sums in millionths and in billionths. It also cuts a text into lines and a line
+//! into fields, reads an input whole and sends a text, and counts the calls of a device that
+//! failed. It stands on `std` alone.
 //!
-//! Upward it promises that each reader gives exactly what the definitions in `specs/` say of the text, with the
-//! fault that they name, and that nothing wraps or is rounded in silence: `Numeral` has whole numbers, `Decimal` and
-//! `Rounding` have decimals, and `Text` has lines and fields.
+//! Upward it promises that each reader gives exactly what the definitions in `specs/` say of the
+//! text, with the fault that they name, and that nothing wraps or is rounded in silence: `Numeral`
+//! has whole numbers, `Decimal` and `Rounding` have decimals, `Text` has lines and fields, `Record`
+//! has what the line files share. Where a device fails, it says so, and what a writer had received
+//! by then is a prefix of the text.
 #![tactic(auto)]
 
 mod decimals;
+mod devices;
 mod fault_names;
 mod field_reader;
 pub mod laws;
 mod line_reader;
 mod millionths;
+mod numbered;
 mod numerals;
+mod pages;
 mod printing;
+mod remark;
 mod rounding;
+mod sending;
+mod short_line;
+mod whole_input;
 
+pub use devices::{Counted, CountedRead, CountedWrite};
 pub use field_reader::{Field, Fields};
 pub use line_reader::{Lines, TextFault};
 pub use millionths::Micros;
+pub use numbered::WrittenNumber;
 pub use numerals::{NumberFault, plain_signed, signed_whole, whole};
+pub use pages::Page;
 pub use printing::{MicrosTotal, Nanos};
+pub use remark::is_remark;
+pub use sending::{WriteFault, write_text};
+pub use short_line::ShortLine;
+pub use whole_input::{InputFault, read_whole};
 
+#[cfg(test)]
+mod device_tests;
 #[cfg(test)]
 mod tests;

@@ -9,7 +9,7 @@ use crate::size::SizeGroup;
 pub struct WorthSize {
     /// The worth in billionths.
     pub nanos: i128,
-    /// The count: less the number of blocks, for a set.
+    /// The count: a set of three blocks has -3.
     pub size: i128,
 }
 
@@ -34,8 +34,6 @@ impl OrderedGroup for WorthSize {
     ghost order = { λ x y. refl };
 
     ghost uncounted = { λ x h. true_not_false h };
-
-    ghost worth_fits = { λ a n count f h. f.0 };
 
     ghost tells_worth = { counted_told };
 

@@ -1,0 +1,10 @@
+pub mod Additions
+pub mod Amounts
+pub mod Duality
+pub mod Going
+pub mod Lacks
+pub mod Order
+pub mod Over
+pub mod Splits
+pub mod Verdicts
+pub mod Wants

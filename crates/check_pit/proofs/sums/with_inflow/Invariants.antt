@@ -1,0 +1,12 @@
+use Rattle.std.proofs.Common.{◌≡◌, ℕ, ◌<◌, map}
+use Rattle.ordered_group.specs.Amount.{plus}
+use Rattle.ordered_group.specs.Sums.{amount_at}
+use Rattle.ordered_group.proofs.Numbers.{over}
+use Rattle.check_pit.proofs.Over.{ListFits}
+use Rattle.check_pit.proofs.sums.with_inflow.Given as goal
+
+abbrev pub invariant-loop-k : goal.invariant-loop-k
+invariant-loop-k g l = record {
+  so_far : g.G.OrderedGroup.parts_of l.sum ≡ plus (g.G.OrderedGroup.parts_of l.fn.start) (over (amount_at (map g.G.OrderedGroup.parts_of l.rest)) l.numbers l.k-index);
+  fits : ListFits (g.G.OrderedGroup.parts_of l.fn.start) (amount_at (map g.G.OrderedGroup.parts_of l.rest)) l.numbers l.k-index;
+}

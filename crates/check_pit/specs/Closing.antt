@@ -1,0 +1,18 @@
+-- What a set lacks to be closed.
+use Rattle.std.specs.Prelude.{◌≡◌, ℕ, ◌<◌, Bool, IsTrue, List, length}
+use Rattle.prec_file.specs.Rests.{from_at, to_at}
+
+-- the set holds every block that b rests on
+abbrev pub HoldsAbove : List (ℕ × ℕ) → (ℕ → Bool) → ℕ → Type 0
+HoldsAbove ps e b = (k : ℕ) → k < length ps → from_at ps k ≡ b → IsTrue (e (to_at ps k))
+
+-- k is the first pair of b whose predecessor the set lacks
+pub record IsFirstLack (ps : List (ℕ × ℕ)) (e : ℕ → Bool) (b k : ℕ) : Type 0 where
+  pub below : k < length ps
+  pub block : from_at ps k ≡ b
+  pub lacks : ¬ (IsTrue (e (to_at ps k)))
+  pub before : (j : ℕ) → j < k → from_at ps j ≡ b → IsTrue (e (to_at ps j))
+
+-- p is the first block that b rests on and that the set lacks
+abbrev pub IsLacking : List (ℕ × ℕ) → (ℕ → Bool) → ℕ → ℕ → Type 0
+IsLacking ps e b p = (k : ℕ) × IsFirstLack ps e b k × (to_at ps k ≡ p)

@@ -1,0 +1,86 @@
+-- The first four lines of a certificate.
+use Rattle.std.specs.Prelude.{ℕ, ◌+◌, ◌^◌, ◌==◌, Bool, true, false, cond, List, [], ◌∷◌, Option, Some, None, Result, Ok, Err}
+use Rattle.std.specs.Str.{bytes_eq}
+use lib.Chars.{codes}
+use Rattle.ordered_group.specs.declared.groups.Group.{Group}
+use Rattle.ordered_group.specs.declared.groups.Group.TheVariants.{Worth, Pair}
+use Rattle.check_pit.specs.declared.headers.Header.{Header}
+use Rattle.check_pit.specs.declared.headers.Wanted.{Wanted}
+use Rattle.check_pit.specs.declared.headers.Price.{Price}
+use Rattle.check_pit.specs.declared.headers.Price.TheVariants.{Objective, Factor}
+use Rattle.check_pit.specs.declared.cert_faults.CertFault.{CertFault}
+use Rattle.check_pit.specs.declared.cert_faults.LineFault.{LineFault}
+use Rattle.check_pit.specs.declared.cert_faults.LineFault.TheVariants.{Text, Number}
+use Rattle.check_pit.specs.Pieces.{Piece, piece_at, read_line, words_of, number_below}
+
+-- the second of two words, of which the first is the key
+abbrev pub value_behind : List ℕ → List (List ℕ) → Option (List ℕ)
+value_behind key (k ∷ v ∷ []) = cond (bytes_eq k key) (Some v) None
+value_behind key _ = None
+
+abbrev pub or_number : {A : Type 0} → Option A → Result A LineFault
+or_number (Some a) = Ok a
+or_number None = Err Number
+
+-- PITCERT 1
+abbrev pub version_in : List ℕ → Result (Unit {0}) LineFault
+version_in text = cond (bytes_eq text (codes "PITCERT 1")) (Ok tt) (Err Text)
+
+-- the number of blocks, where it is the one that is wanted
+abbrev pub wanted_blocks : Option Wanted → Option ℕ → Option ℕ
+wanted_blocks None o = o
+wanted_blocks (Some wanted) None = None
+wanted_blocks (Some wanted) (Some n) = cond (n == wanted.blocks) (Some n) None
+
+abbrev pub blocks_said : Option Wanted → Option (List ℕ) → Result ℕ LineFault
+blocks_said wanted None = Err Text
+blocks_said wanted (Some word) = or_number (wanted_blocks wanted (number_below (2 ^ 24 + 1) word))
+
+-- BLOCKS n, of at most 2 ^ 24 blocks
+abbrev pub blocks_in : Option Wanted → List ℕ → Result ℕ LineFault
+blocks_in wanted text = blocks_said wanted (value_behind (codes "BLOCKS") (words_of text))
+
+abbrev pub factor_of : Option ℕ → Option Price
+factor_of (Some k) = Some (Factor k)
+factor_of None = None
+
+abbrev pub price_said : Option (List ℕ) → Result Price LineFault
+price_said None = Err Text
+price_said (Some word) = cond (bytes_eq word (codes "OBJECTIVE")) (Ok Objective) (or_number (factor_of (number_below 10001 word)))
+
+-- PRICE OBJECTIVE, or PRICE k with a factor from 0 to 10,000
+abbrev pub price_in : List ℕ → Result Price LineFault
+price_in text = price_said (value_behind (codes "PRICE") (words_of text))
+
+abbrev pub is_same_group : Group → Group → Bool
+is_same_group Worth Worth = true
+is_same_group Worth Pair = false
+is_same_group Pair Worth = false
+is_same_group Pair Pair = true
+
+-- the group, where it is the one that is wanted
+abbrev pub wanted_group : Option Wanted → Group → Result Group LineFault
+wanted_group None group = Ok group
+wanted_group (Some wanted) group = cond (is_same_group wanted.group group) (Ok group) (Err Text)
+
+-- GROUP WORTH or GROUP PAIR
+abbrev pub group_in : Option Wanted → List ℕ → Result Group LineFault
+group_in wanted text = cond (bytes_eq text (codes "GROUP WORTH")) (wanted_group wanted Worth) (cond (bytes_eq text (codes "GROUP PAIR")) (wanted_group wanted Pair) (Err Text))
+
+infixl 10 ◌>>=◌
+abbrev pub ◌>>=◌ : {A B : Type 0} → Result A CertFault → (A → Result B CertFault) → Result B CertFault
+Ok a >>= f = f a
+Err e >>= f = Err e
+
+-- the header that the first four pieces are, with these blocks and this group where any are wanted
+abbrev pub header_for : Option Wanted → List Piece → Result Header CertFault
+header_for wanted ps = do
+  version ← read_line version_in 1 (piece_at ps 0)
+  blocks ← read_line (blocks_in wanted) 2 (piece_at ps 1)
+  price ← read_line price_in 3 (piece_at ps 2)
+  group ← read_line (group_in wanted) 4 (piece_at ps 3)
+  Ok (record { blocks = blocks; price = price; group = group })
+
+-- the header of a text by itself
+abbrev pub header_of : List Piece → Result Header CertFault
+header_of ps = header_for None ps

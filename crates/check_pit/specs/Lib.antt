@@ -1,0 +1,11 @@
+pub mod Accepted
+pub mod BodyLines
+pub mod Certificate
+pub mod Checks
+pub mod Closing
+pub mod Duality
+pub mod FaultText
+pub mod Fits
+pub mod Header
+pub mod Pieces
+pub mod PrintedFaults

@@ -1,0 +1,138 @@
+//! The check of a pit by a flow.
+
+ghost use Rattle.std.specs.Prelude.{◌≡◌, ◌↔◌, ◌<◌, ℕ, IsTrue, length, map, All, MatchOption, MatchResult};
+ghost use Rattle.std.specs.Result.{IsOk};
+ghost use Rattle.ordered_group.specs.Amount.{zero_amount, minus, FitsPair};
+ghost use Rattle.prec_file.specs.Rests.{IsFirstNot};
+ghost use Rattle.closure_net.specs.Network.{FlowFits, holds_of};
+ghost use Rattle.closure_net.specs.Closure.{IsClosed};
+ghost use Rattle.closure_net.specs.Flows.{IsFlow, IsTight, NoneNegative, Within};
+ghost use Rattle.check_pit.specs.Fits.{SumsFit};
+ghost use Rattle.check_pit.specs.Checks.{IsOfNet, Sizes, IsSound, NoneBelowZero, KeepsWithin, AllWithin, AllBalanced, BalanceFault, FaultStands};
+
+use crate::accepted_pits::Accepted;
+use crate::closing::first_open;
+use crate::faults::PitFault;
+use crate::sums::{balance_of, pit_worth, room_left};
+use closure_net::{Flow, Net, Pit};
+use ordered_group::{OrderedGroup, at_most, negative_part, positive_part, same};
+
+// Whether all blocks are blocks of a net of n.
+fn all_below(blocks: &[u32], n: u32) -> bool
+    ensures { IsTrue result ↔ All (λ b. b < n) blocks.now }
+{
+    blocks.iter().all(|b| *b < n)
+}
+
+// Whether the flow has the net's lengths and the pit the net's blocks.
+fn sizes_agree<G: OrderedGroup>(net: &Net<G>, pit: &Pit, flow: &Flow<G>) -> bool
+    ensures { IsTrue result ↔ Sizes net.now flow.now pit.now }
+{
+    flow.fits(net) && all_below(pit.blocks(), net.rests().len())
+}
+
+fn none_negative<G: OrderedGroup>(amounts: &[G]) -> bool
+    ensures { IsTrue result ↔ NoneNegative (map G.parts_of amounts.now) }
+{
+    for x in amounts {
+        if !at_most(G::zero(), *x) {
+            return false;
+        }
+    }
+    true
+}
+
+// Whether no amount of the flow is negative.
+fn none_below_zero<G: OrderedGroup>(flow: &Flow<G>) -> bool
+    ensures { IsTrue result ↔ NoneBelowZero flow.now }
+{
+    none_negative(flow.source()) && none_negative(flow.rest()) && none_negative(flow.sink())
+}
+
+// Whether a block with these amounts keeps to its worth.
+fn is_within<G: OrderedGroup>(worth: G, source: G, sink: G) -> bool
+    requires { FitsPair (minus zero_amount (G.parts_of worth)) }
+    ensures { IsTrue result ↔ Within (G.parts_of worth) (G.parts_of source) (G.parts_of sink) }
+{
+    match negative_part(worth) {
+        Some(negative) => at_most(source, positive_part(worth)) && at_most(sink, negative),
+        None => unreachable!(),
+    }
+}
+
+// The first block that doesn't keep to its worth.
+fn first_over<G: OrderedGroup>(net: &Net<G>, flow: &Flow<G>) -> Option<u32>
+    requires { FlowFits net.now flow.now }
+    ensures { MatchOption result
+        (AllWithin net.now flow.now)
+        (λ b. IsFirstNot (KeepsWithin net.now flow.now) (length net.now.worths) b) }
+{
+    let worths = net.worths();
+    let source = flow.source();
+    let sink = flow.sink();
+    for b in 0..worths.len() {
+        if !is_within(worths[b], source[b], sink[b]) {
+            return Some(b as u32);
+        }
+    }
+    None
+}
+
+// Whether each balance stands, or the first that doesn't.
+fn balances<G: OrderedGroup>(net: &Net<G>, flow: &Flow<G>) -> Result<(), PitFault>
+    requires { FlowFits net.now flow.now }
+    ensures { MatchResult result (λ _. AllBalanced net.now flow.now) (λ e. BalanceFault net.now flow.now e) }
+{
+    let rests = net.rests();
+    let source = flow.source();
+    let rest = flow.rest();
+    let sink = flow.sink();
+    for b in 0..rests.len() {
+        match balance_of(rests, source[b as usize], rest, sink[b as usize], b) {
+            Some(true) => {}
+            Some(false) => return Err(PitFault::Unbalanced(b)),
+            None => return Err(PitFault::TooLarge),
+        }
+    }
+    Ok(())
+}
+
+/// Whether the pit is a greatest closed set of the net, by a flow that shows it: the pit is closed,
+/// the flow is one, and the pit sums to what the source could still give. Then no closed set sums to
+/// more, since a closed set sums to at most what the source could still give by any flow (Picard,
+/// Maximal closure of a graph, 1976).
+///
+/// Takes no memory. Its time is linear in the numbers of blocks and pairs, but for the search of a
+/// block in the pit. Answers the first fault, as `PitFault` lists them: sizes, closure, signs,
+/// capacities, the balances of the blocks in turn, and at last whether the pit is tight.
+pub fn check<'a, G: OrderedGroup>(
+    net: &'a Net<G>,
+    pit: &'a Pit,
+    flow: &Flow<G>,
+) -> Result<Accepted<'a, G>, PitFault>
+    ensures found { MatchResult result
+        (λ a. (a.net ≡ net.now) × (a.pit ≡ pit.now) × IsSound net.now flow.now pit.now)
+        (λ e. FaultStands net.now flow.now pit.now e) }
+    ensures complete { IsOfNet net.now pit.now → IsFlow net.now flow.now → IsClosed net.now.pairs (holds_of pit.now)
+        → IsTight net.now flow.now (holds_of pit.now) → SumsFit net.now flow.now pit.now → IsOk result }
+{
+    if !sizes_agree(net, pit, flow) {
+        return Err(PitFault::WrongSize);
+    }
+    if let Some((b, p)) = first_open(net, pit) {
+        return Err(PitFault::NotClosed(b, p));
+    }
+    if !none_below_zero(flow) {
+        return Err(PitFault::Negative);
+    }
+    if let Some(b) = first_over(net, flow) {
+        return Err(PitFault::OverCapacity(b));
+    }
+    balances(net, flow)?;
+    let worth = pit_worth(net, pit).ok_or(PitFault::TooLarge)?;
+    let room = room_left(net, flow).ok_or(PitFault::TooLarge)?;
+    if !same(worth, room) {
+        return Err(PitFault::NotTight);
+    }
+    Ok(Accepted::new(net, pit, worth))
+}

@@ -1,0 +1,207 @@
+//! The first four lines of a certificate, one after another.
+
+ghost use Rattle.std.specs.Prelude.{◌≡◌, ℕ, ◌+◌, ◌^◌, List, drop, MatchOption, MatchResult, Some, None, Ok, Err};
+ghost use Rattle.std.specs.Str.{bytes_eq};
+ghost use Rattle.check_pit.specs.Pieces as pieces;
+ghost use Rattle.check_pit.specs.Pieces.{Unread, Passed, words_of, piece_at, read_line};
+ghost use Rattle.check_pit.specs.Header as spec;
+
+use crate::cert_faults::{CertFault, LineFault};
+use crate::headers::{Header, Price, Wanted};
+use crate::piece_reader::{Pieces, Words};
+use fixed_worth::plain_signed;
+use ordered_group::Group;
+
+const VERSION: &[u8] = b"PITCERT 1";
+
+const BLOCKS: &[u8] = b"BLOCKS";
+
+const PRICE: &[u8] = b"PRICE";
+
+const OBJECTIVE: &[u8] = b"OBJECTIVE";
+
+const GROUP_WORTH: &[u8] = b"GROUP WORTH";
+
+const GROUP_PAIR: &[u8] = b"GROUP PAIR";
+
+/// The most blocks that a model has.
+const MOST_BLOCKS: u32 = 1 << 24;
+/// The highest price factor, in thousandths.
+const HIGHEST_FACTOR: u32 = 10_000;
+
+/// The number that a word is, where it is at least 0 and below the limit.
+pub fn number_below(limit: u32, word: &[u8]) -> Option<u32>
+    ensures { result ≡ pieces.number_below limit word.now }
+{
+    match plain_signed(word) {
+        Ok(number) => if number >= 0 && number < limit as i128 {
+            Some(number as u32)
+        } else {
+            None
+        },
+        Err(_) => None,
+    }
+}
+
+// The second of two words, of which the first is the key.
+fn value_behind<'a>(key: &[u8], text: &'a [u8]) -> Option<&'a [u8]>
+    ensures { MatchOption result (spec.value_behind key.now (words_of text.now) ≡ None) (λ v. spec.value_behind key.now (words_of text.now) ≡ Some v.now) }
+{
+    let mut words = Words::new(text);
+    let Some(first) = words.next() else {
+        return None;
+    };
+    let Some(value) = words.next() else {
+        return None;
+    };
+    if words.next().is_some() || first != key {
+        return None;
+    }
+    Some(value)
+}
+
+fn or_number<T>(read: Option<T>) -> Result<T, LineFault>
+    ensures { result ≡ spec.or_number read }
+{
+    match read {
+        Some(value) => Ok(value),
+        None => Err(LineFault::Number),
+    }
+}
+
+fn version_in(text: &[u8]) -> Result<(), LineFault>
+    ensures { result ≡ spec.version_in text.now }
+{
+    if text == VERSION {
+        Ok(())
+    } else {
+        Err(LineFault::Text)
+    }
+}
+
+fn wanted_blocks(wanted: Option<Wanted>, read: Option<u32>) -> Option<u32>
+    ensures { result ≡ spec.wanted_blocks wanted read }
+{
+    match (wanted, read) {
+        (None, read) => read,
+        (Some(_), None) => None,
+        (Some(wanted), Some(blocks)) => if blocks == wanted.blocks {
+            Some(blocks)
+        } else {
+            None
+        },
+    }
+}
+
+fn blocks_in(wanted: Option<Wanted>, text: &[u8]) -> Result<u32, LineFault>
+    ensures { result ≡ spec.blocks_in wanted text.now }
+{
+    match value_behind(BLOCKS, text) {
+        Some(word) => or_number(wanted_blocks(wanted, number_below(MOST_BLOCKS + 1, word))),
+        None => Err(LineFault::Text),
+    }
+}
+
+fn factor_of(read: Option<u32>) -> Option<Price>
+    ensures { result ≡ spec.factor_of read }
+{
+    match read {
+        Some(factor) => Some(Price::Factor(factor)),
+        None => None,
+    }
+}
+
+fn price_in(text: &[u8]) -> Result<Price, LineFault>
+    ensures { result ≡ spec.price_in text.now }
+{
+    match value_behind(PRICE, text) {
+        Some(word) => if word == OBJECTIVE {
+            Ok(Price::Objective)
+        } else {
+            or_number(factor_of(number_below(HIGHEST_FACTOR + 1, word)))
+        },
+        None => Err(LineFault::Text),
+    }
+}
+
+fn wanted_group(wanted: Option<Wanted>, group: Group) -> Result<Group, LineFault>
+    ensures { result ≡ spec.wanted_group wanted group }
+{
+    match wanted {
+        Some(wanted) => if wanted.group == group {
+            Ok(group)
+        } else {
+            Err(LineFault::Text)
+        },
+        None => Ok(group),
+    }
+}
+
+fn group_in(wanted: Option<Wanted>, text: &[u8]) -> Result<Group, LineFault>
+    ensures { result ≡ spec.group_in wanted text.now }
+{
+    if text == GROUP_WORTH {
+        wanted_group(wanted, Group::Worth)
+    } else if text == GROUP_PAIR {
+        wanted_group(wanted, Group::Pair)
+    } else {
+        Err(LineFault::Text)
+    }
+}
+
+/// What a line gives, or its fault with its number.
+pub fn in_line<T>(number: u64, read: Result<T, LineFault>) -> Result<T, CertFault>
+    ensures { result ≡ pieces.in_line number read }
+{
+    match read {
+        Ok(value) => Ok(value),
+        Err(LineFault::Text) => Err(CertFault::Text(number)),
+        Err(LineFault::Number) => Err(CertFault::Number(number)),
+    }
+}
+
+fn read_version(pieces: &mut Pieces) -> Result<(), CertFault>
+    ensures { MatchResult result (λ x. Passed spec.version_in pieces.old pieces.new x) (λ e. read_line spec.version_in (pieces.old.number + 1) (piece_at pieces.old.pieces 0) ≡ Err e) }
+{
+    let line = pieces.next_line()?;
+    in_line(pieces.number(), version_in(line))
+}
+
+fn read_blocks(pieces: &mut Pieces, wanted: Option<Wanted>) -> Result<u32, CertFault>
+    ensures { MatchResult result (λ x. Passed (spec.blocks_in wanted) pieces.old pieces.new x) (λ e. read_line (spec.blocks_in wanted) (pieces.old.number + 1) (piece_at pieces.old.pieces 0) ≡ Err e) }
+{
+    let line = pieces.next_line()?;
+    in_line(pieces.number(), blocks_in(wanted, line))
+}
+
+fn read_price(pieces: &mut Pieces) -> Result<Price, CertFault>
+    ensures { MatchResult result (λ x. Passed spec.price_in pieces.old pieces.new x) (λ e. read_line spec.price_in (pieces.old.number + 1) (piece_at pieces.old.pieces 0) ≡ Err e) }
+{
+    let line = pieces.next_line()?;
+    in_line(pieces.number(), price_in(line))
+}
+
+fn read_group(pieces: &mut Pieces, wanted: Option<Wanted>) -> Result<Group, CertFault>
+    ensures { MatchResult result (λ x. Passed (spec.group_in wanted) pieces.old pieces.new x) (λ e. read_line (spec.group_in wanted) (pieces.old.number + 1) (piece_at pieces.old.pieces 0) ≡ Err e) }
+{
+    let line = pieces.next_line()?;
+    in_line(pieces.number(), group_in(wanted, line))
+}
+
+/// The header, with these blocks and this group where any are wanted.
+pub fn read_header(pieces: &mut Pieces, wanted: Option<Wanted>) -> Result<Header, CertFault>
+    requires { pieces.old.number ≡ 0 }
+    ensures { MatchResult result
+        (λ h. (spec.header_for wanted pieces.old.pieces ≡ Ok h) × (pieces.new.pieces ≡ drop 4 pieces.old.pieces) × (pieces.new.number ≡ 4))
+        (λ e. spec.header_for wanted pieces.old.pieces ≡ Err e) }
+{
+    read_version(pieces)?;
+    let blocks = read_blocks(pieces, wanted)?;
+    let price = read_price(pieces)?;
+    let group = read_group(pieces, wanted)?;
+    Ok(Header {
+        blocks,
+        price,
+        group,
+    })
+}

@@ -1,0 +1,36 @@
+//! The checker: whether a certificate's flow proves its pit, and how certificates are read.
+//!
+//! Stands on `closure_net`, `fixed_worth`, `ordered_group` and `prec_file`. Promises upward:
+//! whatever `check` accepts is closed, and no closed set sums to more; whatever it refuses has the
+//! fault that it names, and none that comes before it; and a closed, tight pit with a flow whose
+//! sums fit is never refused. `read_certificate` accepts exactly the texts of the grammar, with the
+//! pit and the flow that their lines say, and otherwise names the first faulty line.
+#![tactic(auto)]
+
+mod accepted_pits;
+mod body_reader;
+mod cert_faults;
+mod certificates;
+mod checking;
+mod closing;
+mod faults;
+mod gathering;
+mod header_lines;
+mod headers;
+pub mod laws;
+mod lines_of_body;
+mod piece_reader;
+pub mod reading;
+mod sums;
+
+pub use accepted_pits::Accepted;
+pub use cert_faults::CertFault;
+pub use certificates::{Certificate, read_certificate};
+pub use checking::check;
+pub use faults::PitFault;
+pub use headers::{Header, Price};
+
+#[cfg(test)]
+mod certificate_tests;
+#[cfg(test)]
+mod check_tests;

@@ -1,0 +1,117 @@
+//! The sums of a check. Each is made in a stated order, and stops at the first sum that doesn't fit.
+
+ghost use Rattle.std.specs.Prelude.{◌≡◌, ◌↔◌, ◌<◌, ℕ, ◌⊎◌, IsTrue, map, length, MatchOption};
+ghost use Rattle.ordered_group.specs.Amount.{plus};
+ghost use Rattle.ordered_group.specs.Sums.{amount_at};
+ghost use Rattle.prec_file.specs.Rests.{from_at, to_at};
+ghost use Rattle.closure_net.specs.Network.{holds_of, FlowFits, IsNet};
+ghost use Rattle.closure_net.specs.Closure.{group_worth};
+ghost use Rattle.closure_net.specs.Flows.{inflow, outflow, still_to_give};
+ghost use Rattle.check_pit.specs.Fits.{EndFits, EndLeaves, SetFits, SetLeaves, RoomFits, RoomLeaves};
+
+use closure_net::{Flow, Net, Pit};
+use ordered_group::{OrderedGroup, positive_part, same};
+use prec_file::Rests;
+
+// The start and all that the pairs bring into b.
+pub(crate) fn with_inflow<G: OrderedGroup>(start: G, rests: &Rests, rest: &[G], b: u32) -> Option<G>
+    requires lengths { length rest.now ≡ length rests.now.pairs }
+    requires known { b < rests.now.blocks }
+    ensures { let f = amount_at (map G.parts_of rest.now) in let ps = rests.now.pairs in let m = length ps in MatchOption result
+        (EndLeaves (G.parts_of start) (to_at ps) f b m)
+        (λ r. (G.parts_of r ≡ plus (G.parts_of start) (inflow ps (map G.parts_of rest.now) m b)) × EndFits (G.parts_of start) (to_at ps) f b m) }
+{
+    let mut sum = start;
+    let numbers = rests.below(b);
+    for k in numbers {
+        match sum.try_add(rest[*k as usize]) {
+            Some(next) => sum = next,
+            None => return None,
+        }
+    }
+    Some(sum)
+}
+
+// The start and all that the pairs take out of b.
+pub(crate) fn with_outflow<G: OrderedGroup>(
+    start: G,
+    rests: &Rests,
+    rest: &[G],
+    b: u32,
+) -> Option<G>
+    requires lengths { length rest.now ≡ length rests.now.pairs }
+    requires known { b < rests.now.blocks }
+    ensures { let f = amount_at (map G.parts_of rest.now) in let ps = rests.now.pairs in let m = length ps in MatchOption result
+        (EndLeaves (G.parts_of start) (from_at ps) f b m)
+        (λ r. (G.parts_of r ≡ plus (G.parts_of start) (outflow ps (map G.parts_of rest.now) m b)) × EndFits (G.parts_of start) (from_at ps) f b m) }
+{
+    let mut sum = start;
+    let _n = rests.len();
+    let first = rests.first(b) as usize;
+    let count = rests.above(b).len();
+    for i in 0..count {
+        match sum.try_add(rest[first + i]) {
+            Some(next) => sum = next,
+            None => return None,
+        }
+    }
+    Some(sum)
+}
+
+// Whether b gets what it gives.
+pub(crate) fn balance_of<G: OrderedGroup>(
+    rests: &Rests,
+    source: G,
+    rest: &[G],
+    sink: G,
+    b: u32,
+) -> Option<bool>
+    requires lengths { length rest.now ≡ length rests.now.pairs }
+    requires known { b < rests.now.blocks }
+    ensures { let fs = map G.parts_of rest.now in let ps = rests.now.pairs in let m = length ps in MatchOption result
+        (EndLeaves (G.parts_of source) (to_at ps) (amount_at fs) b m ⊎ EndLeaves (G.parts_of sink) (from_at ps) (amount_at fs) b m)
+        (λ r. EndFits (G.parts_of source) (to_at ps) (amount_at fs) b m
+        × EndFits (G.parts_of sink) (from_at ps) (amount_at fs) b m
+        × (IsTrue r ↔ (plus (G.parts_of source) (inflow ps fs m b) ≡ plus (G.parts_of sink) (outflow ps fs m b)))) }
+{
+    let into = with_inflow(source, rests, rest, b)?;
+    let out = with_outflow(sink, rests, rest, b)?;
+    Some(same(into, out))
+}
+
+// What the pit sums to.
+pub(crate) fn pit_worth<G: OrderedGroup>(net: &Net<G>, pit: &Pit) -> Option<G>
+    ensures sum { let ws = net.now.worths in let e = holds_of pit.now in MatchOption result
+        (SetLeaves ws e)
+        (λ r. (G.parts_of r ≡ group_worth ws e) × SetFits ws e) }
+    ensures net { IsNet net.now }
+{
+    let worths = net.worths();
+    let mut sum = G::zero();
+    for b in 0..worths.len() {
+        if pit.holds(b as u32) {
+            match sum.try_add(worths[b]) {
+                Some(next) => sum = next,
+                None => return None,
+            }
+        }
+    }
+    Some(sum)
+}
+
+// What the source could still give.
+pub(crate) fn room_left<G: OrderedGroup>(net: &Net<G>, flow: &Flow<G>) -> Option<G>
+    requires { FlowFits net.now flow.now }
+    ensures { let ws = net.now.worths in let ss = flow.now.source in MatchOption result
+        (RoomLeaves ws ss)
+        (λ r. (G.parts_of r ≡ still_to_give net.now flow.now) × ((k : ℕ) → k < length ws → RoomFits ws ss k)) }
+{
+    let worths = net.worths();
+    let source = flow.source();
+    let mut sum = G::zero();
+    for b in 0..worths.len() {
+        let room = positive_part(worths[b]).try_sub(source[b])?;
+        sum = sum.try_add(room)?;
+    }
+    Some(sum)
+}

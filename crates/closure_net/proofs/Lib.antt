@@ -1,0 +1,12 @@
+pub mod Holding
+pub mod Ascending
+pub mod SameLists
+pub mod Views
+pub mod Nets
+pub mod Finds
+pub mod Marks
+pub mod Spreads
+pub mod Reach
+pub mod TwoSets
+pub mod BestPits
+pub mod NetSums

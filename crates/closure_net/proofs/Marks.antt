@@ -1,0 +1,78 @@
+-- The marks of a search.
+use Rattle.std.proofs.Common.{rules, ◌^◌, ◌≡◌, ◌≢◌, ℕ, zero, suc, ◌+◌, ◌<◌, ◌≤◌, Bool, true, false, cond, ◌==◌, ◌||◌, ◌⊎◌, inl, inr, List, [], ◌∷◌, ◌++◌, length, get_or, set, replicate, sym, refl, ap, subst, ◌∙◌, arith, add-one, All, length-append, length-set, get_or-set_same, get_or-set_other}
+use Rattle.std.specs.List.{list_any, Any}
+use Rattle.std.proofs.lemmas.List.Folds.{list_any-append, Any-from_list_any, list_any_at}
+use Rattle.std.proofs.lemmas.List.{get_or_default, get_or_push, get_or_append_left}
+use Rattle.std.proofs.lemmas.List.Elements.{All-push, All-nil}
+use Rattle.std.proofs.lemmas.Bool.{cases_eq, cases_Bool, or_left}
+use Rattle.closure_net.specs.Network.{holds_of}
+use Rattle.closure_net.specs.Searches.{trues, IsSearch}
+use Rattle.closure_net.proofs.Holding.{push_holds_last, push_holds_rest}
+
+-- how many marks are set
+pub trues_most : (ts : List Bool) → trues ts ≤ length ts
+trues_most [] = omega arith
+trues_most (true ∷ ts) = omega (arith, trues_most ts)
+trues_most (false ∷ ts) = omega (arith, trues_most ts)
+
+-- one more is set where a mark was not
+trues_set : (ts : List Bool) (i : ℕ) → i < length ts → get_or ts i false ≡ false → trues (set ts i true) ≡ suc (trues ts)
+trues_set [] i h e = absurd (omega arith)
+trues_set (true ∷ ts) zero h e = absurd cc
+trues_set (false ∷ ts) zero h e = refl
+trues_set (true ∷ ts) (suc i) h e = ap suc (trues_set ts i (omega arith) e)
+trues_set (false ∷ ts) (suc i) h e = trues_set ts i (omega arith) e
+
+-- where none is set
+trues_none : (n : ℕ) → trues (replicate n false) ≡ 0
+trues_none zero = refl
+trues_none (suc n) = trues_none n
+
+none_at : (n b : ℕ) → get_or (replicate n false) b false ≡ false
+none_at zero b = refl
+none_at (suc n) zero = refl
+none_at (suc n) (suc b) = none_at n b
+
+length_none : (n : ℕ) → length (replicate n false) ≡ n
+length_none zero = refl
+length_none (suc n) = ap suc (length_none n)
+
+-- a search begins with no mark set
+pub search_none : (n space : ℕ) (marks : List Bool) (found : List ℕ) → n ≤ 2 ^ 24 → n ≤ space → marks ≡ replicate n false → found ≡ [] → IsSearch marks found space
+search_none n space marks found h r e f =
+    let P : List Bool → Type 0 = λ ts. IsSearch ts found space in
+    let Q : List ℕ → Type 0 = λ xs. IsSearch (replicate n false) xs space in
+    subst P (sym e) (subst Q (sym f) (record {
+      few = omega (arith, length_none n);
+      room = omega (arith, length_none n);
+      count = sym (trues_none n);
+      same = λ b. none_at n b;
+      known = All-nil (λ b. b < length (replicate n false));
+    }))
+
+-- there is room for a block that has no mark
+pub search_room : (marks : List Bool) (found : List ℕ) (space b : ℕ) → IsSearch marks found space → b < length marks → get_or marks b false ≡ false → length found < space
+search_room marks found space b h l e =
+    let s = length-set marks b true in
+    omega (arith, trues_most (set marks b true), trues_set marks b l e, h.count, h.room, s)
+
+-- a block that has no mark is found
+pub search_more : (marks : List Bool) (found : List ℕ) (space b : ℕ) → IsSearch marks found space → b < length marks → get_or marks b false ≡ false → IsSearch (set marks b true) (found ++ b ∷ []) space
+search_more marks found space b h l e =
+    let s = length-set marks b true in
+    record {
+      few = omega (arith, s, h.few);
+      room = omega (arith, s, h.room);
+      count = omega (arith, length-append found (b ∷ []), trues_set marks b l e, h.count);
+      same = λ x. elim (cases_eq x b) [
+        | inl z ↦
+            let P : ℕ → Type 0 = λ y. get_or (set marks b true) y false ≡ holds_of (found ++ b ∷ []) y in
+            subst P (sym z) (get_or-set_same marks b true false l ∙ sym (push_holds_last found b))
+        | inr d ↦ get_or-set_other marks b x true false d ∙ h.same x ∙ sym (push_holds_rest found b x (λ q. d (sym q)))
+      ];
+      known = let P : ℕ → Type 0 = λ n. All (λ y. y < n) (found ++ b ∷ []) in subst P (sym s) (All-push (λ y. y < length marks) found b h.known l);
+    }
+
+-- a mark that was read with its own value for default
+pub read_false : (marks : List Bool) (b : ℕ) (t : Bool) → b < length marks → t ≡ get_or marks b t → t ≡ false → get_or marks b false ≡ false
+read_false marks b t h e f = get_or_default marks b false t h ∙ sym e ∙ f

@@ -1,0 +1,162 @@
+-- A search that has passed over all that it found has reached the least set.
+use Rattle.std.proofs.Common.{◌≡◌, ℕ, zero, suc, ◌+◌, ◌<◌, ◌≤◌, ◌==◌, nat_lt, Bool, true, false, ◌⊎◌, inl, inr, List, length, get_or, sym, refl, ap, subst, ◌∙◌, arith, map, All}
+use Rattle.std.proofs.lemmas.Bool.{cases_eq, cases_lt, eq-eqb, eqb-true}
+use Rattle.std.proofs.lemmas.Bool.Decides.{nat_tests}
+use Rattle.std.proofs.lemmas.List.{get_or-map, get_or_default, length-map}
+use Rattle.prec_file.specs.Rests.{from_at, to_at, passing, numbers, above_of, below_of, IsKnown}
+use Rattle.prec_file.proofs.Passing.{passing_at, passing_here, passing_after, passing_grows}
+use Rattle.closure_net.specs.Reached.{IsBegin, Carries, Reaches, IsReached}
+use Rattle.closure_net.specs.Network.{NetView, FlowView, holds_of, IsAscending}
+use Rattle.closure_net.specs.Searches.{Extends, Passed, Always, above_at, sender_at, SendsAt}
+use Rattle.closure_net.proofs.Finds.{holds_grows, get_grows, length_grows}
+use Rattle.closure_net.proofs.Holding.{holds_at, place_of}
+
+-- the blocks before place h were looked at: what is beside them is found, and nothing that a set of this kind could lack
+pub record Searched (net : NetView) (flow : FlowView) (found : List ℕ) (h : ℕ) : Type 0 where
+  pub begun : (b : ℕ) → b < length net.worths → IsBegin net.worths flow.source b → holds_of found b ≡ true
+  pub down : (i k : ℕ) → i < h → k < length net.pairs → from_at net.pairs k ≡ get_or found i 0 → holds_of found (to_at net.pairs k) ≡ true
+  pub up : (i k : ℕ) → i < h → k < length net.pairs → Carries flow.rest k → to_at net.pairs k ≡ get_or found i 0 → holds_of found (from_at net.pairs k) ≡ true
+  pub sound : (c : ℕ → Bool) → Reaches net flow c → (x : ℕ) → holds_of found x ≡ true → c x ≡ true
+
+module _ (net : NetView) (flow : FlowView) (b : ℕ) where
+  -- what is found among the pairs of b
+  down_here : (old new : List ℕ) → Passed Always (above_at net.pairs b) old new (length (above_of net.pairs b)) → (k : ℕ) → k < length net.pairs → from_at net.pairs k ≡ b → holds_of new (to_at net.pairs k) ≡ true
+  down_here old new p k l e =
+      let t = eq-eqb (from_at net.pairs k) b e in
+      let ks = numbers (from_at net.pairs) b (length net.pairs) in
+      let j = length (numbers (from_at net.pairs) b k) in
+      let inside = passing_after (λ i. from_at net.pairs i == b) k (length net.pairs) l t in
+      let h = p.upto j (omega (arith, inside, length-map ks (to_at net.pairs))) tt in
+      let at = get_or-map (to_at net.pairs) ks j 0 0 inside ∙ ap (to_at net.pairs) (passing_here (λ i. from_at net.pairs i == b) k (length net.pairs) l t) in
+      ap (holds_of new) (sym at) ∙ h
+
+  down_only : (c : ℕ → Bool) → Reaches net flow c → c b ≡ true → (j x : ℕ) → j < length (above_of net.pairs b) → above_at net.pairs b j ≡ x → c x ≡ true
+  down_only c r e j x l q =
+      let ks = numbers (from_at net.pairs) b (length net.pairs) in
+      let inside : j < length ks = omega (arith, length-map ks (to_at net.pairs)) in
+      let p = passing_at (λ i. from_at net.pairs i == b) (length net.pairs) j inside in
+      let k = get_or ks j 0 in
+      let at = get_or-map (to_at net.pairs) ks j 0 0 inside in
+      let d = r.down k p.below (ap c (eqb-true (from_at net.pairs k) b p.passes) ∙ e) in
+      ap c (sym q ∙ at) ∙ d
+
+  up_here : (old new : List ℕ) → Passed (SendsAt net.pairs flow.rest b) (sender_at net.pairs b) old new (length (below_of net.pairs b)) → (k : ℕ) → k < length net.pairs → Carries flow.rest k → to_at net.pairs k ≡ b → holds_of new (from_at net.pairs k) ≡ true
+  up_here old new p k l w e =
+      let t = eq-eqb (to_at net.pairs k) b e in
+      let j = length (numbers (to_at net.pairs) b k) in
+      let inside = passing_after (λ i. to_at net.pairs i == b) k (length net.pairs) l t in
+      let at = passing_here (λ i. to_at net.pairs i == b) k (length net.pairs) l t in
+      let P : ℕ → Type 0 = λ i. Carries flow.rest i in
+      let h = p.upto j inside (subst P (sym at) w) in
+      ap (λ i. holds_of new (from_at net.pairs i)) (sym at) ∙ h
+
+  up_only : (c : ℕ → Bool) → Reaches net flow c → c b ≡ true → (j x : ℕ) → j < length (below_of net.pairs b) → SendsAt net.pairs flow.rest b j → sender_at net.pairs b j ≡ x → c x ≡ true
+  up_only c r e j x l w q =
+      let p = passing_at (λ i. to_at net.pairs i == b) (length net.pairs) j l in
+      let k = get_or (below_of net.pairs b) j 0 in
+      let u = r.up k p.below w (ap c (eqb-true (to_at net.pairs k) b p.passes) ∙ e) in
+      ap c (sym q) ∙ u
+
+  pub searched_more : (old mid new : List ℕ) (h : ℕ) → Searched net flow old h → h < length old → b ≡ get_or old h 0
+      → Passed Always (above_at net.pairs b) old mid (length (above_of net.pairs b))
+      → Passed (SendsAt net.pairs flow.rest b) (sender_at net.pairs b) mid new (length (below_of net.pairs b))
+      → Searched net flow new (h + 1)
+  searched_more old mid new h s l e p q =
+      let grows : (x : ℕ) → holds_of old x ≡ true → holds_of new x ≡ true = λ x t. holds_grows mid new x q.grown (holds_grows old mid x p.grown t) in
+      let same : (i : ℕ) → i < length old → get_or new i 0 ≡ get_or old i 0 = λ i r. get_grows mid new i q.grown (omega (arith, length_grows old mid p.grown)) ∙ get_grows old mid i p.grown r in
+      record {
+        begun = λ x r w. grows x (s.begun x r w);
+        down = λ i k r t z. elim (cases_eq i h) [
+          | inl y ↦
+              let P : ℕ → Type 0 = λ j. from_at net.pairs k ≡ get_or new j 0 in
+              holds_grows mid new (to_at net.pairs k) q.grown (down_here old mid p k t (subst P y z ∙ same h l ∙ sym e))
+          | inr d ↦ grows (to_at net.pairs k) (s.down i k (omega arith) t (z ∙ same i (omega arith)))
+        ];
+        up = λ i k r t w z. elim (cases_eq i h) [
+          | inl y ↦
+              let P : ℕ → Type 0 = λ j. to_at net.pairs k ≡ get_or new j 0 in
+              up_here mid new q k t w (subst P y z ∙ same h l ∙ sym e)
+          | inr d ↦ grows (from_at net.pairs k) (s.up i k (omega arith) t w (z ∙ same i (omega arith)))
+        ];
+        sound = λ c r x t.
+            let here : c b ≡ true = ap c e ∙ s.sound c r (get_or old h 0) (holds_at old h l) in
+            elim (q.only x t) [
+              | inl a ↦ elim (p.only x a) [
+                | inl o ↦ s.sound c r x o
+                | inr o ↦ down_only c r here o.0 x o.1 o.3
+              ]
+              | inr a ↦ up_only c r here a.0 x a.1 a.2 a.3
+            ];
+      }
+
+-- where all that is found was looked at
+pub searched_reaches : (net : NetView) (flow : FlowView) (found : List ℕ) (h : ℕ) → Searched net flow found h → length found ≤ h → Reaches net flow (holds_of found)
+searched_reaches net flow found h s l = record {
+  begins = s.begun;
+  down = λ k r t. let a = place_of found (from_at net.pairs k) t in s.down a.0 k (omega (arith, a.1)) r (sym a.2);
+  up = λ k r w t. let a = place_of found (to_at net.pairs k) t in s.up a.0 k (omega (arith, a.1)) r w (sym a.2);
+}
+
+lt_true : (e b : ℕ) → e < b → nat_lt e b ≡ true
+lt_true e b h = grind (arith, nat_tests)
+
+lt_tells : (e b : ℕ) → nat_lt e b ≡ true → e < b
+lt_tells e b h = grind (arith, nat_tests)
+
+-- the known blocks are such a set
+all_reach : (net : NetView) (flow : FlowView) → All (IsKnown (length net.worths)) net.pairs → Reaches net flow (λ x. nat_lt x (length net.worths))
+all_reach net flow h = record {
+  begins = λ b l w. lt_true b (length net.worths) l;
+  down = λ k l t. lt_true (to_at net.pairs k) (length net.worths) (h k (0, 0) l).1;
+  up = λ k l w t. lt_true (from_at net.pairs k) (length net.worths) (h k (0, 0) l).0;
+}
+
+-- a list of all that pass below n holds what passes
+passing_holds : (e : ℕ → Bool) (n x : ℕ) → x < n → e x ≡ true → holds_of (passing e n) x ≡ true
+passing_holds e n x l t =
+    let at = passing_here e x n l t in
+    ap (holds_of (passing e n)) (sym at) ∙ holds_at (passing e n) (length (passing e x)) (passing_after e x n l t)
+
+passing_held : (e : ℕ → Bool) (n x : ℕ) → holds_of (passing e n) x ≡ true → e x ≡ true
+passing_held e n x t =
+    let a = place_of (passing e n) x t in
+    let p = passing_at e n a.0 a.1 in
+    ap e (sym a.2) ∙ p.passes
+
+-- the search's end
+pub reached : (net : NetView) (flow : FlowView) (found : List ℕ) (h n : ℕ) (pit : List ℕ) → n ≡ length net.worths → All (IsKnown (length net.worths)) net.pairs → Searched net flow found h → length found ≤ h → pit ≡ passing (holds_of found) n → IsReached net flow (holds_of pit)
+reached net flow found h n pit e k s l q =
+    let r = searched_reaches net flow found h s l in
+    let e' = holds_of found in
+    let known : (x : ℕ) → e' x ≡ true → x < n = λ x t. let z = lt_tells x (length net.worths) (s.sound _ (all_reach net flow k) x t) in omega (arith, z, e) in
+    let P : List ℕ → Type 0 = λ xs. IsReached net flow (holds_of xs) in
+    let known_to : (i : ℕ) → i < length net.pairs → (from_at net.pairs i < length net.worths) × (to_at net.pairs i < length net.worths) = λ i z. k i (0, 0) z in
+    let all : IsReached net flow (holds_of (passing e' n)) = (
+      record {
+        begins = λ b z w. passing_holds e' n b (omega (arith, e)) (r.begins b z w);
+        down = λ i z t. passing_holds e' n (to_at net.pairs i) (omega (arith, e, (known_to i z).1)) (r.down i z (passing_held e' n (from_at net.pairs i) t));
+        up = λ i z w t. passing_holds e' n (from_at net.pairs i) (omega (arith, e, (known_to i z).0)) (r.up i z w (passing_held e' n (to_at net.pairs i) t));
+      },
+      λ c d x t. s.sound c d x (passing_held e' n x t),
+    ) in
+    subst P (sym q) all
+
+-- a list of all that pass below n ascends, and is of numbers below n
+pub ascends : (e : ℕ → Bool) (n : ℕ) (pit : List ℕ) → pit ≡ passing e n → IsAscending pit
+ascends e n pit q =
+    let P : List ℕ → Type 0 = λ xs. IsAscending xs in
+    subst P (sym q) (λ i j l r.
+    let a = passing_at e n i (omega arith) in
+    let b = passing_at e n j r in
+    elim (cases_lt (get_or (passing e n) i 0) (get_or (passing e n) j 0)) [
+      | inl y ↦ y
+      | inr y ↦ absurd (omega (arith, passing_grows e (get_or (passing e n) j 0) (get_or (passing e n) i 0) y, a.place, b.place))
+    ])
+
+pub passing_known : (e : ℕ → Bool) (n : ℕ) (pit : List ℕ) → pit ≡ passing e n → All (λ b. b < n) pit
+passing_known e n pit q =
+    let P : List ℕ → Type 0 = λ xs. All (λ b. b < n) xs in
+    subst P (sym q) (λ k d l.
+    let p = passing_at e n k l in
+    let z : get_or (passing e n) k 0 ≡ get_or (passing e n) k d = get_or_default (passing e n) k 0 d l in
+    omega (arith, p.below, z))

@@ -1,0 +1,54 @@
+-- The model that the files of a mine denote, its pits, and which of them is best.
+use Rattle.std.specs.Prelude.{◌≡◌, ◌≢◌, ◌↔◌, ℕ, ◌<◌, ℤ, ◌≤ℤ◌, Bool, IsTrue, length, Contains}
+use Rattle.ordered_group.specs.Amount.{Amount}
+use Rattle.ordered_group.specs.Sums.{amount_at}
+use Rattle.ordered_group.specs.Sets.{worth_in, count_in, IsBefore}
+use Rattle.closure_net.specs.Network.{NetView}
+
+-- How many blocks there are, which block rests on which, and what each block is worth in billionths. A set of blocks is a test.
+pub record Mine : Type 0 where
+  pub blocks : ℕ
+  pub rests : ℕ → ℕ → Bool
+  pub worth : ℕ → ℤ
+
+-- the set holds every block that a block of it rests on
+abbrev pub IsPit : Mine → (ℕ → Bool) → Type 0
+IsPit mine e = (b p : ℕ) → IsTrue (mine.rests b p) → IsTrue (e b) → IsTrue (e p)
+
+-- the sum of the worths of the set's blocks, and their number
+abbrev pub worth_of : Mine → (ℕ → Bool) → ℤ
+worth_of mine e = worth_in mine.worth e mine.blocks
+
+abbrev pub count_of : Mine → (ℕ → Bool) → ℕ
+count_of mine e = count_in e mine.blocks
+
+-- two sets have the same blocks
+abbrev pub AreSame : Mine → (ℕ → Bool) → (ℕ → Bool) → Type 0
+AreSame mine e c = (b : ℕ) → b < mine.blocks → e b ≡ c b
+
+-- a pit, and no pit is worth more
+pub record IsRichest (mine : Mine) (e : ℕ → Bool) : Type 0 where
+  pub is_pit : IsPit mine e
+  pub most : (c : ℕ → Bool) → IsPit mine c → worth_of mine c ≤ℤ worth_of mine e
+
+-- The best pit: no pit is worth more, and every other pit that is worth the same has more blocks.
+pub record IsBest (mine : Mine) (e : ℕ → Bool) : Type 0 where
+  pub is_pit : IsPit mine e
+  pub most : (c : ℕ → Bool) → IsPit mine c → worth_of mine c ≤ℤ worth_of mine e
+  pub fewest : (c : ℕ → Bool) → IsPit mine c → ¬ (AreSame mine c e) → worth_of mine c ≡ worth_of mine e → count_of mine e < count_of mine c
+
+-- the second mine has the blocks of the first, which rest on the same ones, and none is worth less
+pub record RisesTo (mine later : Mine) : Type 0 where
+  pub blocks : later.blocks ≡ mine.blocks
+  pub rests : (b p : ℕ) → later.rests b p ≡ mine.rests b p
+  pub worths : (b : ℕ) → b < mine.blocks → mine.worth b ≤ℤ later.worth b
+
+-- every block of the first set is in the second
+abbrev pub LiesWithin : Mine → (ℕ → Bool) → (ℕ → Bool) → Type 0
+LiesWithin mine e c = (b : ℕ) → b < mine.blocks → IsTrue (e b) → IsTrue (c b)
+
+-- the net is that of the mine, each worth being the amount of one block
+pub record IsNetOf (block : ℤ → ℕ → Amount) (mine : Mine) (net : NetView) : Type 0 where
+  pub blocks : length net.worths ≡ mine.blocks
+  pub worths : (b : ℕ) → b < mine.blocks → amount_at net.worths b ≡ block (mine.worth b) mine.blocks
+  pub pairs : (b p : ℕ) → Contains net.pairs (b, p) ↔ IsTrue (mine.rests b p)

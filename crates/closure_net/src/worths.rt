@@ -1,0 +1,65 @@
+//! Whether amounts can be the worths of a net, and the amounts of blocks.
+
+ghost use Rattle.std.specs.Prelude.{◌≡◌, map, MatchBool, MatchResult};
+ghost use Rattle.closure_net.specs.Faults.{OppositesFit, OppositeLeaves, PositivesFit, PositivesLeave, WorthsFit, WorthsLeave, AmountsFaultStands};
+
+use crate::networks::NetFault;
+use ordered_group::{OrderedGroup, negative_part, positive_part};
+use std::alloc::Global;
+
+// Whether the opposite of each worth fits.
+fn opposites_fit<G: OrderedGroup>(worths: &[G]) -> bool
+    ensures { let ws = map G.parts_of worths.now in MatchBool result (OppositesFit ws) (OppositeLeaves ws) }
+{
+    for w in worths {
+        match negative_part(*w) {
+            Some(_) => {}
+            None => return false,
+        }
+    }
+    true
+}
+
+// Whether each sum of the positive worths in their order fits.
+fn positives_fit<G: OrderedGroup>(worths: &[G]) -> bool
+    ensures { let ws = map G.parts_of worths.now in MatchBool result (PositivesFit ws) (PositivesLeave ws) }
+{
+    let mut sum = G::zero();
+    for w in worths {
+        match sum.try_add(positive_part(*w)) {
+            Some(more) => sum = more,
+            None => return false,
+        }
+    }
+    true
+}
+
+// Whether these can be the worths of a net.
+pub(crate) fn worths_fit<G: OrderedGroup>(worths: &[G]) -> bool
+    ensures { let ws = map G.parts_of worths.now in MatchBool result (WorthsFit ws) (WorthsLeave ws) }
+{
+    opposites_fit(worths) && positives_fit(worths)
+}
+
+// The amounts of the blocks of a model of n blocks, by their worths in billionths.
+pub(crate) fn amounts_of_blocks<G: OrderedGroup>(
+    alloc: Global,
+    nanos: &[i128],
+    n: u32,
+) -> Result<Vec<G>, NetFault>
+    ensures { MatchResult result
+        (λ v. map G.parts_of v.items ≡ map (λ x. G.block_parts x n) nanos.now)
+        (λ e. AmountsFaultStands G.block_parts n nanos.now e) }
+{
+    let mut amounts: Vec<G> = Vec::new(alloc);
+    for x in nanos {
+        let Some(amount) = G::of_block(*x, n) else {
+            return Err(NetFault::TooLarge);
+        };
+        match amounts.push(amount) {
+            Ok(()) => {}
+            Err(_) => return Err(NetFault::NoMemory),
+        }
+    }
+    Ok(amounts)
+}

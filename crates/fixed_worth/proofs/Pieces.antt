@@ -1,0 +1,110 @@
+-- A text that is sent in pieces: what the writer received of each makes up what it received of all.
+use Rattle.std.proofs.Common.{◌≡◌, ℕ, ◌+◌, ◌≤◌, List, [], ◌++◌, length, take, drop, Option, refl, sym, ap, subst, ◌∙◌, append_assoc, append-nil, length-append, arith}
+use Rattle.std.proofs.Math.Seq.{take-append-add, take-length, take-add}
+use Rattle.std.proofs.lemmas.List.{take-append-le, take_all}
+use Rattle.std.proofs.KnownBytes.{Appends-trans, Appends-nil, Appends-kept}
+use Rattle.std.specs.Io.KnownBytes.{Appends, Keeps}
+use Rattle.fixed_worth.specs.Device.{ReceivedPrefix, SentOrHeld}
+
+-- ---- all of a piece, or a prefix of it
+
+-- both pieces, one after the other, are the text of both
+pub both_sent : (a b c : Option (List ℕ)) (xs ys : List ℕ) → Appends a b xs → Appends b c ys → Appends a c (xs ++ ys)
+both_sent = Appends-trans
+
+-- nothing received is a prefix of any text
+pub nothing_is_prefix : (a b : Option (List ℕ)) (xs : List ℕ) → Keeps a b → ReceivedPrefix a b xs
+nothing_is_prefix a b xs same = (0, omega arith, Appends-kept a a b [] (Appends-nil a) same)
+
+-- the whole text is a prefix of itself
+pub whole_is_prefix : (a b : Option (List ℕ)) (xs : List ℕ) → Appends a b xs → ReceivedPrefix a b xs
+whole_is_prefix a b xs sent = (length xs, omega arith, subst (Appends a b) (sym (take-length xs)) sent)
+
+-- a prefix of the first piece is a prefix of both together
+pub prefix_of_first : (a b : Option (List ℕ)) (xs ys : List ℕ) → ReceivedPrefix a b xs → ReceivedPrefix a b (xs ++ ys)
+prefix_of_first a b xs ys (k, most, sent) =
+    (k, omega (arith, length-append xs ys), subst (Appends a b) (sym (take-append-le k xs ys most)) sent)
+
+-- a prefix of a text's front is a prefix of the text
+pub prefix_of_part : (a b : Option (List ℕ)) (front rest text : List ℕ) → front ++ rest ≡ text → ReceivedPrefix a b front → ReceivedPrefix a b text
+prefix_of_part a b front rest text whole part = subst (ReceivedPrefix a b) whole (prefix_of_first a b front rest part)
+
+-- all of the first piece, and a prefix of the second, is a prefix of both together
+pub prefix_of_second : (a b c : Option (List ℕ)) (xs ys : List ℕ) → Appends a b xs → ReceivedPrefix b c ys → ReceivedPrefix a c (xs ++ ys)
+prefix_of_second a b c xs ys first (k, most, second) = (
+  length xs + k,
+  omega (arith, length-append xs ys),
+  subst (Appends a c) (sym (take-append-add xs ys k)) (Appends-trans a b c xs (take k ys) first second),
+)
+
+-- ---- a text that is sent from its front on
+
+-- one more write
+pub sent_more : (a b c : Option (List ℕ)) (done taken : ℕ) (text rest : List ℕ)
+    → Appends a b (take done text) → rest ≡ drop done text → Appends b c (take taken rest) → Appends a c (take (done + taken) text)
+sent_more a b c done taken text rest front here next =
+    subst (Appends a c) (sym (take-add done taken text ∙ ap (λ l. take done text ++ take taken l) (sym here)))
+    (Appends-trans a b c (take done text) (take taken rest) front next)
+
+-- all that there is
+pub sent_all : (a b : Option (List ℕ)) (done : ℕ) (text : List ℕ) → length text ≤ done → Appends a b (take done text) → Appends a b text
+sent_all a b done text end = subst (Appends a b) (take_all done text end)
+
+-- a write failed
+pub sent_part : (a b c : Option (List ℕ)) (done : ℕ) (text : List ℕ) → done ≤ length text → Appends a b (take done text) → Keeps b c → ReceivedPrefix a c text
+sent_part a b c done text most front same = (done, most, Appends-kept a b c (take done text) front same)
+
+-- ---- a text of which a part is held back
+
+-- at the beginning nothing is sent, and what is held is the text
+pub all_held : (a : Option (List ℕ)) (held : List ℕ) → SentOrHeld a a held held
+all_held a held = record { sent = []; received = Appends-nil a; whole = refl }
+
+-- what was held is sent, and a further piece with it: nothing is held
+pub none_held : (a b c : Option (List ℕ)) (held piece : List ℕ) → Appends a b held → Appends b c piece → SentOrHeld a c [] (held ++ piece)
+none_held a b c held piece first second =
+    record { sent = held ++ piece; received = Appends-trans a b c held piece first second; whole = append-nil (held ++ piece) }
+
+-- one more piece, of which a part may be held
+pub held_more : (a b c : Option (List ℕ)) (held rest text piece : List ℕ)
+    → SentOrHeld a b held text → SentOrHeld b c rest (held ++ piece) → SentOrHeld a c rest (text ++ piece)
+held_more a b c held rest text piece so more = record {
+  sent = so.sent ++ more.sent;
+  received = Appends-trans a b c so.sent more.sent so.received more.received;
+  whole = append_assoc so.sent more.sent rest ∙ ap (λ l. so.sent ++ l) more.whole
+      ∙ sym (append_assoc so.sent held piece) ∙ ap (λ l. l ++ piece) so.whole;
+}
+
+-- where what is held is sent, the whole text is
+pub held_sent : (a b c : Option (List ℕ)) (held text : List ℕ) → SentOrHeld a b held text → Appends b c held → Appends a c text
+held_sent a b c held text so last = subst (Appends a c) so.whole (Appends-trans a b c so.sent held so.received last)
+
+-- where a prefix of what is held is sent, a prefix of the whole text is
+pub held_prefix : (a b c : Option (List ℕ)) (held text : List ℕ) → SentOrHeld a b held text → ReceivedPrefix b c held → ReceivedPrefix a c text
+held_prefix a b c held text so last =
+    subst (ReceivedPrefix a c) so.whole (prefix_of_second a b c so.sent held so.received last)
+
+-- where a prefix of what is held and a further piece is sent, a prefix of the text and that piece is
+pub held_more_prefix : (a b c : Option (List ℕ)) (held text piece : List ℕ)
+    → SentOrHeld a b held text → ReceivedPrefix b c (held ++ piece) → ReceivedPrefix a c (text ++ piece)
+held_more_prefix a b c held text piece so last =
+    subst (ReceivedPrefix a c) (sym (append_assoc so.sent held piece) ∙ ap (λ l. l ++ piece) so.whole)
+    (prefix_of_second a b c so.sent (held ++ piece) so.received last)
+
+-- ---- two pieces that are put one after the other
+
+-- both are sent or held
+pub held_both : (a b c : Option (List ℕ)) (before between after xs ys : List ℕ)
+    → SentOrHeld a b between (before ++ xs) → SentOrHeld b c after (between ++ ys) → SentOrHeld a c after (before ++ (xs ++ ys))
+held_both a b c before between after xs ys first second =
+    subst (SentOrHeld a c after) (append_assoc before xs ys) (held_more a b c between after (before ++ xs) ys first second)
+
+-- a write failed in the first
+pub prefix_in_first : (a b : Option (List ℕ)) (before xs ys : List ℕ) → ReceivedPrefix a b (before ++ xs) → ReceivedPrefix a b (before ++ (xs ++ ys))
+prefix_in_first a b before xs ys = prefix_of_part a b (before ++ xs) ys (before ++ (xs ++ ys)) (append_assoc before xs ys)
+
+-- a write failed in the second
+pub prefix_in_second : (a b c : Option (List ℕ)) (before between xs ys : List ℕ)
+    → SentOrHeld a b between (before ++ xs) → ReceivedPrefix b c (between ++ ys) → ReceivedPrefix a c (before ++ (xs ++ ys))
+prefix_in_second a b c before between xs ys first second =
+    subst (ReceivedPrefix a c) (append_assoc before xs ys) (held_more_prefix a b c between (before ++ xs) ys first second)

@@ -1,0 +1,32 @@
+-- Records of a text: numbered lines, whole numbers in their fields, and which lines are skipped.
+use Rattle.std.specs.Prelude.{ℕ, ◌+◌, ◌==◌, Bool, true, false, List, [], ◌∷◌, is_ok}
+use Rattle.std.specs.Result.{result_unwrap_or}
+use Rattle.fixed_worth.specs.Numeral.{whole_of}
+
+-- A line and its number.
+pub record Line : Type 0 where
+  pub number : ℕ
+  pub text : List ℕ
+
+-- The lines, numbered from k + 1 on.
+abbrev pub numbered : ℕ → List (List ℕ) → List Line
+numbered k [] = []
+numbered k (text ∷ texts) = record { number = k + 1; text = text } ∷ numbered (k + 1) texts
+
+-- The field is a whole number.
+abbrev pub reads : List ℕ → Bool
+reads field = is_ok (whole_of field)
+
+-- The whole number that a field is; 0 where it is none.
+abbrev pub number_of : List ℕ → ℕ
+number_of field = result_unwrap_or (whole_of field) 0
+
+-- The field begins with a percent sign: its line is a remark.
+abbrev pub is_remark : List ℕ → Bool
+is_remark [] = false
+is_remark (b ∷ bs) = b == 37
+
+-- The line has no field, or is a remark.
+abbrev pub is_skipped : List (List ℕ) → Bool
+is_skipped [] = true
+is_skipped (field ∷ fields) = is_remark field

@@ -1,0 +1,65 @@
+//! A line of output that is made without memory.
+
+ghost use Rattle.std.specs.Prelude.{◌≡◌, ℕ, ◌+◌, ◌≤◌, [], ◌++◌, length};
+ghost use Rattle.std.specs.Fmt.{decimal};
+
+use crate::numbered::WrittenNumber;
+use std::marker::Model;
+
+/// At most 192 bytes, put together piece by piece.
+#[derive(Drop)]
+pub struct ShortLine {
+    bytes: [u8; 192],
+    len: usize,
+}
+
+impl Model for ShortLine {
+    ghost use Rattle.std.specs.Prelude.{ℕ, ◌≤◌, List, take};
+
+    ghost Value = { List ℕ };
+
+    ghost view = { λ l. take l.len l.bytes };
+
+    ghost invariant = { λ l. l.len ≤ 192 };
+}
+
+impl ShortLine {
+    /// An empty line.
+    pub fn new() -> ShortLine
+        ensures { result ≡ [] }
+    {
+        ShortLine {
+            bytes: [0; 192],
+            len: 0,
+        }
+    }
+
+    /// The line with a text at its end.
+    pub fn push(&mut self, text: &[u8])
+        requires { length self.old + length text.now ≤ 192 }
+        ensures text { self.new ≡ self.old ++ text.now }
+        ensures length { length self.new ≡ length self.old + length text.now }
+    {
+        let end = self.len + text.len();
+        let all = &mut self.bytes[..];
+        all[self.len..end].copy_from_slice(text);
+        self.len = end;
+    }
+
+    /// The line with a number's digits at its end.
+    pub fn push_number(&mut self, n: u128)
+        requires { length self.old + 39 ≤ 192 }
+        ensures text { self.new ≡ self.old ++ decimal n }
+        ensures length { length self.new ≤ length self.old + 39 }
+    {
+        self.push(WrittenNumber::of(n).as_bytes());
+    }
+
+    /// The bytes of the line.
+    pub fn as_bytes(&self) -> &[u8]
+        ensures { result.now ≡ self.now }
+    {
+        let (line, _) = self.bytes.split_at(self.len);
+        line
+    }
+}

@@ -1,0 +1,82 @@
+-- What is wrong with a record, given the records before it.
+use Rattle.std.proofs.Common.{◌≡◌, ℕ, ◌+◌, ◌^◌, ◌<◌, ◌≤◌, ◌≢◌, Bool, true, false, cond, not, eqb, List, length, Option, Some, None, refl, sym, ap, ◌∙◌, arith}
+use Rattle.std.specs.Prelude.{nat_le, nat_lt}
+use Rattle.std.specs.List.{list_all, list_any}
+use Rattle.std.proofs.lemmas.Bool.Decides.{nat_tests}
+use Rattle.std.proofs.lemmas.List.{length-map}
+use Rattle.prec_file.specs.declared.prec_fault.PrecFault.{PrecFault}
+use Rattle.prec_file.specs.declared.prec_fault.PrecFault.TheVariants.{Text, Number, UnknownBlock, Repeated, WrongCount, TooMany}
+use Rattle.fixed_worth.specs.Record.{reads, is_skipped}
+use Rattle.prec_file.specs.Records.{block_of, count_of, predecessors_of, pairs_in, shape_fault, history_fault, record_fault, or_else}
+use Rattle.prec_file.proofs.Shapes.{known}
+
+-- A record with no fault of its own has a known block.
+pub third : (a b c : Bool) (x y z : PrecFault) → cond a (Some x) (cond b (Some y) (cond c (Some z) None)) ≡ None → c ≡ false
+third true b c x y z h = cc
+third false true c x y z h = cc
+third false false true x y z h = cc
+third false false false x y z h = refl
+
+pub shape_block : (n line : ℕ) (fs : List (List ℕ)) → shape_fault n line fs ≡ None → block_of fs < n
+unfolding shape_fault
+shape_block n line fs h = known n (block_of fs) (list_any (nat_le n) (predecessors_of fs)) (third (nat_lt (length fs) 2) (not (list_all reads fs)) _ (Text line) (Number line) (UnknownBlock line) h)
+
+pub history_same : (g h : ℕ → Bool) (k line : ℕ) (fs : List (List ℕ)) → g (block_of fs) ≡ h (block_of fs) → history_fault g k line fs ≡ history_fault h k line fs
+unfolding history_fault
+history_same g h k line fs e = rw e refl
+
+-- Only what is known of blocks below n counts.
+same_at : (n : ℕ) (g h : ℕ → Bool) (k line : ℕ) (fs : List (List ℕ)) → ((b : ℕ) → b < n → g b ≡ h b) → (o : Option PrecFault) → shape_fault n line fs ≡ o
+    → or_else (shape_fault n line fs) (history_fault g k line fs) ≡ or_else (shape_fault n line fs) (history_fault h k line fs)
+same_at n g h k line fs e (Some x) f = rw f refl
+same_at n g h k line fs e None f = rw f (history_same g h k line fs (e (block_of fs) (shape_block n line fs f)))
+
+pub record_same : (n : ℕ) (g h : ℕ → Bool) (k line : ℕ) (fs : List (List ℕ)) → ((b : ℕ) → b < n → g b ≡ h b) → record_fault n g k line fs ≡ record_fault n h k line fs
+record_same n g h k line fs e = ap (cond (is_skipped fs) None) (same_at n g h k line fs e (shape_fault n line fs) refl)
+
+pub or_none : (o p : Option PrecFault) → or_else o p ≡ None → o ≡ None
+or_none (Some e) p h = h
+or_none None p h = refl
+
+pub none_behind : (s : Bool) (o : Option PrecFault) → cond s None o ≡ None → s ≡ false → o ≡ None
+none_behind true o h f = cc
+none_behind false o h f = h
+
+pub record_block : (n : ℕ) (had : ℕ → Bool) (k line : ℕ) (fs : List (List ℕ)) → record_fault n had k line fs ≡ None → is_skipped fs ≡ false → block_of fs < n
+record_block n had k line fs h s = shape_block n line fs (or_none (shape_fault n line fs) (history_fault had k line fs) (none_behind (is_skipped fs) _ h s))
+
+-- The faults that stand on the records before.
+pub repeated : (n : ℕ) (had : ℕ → Bool) (k line b : ℕ) (fs : List (List ℕ)) → is_skipped fs ≡ false → shape_fault n line fs ≡ None → b ≡ block_of fs → had b ≡ true → record_fault n had k line fs ≡ Some (Repeated line)
+unfolding history_fault
+repeated n had k line b fs s f e h =
+    let t : had (block_of fs) ≡ true = sym (ap had e) ∙ h in
+    rw (s, f, t) refl
+
+pub wrong_count : (n : ℕ) (had : ℕ → Bool) (k line b count found : ℕ) (fs : List (List ℕ)) → is_skipped fs ≡ false → shape_fault n line fs ≡ None → b ≡ block_of fs → had b ≡ false
+    → count ≡ count_of fs → found ≡ length (predecessors_of fs) → count ≢ found → record_fault n had k line fs ≡ Some (WrongCount line)
+unfolding history_fault
+wrong_count n had k line b count found fs s f e h p q ne =
+    let t : had (block_of fs) ≡ false = sym (ap had e) ∙ h in
+    let u : eqb (count_of fs) (length (predecessors_of fs)) ≡ false = grind (arith, nat_tests) in
+    rw (s, f, t, u) refl
+
+pub too_many : (n : ℕ) (had : ℕ → Bool) (k line b count found : ℕ) (fs : List (List ℕ)) → is_skipped fs ≡ false → shape_fault n line fs ≡ None → b ≡ block_of fs → had b ≡ false
+    → count ≡ count_of fs → found ≡ length (predecessors_of fs) → count ≡ found → 2 ^ 27 < k + found → record_fault n had k line fs ≡ Some (TooMany line)
+unfolding history_fault
+too_many n had k line b count found fs s f e h p q same large =
+    let t : had (block_of fs) ≡ false = sym (ap had e) ∙ h in
+    let u : eqb (count_of fs) (length (predecessors_of fs)) ≡ true = grind (arith, nat_tests) in
+    let v : nat_lt (2 ^ 27) (k + length (predecessors_of fs)) ≡ true = grind (arith, nat_tests) in
+    rw (s, f, t, u, v) refl
+
+pub no_fault : (n : ℕ) (had : ℕ → Bool) (k line b count found : ℕ) (fs : List (List ℕ)) → is_skipped fs ≡ false → shape_fault n line fs ≡ None → b ≡ block_of fs → had b ≡ false
+    → count ≡ count_of fs → found ≡ length (predecessors_of fs) → count ≡ found → k + found ≤ 2 ^ 27 → record_fault n had k line fs ≡ None
+unfolding history_fault
+no_fault n had k line b count found fs s f e h p q same few =
+    let t : had (block_of fs) ≡ false = sym (ap had e) ∙ h in
+    let u : eqb (count_of fs) (length (predecessors_of fs)) ≡ true = grind (arith, nat_tests) in
+    let v : nat_lt (2 ^ 27) (k + length (predecessors_of fs)) ≡ false = grind (arith, nat_tests) in
+    rw (s, f, t, u, v) refl
+
+pub pairs_length : (fs : List (List ℕ)) → is_skipped fs ≡ false → length (pairs_in fs) ≡ length (predecessors_of fs)
+pairs_length fs s = rw s (length-map (predecessors_of fs) (λ p. (block_of fs, p)))

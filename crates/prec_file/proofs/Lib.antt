@@ -1,0 +1,12 @@
+pub mod Passing
+pub mod Slots
+pub mod Starts
+pub mod Below
+pub mod Order
+pub mod Sorting
+pub mod Finding
+pub mod Shapes
+pub mod History
+pub mod KnownPairs
+pub mod Marks
+pub mod Progress

@@ -1,0 +1,96 @@
+-- Reading line after line.
+use Rattle.std.proofs.Common.{◌≡◌, ℕ, ◌+◌, ◌<◌, ◌≤◌, Bool, true, false, List, [], ◌∷◌, ◌++◌, length, get_or, Option, Some, None, refl, sym, ap, ◌∙◌, subst, arith, append_assoc, append-nil}
+use Rattle.std.specs.Prelude.{nat_lt}
+use Rattle.std.proofs.lemmas.Bool.Decides.{nat_tests}
+use Rattle.std.proofs.lemmas.List.Concat.{flat_map-append}
+use Rattle.fixed_worth.specs.Text.{Left, BeginsTooLong, fields_of, lines_of}
+use Rattle.prec_file.specs.declared.prec_fault.PrecFault.{PrecFault}
+use Rattle.prec_file.specs.declared.prec_fault.PrecFault.TheVariants.{Text}
+use Rattle.fixed_worth.specs.Record.{Line, numbered, is_skipped}
+use Rattle.prec_file.specs.Records.{block_of, pairs_in, blocks_in, record_fault, fault_behind, or_else, has, blocks_of, pairs_of, first_fault, fault_of, listed, marked}
+use Rattle.prec_file.proofs.History.{record_same, record_block}
+use Rattle.prec_file.proofs.Marks.{mark}
+
+-- What has been read, and what is left.
+pub record ReadSoFar (n : ℕ) (text : List ℕ) (seen : List Bool) (pairs : List (ℕ × ℕ)) (left : Left) : Type 0 where
+  pub before : List Line
+  pub fault : first_fault n before (numbered left.number left.lines) ≡ fault_of n text
+  pub all : pairs ++ pairs_of (numbered left.number left.lines) ≡ listed text
+  pub pairs_so : pairs ≡ pairs_of before
+  pub seen_so : (b : ℕ) → b < n → get_or seen b false ≡ has (blocks_of before) b
+
+-- The fault of the next line is that of its record, as the reader knows it.
+pub behind : (n : ℕ) (text : List ℕ) (seen : List Bool) (pairs : List (ℕ × ℕ)) (left : Left) (g : ReadSoFar n text seen pairs left) (k : ℕ) (line : List ℕ) → length line ≤ 65536
+    → fault_behind n g.before (record { number = k; text = line }) ≡ record_fault n (λ b. get_or seen b false) (length pairs) k (fields_of line)
+behind n text seen pairs left g k line h =
+    let short : nat_lt 65536 (length line) ≡ false = grind (arith, nat_tests) in
+    let e : record_fault n (has (blocks_of g.before)) (length (pairs_of g.before)) k (fields_of line) ≡ record_fault n (λ b. get_or seen b false) (length (pairs_of g.before)) k (fields_of line) =
+    record_same n (has (blocks_of g.before)) (λ b. get_or seen b false) (length (pairs_of g.before)) k (fields_of line) (λ b i. sym (g.seen_so b i)) in
+    rw (short) (e ∙ ap (λ (ps : List (ℕ × ℕ)). record_fault n (λ b. get_or seen b false) (length ps) k (fields_of line)) (sym g.pairs_so))
+
+pub next_fault : (n : ℕ) (before : List Line) (left next : Left) (line : List ℕ) → left.lines ≡ line ∷ next.lines → next.number ≡ left.number + 1
+    → first_fault n before (numbered left.number left.lines) ≡ or_else (fault_behind n before (record { number = next.number; text = line })) (first_fault n (before ++ record { number = next.number; text = line } ∷ []) (numbered next.number next.lines))
+next_fault n before left next line e f = rw (e, f) refl
+
+pub goes_wrong : (n : ℕ) (text : List ℕ) (seen : List Bool) (pairs : List (ℕ × ℕ)) (left next : Left) (line : List ℕ) (x : PrecFault) → ReadSoFar n text seen pairs left
+    → left.lines ≡ line ∷ next.lines → next.number ≡ left.number + 1 → length line ≤ 65536
+    → record_fault n (λ b. get_or seen b false) (length pairs) next.number (fields_of line) ≡ Some x → fault_of n text ≡ Some x
+goes_wrong n text seen pairs left next line x g e f h w =
+    let l : Line = record { number = next.number; text = line } in
+    sym g.fault ∙ next_fault n g.before left next line e f
+    ∙ ap (λ (o : Option PrecFault). or_else o (first_fault n (g.before ++ l ∷ []) (numbered next.number next.lines))) (behind n text seen pairs left g next.number line h ∙ w)
+
+pub goes_on : (n : ℕ) (text : List ℕ) (seen more : List Bool) (pairs others : List (ℕ × ℕ)) (left next : Left) (line : List ℕ) → ReadSoFar n text seen pairs left → length seen ≡ n
+    → left.lines ≡ line ∷ next.lines → next.number ≡ left.number + 1 → length line ≤ 65536
+    → record_fault n (λ b. get_or seen b false) (length pairs) next.number (fields_of line) ≡ None
+    → others ≡ pairs ++ pairs_in (fields_of line) → more ≡ marked (fields_of line) seen → ReadSoFar n text more others next
+goes_on n text seen more pairs others left next line g e f h i w p m =
+    let l : Line = record { number = next.number; text = line } in
+    let rest = numbered next.number next.lines in
+    let a : pairs_of (numbered left.number left.lines) ≡ pairs_in (fields_of line) ++ pairs_of rest = rw (f, h) refl in
+    let bs : blocks_of (g.before ++ l ∷ []) ≡ blocks_of g.before ++ blocks_in (fields_of line) = flat_map-append (λ x. blocks_in (fields_of x.text)) g.before (l ∷ []) ∙ ap (λ (xs : List ℕ). blocks_of g.before ++ xs) (append-nil (blocks_in (fields_of line))) in
+    let ps : pairs_of (g.before ++ l ∷ []) ≡ pairs_of g.before ++ pairs_in (fields_of line) = flat_map-append (λ x. pairs_in (fields_of x.text)) g.before (l ∷ []) ∙ ap (λ (xs : List (ℕ × ℕ)). pairs_of g.before ++ xs) (append-nil (pairs_in (fields_of line))) in
+    record {
+      before = g.before ++ l ∷ [];
+      fault = sym (ap (λ (o : Option PrecFault). or_else o (first_fault n (g.before ++ l ∷ []) rest)) (behind n text seen pairs left g next.number line i ∙ w)) ∙ sym (next_fault n g.before left next line f h) ∙ g.fault;
+      all = ap (λ (xs : List (ℕ × ℕ)). xs ++ pairs_of rest) p ∙ append_assoc pairs (pairs_in (fields_of line)) (pairs_of rest) ∙ ap (λ (xs : List (ℕ × ℕ)). pairs ++ xs) (sym a) ∙ g.all;
+      pairs_so = p ∙ ap (λ (xs : List (ℕ × ℕ)). xs ++ pairs_in (fields_of line)) g.pairs_so ∙ sym ps;
+      seen_so = λ b j. ap (λ (xs : List Bool). get_or xs b false) m ∙ mark (is_skipped (fields_of line)) n seen (blocks_of g.before) (block_of (fields_of line)) e (record_block n _ (length pairs) next.number (fields_of line) w) g.seen_so b j ∙ ap (λ (xs : List ℕ). has xs b) (sym bs);
+    }
+
+begins_long : (n k : ℕ) (before : List Line) (lines : List (List ℕ)) → BeginsTooLong lines → first_fault n before (numbered k lines) ≡ Some (Text (k + 1))
+begins_long n k before [] h = absurd h
+begins_long n k before (line ∷ lines) h = let t : nat_lt 65536 (length line) ≡ true = grind (arith, nat_tests) in rw t refl
+
+pub too_long : (n : ℕ) (text : List ℕ) (seen : List Bool) (pairs : List (ℕ × ℕ)) (left : Left) → ReadSoFar n text seen pairs left → BeginsTooLong left.lines → fault_of n text ≡ Some (Text (left.number + 1))
+too_long n text seen pairs left g h = sym g.fault ∙ begins_long n left.number g.before left.lines h
+
+pub done : (n : ℕ) (text : List ℕ) (seen : List Bool) (pairs : List (ℕ × ℕ)) (left : Left) → ReadSoFar n text seen pairs left → left.lines ≡ [] → (fault_of n text ≡ None) × (pairs ≡ listed text)
+done n text seen pairs left g e =
+    let none : pairs_of (numbered left.number left.lines) ≡ [] = rw e refl in (
+      sym g.fault ∙ ap (λ (ls : List (List ℕ)). first_fault n g.before (numbered left.number ls)) e,
+      sym (append-nil pairs) ∙ ap (λ (xs : List (ℕ × ℕ)). pairs ++ xs) (sym none) ∙ g.all,
+    )
+
+pub begins : (n : ℕ) (text : List ℕ) (seen : List Bool) (left : Left) → left.lines ≡ lines_of text → left.number ≡ 0 → ((b : ℕ) → b < n → get_or seen b false ≡ false) → ReadSoFar n text seen [] left
+begins n text seen left e f h = record {
+  before = [];
+  fault = rw (e, f) refl;
+  all = rw (e, f) refl;
+  pairs_so = refl;
+  seen_so = h;
+}
+
+-- The same, where the reader has the line's number apart.
+pub step_on : (n k : ℕ) (text : List ℕ) (seen more : List Bool) (pairs others : List (ℕ × ℕ)) (left next : Left) (line : List ℕ) → ReadSoFar n text seen pairs left → length seen ≡ n → k ≡ next.number
+    → left.lines ≡ line ∷ next.lines → next.number ≡ left.number + 1 → length line ≤ 65536
+    → record_fault n (λ b. get_or seen b false) (length pairs) k (fields_of line) ≡ None
+    → others ≡ pairs ++ pairs_in (fields_of line) → more ≡ marked (fields_of line) seen → ReadSoFar n text more others next
+step_on n k text seen more pairs others left next line g e j f h i w p m =
+    goes_on n text seen more pairs others left next line g e f h i (subst (λ (x : ℕ). record_fault n (λ b. get_or seen b false) (length pairs) x (fields_of line) ≡ None) j w) p m
+
+pub step_wrong : (n k : ℕ) (text : List ℕ) (seen : List Bool) (pairs : List (ℕ × ℕ)) (left next : Left) (line : List ℕ) (x : PrecFault) → ReadSoFar n text seen pairs left → k ≡ next.number
+    → left.lines ≡ line ∷ next.lines → next.number ≡ left.number + 1 → length line ≤ 65536
+    → record_fault n (λ b. get_or seen b false) (length pairs) k (fields_of line) ≡ Some x → fault_of n text ≡ Some x
+step_wrong n k text seen pairs left next line x g j f h i w =
+    goes_wrong n text seen pairs left next line x g f h i (subst (λ (y : ℕ). record_fault n (λ b. get_or seen b false) (length pairs) y (fields_of line) ≡ Some x) j w)

@@ -1,0 +1,15 @@
+use Rattle.std.proofs.Common.{◌≡◌, ◌^◌, ◌≤◌, length, All}
+use Rattle.prec_file.specs.Rests.{IsKnown}
+use Rattle.prec_file.proofs.Progress.{ReadSoFar}
+use Rattle.prec_file.proofs.reading.read_pairs.Given as goal
+
+abbrev pub invariant-loop-line : goal.invariant-loop-line
+invariant-loop-line l = record {
+  going : ReadSoFar l.n l.text l.seen.items l.pairs.items l.lines;
+  all : length l.seen.items ≡ l.n;
+  room : length l.pairs.items ≤ 2 ^ 27;
+  known : All (IsKnown l.n) l.pairs.items;
+}
+
+abbrev pub decreases-loop-line : goal.decreases-loop-line
+decreases-loop-line l = length l.lines.lines

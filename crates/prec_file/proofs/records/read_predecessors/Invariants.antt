@@ -1,0 +1,18 @@
+use Rattle.std.proofs.Common.{◌≡◌, ◌+◌, ◌<◌, ◌≤◌, ◌++◌, false, length, map}
+use Rattle.std.specs.Prelude.{◌||◌, nat_le}
+use Rattle.std.specs.List.{list_all, list_any}
+use Rattle.fixed_worth.specs.Record.{reads, number_of}
+use Rattle.prec_file.proofs.records.read_predecessors.Given as goal
+
+-- what is found in what is read, with what is left, is what is found in all
+abbrev pub invariant-loop-field : goal.invariant-loop-field
+invariant-loop-field l =
+    let left = map (λ f. f.text) l.field-iterator in
+    let all = map (λ f. f.text) l.fn.fields in
+    record {
+      good : list_all reads left ≡ list_all reads all;
+      known : (l.unknown || list_any (nat_le l.n) (map number_of left)) ≡ (nat_le l.n l.block || list_any (nat_le l.n) (map number_of all));
+      count : l.found + length left ≡ length all;
+      few : length all ≤ 65536;
+      pairs : l.unknown ≡ false → (l.block < l.n) × (l.pairs.items ++ map (λ p. (l.block, p)) (map number_of left) ≡ l.fn.pairs.items ++ map (λ p. (l.block, p)) (map number_of all));
+    }

@@ -1,0 +1,4 @@
+pub mod Rests
+pub mod Answer
+pub mod Records
+pub mod Printed

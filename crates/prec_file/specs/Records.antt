@@ -1,0 +1,98 @@
+-- What a precedence file says, over its list of lines.
+use Rattle.std.specs.Prelude.{ℕ, ◌+◌, ◌^◌, ◌==◌, ◌||◌, Bool, true, not, cond, List, [], ◌∷◌, ◌++◌, length, map, nat_lt, nat_le, Option, Some, None, slice_set}
+use Rattle.std.specs.List.{list_all, list_any, flat_map}
+use Rattle.fixed_worth.specs.Text.{lines_of, fields_of}
+use Rattle.fixed_worth.specs.Record.{Line, numbered, reads, number_of, is_skipped}
+use Rattle.prec_file.specs.declared.prec_fault.PrecFault.{PrecFault}
+use Rattle.prec_file.specs.declared.prec_fault.PrecFault.TheVariants.{Text, Number, UnknownBlock, Repeated, WrongCount, TooMany, NoMemory}
+
+-- A record's first field is its block.
+abbrev pub block_of : List (List ℕ) → ℕ
+block_of [] = 0
+block_of (block ∷ fields) = number_of block
+
+-- Its second field is how many predecessors it lists.
+abbrev pub count_of : List (List ℕ) → ℕ
+count_of [] = 0
+count_of (block ∷ fields) = block_of fields
+
+-- The further fields are the predecessors.
+abbrev pub predecessors_of : List (List ℕ) → List ℕ
+predecessors_of [] = []
+predecessors_of (block ∷ []) = []
+predecessors_of (block ∷ count ∷ fields) = map number_of fields
+
+-- What is wrong with a record by itself: too few fields, a field that is no number, or an unknown block.
+unfoldable pub shape_fault : ℕ → ℕ → List (List ℕ) → Option PrecFault
+shape_fault n line fields =
+    cond (nat_lt (length fields) 2) (Some (Text line))
+    (cond (not (list_all reads fields)) (Some (Number line))
+    (cond (nat_le n (block_of fields) || list_any (nat_le n) (predecessors_of fields)) (Some (UnknownBlock line))
+    None))
+
+-- What is wrong with it, given which blocks had records before and how many predecessors these listed.
+unfoldable pub history_fault : (ℕ → Bool) → ℕ → ℕ → List (List ℕ) → Option PrecFault
+history_fault had before line fields =
+    cond (had (block_of fields)) (Some (Repeated line))
+    (cond (not (count_of fields == length (predecessors_of fields))) (Some (WrongCount line))
+    (cond (nat_lt (2 ^ 27) (before + length (predecessors_of fields))) (Some (TooMany line))
+    None))
+
+-- The first of two faults, if any.
+abbrev pub or_else : Option PrecFault → Option PrecFault → Option PrecFault
+or_else (Some e) o = Some e
+or_else None o = o
+
+-- The fault of a line's fields: a skipped line has none.
+abbrev pub record_fault : ℕ → (ℕ → Bool) → ℕ → ℕ → List (List ℕ) → Option PrecFault
+record_fault n had before line fields = cond (is_skipped fields) None (or_else (shape_fault n line fields) (history_fault had before line fields))
+
+-- The fault of a line: one of more than 65,536 bytes is faulty even where it would be skipped.
+abbrev pub line_fault : ℕ → (ℕ → Bool) → ℕ → Line → Option PrecFault
+line_fault n had before l = cond (nat_lt 65536 (length l.text)) (Some (Text l.number)) (record_fault n had before l.number (fields_of l.text))
+
+-- The block whose record a line is, if it is one.
+abbrev pub blocks_in : List (List ℕ) → List ℕ
+blocks_in fields = cond (is_skipped fields) [] (block_of fields ∷ [])
+
+-- The pairs that a line lists: its block with each of its predecessors.
+abbrev pub pairs_in : List (List ℕ) → List (ℕ × ℕ)
+pairs_in fields = cond (is_skipped fields) [] (map (λ p. (block_of fields, p)) (predecessors_of fields))
+
+-- The blocks whose records the lines are.
+abbrev pub blocks_of : List Line → List ℕ
+blocks_of lines = flat_map (λ l. blocks_in (fields_of l.text)) lines
+
+-- The pairs that the lines list, in their order.
+abbrev pub pairs_of : List Line → List (ℕ × ℕ)
+pairs_of lines = flat_map (λ l. pairs_in (fields_of l.text)) lines
+
+-- The block is among these.
+abbrev pub has : List ℕ → ℕ → Bool
+has blocks b = list_any (λ x. x == b) blocks
+
+-- The fault of a line behind other lines.
+abbrev pub fault_behind : ℕ → List Line → Line → Option PrecFault
+fault_behind n before l = line_fault n (has (blocks_of before)) (length (pairs_of before)) l
+
+-- The fault of the first faulty line, if any, behind these lines.
+abbrev pub first_fault : ℕ → List Line → List Line → Option PrecFault
+first_fault n before [] = None
+first_fault n before (l ∷ lines) = or_else (fault_behind n before l) (first_fault n (before ++ l ∷ []) lines)
+
+-- The fault of a text for n blocks, if any.
+abbrev pub fault_of : ℕ → List ℕ → Option PrecFault
+fault_of n text = first_fault n [] (numbered 0 (lines_of text))
+
+-- The pairs that a text lists, in its order.
+abbrev pub listed : List ℕ → List (ℕ × ℕ)
+listed text = pairs_of (numbered 0 (lines_of text))
+
+-- The marks of the blocks that have had a record, once this line is read.
+abbrev pub marked : List (List ℕ) → List Bool → List Bool
+marked fields seen = cond (is_skipped fields) seen (slice_set seen (block_of fields) true)
+
+-- The fault is want of memory, or the claim holds.
+abbrev pub UnlessMemory : PrecFault → Type 0 → Type 0
+UnlessMemory NoMemory claim = Unit {0}
+UnlessMemory _ claim = claim

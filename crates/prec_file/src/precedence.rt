@@ -1,0 +1,191 @@
+//! Who rests on whom, by block and by predecessor.
+
+ghost use Rattle.std.specs.Prelude.{◌≡◌, ℕ, ◌+◌, ◌^◌, ◌<◌, ◌≤◌, All, IfOk, MatchResult, MatchOption, length, slice_index_or, map, ◌==◌, not};
+ghost use Rattle.std.specs.List.{filter, Contains};
+ghost use Rattle.prec_file.specs.Rests.{RestsView, IsRests, IsIndexed, IsKnown, KnownAt, IsFirstNot, IsRising, ArePairsOf, first_of, above_of, below_of};
+ghost use Rattle.prec_file.specs.Answer.{FaultStands};
+
+use crate::RestsFault;
+use crate::index::{filled_by, part, starts_of};
+use crate::pair_order::{bottoms_of, in_order, only_apart, tops_of};
+use std::alloc::{AllocError, Global};
+use std::marker::Model;
+
+/// Pairs (b, p) of n blocks, in which b rests on p: each once, ordered by b and then by p.
+#[derive(Drop)]
+pub struct Rests {
+    blocks: u32,
+    pairs: Vec<(u32, u32)>,
+    // at each block up to n, the number of its first pair
+    firsts: Vec<u32>,
+    // the predecessor of each pair
+    tops: Vec<u32>,
+    // at each block up to n, how many pairs have a predecessor below it
+    starts: Vec<u32>,
+    // the numbers of the pairs, by predecessor
+    filled: Vec<u32>,
+}
+
+impl Model for Rests {
+    ghost Value = { RestsView };
+
+    ghost view = { λ r. record { blocks = r.blocks; pairs = r.pairs.items } };
+
+    ghost invariant = { λ r. IsIndexed r.blocks r.pairs.items r.firsts.items r.tops.items r.starts.items r.filled.items };
+}
+
+// The two indexes of pairs in order.
+pub(crate) fn indexed(alloc: Global, n: u32, pairs: Vec<(u32, u32)>) -> Result<Rests, AllocError>
+    requires blocks { n ≤ 2 ^ 24 }
+    requires few { length pairs.items ≤ 2 ^ 27 }
+    requires known { All (IsKnown n) pairs.items }
+    requires rising { IsRising pairs.items }
+    ensures { IfOk result (λ r. (r.blocks ≡ n) × (r.pairs ≡ pairs.items)) }
+{
+    let bottoms = bottoms_of(alloc, &pairs)?;
+    let firsts = starts_of(alloc, n, &bottoms)?;
+    let tops = tops_of(alloc, &pairs)?;
+    let starts = starts_of(alloc, n, &tops)?;
+    let filled = filled_by(alloc, n, &tops, &starts)?;
+    Ok(Rests {
+        blocks: n,
+        pairs,
+        firsts,
+        tops,
+        starts,
+        filled,
+    })
+}
+
+// Pairs of known blocks, but those of a block with itself, put in order in their own place.
+pub(crate) fn settled(alloc: Global, n: u32, pairs: Vec<(u32, u32)>) -> Result<Rests, AllocError>
+    requires blocks { n ≤ 2 ^ 24 }
+    requires few { length pairs.items ≤ 2 ^ 27 }
+    requires known { All (IsKnown n) pairs.items }
+    ensures { IfOk result (λ r. (r.blocks ≡ n) × ArePairsOf pairs.items r.pairs) }
+{
+    indexed(alloc, n, in_order(only_apart(pairs)))
+}
+
+// The first pair with a block at n or above.
+fn first_unknown(n: u32, listed: &[(u32, u32)]) -> Option<usize>
+    ensures { MatchOption result (All (IsKnown n) listed.now) (λ i. IsFirstNot (KnownAt n listed.now) (length listed.now) i) }
+{
+    for (i, (b, p)) in listed.iter().enumerate() {
+        if *b >= n || *p >= n {
+            return Some(i);
+        }
+    }
+    None
+}
+
+impl Rests {
+    /// The pairs that are listed for n blocks. Pairs of a block with itself and repeats are dropped.
+    ///
+    /// # Errors
+    /// In this order: `UnknownBlock` with the place of the first pair that has a block at n or above, `TooMany` for
+    /// more than 2^27 listed pairs, and `NoMemory`.
+    pub fn from_pairs(alloc: Global, n: u32, listed: &[(u32, u32)]) -> Result<Rests, RestsFault>
+        requires { n ≤ 2 ^ 24 }
+        ensures { MatchResult result (λ r. (r.blocks ≡ n) × ArePairsOf listed.now r.pairs) (λ e. FaultStands n listed.now e) }
+    {
+        match first_unknown(n, listed) {
+            Some(i) => return Err(RestsFault::UnknownBlock(i)),
+            None => {}
+        }
+        if listed.len() > 134_217_728 {
+            return Err(RestsFault::TooMany);
+        }
+        let Ok(pairs) = Vec::from_slice(alloc, listed) else {
+            return Err(RestsFault::NoMemory);
+        };
+        match settled(alloc, n, pairs) {
+            Ok(rests) => Ok(rests),
+            Err(_) => Err(RestsFault::NoMemory),
+        }
+    }
+
+    /// The same pairs, with memory of their own.
+    pub fn copy(&self, alloc: Global) -> Result<Rests, AllocError>
+        ensures { IfOk result (λ r. r ≡ self.now) }
+    {
+        let pairs = Vec::from_slice(alloc, &self.pairs)?;
+        let firsts = Vec::from_slice(alloc, &self.firsts)?;
+        let tops = Vec::from_slice(alloc, &self.tops)?;
+        let starts = Vec::from_slice(alloc, &self.starts)?;
+        let filled = Vec::from_slice(alloc, &self.filled)?;
+        Ok(Rests {
+            blocks: self.blocks,
+            pairs,
+            firsts,
+            tops,
+            starts,
+            filled,
+        })
+    }
+
+    /// How many blocks there are.
+    pub fn len(&self) -> u32
+        ensures is { result ≡ self.now.blocks }
+        ensures all { IsRests self.now }
+    {
+        self.blocks
+    }
+
+    /// How many pairs there are.
+    pub fn pairs(&self) -> u32
+        ensures { result ≡ length self.now.pairs }
+    {
+        self.pairs.len() as u32
+    }
+
+    /// The pair of this number: a block, and the block that it rests on.
+    pub fn pair(&self, i: u32) -> (u32, u32)
+        requires { i < length self.now.pairs }
+        ensures { result ≡ slice_index_or self.now.pairs i (0, 0) }
+    {
+        self.pairs[i as usize]
+    }
+
+    /// The number of b's first pair, or of the first pair of the blocks behind b where b has none.
+    pub fn first(&self, b: u32) -> u32
+        requires { b < self.now.blocks }
+        ensures { result ≡ first_of self.now.pairs b }
+    {
+        self.firsts[b as usize]
+    }
+
+    /// The blocks that b rests on, ascending: those of the pairs from `first(b)` on.
+    pub fn above(&self, b: u32) -> &[u32]
+        requires { b < self.now.blocks }
+        ensures { result.now ≡ above_of self.now.pairs b }
+    {
+        let from = self.firsts[b as usize];
+        let to = self.firsts[b as usize + 1];
+        part(&self.tops, from, to)
+    }
+
+    /// The numbers of the pairs in which a block rests on p, ascending.
+    pub fn below(&self, p: u32) -> &[u32]
+        requires { p < self.now.blocks }
+        ensures { result.now ≡ below_of self.now.pairs p }
+    {
+        let from = self.starts[p as usize];
+        let to = self.starts[p as usize + 1];
+        part(&self.filled, from, to)
+    }
+
+    /// The number of the pair (b, p), if there is one.
+    pub fn find(&self, b: u32, p: u32) -> Option<u32>
+        requires { b < self.now.blocks }
+        ensures { MatchOption result
+            (¬ (Contains self.now.pairs (b, p)))
+            (λ k. (k < length self.now.pairs) × (slice_index_or self.now.pairs k (0, 0) ≡ (b, p))) }
+    {
+        let first = self.firsts[b as usize];
+        match self.above(b).binary_search(&p) {
+            Ok(i) => Some(first + i as u32),
+            Err(_) => None,
+        }
+    }
+}

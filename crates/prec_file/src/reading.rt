@@ -1,0 +1,102 @@
+//! Reading a precedence file.
+
+ghost use Rattle.std.specs.Prelude.{◌≡◌, ◌≤◌, ◌^◌, ◌++◌, false, length, slice_index_or, All, MatchResult};
+ghost use Rattle.fixed_worth.specs.Text.{fields_of};
+ghost use Rattle.prec_file.specs.Rests.{ArePairsOf, IsKnown};
+ghost use Rattle.prec_file.specs.Records.{record_fault, pairs_in, fault_of, listed, marked, UnlessMemory};
+
+use crate::precedence::settled;
+use crate::records::read_record;
+use crate::{PrecFault, Rests};
+use fixed_worth::Lines;
+use std::alloc::Global;
+
+// Reads a line, adds its pairs, and marks its block as seen.
+fn read_line(
+    seen: &mut [bool],
+    pairs: &mut Vec<(u32, u32)>,
+    text: &[u8],
+    n: u32,
+    line: u64,
+) -> Result<(), PrecFault>
+    requires short { length text.now ≤ 65536 }
+    requires all { length seen.old ≡ n }
+    requires room { length pairs.old.items ≤ 2 ^ 27 }
+    ensures { MatchResult result
+        (λ _. (record_fault n (λ b. slice_index_or seen.old b false) (length pairs.old.items) line (fields_of text.now) ≡ None)
+        × (pairs.new.items ≡ pairs.old.items ++ pairs_in (fields_of text.now))
+        × (length pairs.new.items ≤ 2 ^ 27)
+        × (seen.new ≡ marked (fields_of text.now) seen.old))
+        (λ e. UnlessMemory e (record_fault n (λ b. slice_index_or seen.old b false) (length pairs.old.items) line (fields_of text.now) ≡ Some e)) }
+{
+    let before = pairs.as_slice().len();
+    match read_record(pairs, text, n, line) {
+        Ok(Some(record)) => {
+            if seen[record.block as usize] {
+                return Err(PrecFault::Repeated(line));
+            }
+            if record.count != record.found {
+                return Err(PrecFault::WrongCount(line));
+            }
+            if before as u64 + record.found > 1 << 27 {
+                return Err(PrecFault::TooMany(line));
+            }
+            seen[record.block as usize] = true;
+            Ok(())
+        }
+        Ok(None) => Ok(()),
+        Err(fault) => Err(fault),
+    }
+}
+
+// The pairs that a text lists, in its order.
+fn read_pairs(alloc: Global, text: &[u8], n: u32) -> Result<Vec<(u32, u32)>, PrecFault>
+    requires { n ≤ 2 ^ 24 }
+    ensures { MatchResult result
+        (λ pairs. (fault_of n text.now ≡ None) × (pairs.items ≡ listed text.now)
+        × (length pairs.items ≤ 2 ^ 27) × All (IsKnown n) pairs.items)
+        (λ e. UnlessMemory e (fault_of n text.now ≡ Some e)) }
+{
+    let Ok(mut seen) = vec![in alloc; false; n as usize] else {
+        return Err(PrecFault::NoMemory);
+    };
+    let mut pairs = Vec::new(alloc);
+    let mut lines = Lines::new(text);
+    loop {
+        match lines.next_line() {
+            Ok(Some(line)) => {
+                let number = lines.number();
+                match read_line(seen.as_mut_slice(), &mut pairs, line, n, number) {
+                    Ok(()) => {}
+                    Err(fault) => return Err(fault),
+                }
+            }
+            Ok(None) => return Ok(pairs),
+            Err(_) => return Err(PrecFault::Text(lines.number() + 1)),
+        }
+    }
+}
+
+/// The pairs that a precedence file lists for n blocks.
+///
+/// Each line is a record `b k p1 .. pk`: block b rests on its k predecessors. Lines without a field, and those whose
+/// first field begins with `%`, are skipped. A block with no record has no predecessor. Pairs of a block with itself
+/// and repeats are dropped.
+///
+/// # Errors
+/// That of the first faulty line, and of its faults the first in this order: `Text` for more than 65,536 bytes or fewer
+/// than two fields, `Number`, `UnknownBlock`, `Repeated`, `WrongCount`, `TooMany`. `NoMemory` where a growth was refused.
+pub fn read_prec(alloc: Global, text: &[u8], n: u32) -> Result<Rests, PrecFault>
+    requires { n ≤ 2 ^ 24 }
+    ensures { MatchResult result
+        (λ r. (fault_of n text.now ≡ None) × (r.blocks ≡ n) × ArePairsOf (listed text.now) r.pairs)
+        (λ e. UnlessMemory e (fault_of n text.now ≡ Some e)) }
+{
+    match read_pairs(alloc, text, n) {
+        Ok(pairs) => match settled(alloc, n, pairs) {
+            Ok(rests) => Ok(rests),
+            Err(_) => Err(PrecFault::NoMemory),
+        },
+        Err(fault) => Err(fault),
+    }
+}

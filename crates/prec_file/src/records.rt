@@ -1,0 +1,107 @@
+//! The records of a precedence file: `b k p1 .. pk`, a block, how many predecessors it has, and these.
+
+ghost use Rattle.std.specs.Prelude.{◌≡◌, ℕ, ◌<◌, ◌≤◌, ◌^◌, ◌||◌, ◌++◌, false, length, map, nat_le, MatchResult, MatchOption, IsTrue};
+ghost use Rattle.std.specs.List.{list_all, list_any};
+ghost use Rattle.fixed_worth.specs.Text.{Run, fields_of};
+ghost use Rattle.fixed_worth.specs.Record.{reads, number_of, is_skipped};
+ghost use Rattle.prec_file.specs.Records.{block_of, count_of, predecessors_of, shape_fault, pairs_in, UnlessMemory};
+
+use crate::PrecFault;
+use fixed_worth::{Fields, is_remark, whole};
+
+// A record whose blocks are known.
+#[derive(Clone, Copy)]
+pub(crate) struct Record {
+    pub block: u32,
+    // the number of predecessors that it claims
+    pub count: u64,
+    // the number of those that it has
+    pub found: u64,
+}
+
+// Reads a block's predecessors: whether one of all these isn't known, and how many they are. A field that is no number
+// comes before an unknown block, so the fields are read to the end.
+fn read_predecessors(
+    pairs: &mut Vec<(u32, u32)>,
+    fields: Fields,
+    block: u64,
+    n: u32,
+    line: u64,
+) -> Result<(bool, u64), PrecFault>
+    requires { length fields ≤ 65536 }
+    ensures { MatchResult result
+        (λ r. IsTrue (list_all reads (map (λ f. f.text) fields.entry))
+        × (r.0 ≡ (nat_le n block || list_any (nat_le n) (map number_of (map (λ f. f.text) fields.entry))))
+        × (r.1 ≡ length fields.entry)
+        × (r.0 ≡ false → pairs.new.items ≡ pairs.old.items ++ map (λ p. (block, p)) (map number_of (map (λ f. f.text) fields.entry))))
+        (λ e. UnlessMemory e ((e ≡ PrecFault.Number line) × (list_all reads (map (λ f. f.text) fields.entry) ≡ false))) }
+{
+    let mut unknown = block >= n as u64;
+    let mut found: u64 = 0;
+    for field in fields {
+        match whole(field.text) {
+            Ok(predecessor) => {
+                if block < n as u64 && predecessor < n as u64 {
+                    if pairs.push((block as u32, predecessor as u32)).is_err() {
+                        return Err(PrecFault::NoMemory);
+                    }
+                } else {
+                    unknown = true;
+                }
+                found += 1;
+            }
+            Err(_) => return Err(PrecFault::Number(line)),
+        }
+    }
+    Ok((unknown, found))
+}
+
+// Reads a line that may be a record, and adds its pairs.
+pub(crate) fn read_record(
+    pairs: &mut Vec<(u32, u32)>,
+    text: &[u8],
+    n: u32,
+    line: u64,
+) -> Result<Option<Record>, PrecFault>
+    requires { length text.now ≤ 65536 }
+    ensures { MatchResult result
+        (λ given. MatchOption given
+        (IsTrue (is_skipped (fields_of text.now)) × (pairs.new.items ≡ pairs.old.items))
+        (λ r. (is_skipped (fields_of text.now) ≡ false)
+        × (shape_fault n line (fields_of text.now) ≡ None)
+        × (r.block ≡ block_of (fields_of text.now)) × (r.block < n)
+        × (r.count ≡ count_of (fields_of text.now))
+        × (r.found ≡ length (predecessors_of (fields_of text.now))) × (r.found ≤ 65536)
+        × (pairs.new.items ≡ pairs.old.items ++ pairs_in (fields_of text.now))))
+        (λ e. UnlessMemory e ((is_skipped (fields_of text.now) ≡ false) × (shape_fault n line (fields_of text.now) ≡ Some e))) }
+{
+    let mut fields = Fields::new(text);
+    let Some(first) = fields.next() else {
+        return Ok(None);
+    };
+    if is_remark(first.text) {
+        return Ok(None);
+    }
+    let Some(second) = fields.next() else {
+        return Err(PrecFault::Text(line));
+    };
+    let Ok(block) = whole(first.text) else {
+        return Err(PrecFault::Number(line));
+    };
+    let Ok(count) = whole(second.text) else {
+        return Err(PrecFault::Number(line));
+    };
+    match read_predecessors(pairs, fields, block, n, line) {
+        Ok((unknown, found)) => {
+            if unknown {
+                return Err(PrecFault::UnknownBlock(line));
+            }
+            Ok(Some(Record {
+                block: block as u32,
+                count,
+                found,
+            }))
+        }
+        Err(fault) => Err(fault),
+    }
+}

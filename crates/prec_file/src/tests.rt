@@ -1,0 +1,81 @@
+use crate::{PrecFault, Rests, RestsFault, read_prec};
+use std::alloc::Global;
+use std::test::Fail;
+
+#[test]
+fn index_of_pairs(rt: HostRuntime) -> Result<(), Fail> {
+    let alloc: Global = rt.alloc();
+    let rests = Rests::from_pairs(alloc, 3, &[(2, 0), (0, 0), (2, 0), (1, 2)])?;
+    assert_eq!(rt; (rests.len(), rests.pairs()), (3, 2));
+    assert_eq!(rt; (rests.pair(0), rests.pair(1)), ((1, 2), (2, 0)));
+    assert_eq!(rt; rests.above(2), [0].as_slice());
+    assert_eq!(rt; rests.first(2), 1);
+    assert_eq!(rt; rests.below(0), [1].as_slice());
+    assert_eq!(rt; rests.find(1, 2), Some(0));
+    assert_eq!(rt; rests.find(2, 0), Some(1));
+    assert_eq!(rt; rests.find(0, 0), None);
+    Ok(())
+}
+
+#[test]
+fn copy_has_the_same_pairs(rt: HostRuntime) -> Result<(), Fail> {
+    let alloc: Global = rt.alloc();
+    let rests = Rests::from_pairs(alloc, 3, &[(2, 0), (1, 2)])?;
+    let copy = rests.copy(alloc)?;
+    assert_eq!(rt; (copy.len(), copy.pairs()), (3, 2));
+    assert_eq!(rt; (copy.pair(0), copy.pair(1)), ((1, 2), (2, 0)));
+    assert_eq!(rt; copy.below(0), [1].as_slice());
+    Ok(())
+}
+
+#[test]
+fn unknown_pair(rt: HostRuntime) -> Result<(), Fail> {
+    let alloc: Global = rt.alloc();
+    let wrong = Rests::from_pairs(alloc, 3, &[(2, 0), (0, 0), (2, 0), (1, 2), (3, 0)]);
+    assert!(rt; matches!(wrong, Err(RestsFault::UnknownBlock(4))));
+    Ok(())
+}
+
+fn fault(alloc: Global, text: &[u8]) -> Option<PrecFault> {
+    read_prec(alloc, text, 4).err()
+}
+
+#[test]
+fn faults_of_files(rt: HostRuntime) -> Result<(), Fail> {
+    let alloc: Global = rt.alloc();
+    assert_eq!(rt; fault(alloc, b"3 2 1"), Some(PrecFault::WrongCount(1)));
+    assert_eq!(rt; fault(alloc, b"3 1 1\n3 0"), Some(PrecFault::Repeated(2)));
+    assert_eq!(rt; fault(alloc, b"3 1 4"), Some(PrecFault::UnknownBlock(1)));
+    assert_eq!(rt; fault(alloc, b"3"), Some(PrecFault::Text(1)));
+    assert_eq!(rt; fault(alloc, b"% first\n\n3 x"), Some(PrecFault::Number(3)));
+    Ok(())
+}
+
+#[test]
+fn files_without_fault(rt: HostRuntime) -> Result<(), Fail> {
+    let alloc: Global = rt.alloc();
+    let one = read_prec(alloc, b"3 2 1 1", 4)?;
+    assert_eq!(rt; (one.len(), one.pairs()), (4, 1));
+    assert_eq!(rt; one.pair(0), (3, 1));
+    let none = read_prec(alloc, b"3 1 3\r\n", 4)?;
+    assert_eq!(rt; (none.len(), none.pairs()), (4, 0));
+    Ok(())
+}
+
+#[test]
+fn printed_faults(rt: HostRuntime) -> Result<(), Fail> {
+    let alloc: Global = rt.alloc();
+    assert_eq!(rt;
+        format!(in alloc; "{}", PrecFault::Text(4))?.as_str(),
+        "Text(4)"
+    );
+    assert_eq!(rt;
+        format!(in alloc; "{}", PrecFault::NoMemory)?.as_str(),
+        "NoMemory"
+    );
+    assert_eq!(rt;
+        format!(in alloc; "{}", RestsFault::UnknownBlock(2))?.as_str(),
+        "UnknownBlock(2)"
+    );
+    Ok(())
+}

@@ -1,0 +1,3 @@
+pub mod NextLine
+pub mod HeaderLines
+pub mod BodyLines

@@ -1,0 +1,71 @@
+-- The records behind the header: a block and its value each.
+use Rattle.std.specs.Prelude.{ℕ, ℤ, pos, ◌*ℤ◌, ◌^◌, ◌==◌, ◌&&◌, Bool, not, cond, List, [], ◌∷◌, ◌++◌, drop, nat_le, nat_abs, Option, Some, None, is_some, unwrap_or, Result, Ok, Err}
+use Rattle.std.specs.Option.{option_or}
+use Rattle.std.specs.List.{list_any}
+use Rattle.fixed_worth.specs.Numeral.{signed_of}
+use Rattle.fixed_worth.specs.declared.numerals.NumberFault.{NumberFault}
+use Rattle.fixed_worth.specs.Record.{Line, reads, number_of, is_skipped}
+use Rattle.upit_file.specs.declared.fault.UpitFault.{UpitFault}
+use Rattle.upit_file.specs.declared.fault.UpitFault.TheVariants.{Text, Number, UnknownBlock, Repeated}
+use Rattle.upit_file.specs.Header.{is_long, fields_in, is_end, after_header}
+
+-- The number in millionths, where its size is at most a million millions.
+abbrev pub in_millionths : Result ℤ NumberFault → Option ℤ
+in_millionths (Ok v) = cond (nat_le (nat_abs v) (10 ^ 12)) (Some (v *ℤ pos (10 ^ 6))) None
+in_millionths (Err e) = None
+
+-- The value that a field is, in millionths.
+unfoldable pub value_read : List ℕ → Option ℤ
+value_read field = in_millionths (signed_of field)
+
+-- A record's fields: a block and its value.
+abbrev pub block_of : List (List ℕ) → ℕ
+block_of [] = 0
+block_of (block ∷ fields) = number_of block
+
+abbrev pub value_of : List (List ℕ) → ℤ
+value_of [] = pos 0
+value_of (block ∷ []) = pos 0
+value_of (block ∷ value ∷ fields) = unwrap_or (value_read value) (pos 0)
+
+-- What is wrong with a record by itself.
+abbrev pub shape_fault : ℕ → List (List ℕ) → Option UpitFault
+shape_fault line (block ∷ value ∷ []) = cond (reads block && is_some (value_read value)) None (Some (Number line))
+shape_fault line _ = Some (Text line)
+
+-- What is wrong with a record for this block, where these had records before.
+abbrev pub block_fault : ℕ → (ℕ → Bool) → ℕ → ℕ → Option UpitFault
+block_fault n had line block = cond (nat_le n block) (Some (UnknownBlock line)) (cond (had block) (Some (Repeated line)) None)
+
+abbrev pub record_fault : ℕ → (ℕ → Bool) → ℕ → List (List ℕ) → Option UpitFault
+record_fault n had line fields = cond (is_skipped fields) None (option_or (shape_fault line fields) (block_fault n had line (block_of fields)))
+
+-- What is wrong with a line, where these blocks had records before.
+abbrev pub line_fault : ℕ → (ℕ → Bool) → Line → Option UpitFault
+line_fault n had l = cond (is_long l) (Some (Text l.number)) (record_fault n had l.number (fields_in l))
+
+-- The line is a record for block b.
+abbrev pub is_record_of : ℕ → List (List ℕ) → Bool
+is_record_of b fields = not (is_skipped fields) && (block_of fields == b)
+
+abbrev pub has_record : List Line → ℕ → Bool
+has_record ls b = list_any (λ l. is_record_of b (fields_in l)) ls
+
+-- The value of block b: that of its first record, and 0 where it has none.
+abbrev pub value_among : List Line → ℕ → ℤ
+value_among [] b = pos 0
+value_among (l ∷ ls) b = cond (is_record_of b (fields_in l)) (value_of (fields_in l)) (value_among ls b)
+
+-- The fault of the first faulty line, if any, behind these lines.
+abbrev pub first_fault : ℕ → List Line → List Line → Option UpitFault
+first_fault n before [] = None
+first_fault n before (l ∷ ls) = option_or (line_fault n (has_record before) l) (first_fault n (before ++ l ∷ []) ls)
+
+-- The lines before the one that ends the text.
+abbrev pub before_end : List Line → List Line
+before_end [] = []
+before_end (l ∷ ls) = cond (is_end (fields_in l)) [] (l ∷ before_end ls)
+
+-- The lines between the header's last and the end.
+abbrev pub body : List Line → List Line
+body ls = before_end (drop 1 (after_header ls))

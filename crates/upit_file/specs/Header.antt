@@ -1,0 +1,100 @@
+-- The header of a text: where it ends, what it declares, and what is wrong with it.
+use Rattle.std.specs.Prelude.{ℕ, ◌^◌, ◌==◌, ◌||◌, Bool, true, false, not, cond, List, [], ◌∷◌, length, nat_lt, Option, Some, None, is_some, codes}
+use Rattle.std.specs.Option.{option_or}
+use Rattle.std.specs.Str.{bytes_eq}
+use Rattle.fixed_worth.specs.Text.{fields_of}
+use Rattle.fixed_worth.specs.Record.{Line, reads, number_of}
+use Rattle.upit_file.specs.declared.key.Key.{Key}
+use Rattle.upit_file.specs.declared.key.Key.TheVariants.{Blocks, Objective, End, Other}
+use Rattle.upit_file.specs.declared.fault.UpitFault.{UpitFault}
+use Rattle.upit_file.specs.declared.fault.UpitFault.TheVariants.{Text, Number, NoObjective, WrongBlocks}
+
+-- The line has more than 65,536 bytes: a fault, whatever it holds.
+abbrev pub is_long : Line → Bool
+is_long l = nat_lt 65536 (length l.text)
+
+-- The fields of a line. A line that is too long has none.
+abbrev pub fields_in : Line → List (List ℕ)
+fields_in l = cond (is_long l) [] (fields_of l.text)
+
+-- The key that a word is. Keys are in upper case.
+abbrev pub key_of : List ℕ → Key
+key_of word = cond (bytes_eq word (codes "NBLOCKS")) Blocks (cond (bytes_eq word (codes "OBJECTIVE_FUNCTION")) Objective Other)
+
+-- EOF alone
+abbrev pub is_end : List (List ℕ) → Bool
+is_end [] = false
+is_end (word ∷ []) = bytes_eq word (codes "EOF")
+is_end (word ∷ field ∷ fields) = false
+
+-- The key of a record. Lines that are skipped have none of the keys, which do not begin with a percent sign.
+abbrev pub key_in : List (List ℕ) → Key
+key_in [] = Other
+key_in (word ∷ fields) = cond (is_end (word ∷ fields)) End (key_of word)
+
+-- The header ends at OBJECTIVE_FUNCTION or EOF.
+abbrev pub ends_header : Key → Bool
+ends_header Objective = true
+ends_header End = true
+ends_header _ = false
+
+-- The lines before the one that ends the header.
+abbrev pub header : List Line → List Line
+header [] = []
+header (l ∷ ls) = cond (ends_header (key_in (fields_in l))) [] (l ∷ header ls)
+
+-- The lines from the one on that ends the header.
+abbrev pub after_header : List Line → List Line
+after_header [] = []
+after_header (l ∷ ls) = cond (ends_header (key_in (fields_in l))) (l ∷ ls) (after_header ls)
+
+-- The number of blocks that an NBLOCKS record names; 0 where it names none.
+abbrev pub count_of : List (List ℕ) → ℕ
+count_of [] = 0
+count_of (key ∷ []) = 0
+count_of (key ∷ count ∷ fields) = number_of count
+
+abbrev pub count_at : Key → List (List ℕ) → Option ℕ
+count_at Blocks fields = Some (count_of fields)
+count_at _ fields = None
+
+-- The number of blocks that the first NBLOCKS record names, if there is one.
+abbrev pub first_count : List Line → Option ℕ
+first_count [] = None
+first_count (l ∷ ls) = option_or (count_at (key_in (fields_in l)) (fields_in l)) (first_count ls)
+
+-- What is wrong with an NBLOCKS record where n blocks are wanted.
+abbrev pub count_fault : ℕ → ℕ → List (List ℕ) → Option UpitFault
+count_fault n line [] = Some (Text line)
+count_fault n line (key ∷ []) = Some (Text line)
+count_fault n line (key ∷ count ∷ fields) =
+    cond (not (reads count)) (Some (Number line))
+    (cond (not (number_of count == n) || nat_lt (2 ^ 24) (number_of count)) (Some (WrongBlocks line))
+    None)
+
+-- What is wrong with a record by its key.
+abbrev pub key_fault : ℕ → ℕ → Key → List (List ℕ) → Option UpitFault
+key_fault n line Blocks fields = count_fault n line fields
+key_fault n line _ fields = None
+
+-- What is wrong with a line of the header.
+abbrev pub header_line_fault : ℕ → Line → Option UpitFault
+header_line_fault n l = cond (is_long l) (Some (Text l.number)) (key_fault n l.number (key_in (fields_in l)) (fields_in l))
+
+-- The fault of the first faulty line of these, if any.
+abbrev pub header_lines_fault : ℕ → List Line → Option UpitFault
+header_lines_fault n [] = None
+header_lines_fault n (l ∷ ls) = option_or (header_line_fault n l) (header_lines_fault n ls)
+
+abbrev pub last_fault : Bool → ℕ → Key → Option UpitFault
+last_fault counted line End = Some (NoObjective line)
+last_fault counted line _ = cond counted None (Some (WrongBlocks line))
+
+-- What is wrong where the header ends: these lines are left, so many lines are in the text, and NBLOCKS came or not.
+abbrev pub end_fault : Bool → ℕ → List Line → Option UpitFault
+end_fault counted count [] = Some (NoObjective count)
+end_fault counted count (l ∷ ls) = last_fault counted l.number (key_in (fields_in l))
+
+-- The first fault of the header where n blocks are wanted.
+abbrev pub header_fault : ℕ → List Line → Option UpitFault
+header_fault n ls = option_or (header_lines_fault n (header ls)) (end_fault (is_some (first_count (header ls))) (length ls) (after_header ls))

@@ -1,0 +1,5 @@
+pub mod Header
+pub mod Body
+pub mod Records
+pub mod Faults
+pub mod Steps

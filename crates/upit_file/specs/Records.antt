@@ -1,0 +1,54 @@
+-- What a text of block values says, over its list of lines.
+use Rattle.std.specs.Prelude.{◌≡◌, ℕ, ℤ, ◌<◌, List, [], length, Option, Some, None, unwrap_or, Result, Ok, Err, get_or, pos}
+use Rattle.std.specs.Option.{option_or}
+use Rattle.fixed_worth.specs.Text.{lines_of}
+use Rattle.fixed_worth.specs.Record.{Line, numbered}
+use Rattle.upit_file.specs.declared.fault.UpitFault.{UpitFault}
+use Rattle.upit_file.specs.declared.fault.UpitFault.TheVariants.{NoMemory}
+use Rattle.upit_file.specs.Header.{header, first_count, header_fault}
+use Rattle.upit_file.specs.Body.{body, first_fault, value_among}
+
+-- The lines of a text, numbered from 1 on.
+abbrev pub lines_in : List ℕ → List Line
+lines_in text = numbered 0 (lines_of text)
+
+-- n where nothing is wrong, and otherwise what is.
+abbrev pub unless_fault : ℕ → Option UpitFault → Result ℕ UpitFault
+unless_fault n None = Ok n
+unless_fault n (Some e) = Err e
+
+-- The number of blocks that the first NBLOCKS record of the header names; 0 where there is none.
+abbrev pub count_in : List Line → ℕ
+count_in ls = unwrap_or (first_count (header ls)) 0
+
+-- The number of blocks that the text declares, or the first fault of its header.
+abbrev pub declared_of : List ℕ → Result ℕ UpitFault
+declared_of text = unless_fault (count_in (lines_in text)) (header_fault (count_in (lines_in text)) (lines_in text))
+
+-- The first fault of the text where n blocks are wanted.
+abbrev pub fault_of : ℕ → List ℕ → Option UpitFault
+fault_of n text = option_or (header_fault n (lines_in text)) (first_fault n [] (body (lines_in text)))
+
+-- The value of block b in millionths.
+abbrev pub value_at : List ℕ → ℕ → ℤ
+value_at text b = value_among (body (lines_in text)) b
+
+-- The name: this format has none.
+abbrev pub name_of : List ℕ → List ℕ
+name_of text = []
+
+-- What the type shows: a name, and the value of each block in millionths.
+pub record UpitView : Type 0 where
+  pub name : List ℕ
+  pub values : List ℤ
+
+-- The values and the name are those that the text gives to n blocks.
+pub record Denotes (n : ℕ) (text : List ℕ) (upit : UpitView) : Type 0 where
+  pub count : length upit.values ≡ n
+  pub worth : (b : ℕ) → b < n → get_or upit.values b (pos 0) ≡ value_at text b
+  pub named : upit.name ≡ name_of text
+
+-- The fault is want of memory, or P holds.
+abbrev pub UnlessMemory : UpitFault → Type 0 → Type 0
+UnlessMemory NoMemory P = Unit {0}
+UnlessMemory _ P = P

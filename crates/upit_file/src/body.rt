@@ -1,0 +1,42 @@
+//! Reading what stands behind the header.
+
+ghost use Rattle.std.specs.Prelude.{◌≡◌, ℕ, ◌<◌, ◌≤◌, ◌^◌, Some, None, [], pos, length, slice_index_or, MatchResult};
+ghost use Rattle.fixed_worth.specs.Record.{numbered};
+ghost use Rattle.upit_file.specs.Body as spec;
+ghost use Rattle.upit_file.specs.Records.{UnlessMemory};
+
+use crate::fault::UpitFault;
+use crate::kept::Kept;
+use crate::record::{Record, read_record};
+use fixed_worth::Lines;
+use std::alloc::Global;
+
+// Reads the records to the end of the text: the value of each of n blocks in millionths.
+pub(crate) fn read_body(alloc: Global, lines: &mut Lines, n: u32) -> Result<Vec<i64>, UpitFault>
+    ensures { let body = spec.before_end (numbered lines.old.number lines.old.lines) in MatchResult result
+        (λ values. (spec.first_fault n [] body ≡ None) × (length values.items ≡ n)
+        × ((b : ℕ) → b < n → slice_index_or values.items b (pos 0) ≡ spec.value_among body b))
+        (λ e. UnlessMemory e (spec.first_fault n [] body ≡ Some e)) }
+{
+    let Ok(mut kept) = Kept::new(alloc, n) else {
+        return Err(UpitFault::NoMemory);
+    };
+    loop {
+        match lines.next_line() {
+            Ok(Some(text)) => {
+                let line = lines.number();
+                match read_record(text, line) {
+                    Ok(Record::Skipped) => {}
+                    Ok(Record::End) => return Ok(kept.into_values()),
+                    Ok(Record::Value(block, value)) => match kept.keep(block, value, line) {
+                        Ok(()) => {}
+                        Err(fault) => return Err(fault),
+                    },
+                    Err(fault) => return Err(fault),
+                }
+            }
+            Ok(None) => return Ok(kept.into_values()),
+            Err(_) => return Err(UpitFault::Text(lines.number() + 1)),
+        }
+    }
+}

@@ -1,0 +1,47 @@
+//! The keys of the header.
+
+ghost use Rattle.std.specs.Prelude.{◌≡◌, ◌≤◌, length};
+ghost use Rattle.fixed_worth.specs.Text.{fields_of};
+ghost use Rattle.upit_file.specs.Header as spec;
+
+use fixed_worth::Fields;
+
+/// What a record of the header is by its key.
+#[derive(Clone, Copy, Debug, PartialEq, Eq)]
+pub enum Key {
+    /// How many blocks there are.
+    Blocks,
+    /// The header ends.
+    Objective,
+    /// The text ends.
+    End,
+    /// Nothing that is read.
+    Other,
+}
+
+fn key_of(word: &[u8]) -> Key
+    ensures { result ≡ spec.key_of word.now }
+{
+    if word == b"NBLOCKS".as_slice() {
+        Key::Blocks
+    } else if word == b"OBJECTIVE_FUNCTION".as_slice() {
+        Key::Objective
+    } else {
+        Key::Other
+    }
+}
+
+// The key of the record that a line of the header is.
+pub(crate) fn key_in(line: &[u8]) -> Key
+    requires { length line.now ≤ 65536 }
+    ensures { result ≡ spec.key_in (fields_of line.now) }
+{
+    let mut fields = Fields::new(line);
+    let Some(word) = fields.next() else {
+        return Key::Other;
+    };
+    if word.text == b"EOF".as_slice() && fields.next().is_none() {
+        return Key::End;
+    }
+    key_of(word.text)
+}

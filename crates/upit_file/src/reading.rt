@@ -1,0 +1,43 @@
+//! Reading a text.
+
+ghost use Rattle.std.specs.Prelude.{◌≡◌, ◌≤◌, ◌^◌, Some, None, MatchResult, IfOk};
+ghost use Rattle.upit_file.specs.Header.{header_fault};
+ghost use Rattle.upit_file.specs.Records as spec;
+
+use crate::body::read_body;
+use crate::fault::UpitFault;
+use crate::header::read_header;
+use crate::upit::Upit;
+use fixed_worth::Lines;
+use std::alloc::Global;
+
+/// The number of blocks that the header of a text declares in its first NBLOCKS record, or the first fault of the
+/// header. Takes no memory.
+///
+/// Where this answers `n`, [`read_upit`] with that `n` finds no fault up to the line OBJECTIVE_FUNCTION.
+pub fn declared_blocks(text: &[u8]) -> Result<u32, UpitFault>
+    ensures value { result ≡ spec.declared_of text.now }
+    ensures header { IfOk result (λ n. (n ≤ 2 ^ 24) × (header_fault n (spec.lines_in text.now) ≡ None)) }
+{
+    let mut lines = Lines::new(text);
+    read_header(&mut lines, None)
+}
+
+/// The values that a text gives to n blocks: that of the block's record, and 0 where it has none.
+///
+/// Otherwise the first fault of the text, or `NoMemory` where memory is refused.
+pub fn read_upit(alloc: Global, text: &[u8], n: u32) -> Result<Upit, UpitFault>
+    requires { n ≤ 2 ^ 24 }
+    ensures { MatchResult result
+        (λ upit. (spec.fault_of n text.now ≡ None) × spec.Denotes n text.now upit)
+        (λ e. spec.UnlessMemory e (spec.fault_of n text.now ≡ Some e)) }
+{
+    let mut lines = Lines::new(text);
+    match read_header(&mut lines, Some(n)) {
+        Ok(_) => match read_body(alloc, &mut lines, n) {
+            Ok(values) => Ok(Upit::of(Vec::new(alloc), values)),
+            Err(fault) => Err(fault),
+        },
+        Err(fault) => Err(fault),
+    }
+}

@@ -1,0 +1,57 @@
+//! Reading one line behind the header.
+
+ghost use Rattle.std.specs.Prelude.{◌≡◌, ◌≤◌, false, Some, length, MatchResult};
+ghost use Rattle.fixed_worth.specs.Text.{fields_of};
+ghost use Rattle.fixed_worth.specs.Record.{is_skipped};
+ghost use Rattle.upit_file.specs.Header as header;
+ghost use Rattle.upit_file.specs.Body as spec;
+ghost use Rattle.upit_file.specs.Steps.{IsRecord};
+
+use crate::fault::UpitFault;
+use crate::value::read_value;
+use fixed_worth::{Fields, is_remark, whole};
+
+// What a line behind the header is.
+#[derive(Clone, Copy)]
+pub(crate) enum Record {
+    // No field, or a remark.
+    Skipped,
+    // The text ends.
+    End,
+    // A block, and its value in millionths.
+    Value(u64, i64),
+}
+
+// The record that a line is.
+pub(crate) fn read_record(text: &[u8], line: u64) -> Result<Record, UpitFault>
+    requires { length text.now ≤ 65536 }
+    ensures { MatchResult result
+        (λ read. IsRecord line (fields_of text.now) read)
+        (λ e. (is_skipped (fields_of text.now) ≡ false) × (header.is_end (fields_of text.now) ≡ false)
+        × (spec.shape_fault line (fields_of text.now) ≡ Some e)) }
+{
+    let mut fields = Fields::new(text);
+    let Some(block) = fields.next() else {
+        return Ok(Record::Skipped);
+    };
+    if is_remark(block.text) {
+        return Ok(Record::Skipped);
+    }
+    let Some(value) = fields.next() else {
+        return if block.text == b"EOF".as_slice() {
+            Ok(Record::End)
+        } else {
+            Err(UpitFault::Text(line))
+        };
+    };
+    if fields.next().is_some() {
+        return Err(UpitFault::Text(line));
+    }
+    let Ok(block) = whole(block.text) else {
+        return Err(UpitFault::Number(line));
+    };
+    match read_value(value.text) {
+        Some(v) => Ok(Record::Value(block, v)),
+        None => Err(UpitFault::Number(line)),
+    }
+}
