@@ -1,18 +1,16 @@
 -- What a line adds to what is gathered.
-use Rattle.std.proofs.Common.{◌≡◌, ◌≢◌, ℕ, zero, suc, get_or, set, ◌+◌, ◌<◌, ◌≤◌, Bool, true, false, cond, eqb, ltb, inl, inr, List, [], ◌∷◌, ◌++◌, length, map, Option, Some, None, Ok, Err, refl, sym, ap, ◌∙◌, subst, arith, append-nil, get_or-set_same, get_or-set_other}
+use Rattle.std.proofs.Common.{◌≡◌, ◌≢◌, ℕ, zero, suc, get_or, set, ◌<◌, Bool, true, false, cond, eqb, ltb, inl, inr, List, [], ◌∷◌, length, map, refl, sym, ap, ◌∙◌, subst, arith, append-nil, get_or-set_same, get_or-set_other}
 use Rattle.std.specs.Prelude.{◌&&◌, Contains}
-use Rattle.std.specs.List.{list_any}
 use Rattle.std.proofs.lemmas.List.{map-set, length-set}
 use Rattle.std.proofs.lemmas.Bool.Decides.{nat_tests}
 use Rattle.ordered_group.specs.Amount.{Amount, zero_amount}
 use Rattle.ordered_group.specs.Sums.{amount_at}
 use Rattle.prec_file.specs.Rests.{IsRising}
-use Rattle.closure_net.specs.Network.{FlowView, flow_view}
-use Rattle.check_pit.specs.declared.lines_of_body.Kind.{Kind}
+use Rattle.closure_net.specs.Network.{flow_view}
 use Rattle.check_pit.specs.declared.lines_of_body.Kind.TheVariants.{Rest}
 use Rattle.check_pit.specs.declared.lines_of_body.BodyLine.{BodyLine}
 use Rattle.check_pit.specs.BodyLines.{is_of_model}
-use Rattle.check_pit.specs.Certificate.{Gathered, with_source, with_rest, with_sink, Covers, Adds, has_pair, amount_of, gives_source, gives_rest, gives_sink, given}
+use Rattle.check_pit.specs.Certificate.{Gathered, with_source, with_rest, with_sink, Covers, Adds, has_pair, amount_of}
 
 -- One amount of a list is changed.
 pub source_set : {X : Type 0} (f : X → Amount) (pit : List ℕ) (ss rs ts : List X) (b : ℕ) (x : X) (g : Gathered) → record { pit = pit; flow = flow_view (map f ss) (map f rs) (map f ts) } ≡ g

@@ -1,15 +1,15 @@
 -- Weak duality: closed sets against flows.
-use Rattle.std.proofs.Common.{◌≡◌, ℕ, ◌<◌, Bool, length, sym, ap, arith, subst, ◌∙◌}
+use Rattle.std.proofs.Common.{◌≡◌, ℕ, Bool, length, arith}
 use Rattle.std.proofs.lemmas.Int.{ints}
-use Rattle.ordered_group.specs.Amount.{Amount, zero_amount, plus, minus, AtMost, positive, Amount_eq}
-use Rattle.ordered_group.specs.Sums.{total, where_so, amount_at}
+use Rattle.ordered_group.specs.Amount.{Amount, minus, AtMost, positive}
+use Rattle.ordered_group.specs.Sums.{total, amount_at}
 use Rattle.ordered_group.proofs.Totals.Ranges.{total-minus}
 use Rattle.ordered_group.proofs.Totals.Duality.{weak_duality}
 use Rattle.prec_file.specs.Rests.{IsRests, from_at, to_at}
 use Rattle.closure_net.specs.Network.{NetView, FlowView}
 use Rattle.closure_net.specs.Closure.{IsClosed, IsGreatest, group_worth}
-use Rattle.closure_net.specs.Flows.{IsFlow, IsTight, IsGreatestFlow, still_to_give, room_at}
-use Rattle.check_pit.specs.Duality.{WeakDuality, TightIsGreatest}
+use Rattle.closure_net.specs.Flows.{IsFlow, IsTight, IsGreatestFlow, still_to_give}
+use Rattle.check_pit.specs.Duality.{WeakDuality}
 
 -- the pairs are of blocks of the net, and in order
 abbrev pub InOrder : NetView → Type 0

@@ -1,5 +1,5 @@
 -- Reading line after line: what a line that is read says, and what is left.
-use Rattle.std.proofs.Common.{◌≡◌, ℕ, zero, suc, get_or, ◌+◌, ◌<◌, Bool, true, false, cond, ltb, ℤ, pos, negsuc, ◌⊎◌, inl, inr, List, [], ◌∷◌, ◌++◌, length, Option, Some, None, Result, Ok, Err, refl, sym, ap, ◌∙◌, subst, arith, append-nil, append_assoc}
+use Rattle.std.proofs.Common.{◌≡◌, ℕ, get_or, ◌+◌, ◌<◌, Bool, true, false, cond, ltb, ℤ, pos, negsuc, ◌⊎◌, inl, inr, List, [], ◌∷◌, ◌++◌, length, Option, Some, None, Result, Ok, Err, refl, sym, ap, ◌∙◌, subst, arith, append-nil, append_assoc}
 use Rattle.std.specs.Prelude.{unwrap_or}
 use Rattle.std.specs.Ordering.{int_eq}
 use Rattle.std.specs.Result.{result_unwrap_or}
@@ -17,7 +17,7 @@ use Rattle.check_pit.specs.declared.lines_of_body.Kind.TheVariants.{Pit, Source,
 use Rattle.check_pit.specs.declared.lines_of_body.BodyLine.{BodyLine}
 use Rattle.check_pit.specs.Pieces.{Piece, Unread, Passed, piece_at, read_line, in_line, no_line, unless_fault, within, number_below, words_of}
 use Rattle.check_pit.specs.BodyLines.{kind_of, amount_said, amount_in, is_amount, numbered_line, pit_line, block_line, rest_line, end_line, line_with, line_of_words, line_of, is_end, is_of_model, may_follow, line_behind, next_line, end_fault, fault_from, body_fault, lines_in}
-use Rattle.check_pit.specs.Certificate.{Gathered, Covers, Adds, UnlessMemory, has_pair, pit_of, block_if_pit, given, gives_source, gives_rest, gives_sink, amount_of, is_rest}
+use Rattle.check_pit.specs.Certificate.{Gathered, Covers, Adds, UnlessMemory, has_pair, pit_of, block_if_pit, given, gives_source, gives_rest, gives_sink, is_rest}
 
 -- A line that is read has what its text gives.
 in_line_ok : {A : Type 0} (k : ℕ) (r : Result A LineFault) (x : A) → in_line k r ≡ Ok x → r ≡ Ok x

@@ -1,14 +1,10 @@
 -- What a set lacks, from the blocks above each of its blocks.
-use Rattle.std.proofs.Common.{◌≡◌, ℕ, ◌+◌, ◌<◌, ◌≤◌, ◌==◌, Bool, true, false, IsTrue, List, length, get_or, map, sym, refl, ap, subst, ◌∙◌, arith, ◌⊎◌, inl, inr}
-use Rattle.std.proofs.lemmas.Bool.{cases_eq, eq-eqb, eqb-true}
+use Rattle.std.proofs.Common.{◌≡◌, ℕ, ◌<◌, ◌≤◌, ◌==◌, Bool, false, IsTrue, List, length, get_or, sym, refl, ap, subst, ◌∙◌, arith}
+use Rattle.std.proofs.lemmas.Bool.{eq-eqb, eqb-true}
 use Rattle.std.proofs.lemmas.List.{get_or-map, length-map}
-use Rattle.std.proofs.lemmas.List.Elements.{All-from_get_or}
-use Rattle.prec_file.specs.Rests.{passing, numbers, above_of, from_at, to_at, IsRests, IsRising}
+use Rattle.prec_file.specs.Rests.{numbers, above_of, from_at, to_at}
 use Rattle.prec_file.proofs.Passing.{passing_at, passing_here, passing_after}
-use Rattle.prec_file.proofs.Order.{up_from}
-use Rattle.closure_net.specs.Closure.{Stays, IsClosed}
-use Rattle.check_pit.specs.Closing.{HoldsAbove, IsFirstLack, IsLacking}
-use Rattle.check_pit.specs.Checks.{StaysAt, IsFirstOpen}
+use Rattle.check_pit.specs.Closing.{HoldsAbove, IsLacking}
 
 module _ (ps : List (ℕ × ℕ)) (e : ℕ → Bool) (b : ℕ) (above : List ℕ) (is : above ≡ above_of ps b) where
   ks : List ℕ

@@ -5,6 +5,7 @@ pub mod Going
 pub mod Lacks
 pub mod Order
 pub mod Over
+pub mod Puts
 pub mod Splits
 pub mod Verdicts
 pub mod Wants

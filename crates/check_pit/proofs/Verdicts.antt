@@ -1,10 +1,10 @@
 -- What the steps of a check come to.
-use Rattle.std.proofs.Common.{◌≡◌, ℕ, ◌<◌, Bool, List, length, refl, subst, sym, arith, ◌⊎◌, inl, inr}
+use Rattle.std.proofs.Common.{ℕ, ◌<◌, Bool, List, length, ◌⊎◌, inl, inr}
 use Rattle.closure_net.specs.Network.{NetView, FlowView, holds_of}
 use Rattle.closure_net.specs.Closure.{IsClosed}
 use Rattle.closure_net.specs.Flows.{IsFlow, IsTight}
 use Rattle.check_pit.specs.Fits.{BalanceFits, BalanceLeaves, SetFits, SetLeaves, RoomFits, RoomLeaves, SumsFit}
-use Rattle.check_pit.specs.Checks.{IsOfNet, Sizes, NoneBelowZero, PassesSigns, PassesCapacities, AllWithin, AllBalanced, IsFirstOpen, SomeBalanceLeaves, FaultStands, BalanceFault}
+use Rattle.check_pit.specs.Checks.{IsOfNet, Sizes, NoneBelowZero, PassesCapacities, AllWithin, AllBalanced, IsFirstOpen, SomeBalanceLeaves, FaultStands, BalanceFault}
 use Rattle.check_pit.specs.declared.faults.PitFault.{PitFault}
 use Rattle.check_pit.specs.declared.faults.PitFault.TheVariants.{WrongSize, NotClosed, Negative, OverCapacity, Unbalanced, NotTight, TooLarge}
 

@@ -1,5 +1,5 @@
 -- A certificate that is read for a model, as a whole.
-use Rattle.std.proofs.Common.{◌≡◌, ℕ, ◌+◌, ◌^◌, ◌<◌, Bool, true, false, cond, eqb, List, [], ◌∷◌, ◌++◌, length, drop, get_or, Option, Some, None, Result, Ok, Err, refl, sym, ap, ◌∙◌, subst, arith}
+use Rattle.std.proofs.Common.{◌≡◌, ℕ, ◌+◌, ◌^◌, ◌<◌, Bool, true, false, cond, eqb, List, [], ◌++◌, length, drop, get_or, Option, Some, None, Result, Ok, Err, refl, sym, ap, ◌∙◌, subst, arith}
 use Rattle.std.specs.Result.{result_unwrap_or}
 use Rattle.std.specs.List.{All}
 use Rattle.std.specs.Str.{bytes_eq}
@@ -15,11 +15,11 @@ use Rattle.check_pit.specs.declared.headers.Wanted.{Wanted}
 use Rattle.check_pit.specs.declared.headers.Price.{Price}
 use Rattle.check_pit.specs.declared.cert_faults.CertFault.{CertFault}
 use Rattle.check_pit.specs.declared.cert_faults.LineFault.{LineFault}
-use Rattle.check_pit.specs.declared.cert_faults.LineFault.TheVariants.{Text, Number}
+use Rattle.check_pit.specs.declared.cert_faults.LineFault.TheVariants.{Text}
 use Rattle.check_pit.specs.Pieces.{Piece, Unread, pieces_of, piece_at, read_line, words_of, number_below}
 use Rattle.check_pit.specs.Header.{◌>>=◌, header_for, version_in, blocks_in, price_in, group_in, blocks_said, wanted_blocks, wanted_group, is_same_group, or_number, value_behind}
 use Rattle.check_pit.specs.BodyLines.{body_fault, lines_in}
-use Rattle.check_pit.specs.Certificate.{Gathered, Covers, Adds, IsRead, Denotes, has_pair, fault_of, fault_behind, wanted_for, given, gives_source, gives_rest, gives_sink, pit_of}
+use Rattle.check_pit.specs.Certificate.{Gathered, Covers, Adds, IsRead, has_pair, fault_of, fault_behind, wanted_for, given, gives_source, gives_rest, gives_sink, pit_of}
 use Rattle.check_pit.proofs.Going.{text_read}
 use Rattle.check_pit.proofs.Order.{stands_in_order, ascending, known}
 

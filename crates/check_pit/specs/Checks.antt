@@ -39,17 +39,19 @@ pub record NoneBelowZero (flow : FlowView) : Type 0 where
   pub rest : NoneNegative flow.rest
   pub sink : NoneNegative flow.sink
 
--- block b keeps to its worth
+-- block b gets from the source and gives the sink no more than its worth lets it
 abbrev pub KeepsWithin : NetView → FlowView → ℕ → Type 0
 KeepsWithin net flow b = WithinAt net.worths flow.source flow.sink b
 
+-- every block does
 abbrev pub AllWithin : NetView → FlowView → Type 0
 AllWithin net flow = (b : ℕ) → b < length net.worths → KeepsWithin net flow b
 
--- the sums of b's balance fit, and it holds
+-- the balance of b stands: its sums fit, and it holds
 abbrev pub BalanceStands : NetView → FlowView → ℕ → Type 0
 BalanceStands net flow b = BalanceFits net flow b × Balanced net flow b
 
+-- every balance does
 abbrev pub AllBalanced : NetView → FlowView → Type 0
 AllBalanced net flow = (b : ℕ) → b < length net.worths → BalanceStands net flow b
 

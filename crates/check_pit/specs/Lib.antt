@@ -9,3 +9,4 @@ pub mod Fits
 pub mod Header
 pub mod Pieces
 pub mod PrintedFaults
+pub mod Written

@@ -1,5 +1,6 @@
 use crate::reading::header;
-use crate::{CertFault, Certificate, Header, Price, read_certificate};
+use crate::{CertFault, Certificate, Header, Price, read_certificate, write_certificate};
+use fixed_worth::Counted;
 use ordered_group::{Group, OrderedGroup, Worth, WorthSize};
 use prec_file::Rests;
 use std::alloc::Global;
@@ -250,6 +251,21 @@ fn headers_are_read(rt: HostRuntime) -> Result<(), Fail> {
         header(b"PITCERT 1\nBLOCKS 3\nPRICE 5\n".as_slice()),
         Err(CertFault::Truncated)
     );
+    Ok(())
+}
+
+#[test]
+fn written_as_it_was_read(rt: HostRuntime) -> Result<(), Fail> {
+    let alloc: Global = rt.alloc();
+    let rests = rests(alloc)?;
+    let worth: Certificate<Worth> = read_certificate(alloc, WORTH, &rests).ok().ok_or("read")?;
+    let mut out = Counted::new(Vec::new(alloc));
+    assert!(rt; write_certificate(&worth, &rests, &mut out).is_ok());
+    assert_eq!(rt; out.into_inner().as_slice(), WORTH);
+    let pair: Certificate<WorthSize> = read_certificate(alloc, PAIR, &rests).ok().ok_or("read")?;
+    let mut out = Counted::new(Vec::new(alloc));
+    assert!(rt; write_certificate(&pair, &rests, &mut out).is_ok());
+    assert_eq!(rt; out.into_inner().as_slice(), PAIR);
     Ok(())
 }
 

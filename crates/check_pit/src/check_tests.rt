@@ -1,5 +1,7 @@
 //! Small nets, checked.
 
+ghost use Rattle.std.specs.Prelude.{◌≤◌, ◌^◌, length};
+
 use crate::{PitFault, check};
 use closure_net::{Flow, Net, Pit};
 use ordered_group::{OrderedGroup, Worth, WorthSize};
@@ -11,7 +13,9 @@ fn net_of<G: OrderedGroup>(
     alloc: Global,
     pairs: &[(u32, u32)],
     worths: &[G],
-) -> Result<Net<G>, Fail> {
+) -> Result<Net<G>, Fail>
+    requires { length worths.now ≤ 2 ^ 24 }
+{
     let rests = Rests::from_pairs(alloc, worths.len() as u32, pairs)
         .ok()
         .ok_or("rests")?;

@@ -31,6 +31,7 @@ fn sizes_agree<G: OrderedGroup>(net: &Net<G>, pit: &Pit, flow: &Flow<G>) -> bool
     flow.fits(net) && all_below(pit.blocks(), net.rests().len())
 }
 
+// Whether no amount of the list is negative.
 fn none_negative<G: OrderedGroup>(amounts: &[G]) -> bool
     ensures { IsTrue result ↔ NoneNegative (map G.parts_of amounts.now) }
 {
@@ -99,12 +100,17 @@ fn balances<G: OrderedGroup>(net: &Net<G>, flow: &Flow<G>) -> Result<(), PitFaul
 
 /// Whether the pit is a greatest closed set of the net, by a flow that shows it: the pit is closed,
 /// the flow is one, and the pit sums to what the source could still give. Then no closed set sums to
-/// more, since a closed set sums to at most what the source could still give by any flow (Picard,
+/// more, since by any flow a closed set sums to at most what the source could still give (Picard,
 /// Maximal closure of a graph, 1976).
 ///
-/// Takes no memory. Its time is linear in the numbers of blocks and pairs, but for the search of a
-/// block in the pit. Answers the first fault, as `PitFault` lists them: sizes, closure, signs,
-/// capacities, the balances of the blocks in turn, and at last whether the pit is tight.
+/// Takes no memory. Its time is linear in the numbers of blocks and pairs, but for the search of
+/// blocks in the pit.
+///
+/// # Errors
+/// The first fault in this order: `WrongSize`; `NotClosed` with the first such pair; `Negative`;
+/// `OverCapacity` with the first such block; then for each block in turn `TooLarge` where a sum of
+/// its balance doesn't fit, and `Unbalanced` where the balance doesn't hold; `TooLarge` where the
+/// pit's worth or what the source could still give doesn't fit; and at last `NotTight`.
 pub fn check<'a, G: OrderedGroup>(
     net: &'a Net<G>,
     pit: &'a Pit,

@@ -22,6 +22,7 @@ mod lines_of_body;
 mod piece_reader;
 pub mod reading;
 mod sums;
+mod writing;
 
 pub use accepted_pits::Accepted;
 pub use cert_faults::CertFault;
@@ -29,6 +30,7 @@ pub use certificates::{Certificate, read_certificate};
 pub use checking::check;
 pub use faults::PitFault;
 pub use headers::{Header, Price};
+pub use writing::write_certificate;
 
 #[cfg(test)]
 mod certificate_tests;

@@ -13,7 +13,7 @@ use closure_net::{Flow, Net, Pit};
 use ordered_group::{OrderedGroup, positive_part, same};
 use prec_file::Rests;
 
-// The start and all that the pairs bring into b.
+// The start and all that the pairs bring into b, added in the order of the pairs.
 pub(crate) fn with_inflow<G: OrderedGroup>(start: G, rests: &Rests, rest: &[G], b: u32) -> Option<G>
     requires lengths { length rest.now ≡ length rests.now.pairs }
     requires known { b < rests.now.blocks }
@@ -32,7 +32,7 @@ pub(crate) fn with_inflow<G: OrderedGroup>(start: G, rests: &Rests, rest: &[G], 
     Some(sum)
 }
 
-// The start and all that the pairs take out of b.
+// The start and all that the pairs take out of b, added in the order of the pairs.
 pub(crate) fn with_outflow<G: OrderedGroup>(
     start: G,
     rests: &Rests,
@@ -46,6 +46,7 @@ pub(crate) fn with_outflow<G: OrderedGroup>(
         (λ r. (G.parts_of r ≡ plus (G.parts_of start) (outflow ps (map G.parts_of rest.now) m b)) × EndFits (G.parts_of start) (from_at ps) f b m) }
 {
     let mut sum = start;
+    // the pairs are in order, which the number of blocks tells, so those of b lie side by side
     let _n = rests.len();
     let first = rests.first(b) as usize;
     let count = rests.above(b).len();
@@ -58,7 +59,7 @@ pub(crate) fn with_outflow<G: OrderedGroup>(
     Some(sum)
 }
 
-// Whether b gets what it gives.
+// Whether b gets what it gives: `None` where a sum of either side doesn't fit.
 pub(crate) fn balance_of<G: OrderedGroup>(
     rests: &Rests,
     source: G,
@@ -79,7 +80,7 @@ pub(crate) fn balance_of<G: OrderedGroup>(
     Some(same(into, out))
 }
 
-// What the pit sums to.
+// What the pit sums to, in the order of its blocks.
 pub(crate) fn pit_worth<G: OrderedGroup>(net: &Net<G>, pit: &Pit) -> Option<G>
     ensures sum { let ws = net.now.worths in let e = holds_of pit.now in MatchOption result
         (SetLeaves ws e)
@@ -99,7 +100,7 @@ pub(crate) fn pit_worth<G: OrderedGroup>(net: &Net<G>, pit: &Pit) -> Option<G>
     Some(sum)
 }
 
-// What the source could still give.
+// What the source could still give, summed in the order of the blocks.
 pub(crate) fn room_left<G: OrderedGroup>(net: &Net<G>, flow: &Flow<G>) -> Option<G>
     requires { FlowFits net.now flow.now }
     ensures { let ws = net.now.worths in let ss = flow.now.source in MatchOption result

@@ -1,10 +1,11 @@
 -- Pits, and which of them is best.
-use Rattle.std.proofs.Common.{◌≡◌, ℕ, ◌<◌, ◌≤◌, ℤ, ◌≤ℤ◌, ◌<ℤ◌, Bool, true, false, IsTrue, ◌⊎◌, inl, inr, sym, subst, refl, ◌∙◌, arith}
+use Rattle.std.proofs.Common.{◌≡◌, ℕ, ◌<◌, ◌≤◌, ◌≤ℤ◌, Bool, true, false, IsTrue, inl, inr, sym, subst, refl, ◌∙◌, arith}
 use Rattle.std.proofs.lemmas.Int.{ints}
 use Rattle.std.proofs.lemmas.Bool.{and_parts, and_from, or_cases, or_left, or_right, cases_lt}
-use Rattle.ordered_group.specs.Sets.{worth_in, count_in}
+use Rattle.ordered_group.specs.Sets.{worth_in}
+use Rattle.ordered_group.proofs.BlockSets.{count_in-within}
 use Rattle.closure_net.specs.Mine.{Mine, IsPit, worth_of, count_of, AreSame, IsBest, RisesTo, LiesWithin}
-use Rattle.closure_net.proofs.TwoSets.{union, intersection, worth_of_two, count_within, lead_rises}
+use Rattle.closure_net.proofs.TwoSets.{union, intersection, worth_of_two, lead_rises}
 
 pub union_is_pit : (mine : Mine) (e c : ℕ → Bool) → IsPit mine e → IsPit mine c → IsPit mine (union e c)
 union_is_pit mine e c h k b p r t = elim (or_cases (e b) (c b) t) [ inl x ↦ or_left (e p) (c p) (h b p r x) | inr x ↦ or_right (e p) (c p) (k b p r x) ]
@@ -33,8 +34,8 @@ best_from_fewest mine e pit most fewest = record {
       let sums = worth_of_two mine.worth c e n in
       let as_much : worth_of mine (intersection c e) ≡ worth_of mine e = omega (arith, ints, sums, most (union c e) u, most (intersection c e) i, same) in
       let few = fewest (intersection c e) i as_much in
-      let in_c = count_within (intersection c e) c n (within_first n c e) in
-      let in_e = count_within (intersection c e) e n (within_second n c e) in
+      let in_c = count_in-within (intersection c e) c n (within_first n c e) in
+      let in_e = count_in-within (intersection c e) e n (within_second n c e) in
       elim (cases_lt (count_of mine e) (count_of mine c)) [
         | inl l ↦ l
         | inr l ↦ absurd (differ (λ b k. sym (in_c.1 (omega (arith, few, in_c.0, l)) b k) ∙ in_e.1 (omega (arith, few, in_e.0)) b k))
@@ -75,7 +76,7 @@ best_is_within mine later e c r h k b l t =
     let sums = worth_of_two later.worth e c n in
     let lead = lead_rises mine.worth later.worth (intersection e c) e n (within_first n e c) r.worths in
     let as_much : worth_of mine (intersection e c) ≡ worth_of mine e = omega (arith, ints, most, sums, lead, h.most (intersection e c) i) in
-    let few = (count_within (intersection e c) e n (within_first n e c)).0 in
+    let few = (count_in-within (intersection e c) e n (within_first n e c)).0 in
     agree (c b) true (λ differ.
     let fewer = h.fewest (intersection e c) i (λ s. differ ((and_parts (e b) (c b) (s b l ∙ t)).1)) as_much in
     omega (arith, few, fewer))

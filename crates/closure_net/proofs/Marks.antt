@@ -1,10 +1,8 @@
 -- The marks of a search.
-use Rattle.std.proofs.Common.{rules, ◌^◌, ◌≡◌, ◌≢◌, ℕ, zero, suc, ◌+◌, ◌<◌, ◌≤◌, Bool, true, false, cond, ◌==◌, ◌||◌, ◌⊎◌, inl, inr, List, [], ◌∷◌, ◌++◌, length, get_or, set, replicate, sym, refl, ap, subst, ◌∙◌, arith, add-one, All, length-append, length-set, get_or-set_same, get_or-set_other}
-use Rattle.std.specs.List.{list_any, Any}
-use Rattle.std.proofs.lemmas.List.Folds.{list_any-append, Any-from_list_any, list_any_at}
-use Rattle.std.proofs.lemmas.List.{get_or_default, get_or_push, get_or_append_left}
+use Rattle.std.proofs.Common.{◌^◌, ◌≡◌, ℕ, zero, suc, ◌<◌, ◌≤◌, Bool, true, false, inl, inr, List, [], ◌∷◌, ◌++◌, length, get_or, set, replicate, sym, refl, ap, subst, ◌∙◌, arith, All, length-append, length-set, get_or-set_same, get_or-set_other}
+use Rattle.std.proofs.lemmas.List.{get_or_default}
 use Rattle.std.proofs.lemmas.List.Elements.{All-push, All-nil}
-use Rattle.std.proofs.lemmas.Bool.{cases_eq, cases_Bool, or_left}
+use Rattle.std.proofs.lemmas.Bool.{cases_eq}
 use Rattle.closure_net.specs.Network.{holds_of}
 use Rattle.closure_net.specs.Searches.{trues, IsSearch}
 use Rattle.closure_net.proofs.Holding.{push_holds_last, push_holds_rest}

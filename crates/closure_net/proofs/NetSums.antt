@@ -1,18 +1,19 @@
 -- From the net of a mine to the mine: closed sets are pits, and sums are worths.
-use Rattle.std.proofs.Common.{◌≡◌, ℕ, ◌<◌, ◌≤◌, ℤ, ◌≤ℤ◌, ◌<ℤ◌, Bool, IsTrue, ◌⊎◌, ◌↔◌, inl, inr, List, length, get_or, sym, subst, ap, ◌∙◌, arith}
-use Rattle.std.specs.List.{Contains}
+use Rattle.std.proofs.Common.{◌≡◌, ℕ, ◌<◌, ◌≤◌, ℤ, ◌≤ℤ◌, ◌<ℤ◌, Bool, ◌⊎◌, inl, inr, get_or, sym, subst, ap, ◌∙◌, arith}
 use Rattle.std.proofs.lemmas.Int.{ints}
 use Rattle.std.proofs.lemmas.Bool.{cases_lt}
 use Rattle.std.proofs.lemmas.List.Elements.{All-contains, Contains-get_or}
-use Rattle.ordered_group.specs.Amount.{Amount, AtMost, Below}
+use Rattle.ordered_group.specs.Amount.{Amount, AtMost}
 use Rattle.ordered_group.specs.Sums.{total, where_so, amount_at}
-use Rattle.ordered_group.specs.Sets.{worth_in, count_in, group_sum, IsBefore}
+use Rattle.ordered_group.specs.Sets.{group_sum, IsBefore}
 use Rattle.ordered_group.specs.Block.{worth_block}
+use Rattle.ordered_group.specs.Laws.{SumsOrderSets}
 use Rattle.ordered_group.specs.SetSums.{worth_told}
+use Rattle.ordered_group.proofs.Order.{Below-not}
 use Rattle.ordered_group.proofs.Totals.{total-same}
 use Rattle.closure_net.specs.Network.{NetView}
 use Rattle.closure_net.specs.Closure.{Stays, IsClosed, group_worth, IsGreatest}
-use Rattle.closure_net.specs.Mine.{Mine, IsPit, worth_of, count_of, IsRichest, IsBest, IsNetOf}
+use Rattle.closure_net.specs.Mine.{Mine, IsPit, count_of, IsRichest, IsBest, IsNetOf}
 use Rattle.closure_net.proofs.BestPits.{best_from_fewest}
 
 module _ (block : ℤ → ℕ → Amount) (mine : Mine) (net : NetView) (h : IsNetOf block mine net) where
@@ -46,11 +47,6 @@ greatest_is_richest mine net e h g = record {
   most = λ c p. at_most_worth _ _ _ _ (greatest_sum worth_block mine net h e c g p) (worth_told mine.worth c mine.blocks) (worth_told mine.worth e mine.blocks);
 }
 
-not_below : (x y : Amount) → AtMost x y → ¬ (Below y x)
-not_below x y h k =
-    let e : x.w ≡ y.w = omega (arith, ints, h.worths, k.worths) in
-    omega (arith, ints, h.counts e, k.counts (sym e))
-
 -- a set that isn't before another is worth as much, and has no more blocks where it is worth the same
 worth_kept : (v w : ℤ) (k l : ℕ) → ¬ ((w <ℤ v) ⊎ ((w ≡ v) × (k < l))) → v ≤ℤ w
 worth_kept v w k l h = let i : w <ℤ v → ⊥ = λ t. h (inl t) in grind (arith, ints, i)
@@ -60,11 +56,11 @@ count_kept v w k l h e = elim (cases_lt k l) [ inl t ↦ absurd (h (inr (sym e, 
 
 -- where sums order sets by worth and then by the fewer blocks
 pub greatest_is_best : (block : ℤ → ℕ → Amount)
-    → ((v : ℕ → ℤ) (e c : ℕ → Bool) (n : ℕ) → Below (group_sum block v e n) (group_sum block v c n) ↔ IsBefore v n e c)
+    → SumsOrderSets block
     → (mine : Mine) (net : NetView) (e : ℕ → Bool) → IsNetOf block mine net → IsGreatest net e → IsBest mine e
 greatest_is_best block orders mine net e h g =
     let behind : (c : ℕ → Bool) → IsPit mine c → ¬ (IsBefore mine.worth mine.blocks e c) =
-    λ c p i. not_below _ _ (greatest_sum block mine net h e c g p) ((orders mine.worth e c mine.blocks).1 i) in
+    λ c p i. Below-not _ _ ((orders mine.worth e c mine.blocks).1 i) (greatest_sum block mine net h e c g p) in
     best_from_fewest mine e (pit_from_closed block mine net h e g.closed)
     (λ c p. worth_kept _ _ (count_of mine c) (count_of mine e) (behind c p))
     (λ c p s. count_kept _ _ (count_of mine c) (count_of mine e) (behind c p) s)

@@ -1,5 +1,5 @@
 -- A search that has passed over all that it found has reached the least set.
-use Rattle.std.proofs.Common.{◌≡◌, ℕ, zero, suc, ◌+◌, ◌<◌, ◌≤◌, ◌==◌, nat_lt, Bool, true, false, ◌⊎◌, inl, inr, List, length, get_or, sym, refl, ap, subst, ◌∙◌, arith, map, All}
+use Rattle.std.proofs.Common.{◌≡◌, ℕ, ◌+◌, ◌<◌, ◌≤◌, ◌==◌, nat_lt, Bool, true, inl, inr, List, length, get_or, sym, ap, subst, ◌∙◌, arith, All}
 use Rattle.std.proofs.lemmas.Bool.{cases_eq, cases_lt, eq-eqb, eqb-true}
 use Rattle.std.proofs.lemmas.Bool.Decides.{nat_tests}
 use Rattle.std.proofs.lemmas.List.{get_or-map, get_or_default, length-map}
@@ -7,7 +7,7 @@ use Rattle.prec_file.specs.Rests.{from_at, to_at, passing, numbers, above_of, be
 use Rattle.prec_file.proofs.Passing.{passing_at, passing_here, passing_after, passing_grows}
 use Rattle.closure_net.specs.Reached.{IsBegin, Carries, Reaches, IsReached}
 use Rattle.closure_net.specs.Network.{NetView, FlowView, holds_of, IsAscending}
-use Rattle.closure_net.specs.Searches.{Extends, Passed, Always, above_at, sender_at, SendsAt}
+use Rattle.closure_net.specs.Searches.{Passed, Always, above_at, sender_at, SendsAt}
 use Rattle.closure_net.proofs.Finds.{holds_grows, get_grows, length_grows}
 use Rattle.closure_net.proofs.Holding.{holds_at, place_of}
 

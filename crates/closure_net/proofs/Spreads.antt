@@ -1,10 +1,10 @@
 -- Passes over the blocks beside one, and what they add to what is found.
-use Rattle.std.proofs.Common.{◌≡◌, ℕ, zero, suc, ◌+◌, ◌<◌, ◌≤◌, ◌==◌, Bool, true, false, ◌⊎◌, inl, inr, List, [], ◌∷◌, ◌++◌, length, get_or, sym, refl, ap, subst, ◌∙◌, arith, append_assoc, map}
-use Rattle.std.proofs.lemmas.Bool.{cases_eq, cases_lt, eq-eqb, eqb-true}
+use Rattle.std.proofs.Common.{◌≡◌, ℕ, ◌+◌, ◌<◌, ◌==◌, true, inl, inr, List, ◌++◌, length, get_or, sym, ap, subst, ◌∙◌, arith, append_assoc}
+use Rattle.std.proofs.lemmas.Bool.{cases_eq}
 use Rattle.std.proofs.lemmas.List.{get_or-map, length-map}
 use Rattle.closure_net.specs.Network.{holds_of}
 use Rattle.prec_file.specs.Rests.{from_at, to_at, RestsView, IsRests, numbers, above_of, below_of}
-use Rattle.prec_file.proofs.Passing.{passing_at, passing_here, passing_after}
+use Rattle.prec_file.proofs.Passing.{passing_at}
 use Rattle.closure_net.specs.Searches.{added, Extends, Passed}
 use Rattle.closure_net.proofs.Finds.{added_extends, added_holds, added_only, holds_grows}
 

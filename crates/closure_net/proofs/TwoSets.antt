@@ -1,7 +1,7 @@
 -- The worth and the number of the blocks of two sets, of their union and of their intersection.
-use Rattle.std.proofs.Common.{◌≡◌, ℕ, zero, suc, ◌+◌, ◌<◌, ◌≤◌, ℤ, pos, ◌+ℤ◌, ◌≤ℤ◌, Bool, true, false, cond, ◌&&◌, ◌||◌, refl, arith, below_more}
+use Rattle.std.proofs.Common.{◌≡◌, ℕ, zero, suc, ◌<◌, ℤ, pos, ◌+ℤ◌, ◌≤ℤ◌, Bool, true, false, cond, ◌&&◌, ◌||◌, refl, arith}
 use Rattle.std.proofs.lemmas.Int.{ints}
-use Rattle.ordered_group.specs.Sets.{worth_in, count_in}
+use Rattle.ordered_group.specs.Sets.{worth_in}
 
 abbrev pub union : (ℕ → Bool) → (ℕ → Bool) → ℕ → Bool
 union e c b = e b || c b
@@ -19,25 +19,6 @@ worth_split false false x = refl
 pub worth_of_two : (v : ℕ → ℤ) (e c : ℕ → Bool) (n : ℕ) → worth_in v (union e c) n +ℤ worth_in v (intersection e c) n ≡ worth_in v e n +ℤ worth_in v c n
 worth_of_two v e c zero = refl
 worth_of_two v e c (suc n) = omega (arith, ints, worth_of_two v e c n, worth_split (e n) (c n) (v n))
-
-abbrev one_if : Bool → ℕ
-one_if t = cond t 1 0
-
-count_step : (s t : Bool) → (s ≡ true → t ≡ true) → (one_if s ≤ one_if t) × (one_if s ≡ one_if t → s ≡ t)
-count_step true true h = (omega arith, λ e. refl)
-count_step true false h = absurd (let i = h refl in cc)
-count_step false true h = (omega arith, λ e. absurd (omega (arith, e)))
-count_step false false h = (omega arith, λ e. refl)
-
--- a set within another has no more blocks, and as many only where it is that set
-pub count_within : (e c : ℕ → Bool) (n : ℕ) → ((b : ℕ) → b < n → e b ≡ true → c b ≡ true) → (count_in e n ≤ count_in c n) × (count_in e n ≡ count_in c n → (b : ℕ) → b < n → e b ≡ c b)
-count_within e c zero h = (omega arith, λ p b l. absurd (omega (arith, l)))
-count_within e c (suc n) h =
-    let i = count_within e c n (λ b l. h b (omega arith)) in
-    let t = count_step (e n) (c n) (h n (omega arith)) in (
-      omega (arith, i.0, t.0),
-      λ p b l. below_more (λ k. e k ≡ c k) n (i.1 (omega (arith, i.0, t.0, p))) (t.1 (omega (arith, i.0, t.0, p))) b (omega (arith, l)),
-    )
 
 worth_rises : (s t : Bool) (x y : ℤ) → (s ≡ true → t ≡ true) → x ≤ℤ y → (cond s y (pos 0) +ℤ cond t x (pos 0)) ≤ℤ (cond t y (pos 0) +ℤ cond s x (pos 0))
 worth_rises true true x y h l = omega (arith, ints)

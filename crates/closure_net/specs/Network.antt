@@ -1,5 +1,5 @@
 -- Nets, flows and sets of blocks, as contracts see them.
-use Rattle.std.specs.Prelude.{◌≡◌, ℕ, ◌<◌, ◌==◌, Bool, List, length, slice_index, All}
+use Rattle.std.specs.Prelude.{◌≡◌, ℕ, ◌<◌, ◌==◌, Bool, List, length, slice_index}
 use Rattle.std.specs.List.{list_any}
 use Rattle.ordered_group.specs.Amount.{Amount, zero_amount, minus, positive, FitsPair}
 use Rattle.ordered_group.specs.Sums.{amount_at, SumFits}

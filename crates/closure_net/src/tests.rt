@@ -4,6 +4,7 @@ use crate::{Flow, Net, NetFault, Pit, pit_of};
 use ordered_group::WorthSize;
 use prec_file::Rests;
 use std::alloc::Global;
+use std::process::Abort;
 use std::test::Fail;
 
 fn amount(nanos: i128, size: i128) -> WorthSize {
@@ -17,25 +18,46 @@ fn rests(alloc: Global, n: u32, pairs: &[(u32, u32)]) -> Result<Rests, Fail>
 }
 
 // Two blocks of worth that rest on a block of waste.
-fn two_on_waste(alloc: Global) -> Result<Net<WorthSize>, Fail> {
+fn two_on_waste(alloc: Global, nanos: &[i128]) -> Result<Net<WorthSize>, Fail> {
     let rests = rests(alloc, 3, &[(0, 2), (1, 2)])?;
-    Ok(
-        Net::of_worths(alloc, rests, &[6, 5, -10])
-            .ok()
-            .ok_or("worths")?,
-    )
+    Ok(Net::of_worths(alloc, rests, nanos).ok().ok_or("worths")?)
+}
+
+// The blocks that the source reaches in the net by this flow.
+fn reached(
+    rt: &impl Abort,
+    alloc: Global,
+    net: &Net<WorthSize>,
+    source: &[WorthSize],
+    rest: &[WorthSize],
+    sink: &[WorthSize],
+) -> Result<Pit, Fail> {
+    let source = Vec::from_slice(alloc, source)?;
+    let rest = Vec::from_slice(alloc, rest)?;
+    let sink = Vec::from_slice(alloc, sink)?;
+    let flow = Flow::new(source, rest, sink);
+    assert!(rt; flow.fits(net));
+    Ok(pit_of(alloc, net, &flow)?)
+}
+
+fn refusal(alloc: Global, worths: &[WorthSize]) -> Result<Option<NetFault>, Fail> {
+    let rests = rests(alloc, 2, &[(0, 1)])?;
+    let worths = Vec::from_slice(alloc, worths)?;
+    Ok(Net::build(rests, worths).err())
+}
+
+fn is_pit(alloc: Global, blocks: &[u32]) -> Result<bool, Fail> {
+    Ok(Pit::new(Vec::from_slice(alloc, blocks)?).is_some())
 }
 
 #[test]
 fn all_blocks_are_reached(rt: HostRuntime) -> Result<(), Fail> {
     let alloc = rt.alloc();
-    let net = two_on_waste(alloc)?;
-    let source = vec![in alloc; amount(6, -1), amount(4, 2), amount(0, 0)]?;
-    let rest = vec![in alloc; amount(6, -1), amount(4, 2)]?;
-    let sink = vec![in alloc; amount(0, 0), amount(0, 0), amount(10, 1)]?;
-    let flow = Flow::new(source, rest, sink);
-    assert!(rt; flow.fits(&net));
-    let pit = pit_of(alloc, &net, &flow)?;
+    let net = two_on_waste(alloc, &[6, 5, -10])?;
+    let source = [amount(6, -1), amount(4, 2), amount(0, 0)];
+    let rest = [amount(6, -1), amount(4, 2)];
+    let sink = [amount(0, 0), amount(0, 0), amount(10, 1)];
+    let pit = reached(&rt, alloc, &net, &source, &rest, &sink)?;
     assert!(rt; pit.blocks() == [0, 1, 2].as_slice());
     assert!(rt; pit.holds(1) && !pit.holds(3) && !pit.is_empty());
     assert_eq!(rt; pit.len(), 3);
@@ -50,19 +72,16 @@ fn no_block_is_reached(rt: HostRuntime) -> Result<(), Fail> {
     let net = Net::of_worths(alloc, rests, &[10, -10])
         .ok()
         .ok_or("worths")?;
-    let source = vec![in alloc; amount(10, -1), amount(0, 0)]?;
-    let rest = vec![in alloc; amount(10, -1)]?;
-    let sink = vec![in alloc; amount(0, 0), amount(10, -1)]?;
-    let flow = Flow::new(source, rest, sink);
-    assert!(rt; flow.fits(&net));
-    assert!(rt; pit_of(alloc, &net, &flow)?.is_empty());
+    let source = [amount(10, -1), amount(0, 0)];
+    let rest = [amount(10, -1)];
+    let sink = [amount(0, 0), amount(10, -1)];
+    assert!(rt; reached(&rt, alloc, &net, &source, &rest, &sink)?.is_empty());
     Ok(())
 }
 
 #[test]
 fn a_net_tells_its_parts(rt: HostRuntime) -> Result<(), Fail> {
-    let alloc = rt.alloc();
-    let net = two_on_waste(alloc)?;
+    let net = two_on_waste(rt.alloc(), &[6, 5, -10])?;
     assert_eq!(rt; net.len(), 3);
     assert_eq!(rt; net.worth(2), amount(-10, -1));
     assert_eq!(rt; net.positive(0), amount(6, -1));
@@ -77,36 +96,33 @@ fn a_net_tells_its_parts(rt: HostRuntime) -> Result<(), Fail> {
 #[test]
 fn a_copy_is_the_same(rt: HostRuntime) -> Result<(), Fail> {
     let alloc = rt.alloc();
-    let net = two_on_waste(alloc)?;
+    let net = two_on_waste(alloc, &[6, 5, -10])?;
     let copy = net.copy(alloc)?;
     assert!(rt; net.same_as(&copy));
+    assert!(rt; !net.same_as(&two_on_waste(alloc, &[6, 5, -9])?));
     let rests = copy.into_rests();
     assert_eq!(rt; rests.len(), 3);
     assert_eq!(rt; rests.pairs(), 2);
     assert_eq!(rt; rests.pair(0), (0, 2));
     assert_eq!(rt; rests.pair(1), (1, 2));
-    let other = Net::of_worths(alloc, rests, &[6, 5, -9])
-        .ok()
-        .ok_or("worths")?;
-    assert!(rt; !net.same_as(&other));
     Ok(())
 }
 
 #[test]
 fn refused(rt: HostRuntime) -> Result<(), Fail> {
     let alloc = rt.alloc();
-    let few = vec![in alloc; amount(1, -1)]?;
-    let short = Net::build(rests(alloc, 2, &[(0, 1)])?, few);
-    assert_eq!(rt; short.err(), Some(NetFault::WrongLength));
-    let least = vec![in alloc; amount(i128::MIN, -1), amount(0, -1)]?;
-    let no_opposite = Net::build(rests(alloc, 2, &[(0, 1)])?, least);
-    assert_eq!(rt; no_opposite.err(), Some(NetFault::TooLarge));
-    let much = vec![in alloc; amount(i128::MAX, -1), amount(1, -1)]?;
-    let no_sum = Net::build(rests(alloc, 2, &[(0, 1)])?, much);
-    assert_eq!(rt; no_sum.err(), Some(NetFault::TooLarge));
-    assert!(rt; Pit::new(vec![in alloc; 0, 2, 2]?).is_none());
-    assert!(rt; Pit::new(vec![in alloc; 1, 0]?).is_none());
-    assert!(rt; Pit::new(vec![in alloc; 0, 2, 5]?).is_some());
+    let short = refusal(alloc, &[amount(1, -1)])?;
+    assert_eq!(rt; short, Some(NetFault::WrongLength));
+    let no_opposite = refusal(alloc, &[amount(i128::MIN, -1), amount(0, -1)])?;
+    assert_eq!(rt; no_opposite, Some(NetFault::TooLarge));
+    let no_sum = refusal(alloc, &[amount(i128::MAX, -1), amount(1, -1)])?;
+    assert_eq!(rt; no_sum, Some(NetFault::TooLarge));
+    assert_eq!(rt;
+        refusal(alloc, &[amount(i128::MAX, -1), amount(0, -1)])?,
+        None
+    );
+    assert!(rt; !is_pit(alloc, &[0, 2, 2])? && !is_pit(alloc, &[1, 0])?);
+    assert!(rt; is_pit(alloc, &[0, 2, 5])?);
     assert!(rt; NetFault::TooLarge.to_string(alloc)?.as_str() == "TooLarge");
     Ok(())
 }

@@ -1,5 +1,5 @@
 -- How long a printed amount is.
-use Rattle.std.proofs.Common.{◌≡◌, ℕ, zero, suc, ◌+◌, ◌-◌, ◌/◌, ◌%◌, ◌^◌, ◌<◌, ◌≤◌, Bool, true, false, cond, eqb, List, [], ◌∷◌, ◌++◌, length, replicate, ℤ, pos, negsuc, arith, length-append, refl, lit<}
+use Rattle.std.proofs.Common.{ℕ, suc, ◌+◌, ◌-◌, ◌/◌, ◌%◌, ◌^◌, ◌<◌, ◌≤◌, Bool, true, false, cond, eqb, List, [], ◌∷◌, ◌++◌, length, replicate, ℤ, arith, length-append, lit<}
 use Rattle.std.specs.Prelude.{unsigned_abs, FitsSigned}
 use Rattle.std.specs.Int.{w128, is_negative}
 use Rattle.std.specs.Fmt.{decimal, sign_text}

@@ -4,8 +4,11 @@ pub mod FieldLaws
 pub mod Fractions
 pub mod Lengths
 pub mod LineLaws
+pub mod PlainNumbers
 pub mod Powers
 pub mod Shown
 pub mod Pieces
 pub mod Sources
 pub mod DigitsFromEnd
+pub mod Joined
+pub mod WrittenNumbers

@@ -1,5 +1,5 @@
 -- What the pieces of a printed amount are together.
-use Rattle.std.proofs.Common.{◌≡◌, ℕ, ◌+◌, ◌-◌, ◌^◌, ◌<◌, ◌≤◌, Bool, true, false, cond, eqb, List, [], ◌∷◌, ◌++◌, length, replicate, refl, sym, ap, ◌∙◌, subst, arith, append-nil}
+use Rattle.std.proofs.Common.{◌≡◌, ℕ, ◌-◌, ◌^◌, ◌<◌, false, eqb, List, [], ◌∷◌, ◌++◌, length, replicate, refl, ap, arith, append-nil}
 use Rattle.std.specs.Fmt.{decimal, format_spec, styled_decimal, padded_integral, char_count}
 use Rattle.std.proofs.lemmas.Bool.Decides.{nat_tests}
 use Rattle.fixed_worth.specs.Printed.{fixed_width, without_trailing_zeros, fraction_text}

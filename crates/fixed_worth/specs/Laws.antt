@@ -1,5 +1,7 @@
--- What the lines of a text and the fields of a line are.
-use Rattle.std.specs.Prelude.{◌≡◌, ℕ, ◌+◌, ◌<◌, ◌≤◌, ◌==◌, ◌⊎◌, true, false, cond, List, [], ◌∷◌, ◌++◌, length, take, drop, slice_index, EachIndex, All}
+-- What the lines of a text, the fields of a line and plain numbers are.
+use Rattle.std.specs.Prelude.{◌≡◌, ℕ, ℤ, ◌+◌, ◌<◌, ◌≤◌, ◌==◌, ◌⊎◌, true, false, cond, List, [], ◌∷◌, ◌++◌, length, take, drop, slice_index, EachIndex, All, Ok}
+use Rattle.std.specs.Fmt.{signed_decimal}
+use Rattle.fixed_worth.specs.Numeral.{plain_of}
 use Rattle.fixed_worth.specs.Text.{is_separator, Run}
 
 -- the text with a line feed (10) behind its last line
@@ -43,3 +45,7 @@ pub record AreFields (line : List ℕ) (fields : List Run) : Type 0 where
   pub each : All (IsField line) fields
   pub ordered : AreInOrder 0 fields
   pub complete : (k : ℕ) → k < length line → is_separator (slice_index line k) ≡ false → LiesIn k fields
+
+-- a text that is read as a plain number is what that number prints
+abbrev pub HasOneSpelling : List ℕ → Type 0
+HasOneSpelling text = (z : ℤ) → plain_of text ≡ Ok z → text ≡ signed_decimal z

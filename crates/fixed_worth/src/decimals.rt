@@ -1,22 +1,22 @@
-//! Numerals with a point and an exponent.
+//! Numerals with a point and an exponent, cut into their parts and rounded to millionths.
 
-ghost use Rattle.std.specs.Prelude.{◌≡◌, ℕ, ◌+◌, ◌-◌, ◌*◌, ◌<◌, ◌≤◌, ◌^◌, ◌&&◌, ◌++◌, Bool, true, false, length, MatchOption, SomeIff, IsTrue, position, pos, neg_ℤ, not};
+ghost use Rattle.std.specs.Prelude.{◌≡◌, ◌+◌, ◌-◌, ◌<◌, ◌^◌, ◌&&◌, ◌||◌, ◌++◌, false, not, cond, nat_lt, length, SomeIff, IsTrue, position, Ok, Err};
 ghost use Rattle.std.specs.List.{list_all, position_or_len};
-ghost use Rattle.fixed_worth.specs.Numeral.{is_digit, value_of, is_minus, unsigned_of};
-ghost use Rattle.fixed_worth.specs.Decimal.{is_mark, is_point, whole_part, fraction_part, exponent_of, has_mark, digits_in, exponent_digits, is_decimal, is_too_long, millionths_of, decimal_of, most};
-ghost use Rattle.fixed_worth.specs.Numeral.{is_number};
+ghost use Rattle.fixed_worth.specs.Numeral.{is_digit, is_number, value_of, is_minus};
+ghost use Rattle.fixed_worth.specs.Decimal.{is_mark, is_point, whole_part, fraction_part, exponent_of, exponent_digits, has_mark, decimal_of, most};
 ghost use Rattle.fixed_worth.specs.Rounding.{rounded_of};
-ghost use Rattle.std.specs.Prelude.{cond, ◌||◌, nat_lt, Ok, Err};
 
 use crate::line_reader::behind_first;
 use crate::numerals::{NumberFault, are_digits, has_minus, value, with_digit, without_sign};
 use crate::rounding::rounded;
 
+// The digits of a numeral before its point, behind it, and of its exponent.
 #[derive(Clone, Copy)]
 struct Parts<'a> {
     whole: &'a [u8],
     fraction: &'a [u8],
     exponent: &'a [u8],
+    // Whether the exponent is negative.
     down: bool,
 }
 
@@ -64,7 +64,7 @@ fn point_length(text: &[u8]) -> usize
     }
 }
 
-// Where the numeral has its parts, and whether it has a mark.
+// The parts of a numeral, and whether it has the mark of an exponent, which may then not be empty.
 fn cut(text: &[u8]) -> (Parts<'_>, bool)
     ensures whole { result.0.whole.now ≡ whole_part text.now }
     ensures fraction { result.0.fraction.now ≡ fraction_part text.now }

@@ -1,10 +1,11 @@
 // Devices of the tests' own: they claim nothing of their bytes, so what they received or gave is
 // asserted as the tests run.
-ghost use Rattle.std.specs.Prelude.{◌≡◌, IfOk};
+ghost use Rattle.std.specs.Prelude.{◌≡◌, ◌≤◌, ◌^◌, IfOk};
 
 use crate::{
     Counted, CountedRead, CountedWrite, InputFault, Page, WriteFault, read_whole, write_text,
 };
+use std::alloc::{AllocError, Global};
 use std::io;
 use std::io::{Error, ErrorKind, Read, Write};
 use std::test::Fail;
@@ -29,7 +30,7 @@ impl Failure {
     }
 }
 
-/// A reader that gives one byte a call, and fails at one of its calls, the first being 1.
+/// A reader that gives one byte a call, and fails at the call of that number, at none where it is 0.
 #[derive(Drop)]
 struct Trickle<'a> {
     bytes: &'a [u8],
@@ -39,10 +40,6 @@ struct Trickle<'a> {
 }
 
 impl<'a> Trickle<'a> {
-    fn sound(bytes: &'a [u8]) -> Trickle<'a> {
-        Trickle::failing(bytes, 0, Failure::Broken)
-    }
-
     fn failing(bytes: &'a [u8], fails_at: u64, failure: Failure) -> Trickle<'a> {
         Trickle {
             bytes,
@@ -68,7 +65,7 @@ impl Read for Trickle<'_> {
     }
 }
 
-/// A writer that takes at most three bytes a call, and fails at one of its calls, the first being 1.
+/// A writer that takes at most three bytes a call, and fails as the reader does.
 #[derive(Drop)]
 struct Short {
     received: Vec<u8>,
@@ -78,10 +75,6 @@ struct Short {
 }
 
 impl Short {
-    fn sound(received: Vec<u8>) -> Short {
-        Short::failing(received, 0, Failure::Broken)
-    }
-
     fn failing(received: Vec<u8>, fails_at: u64, failure: Failure) -> Short {
         Short {
             received,
@@ -111,130 +104,147 @@ impl Write for Short {
     }
 }
 
-#[test]
-fn a_failed_read_counts_once(rt: HostRuntime) -> Result<(), Fail> {
-    for failure in [Failure::Broken, Failure::Interrupted] {
-        let mut from = Counted::new(Trickle::failing(b"ab", 2, failure));
-        let mut buf = [0; 4];
-        assert_eq!(rt; from.read_once(&mut buf), Some(1));
-        assert_eq!(rt; from.failures(), 0);
-        assert_eq!(rt; from.read_once(&mut buf), None);
-        assert_eq!(rt; from.failures(), 1);
-        assert_eq!(rt; from.read_once(&mut buf), Some(1));
-        assert_eq!(rt; from.read_once(&mut buf), Some(0));
-        assert_eq!(rt; from.failures(), 1);
+// The count after each of four reads of two bytes, the second of which fails.
+fn counts_of_reads(failure: Failure) -> [u64; 4] {
+    let mut from = Counted::new(Trickle::failing(b"ab", 2, failure));
+    let mut counts = [9; 4];
+    for count in &mut counts {
+        if from.failures() < 9 {
+            from.read_once(&mut [0; 4]);
+        }
+        *count = from.failures();
     }
-    Ok(())
+    counts
 }
 
 #[test]
-fn a_failed_write_counts_once(rt: HostRuntime) -> Result<(), Fail> {
-    for failure in [Failure::Broken, Failure::Interrupted, Failure::TakesNothing] {
-        let mut out = Counted::new(Short::failing(Vec::new(rt.alloc()), 2, failure));
-        assert_eq!(rt; out.write_once(b"abcd"), Some(3));
-        assert_eq!(rt; out.failures(), 0);
-        assert_eq!(rt; out.write_once(b"d"), None);
-        assert_eq!(rt; out.failures(), 1);
-        assert_eq!(rt; out.write_once(b"d"), Some(1));
-        assert_eq!(rt; out.failures(), 1);
-        assert_eq!(rt; out.into_inner().received.as_slice(), b"abcd".as_slice());
+fn a_failed_read_counts_once(rt: HostRuntime) {
+    assert!(rt; counts_of_reads(Failure::Broken) == [0, 1, 1, 1]);
+    assert!(rt; counts_of_reads(Failure::Interrupted) == [0, 1, 1, 1]);
+}
+
+// The count after each of three writes of a byte, the second of which fails.
+fn counts_of_writes(alloc: Global, failure: Failure) -> [u64; 3] {
+    let mut out = Counted::new(Short::failing(Vec::new(alloc), 2, failure));
+    let mut counts = [9; 3];
+    for count in &mut counts {
+        if out.failures() < 9 {
+            out.write_once(b"a");
+        }
+        *count = out.failures();
     }
-    Ok(())
+    counts
 }
 
 #[test]
-fn calls_by_the_traits_of_std_count_too(rt: HostRuntime) -> Result<(), Fail> {
+fn a_failed_write_counts_once(rt: HostRuntime) {
+    assert!(rt; counts_of_writes(rt.alloc(), Failure::Broken) == [0, 1, 1]);
+    assert!(rt; counts_of_writes(rt.alloc(), Failure::Interrupted) == [0, 1, 1]);
+    assert!(rt; counts_of_writes(rt.alloc(), Failure::TakesNothing) == [0, 1, 1]);
+}
+
+// The count after a read that fails and one at the end of the input.
+fn counts_of_plain_reads() -> (u64, u64) {
     let mut from = Counted::new(Trickle::failing(b"", 1, Failure::Interrupted));
-    let mut buf = [0; 4];
-    assert!(rt; from.read(&mut buf).is_err());
-    assert_eq!(rt; from.read(&mut buf)?, 0);
-    assert_eq!(rt; from.failures(), 1);
-    let mut out = Counted::new(Short::failing(Vec::new(rt.alloc()), 1, Failure::TakesNothing));
-    assert_eq!(rt; out.write(b"a")?, 0);
-    assert_eq!(rt; out.failures(), 1);
-    assert_eq!(rt; out.write(b"")?, 0);
-    out.flush()?;
-    assert_eq!(rt; out.failures(), 1);
-    let mut broken = Counted::new(Short::sound(Vec::new(rt.alloc())));
-    assert!(rt; broken.flush().is_err());
-    assert_eq!(rt; broken.failures(), 1);
-    Ok(())
+    let _ = from.read(&mut [0; 4]);
+    let first = from.failures();
+    let _ = from.read(&mut [0; 4]);
+    (first, from.failures())
+}
+
+// The count after a write that takes nothing, one of nothing, and a flush.
+fn counts_of_plain_writes(alloc: Global, failure: Failure) -> (u64, u64, u64) {
+    let mut out = Counted::new(Short::failing(Vec::new(alloc), 1, failure));
+    let _ = out.write(b"a");
+    let first = out.failures();
+    let _ = out.write(b"");
+    let second = out.failures();
+    let _ = out.flush();
+    (first, second, out.failures())
 }
 
 #[test]
-fn an_input_of_the_limit_is_read_and_a_longer_one_refused(rt: HostRuntime) -> Result<(), Fail> {
-    let mut exact = Counted::new(Trickle::sound(b"01234"));
-    match read_whole(rt.alloc(), &mut exact, 5) {
-        Ok(text) => assert_eq!(rt; text.as_slice(), b"01234".as_slice()),
-        Err(_) => assert!(rt; false),
+fn calls_by_the_traits_of_std_count_too(rt: HostRuntime) {
+    assert!(rt; counts_of_plain_reads() == (1, 1));
+    assert!(rt; counts_of_plain_writes(rt.alloc(), Failure::TakesNothing) == (1, 1, 1));
+    assert!(rt; counts_of_plain_writes(rt.alloc(), Failure::Broken) == (1, 1, 2));
+}
+
+// How long the text is that was read, and how many calls it took.
+fn read_by_bytes(
+    alloc: Global,
+    bytes: &[u8],
+    limit: u8,
+    fails_at: u64,
+    failure: Failure,
+) -> (Result<usize, InputFault>, u64) {
+    let mut from = Counted::new(Trickle::failing(bytes, fails_at, failure));
+    let answer = match read_whole(alloc, &mut from, u64::from(limit)) {
+        Ok(text) => Ok(text.len()),
+        Err(fault) => Err(fault),
+    };
+    (answer, from.into_inner().calls)
+}
+
+#[test]
+fn an_input_of_the_limit_is_read_and_a_longer_one_refused(rt: HostRuntime) {
+    let (exact, calls) = read_by_bytes(rt.alloc(), b"01234", 5, 0, Failure::Broken);
+    assert!(rt; exact == Ok(5) && calls <= 7);
+    let (longer, calls) = read_by_bytes(rt.alloc(), b"0123456789", 5, 0, Failure::Broken);
+    assert!(rt; longer == Err(InputFault::InputTooLong) && calls <= 7);
+    let (empty, calls) = read_by_bytes(rt.alloc(), b"", 0, 0, Failure::Broken);
+    assert!(rt; empty == Ok(0) && calls <= 2);
+}
+
+#[test]
+fn a_failing_input_is_a_device_fault(rt: HostRuntime) {
+    for fails_at in 1..5 {
+        let (broken, _) = read_by_bytes(rt.alloc(), b"012", 5, fails_at, Failure::Broken);
+        assert!(rt; broken == Err(InputFault::Device));
+        let (stopped, _) = read_by_bytes(rt.alloc(), b"012", 5, fails_at, Failure::Interrupted);
+        assert!(rt; stopped == Err(InputFault::Device));
     }
-    assert!(rt; exact.into_inner().calls <= 7);
-    let mut longer = Counted::new(Trickle::sound(b"0123456789"));
-    assert_eq!(rt;
-        read_whole(rt.alloc(), &mut longer, 5).err(),
-        Some(InputFault::InputTooLong)
-    );
-    assert_eq!(rt; longer.failures(), 0);
-    assert!(rt; longer.into_inner().calls <= 7);
-    let mut by_one = Counted::new(b"012345".as_slice());
-    assert_eq!(rt;
-        read_whole(rt.alloc(), &mut by_one, 5).err(),
-        Some(InputFault::InputTooLong)
-    );
-    let mut empty = Counted::new(b"".as_slice());
-    assert_eq!(rt; read_whole(rt.alloc(), &mut empty, 0)?.len(), 0);
-    Ok(())
+}
+
+// The length of a text that is read from memory.
+fn read_from_memory(alloc: Global, text: &[u8], limit: u64) -> Result<usize, InputFault>
+    requires { limit ≤ 2 ^ 40 }
+{
+    match read_whole(alloc, &mut Counted::new(text), limit) {
+        Ok(read) => Ok(read.len()),
+        Err(fault) => Err(fault),
+    }
 }
 
 #[test]
 fn an_input_longer_than_one_read_is_whole(rt: HostRuntime) -> Result<(), Fail> {
     let long = vec![in rt.alloc(); 7u8; 200_000]?;
-    let mut from = Counted::new(long.as_slice());
-    assert!(rt; read_whole(rt.alloc(), &mut from, 200_000)? == long);
+    assert!(rt; read_from_memory(rt.alloc(), &long, 200_000) == Ok(200_000));
+    assert!(rt; read_from_memory(rt.alloc(), &long, 199_999) == Err(InputFault::InputTooLong));
     Ok(())
 }
 
-#[test]
-fn a_failing_input_is_a_device_fault(rt: HostRuntime) -> Result<(), Fail> {
-    for failure in [Failure::Broken, Failure::Interrupted] {
-        for fails_at in 1..5 {
-            let mut from = Counted::new(Trickle::failing(b"012", fails_at, failure));
-            let answer = read_whole(rt.alloc(), &mut from, 5);
-            assert_eq!(rt; answer.err(), Some(InputFault::Device));
-            assert_eq!(rt; from.failures(), 1);
-        }
-    }
-    Ok(())
+// What a writer received of ten bytes, and whether all were sent.
+fn sent(alloc: Global, fails_at: u64, failure: Failure) -> (Result<(), WriteFault>, Vec<u8>) {
+    let mut out = Counted::new(Short::failing(Vec::new(alloc), fails_at, failure));
+    let answer = write_text(&mut out, b"0123456789");
+    (answer, out.into_inner().received)
 }
 
 #[test]
-fn a_short_writer_gets_the_whole_text(rt: HostRuntime) -> Result<(), Fail> {
-    let mut out = Counted::new(Short::sound(Vec::new(rt.alloc())));
-    assert_eq!(rt; write_text(&mut out, b"0123456789"), Ok(()));
-    assert_eq!(rt; out.failures(), 0);
-    assert_eq!(rt;
-        out.into_inner().received.as_slice(),
-        b"0123456789".as_slice()
-    );
-    Ok(())
+fn a_short_writer_gets_the_whole_text(rt: HostRuntime) {
+    let (answer, received) = sent(rt.alloc(), 0, Failure::Broken);
+    assert!(rt; answer == Ok(()) && received.as_slice() == b"0123456789".as_slice());
 }
 
 #[test]
-fn a_failing_writer_has_a_prefix(rt: HostRuntime) -> Result<(), Fail> {
+fn a_failing_writer_has_a_prefix(rt: HostRuntime) {
     for failure in [Failure::Broken, Failure::Interrupted, Failure::TakesNothing] {
-        for fails_at in 1..5 {
-            let mut out = Counted::new(Short::failing(Vec::new(rt.alloc()), fails_at, failure));
-            assert_eq!(rt;
-                write_text(&mut out, b"0123456789"),
-                Err(WriteFault::Device)
-            );
-            assert_eq!(rt; out.failures(), 1);
-            let received = out.into_inner().received;
-            assert_eq!(rt; received.len() as u64, 3 * (fails_at - 1));
-            assert!(rt; b"0123456789".starts_with(received.as_slice()));
+        for (fails_at, want) in [(1, "".as_bytes()), (2, b"012"), (4, b"012345678")] {
+            let (answer, received) = sent(rt.alloc(), fails_at, failure);
+            assert!(rt; answer == Err(WriteFault::Device) && received.as_slice() == want);
         }
     }
-    Ok(())
 }
 
 /// A writer that takes all it is given, and counts its calls.
@@ -258,40 +268,62 @@ impl Write for Whole {
     }
 }
 
-#[test]
-fn a_page_gathers_short_pieces(rt: HostRuntime) -> Result<(), Fail> {
+// A thousand lines, a piece longer than a page, and a last line.
+fn put_many<W: CountedWrite>(page: &mut Page, out: &mut W, long: &[u8]) -> Result<(), WriteFault> {
+    for _ in 0..1000 {
+        put(page, out, b"0 1 2 3 4\n")?;
+    }
+    put(page, out, long)?;
+    put(page, out, b"end\n")
+}
+
+fn put<W: CountedWrite>(page: &mut Page, out: &mut W, piece: &[u8]) -> Result<(), WriteFault> {
+    if out.failures() > 0 {
+        return Err(WriteFault::Device);
+    }
+    page.put(out, piece)
+}
+
+fn gathered(alloc: Global) -> Result<Option<Whole>, AllocError> {
     let mut out = Counted::new(Whole {
-        received: Vec::new(rt.alloc()),
+        received: Vec::new(alloc),
         calls: 0,
     });
     let mut page = Page::new();
-    for _ in 0..1000 {
-        assert_eq!(rt; out.failures(), 0);
-        assert_eq!(rt; page.put(&mut out, b"0 1 2 3 4\n"), Ok(()));
+    let long = vec![in alloc; b'5'; 20_000]?;
+    if put_many(&mut page, &mut out, &long).is_err() || out.failures() > 0 {
+        return Ok(None);
     }
-    assert_eq!(rt; out.failures(), 0);
-    let long = vec![in rt.alloc(); b'5'; 20_000]?;
-    assert_eq!(rt; page.put(&mut out, &long), Ok(()));
-    assert_eq!(rt; out.failures(), 0);
-    assert_eq!(rt; page.put(&mut out, b"end\n"), Ok(()));
-    assert_eq!(rt; out.failures(), 0);
-    assert_eq!(rt; page.finish(&mut out), Ok(()));
-    let device = out.into_inner();
-    assert_eq!(rt; device.calls, 4);
-    assert_eq!(rt; device.received.len(), 30_004);
+    match page.finish(&mut out) {
+        Ok(()) => Ok(Some(out.into_inner())),
+        Err(_) => Ok(None),
+    }
+}
+
+#[test]
+fn a_page_gathers_short_pieces(rt: HostRuntime) -> Result<(), Fail> {
+    let Some(device) = gathered(rt.alloc())? else {
+        panic!(rt; "a write failed");
+    };
+    assert!(rt; device.calls == 4 && device.received.len() == 30_004);
     assert!(rt; device.received.starts_with(b"0 1 2 3 4\n0 1 2 3 4\n"));
     assert!(rt; device.received.ends_with(b"55end\n"));
     Ok(())
 }
 
-#[test]
-fn a_page_meets_a_failing_writer(rt: HostRuntime) -> Result<(), Fail> {
-    let mut out = Counted::new(Short::failing(Vec::new(rt.alloc()), 2, Failure::Broken));
+// What a writer received of a page of four bytes, at which it fails.
+fn page_at_a_failing_writer(alloc: Global) -> (Result<(), WriteFault>, Vec<u8>) {
+    let mut out = Counted::new(Short::failing(Vec::new(alloc), 2, Failure::Broken));
     let mut page = Page::new();
-    assert_eq!(rt; page.put(&mut out, b"0123"), Ok(()));
-    assert_eq!(rt; out.failures(), 0);
-    assert_eq!(rt; page.finish(&mut out), Err(WriteFault::Device));
-    assert_eq!(rt; out.failures(), 1);
-    assert_eq!(rt; out.into_inner().received.as_slice(), b"012".as_slice());
-    Ok(())
+    let answer = match page.put(&mut out, b"0123") {
+        Ok(()) => page.finish(&mut out),
+        Err(fault) => Err(fault),
+    };
+    (answer, out.into_inner().received)
+}
+
+#[test]
+fn a_page_meets_a_failing_writer(rt: HostRuntime) {
+    let (answer, received) = page_at_a_failing_writer(rt.alloc());
+    assert!(rt; answer == Err(WriteFault::Device) && received.as_slice() == b"012".as_slice());
 }

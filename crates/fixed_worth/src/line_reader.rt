@@ -1,6 +1,6 @@
 //! The lines of a text.
 
-ghost use Rattle.std.specs.Prelude.{◌≡◌, ℕ, ◌+◌, ◌<◌, ◌≤◌, ◌^◌, ◌==◌, [], ◌∷◌, length, MatchResult, MatchOption, position, drop};
+ghost use Rattle.std.specs.Prelude.{◌≡◌, ◌+◌, ◌<◌, ◌≤◌, ◌^◌, ◌==◌, [], ◌∷◌, length, MatchResult, MatchOption, position, drop};
 ghost use Rattle.std.specs.List.{position_or_len};
 ghost use Rattle.fixed_worth.specs.Text.{lines_of, Left, BeginsTooLong};
 

@@ -1,6 +1,6 @@
 //! Amounts in millionths, as files and the command line give them.
 
-ghost use Rattle.std.specs.Prelude.{◌≡◌, ℕ, ℤ, pos, ◌*ℤ◌, ◌≤◌, ◌^◌, SomeIff, Some, unsigned_abs};
+ghost use Rattle.std.specs.Prelude.{◌≡◌, ℤ, pos, ◌*ℤ◌, ◌≤◌, ◌^◌, SomeIff, Some, unsigned_abs};
 ghost use Rattle.fixed_worth.specs.Decimal.{decimal_of};
 ghost use Rattle.fixed_worth.specs.Printed.{printed};
 

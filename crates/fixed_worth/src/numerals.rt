@@ -1,8 +1,8 @@
 //! Whole numbers as they are written: digits, with or without a sign.
 
-ghost use Rattle.std.specs.Prelude.{◌≡◌, ℕ, ◌+◌, ◌-◌, ◌*◌, ◌<◌, ◌≤◌, ◌^◌, length, MatchOption, SomeIff, IsTrue, All, pos, neg_ℤ};
+ghost use Rattle.std.specs.Prelude.{◌≡◌, ◌+◌, ◌-◌, ◌*◌, ◌<◌, ◌≤◌, ◌^◌, SomeIff, IsTrue, pos, neg_ℤ};
 ghost use Rattle.std.specs.List.{list_all};
-ghost use Rattle.fixed_worth.specs.Numeral.{is_digit, is_number, value_of, digits_of, below, whole_of, is_minus, unsigned_of, signed_of, begins_above_zero, is_plain, plain_of};
+ghost use Rattle.fixed_worth.specs.Numeral.{is_digit, value_of, digits_of, below, whole_of, is_minus, unsigned_of, signed_of, begins_above_zero, is_plain, plain_of};
 
 /// Why a text is not a number of the wanted kind.
 #[derive(Clone, Copy, Debug, PartialEq, Eq)]

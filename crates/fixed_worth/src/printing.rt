@@ -1,6 +1,6 @@
 //! How amounts are printed: a minus where it is needed, the whole part, and what is left of the fraction.
 
-ghost use Rattle.std.specs.Prelude.{◌≡◌, ℕ, ◌+◌, ◌-◌, ◌<◌, ◌≤◌, ◌/◌, ◌%◌, ◌^◌, ◌++◌, Some, unsigned_abs};
+ghost use Rattle.std.specs.Prelude.{◌≡◌, ◌<◌, ◌≤◌, ◌/◌, ◌%◌, ◌^◌, Some, unsigned_abs};
 ghost use Rattle.std.specs.Fmt.{DisplaysOnOk, decimal, sign_text};
 ghost use Rattle.std.specs.Int.{is_negative};
 ghost use Rattle.fixed_worth.specs.Printed.{fixed_width, without_trailing_zeros, fraction_text, printed};

@@ -1,8 +1,9 @@
-//! Rounding to a whole number.
+//! Rounding to a whole number, with every power of ten inside 128 bits.
 
-ghost use Rattle.std.specs.Prelude.{◌≡◌, ℕ, ◌+◌, ◌-◌, ◌*◌, ◌/◌, ◌<◌, ◌≤◌, ◌^◌, SomeIff};
+ghost use Rattle.std.specs.Prelude.{◌≡◌, ◌+◌, ◌-◌, ◌*◌, ◌/◌, ◌<◌, ◌≤◌, ◌^◌, SomeIff};
 ghost use Rattle.fixed_worth.specs.Rounding.{rounded_of};
 
+// The largest amount of millionths that a numeral may stand for.
 const MOST: u128 = 1_000_000_000_000_000_000;
 
 // The number with k zeros behind it, where it is at most 10^18.
@@ -44,8 +45,8 @@ fn scaled_down(m: u128, k: u32) -> u128
     (2 * m + unit) / (2 * unit)
 }
 
-/// m * 10^up / 10^down to the nearest whole number, where that is at most 10^18.
-pub fn rounded(m: u128, up: u32, down: u32) -> Option<u128>
+// m * 10^up / 10^down to the nearest whole number, where that is at most 10^18.
+pub(crate) fn rounded(m: u128, up: u32, down: u32) -> Option<u128>
     requires { m < 10 ^ 36 }
     ensures { SomeIff result (rounded_of m up down ≤ 10 ^ 18) (rounded_of m up down) }
 {

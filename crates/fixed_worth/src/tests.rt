@@ -1,100 +1,74 @@
+use crate::NumberFault::{NotANumber, TooLarge, TooLong};
 use crate::{
-    Field, Fields, Lines, Micros, MicrosTotal, Nanos, NumberFault, TextFault, plain_signed,
+    Field, Fields, Lines, Micros, MicrosTotal, Nanos, NumberFault, TextFault, laws, plain_signed,
     signed_whole, whole,
 };
 use std::test::Fail;
 
 #[test]
 fn whole_numbers(rt: HostRuntime) {
-    assert_eq!(rt; whole(b"0"), Ok(0));
-    assert_eq!(rt; whole(b"18446744073709551615"), Ok(u64::MAX));
-    assert_eq!(rt; whole(b"18446744073709551616"), Err(NumberFault::TooLarge));
-    assert_eq!(rt; whole(b"000000000000000000000000000000000000007"), Ok(7));
-    assert_eq!(rt;
-        whole(b"999999999999999999999999999999999999999"),
-        Err(NumberFault::TooLarge)
-    );
-    assert_eq!(rt;
-        whole(b"0000000000000000000000000000000000000007"),
-        Err(NumberFault::TooLong)
-    );
-    assert_eq!(rt; whole(b""), Err(NumberFault::NotANumber));
-    assert_eq!(rt; whole(b"+0"), Err(NumberFault::NotANumber));
-    assert_eq!(rt; whole(b"-0"), Err(NumberFault::NotANumber));
-    assert_eq!(rt; whole(b"1 "), Err(NumberFault::NotANumber));
+    for (text, want) in [
+        ("0", Ok(0)),
+        ("18446744073709551615", Ok(u64::MAX)),
+        ("18446744073709551616", Err(TooLarge)),
+        ("000000000000000000000000000000000000007", Ok(7)),
+        ("999999999999999999999999999999999999999", Err(TooLarge)),
+        ("0000000000000000000000000000000000000007", Err(TooLong)),
+        ("", Err(NotANumber)),
+        ("+0", Err(NotANumber)),
+        ("-0", Err(NotANumber)),
+        ("1 ", Err(NotANumber)),
+    ] {
+        assert_eq!(rt; whole(text.as_bytes()), want, "at {text}");
+    }
 }
 
 #[test]
 fn signed_numbers(rt: HostRuntime) {
-    assert_eq!(rt; signed_whole(b"-0"), Ok(0));
-    assert_eq!(rt; signed_whole(b"+0"), Ok(0));
-    assert_eq!(rt; signed_whole(b"-007"), Ok(-7));
-    assert_eq!(rt;
-        signed_whole(b"170141183460469231731687303715884105727"),
-        Ok(i128::MAX)
-    );
-    assert_eq!(rt;
-        signed_whole(b"-170141183460469231731687303715884105728"),
-        Ok(i128::MIN)
-    );
-    assert_eq!(rt;
-        signed_whole(b"170141183460469231731687303715884105728"),
-        Err(NumberFault::TooLarge)
-    );
-    assert_eq!(rt;
-        signed_whole(b"-170141183460469231731687303715884105729"),
-        Err(NumberFault::TooLarge)
-    );
-    assert_eq!(rt;
-        signed_whole(b"+000000000000000000000000000000000000005"),
-        Ok(5)
-    );
-    assert_eq!(rt;
-        signed_whole(b"+0000000000000000000000000000000000000005"),
-        Err(NumberFault::TooLong)
-    );
-    assert_eq!(rt; signed_whole(b""), Err(NumberFault::NotANumber));
-    assert_eq!(rt; signed_whole(b"-"), Err(NumberFault::NotANumber));
-    assert_eq!(rt; signed_whole(b"--1"), Err(NumberFault::NotANumber));
+    for (text, want) in [
+        ("-0", Ok(0)),
+        ("+0", Ok(0)),
+        ("-007", Ok(-7)),
+        ("170141183460469231731687303715884105727", Ok(i128::MAX)),
+        ("-170141183460469231731687303715884105728", Ok(i128::MIN)),
+        ("170141183460469231731687303715884105728", Err(TooLarge)),
+        ("-170141183460469231731687303715884105729", Err(TooLarge)),
+        ("+000000000000000000000000000000000000005", Ok(5)),
+        ("+0000000000000000000000000000000000000005", Err(TooLong)),
+        ("", Err(NotANumber)),
+        ("-", Err(NotANumber)),
+        ("--1", Err(NotANumber)),
+    ] {
+        assert_eq!(rt; signed_whole(text.as_bytes()), want, "at {text}");
+    }
 }
 
 #[test]
 fn plain_numbers(rt: HostRuntime) {
-    assert_eq!(rt; plain_signed(b"0"), Ok(0));
-    assert_eq!(rt; plain_signed(b"5"), Ok(5));
-    assert_eq!(rt; plain_signed(b"-50"), Ok(-50));
-    assert_eq!(rt;
-        plain_signed(b"170141183460469231731687303715884105727"),
-        Ok(i128::MAX)
-    );
-    assert_eq!(rt;
-        plain_signed(b"-170141183460469231731687303715884105728"),
-        Ok(i128::MIN)
-    );
-    assert_eq!(rt;
-        plain_signed(b"170141183460469231731687303715884105728"),
-        Err(NumberFault::TooLarge)
-    );
-    assert_eq!(rt;
-        plain_signed(b"100000000000000000000000000000000000000"),
-        Ok(100000000000000000000000000000000000000)
-    );
-    assert_eq!(rt;
-        plain_signed(b"1000000000000000000000000000000000000000"),
-        Err(NumberFault::TooLong)
-    );
-    assert_eq!(rt;
-        plain_signed(b"0000000000000000000000000000000000000000"),
-        Err(NumberFault::NotANumber)
-    );
-    assert_eq!(rt; plain_signed(b""), Err(NumberFault::NotANumber));
-    assert_eq!(rt; plain_signed(b"-"), Err(NumberFault::NotANumber));
-    assert_eq!(rt; plain_signed(b"-0"), Err(NumberFault::NotANumber));
-    assert_eq!(rt; plain_signed(b"+0"), Err(NumberFault::NotANumber));
-    assert_eq!(rt; plain_signed(b"+5"), Err(NumberFault::NotANumber));
-    assert_eq!(rt; plain_signed(b"05"), Err(NumberFault::NotANumber));
-    assert_eq!(rt; plain_signed(b"-05"), Err(NumberFault::NotANumber));
-    assert_eq!(rt; plain_signed(b"5x"), Err(NumberFault::NotANumber));
+    for (text, want) in [
+        ("0", Ok(0)),
+        ("5", Ok(5)),
+        ("-50", Ok(-50)),
+        ("170141183460469231731687303715884105727", Ok(i128::MAX)),
+        ("-170141183460469231731687303715884105728", Ok(i128::MIN)),
+        ("170141183460469231731687303715884105728", Err(TooLarge)),
+        (
+            "100000000000000000000000000000000000000",
+            Ok(100000000000000000000000000000000000000),
+        ),
+        ("1000000000000000000000000000000000000000", Err(TooLong)),
+        ("0000000000000000000000000000000000000000", Err(NotANumber)),
+        ("", Err(NotANumber)),
+        ("-", Err(NotANumber)),
+        ("-0", Err(NotANumber)),
+        ("+0", Err(NotANumber)),
+        ("+5", Err(NotANumber)),
+        ("05", Err(NotANumber)),
+        ("-05", Err(NotANumber)),
+        ("5x", Err(NotANumber)),
+    ] {
+        assert_eq!(rt; plain_signed(text.as_bytes()), want, "at {text}");
+    }
 }
 
 fn millionths_in(text: &[u8]) -> Result<i64, NumberFault> {
@@ -106,40 +80,36 @@ fn millionths_in(text: &[u8]) -> Result<i64, NumberFault> {
 
 #[test]
 fn decimals(rt: HostRuntime) {
-    assert_eq!(rt; millionths_in(b"0.0000005"), Ok(1));
-    assert_eq!(rt; millionths_in(b"-0.0000005"), Ok(-1));
-    assert_eq!(rt; millionths_in(b"1e-7"), Ok(0));
-    assert_eq!(rt; millionths_in(b"+.5"), Ok(500_000));
-    assert_eq!(rt; millionths_in(b"5."), Ok(5_000_000));
-    assert_eq!(rt; millionths_in(b"1e007"), Ok(10_000_000_000_000));
-    assert_eq!(rt;
-        millionths_in(b"1000000000000"),
-        Ok(1_000_000_000_000_000_000)
-    );
-    assert_eq!(rt;
-        millionths_in(b"1000000000000.0000004"),
-        Ok(1_000_000_000_000_000_000)
-    );
+    for (text, want) in [
+        ("0.0000005", Ok(1)),
+        ("-0.0000005", Ok(-1)),
+        ("1e-7", Ok(0)),
+        ("+.5", Ok(500_000)),
+        ("5.", Ok(5_000_000)),
+        ("1e007", Ok(10_000_000_000_000)),
+        ("1000000000000", Ok(1_000_000_000_000_000_000)),
+        ("1000000000000.0000004", Ok(1_000_000_000_000_000_000)),
+    ] {
+        assert_eq!(rt; millionths_in(text.as_bytes()), want, "at {text}");
+    }
 }
 
 #[test]
 fn refused_decimals(rt: HostRuntime) {
-    assert_eq!(rt;
-        millionths_in(b"1000000000000.000001"),
-        Err(NumberFault::TooLarge)
-    );
-    assert_eq!(rt; millionths_in(b"1e40"), Err(NumberFault::TooLarge));
-    assert_eq!(rt; millionths_in(b"1e41"), Err(NumberFault::TooLong));
-    assert_eq!(rt;
-        millionths_in(b"1234567890123456789012345678901234567"),
-        Err(NumberFault::TooLong)
-    );
-    assert_eq!(rt; millionths_in(b""), Err(NumberFault::NotANumber));
-    assert_eq!(rt; millionths_in(b"."), Err(NumberFault::NotANumber));
-    assert_eq!(rt; millionths_in(b"-"), Err(NumberFault::NotANumber));
-    assert_eq!(rt; millionths_in(b"1e"), Err(NumberFault::NotANumber));
-    assert_eq!(rt; millionths_in(b"0x1"), Err(NumberFault::NotANumber));
-    assert_eq!(rt; millionths_in(b"1.2.3"), Err(NumberFault::NotANumber));
+    for (text, want) in [
+        ("1000000000000.000001", Err(TooLarge)),
+        ("1e40", Err(TooLarge)),
+        ("1e41", Err(TooLong)),
+        ("1234567890123456789012345678901234567", Err(TooLong)),
+        ("", Err(NotANumber)),
+        (".", Err(NotANumber)),
+        ("-", Err(NotANumber)),
+        ("1e", Err(NotANumber)),
+        ("0x1", Err(NotANumber)),
+        ("1.2.3", Err(NotANumber)),
+    ] {
+        assert_eq!(rt; millionths_in(text.as_bytes()), want, "at {text}");
+    }
 }
 
 #[test]
@@ -159,35 +129,36 @@ fn amounts_in_range(rt: HostRuntime) {
 
 #[test]
 fn printed_amounts(rt: HostRuntime) -> Result<(), Fail> {
-    let alloc = rt.alloc();
-    assert_eq!(rt; Nanos(-1_500_000_000).to_string(alloc)?.as_str(), "-1.5");
-    assert_eq!(rt; Nanos(0).to_string(alloc)?.as_str(), "0");
-    assert_eq!(rt; Nanos(1).to_string(alloc)?.as_str(), "0.000000001");
-    assert_eq!(rt; Nanos(-7_000_000_000).to_string(alloc)?.as_str(), "-7");
+    for (nanos, text) in [
+        (-1_500_000_000, "-1.5"),
+        (0, "0"),
+        (1, "0.000000001"),
+        (-7_000_000_000, "-7"),
+        (i128::MIN, "-170141183460469231731687303715.884105728"),
+    ] {
+        assert_eq!(rt; Nanos(nanos).to_string(rt.alloc())?.as_str(), text);
+    }
+    let total = MicrosTotal(10_000_000_000_000_000_001);
     assert_eq!(rt;
-        Nanos(i128::MIN).to_string(alloc)?.as_str(),
-        "-170141183460469231731687303715.884105728"
-    );
-    assert_eq!(rt;
-        MicrosTotal(10_000_000_000_000_000_001)
-            .to_string(alloc)?
-            .as_str(),
+        total.to_string(rt.alloc())?.as_str(),
         "10000000000000.000001"
     );
-    if let Some(half) = Micros::new(-500_000) {
-        assert_eq!(rt; half.to_string(alloc)?.as_str(), "-0.5");
+    let half = Micros::new(-500_000).ok_or("half a unit is an amount")?;
+    assert_eq!(rt; half.to_string(rt.alloc())?.as_str(), "-0.5");
+    Ok(())
+}
+
+#[test]
+fn printed_faults(rt: HostRuntime) -> Result<(), Fail> {
+    for (fault, name) in [
+        (NotANumber, "NotANumber"),
+        (TooLong, "TooLong"),
+        (TooLarge, "TooLarge"),
+    ] {
+        assert_eq!(rt; fault.to_string(rt.alloc())?.as_str(), name);
     }
     assert_eq!(rt;
-        NumberFault::NotANumber.to_string(alloc)?.as_str(),
-        "NotANumber"
-    );
-    assert_eq!(rt; NumberFault::TooLong.to_string(alloc)?.as_str(), "TooLong");
-    assert_eq!(rt;
-        NumberFault::TooLarge.to_string(alloc)?.as_str(),
-        "TooLarge"
-    );
-    assert_eq!(rt;
-        TextFault::LineTooLong.to_string(alloc)?.as_str(),
+        TextFault::LineTooLong.to_string(rt.alloc())?.as_str(),
         "LineTooLong"
     );
     Ok(())
@@ -246,4 +217,12 @@ fn fields_of_a_line(rt: HostRuntime) {
     );
     assert_eq!(rt; fields.next(), None);
     assert_eq!(rt; fields.next(), None);
+}
+
+#[test]
+fn laws_can_be_named() {
+    laws::lines_make_the_text(b"one\n");
+    laws::fields_are_longest_runs(b"a b");
+    laws::plain_numbers_have_one_spelling(b"-5");
+    laws::printed_numbers_are_plain(-5);
 }

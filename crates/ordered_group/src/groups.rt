@@ -1,7 +1,8 @@
 //! What the solver and the checker need of amounts.
 
-ghost use Rattle.std.specs.Prelude.{◌≡◌, ◌↔◌, ℕ, ℤ, Bool, IsTrue, false, pos};
-ghost use Rattle.ordered_group.specs.Amount.{Amount, AtMost, GivesExactly, amount_cmp, minus, plus, zero_amount};
+ghost use Rattle.std.specs.Prelude.{FitsSigned, ◌≤◌, ◌≡◌, ◌↔◌, ℕ, ℤ, Bool, IsTrue, false, pos};
+ghost use Rattle.std.specs.Int.{w128};
+ghost use Rattle.ordered_group.specs.Amount.{Amount, FitsPair, AtMost, GivesExactly, amount_cmp, minus, plus, zero_amount};
 ghost use Rattle.ordered_group.specs.Block.{TakesParts, TellsWorth};
 ghost use Rattle.ordered_group.specs.Laws.{SumsTellWorth};
 ghost use Rattle.ordered_group.specs.declared.groups.Group.{Group as GroupName};
@@ -108,4 +109,7 @@ pub trait OrderedGroup: Copy + Ord + Send + Sync {
 
     // the sum of a set of blocks tells its worth
     ghost tells_worth: { SumsTellWorth block_parts set_worth };
+
+    // the worth of a set fits where its sum does
+    ghost worth_fits: { (a : Amount) (n count : ℕ) → FitsPair a → count ≤ n → FitsSigned w128 (set_worth a n count) };
 }

@@ -34,6 +34,8 @@ impl OrderedGroup for Worth {
 
     ghost uncounted = { λ x h. refl };
 
+    ghost worth_fits = { λ a n count f h. f.0 };
+
     ghost tells_worth = { worth_told };
 
     fn zero() -> Worth {

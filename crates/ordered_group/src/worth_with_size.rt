@@ -35,6 +35,8 @@ impl OrderedGroup for WorthSize {
 
     ghost uncounted = { λ x h. true_not_false h };
 
+    ghost worth_fits = { λ a n count f h. f.0 };
+
     ghost tells_worth = { counted_told };
 
     fn zero() -> WorthSize {

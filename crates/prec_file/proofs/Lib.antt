@@ -10,3 +10,7 @@ pub mod History
 pub mod KnownPairs
 pub mod Marks
 pub mod Progress
+pub mod WrittenPieces
+pub mod WrittenLines
+pub mod OneListing
+pub mod WrittenRecords

@@ -2,27 +2,35 @@
 //!
 //! A pair (b, p) says that block b rests on block p, so that b can be dug only after p. `Rests` holds such pairs,
 //! each once and in order, and answers both ways at once: what a block rests on, and which pairs rest on a block.
-//! `read_prec` reads them from a precedence file.
+//! `read_prec` reads them from a precedence file, and `write_prec` writes them to one.
 //!
-//! It stands on `fixed_worth` for lines, fields and whole numbers.
+//! It stands on `fixed_worth` for lines, fields, whole numbers and devices.
 //!
 //! Above it, callers may count on this: a `Rests` is exactly the set of the pairs that were listed, but those of a
 //! block with itself; a text is refused exactly where it has a fault, with the first faulty line and the first of
-//! its faults; both are built in the time of a sort, and one that finds its pairs in order in linear time.
+//! its faults; both are built in the time of a sort, and one that finds its pairs in order in linear time; what is
+//! written is read back as the same pairs.
 #![tactic(auto)]
 
 mod index;
+pub mod laws;
 mod pair_order;
 mod prec_fault;
 mod precedence;
 mod reading;
 mod records;
 mod rests_fault;
+mod write_fault;
+mod writing;
 
 pub use prec_fault::PrecFault;
 pub use precedence::Rests;
 pub use reading::read_prec;
 pub use rests_fault::RestsFault;
+pub use write_fault::PrecWriteFault;
+pub use writing::write_prec;
 
 #[cfg(test)]
 mod tests;
+#[cfg(test)]
+mod write_tests;

@@ -39,7 +39,7 @@ or_false : (x : Bool) → (x || false) ≡ x
 or_false true = refl
 or_false false = refl
 
-has-push : (before : List Line) (l : Line) (b : ℕ) → has_record (before ++ l ∷ []) b ≡ (has_record before b || is_record_of b (fields_in l))
+pub has-push : (before : List Line) (l : Line) (b : ℕ) → has_record (before ++ l ∷ []) b ≡ (has_record before b || is_record_of b (fields_in l))
 has-push before l b = list_any-append (λ x. is_record_of b (fields_in x)) before (l ∷ []) ∙ ap (λ t. has_record before b || t) (or_false (is_record_of b (fields_in l)))
 
 -- A line that is no record of b leaves b's value.

@@ -5,7 +5,7 @@ use Rattle.std.specs.Option.{option_or}
 use Rattle.fixed_worth.specs.Text.{Left}
 use Rattle.fixed_worth.specs.Record.{Line, numbered}
 use Rattle.upit_file.specs.declared.fault.UpitFault.{UpitFault}
-use Rattle.upit_file.specs.Header.{header, after_header, first_count, header_lines_fault, end_fault, header_fault}
+use Rattle.upit_file.specs.Header.{header, last_name, after_header, first_count, header_lines_fault, end_fault, header_fault}
 use Rattle.upit_file.specs.Records.{count_in}
 
 -- The first fault from here on, where an NBLOCKS record came before or not.
@@ -13,9 +13,10 @@ abbrev pub fault_from : ℕ → Bool → ℕ → List Line → Option UpitFault
 fault_from n counted total ls = option_or (header_lines_fault n (header ls)) (end_fault (counted || is_some (first_count (header ls))) total (after_header ls))
 
 -- What has been read, and what is left.
-pub record Going (n : ℕ) (all : List Line) (wanted counted : Option ℕ) (left : Left) : Type 0 where
+pub record Going (n : ℕ) (all : List Line) (name : List ℕ) (wanted counted : Option ℕ) (left : Left) : Type 0 where
   pub fault : fault_from n (is_some counted) (length all) (numbered left.number left.lines) ≡ header_fault n all
-  pub named : unwrap_or (option_or counted wanted) (count_in (numbered left.number left.lines)) ≡ n
+  pub name_so : last_name name (header (numbered left.number left.lines)) ≡ last_name [] (header all)
+  pub wanted_so : unwrap_or (option_or counted wanted) (count_in (numbered left.number left.lines)) ≡ n
   pub rest : after_header (numbered left.number left.lines) ≡ after_header all
   pub total : left.number + length left.lines ≡ length all
 
@@ -23,10 +24,11 @@ pub length-numbered : (k : ℕ) (lines : List (List ℕ)) → length (numbered k
 length-numbered k [] = refl
 length-numbered k (l ∷ ls) = ap suc (length-numbered (k + 1) ls)
 
-pub begins : (n : ℕ) (wanted : Option ℕ) (left : Left) → left.number ≡ 0 → n ≡ unwrap_or wanted (count_in (numbered 0 left.lines)) → Going n (numbered 0 left.lines) wanted None left
+pub begins : (n : ℕ) (wanted : Option ℕ) (left : Left) → left.number ≡ 0 → n ≡ unwrap_or wanted (count_in (numbered 0 left.lines)) → Going n (numbered 0 left.lines) [] wanted None left
 begins n wanted left z e = record {
   fault = rw z refl;
-  named = rw z (sym e);
+  name_so = rw z refl;
+  wanted_so = rw z (sym e);
   rest = rw z refl;
   total = omega (arith, length-numbered 0 left.lines);
 }

@@ -1,3 +1,12 @@
 pub mod NextLine
 pub mod HeaderLines
 pub mod BodyLines
+pub mod Names
+pub mod RecordLines
+pub mod LineFeeds
+pub mod Words
+pub mod ReadBack
+pub mod LinesBack
+pub mod BodyBack
+pub mod HeaderBack
+pub mod RoundTrip

@@ -1,28 +1,24 @@
 -- The records behind the header: a block and its value each.
-use Rattle.std.specs.Prelude.{ℕ, ℤ, pos, ◌*ℤ◌, ◌^◌, ◌==◌, ◌&&◌, Bool, not, cond, List, [], ◌∷◌, ◌++◌, drop, nat_le, nat_abs, Option, Some, None, is_some, unwrap_or, Result, Ok, Err}
+use Rattle.std.specs.Prelude.{ℕ, ℤ, pos, ◌==◌, ◌&&◌, Bool, not, cond, List, [], ◌∷◌, ◌++◌, drop, nat_le, Option, Some, None, is_some, unwrap_or}
 use Rattle.std.specs.Option.{option_or}
+use Rattle.std.specs.Result.{result_ok}
 use Rattle.std.specs.List.{list_any}
-use Rattle.fixed_worth.specs.Numeral.{signed_of}
-use Rattle.fixed_worth.specs.declared.numerals.NumberFault.{NumberFault}
+use Rattle.fixed_worth.specs.Decimal.{decimal_of}
 use Rattle.fixed_worth.specs.Record.{Line, reads, number_of, is_skipped}
 use Rattle.upit_file.specs.declared.fault.UpitFault.{UpitFault}
 use Rattle.upit_file.specs.declared.fault.UpitFault.TheVariants.{Text, Number, UnknownBlock, Repeated}
 use Rattle.upit_file.specs.Header.{is_long, fields_in, is_end, after_header}
 
--- The number in millionths, where its size is at most a million millions.
-abbrev pub in_millionths : Result ℤ NumberFault → Option ℤ
-in_millionths (Ok v) = cond (nat_le (nat_abs v) (10 ^ 12)) (Some (v *ℤ pos (10 ^ 6))) None
-in_millionths (Err e) = None
-
 -- The value that a field is, in millionths.
-unfoldable pub value_read : List ℕ → Option ℤ
-value_read field = in_millionths (signed_of field)
+abbrev pub value_read : List ℕ → Option ℤ
+value_read field = result_ok (decimal_of field)
 
--- A record's fields: a block and its value.
+-- The block that a record is for: its first field.
 abbrev pub block_of : List (List ℕ) → ℕ
 block_of [] = 0
 block_of (block ∷ fields) = number_of block
 
+-- The value that a record gives, in millionths: its second field.
 abbrev pub value_of : List (List ℕ) → ℤ
 value_of [] = pos 0
 value_of (block ∷ []) = pos 0
@@ -37,6 +33,7 @@ shape_fault line _ = Some (Text line)
 abbrev pub block_fault : ℕ → (ℕ → Bool) → ℕ → ℕ → Option UpitFault
 block_fault n had line block = cond (nat_le n block) (Some (UnknownBlock line)) (cond (had block) (Some (Repeated line)) None)
 
+-- What is wrong with the fields of a line, where these blocks had records before.
 abbrev pub record_fault : ℕ → (ℕ → Bool) → ℕ → List (List ℕ) → Option UpitFault
 record_fault n had line fields = cond (is_skipped fields) None (option_or (shape_fault line fields) (block_fault n had line (block_of fields)))
 

@@ -1,13 +1,13 @@
 -- The header of a text: where it ends, what it declares, and what is wrong with it.
-use Rattle.std.specs.Prelude.{ℕ, ◌^◌, ◌==◌, ◌||◌, Bool, true, false, not, cond, List, [], ◌∷◌, length, nat_lt, Option, Some, None, is_some, codes}
+use Rattle.std.specs.Prelude.{ℕ, ◌+◌, ◌^◌, ◌==◌, ◌||◌, Bool, true, false, not, cond, List, [], ◌∷◌, length, drop, take, nat_lt, Option, Some, None, is_some, codes}
 use Rattle.std.specs.Option.{option_or}
 use Rattle.std.specs.Str.{bytes_eq}
-use Rattle.fixed_worth.specs.Text.{fields_of}
+use Rattle.fixed_worth.specs.Text.{Run, fields_of, runs_from}
 use Rattle.fixed_worth.specs.Record.{Line, reads, number_of}
 use Rattle.upit_file.specs.declared.key.Key.{Key}
-use Rattle.upit_file.specs.declared.key.Key.TheVariants.{Blocks, Objective, End, Other}
+use Rattle.upit_file.specs.declared.key.Key.TheVariants.{Name, FileType, Blocks, Objective, End, Other}
 use Rattle.upit_file.specs.declared.fault.UpitFault.{UpitFault}
-use Rattle.upit_file.specs.declared.fault.UpitFault.TheVariants.{Text, Number, NoObjective, WrongBlocks}
+use Rattle.upit_file.specs.declared.fault.UpitFault.TheVariants.{Text, Number, NoObjective, NotUpit, WrongBlocks}
 
 -- The line has more than 65,536 bytes: a fault, whatever it holds.
 abbrev pub is_long : Line → Bool
@@ -19,7 +19,12 @@ fields_in l = cond (is_long l) [] (fields_of l.text)
 
 -- The key that a word is. Keys are in upper case.
 abbrev pub key_of : List ℕ → Key
-key_of word = cond (bytes_eq word (codes "NBLOCKS")) Blocks (cond (bytes_eq word (codes "OBJECTIVE_FUNCTION")) Objective Other)
+key_of word =
+    cond (bytes_eq word (codes "NAME")) Name
+    (cond (bytes_eq word (codes "TYPE")) FileType
+    (cond (bytes_eq word (codes "NBLOCKS")) Blocks
+    (cond (bytes_eq word (codes "OBJECTIVE_FUNCTION")) Objective
+    Other)))
 
 -- EOF alone
 abbrev pub is_end : List (List ℕ) → Bool
@@ -48,12 +53,38 @@ abbrev pub after_header : List Line → List Line
 after_header [] = []
 after_header (l ∷ ls) = cond (ends_header (key_in (fields_in l))) (l ∷ ls) (after_header ls)
 
+-- Where the last of these fields ends; e where there is none.
+abbrev pub last_end : ℕ → List Run → ℕ
+last_end e [] = e
+last_end e (field ∷ fields) = last_end (field.place + length field.text) fields
+
+-- The line from its second field's first byte to its last field's last; nothing where there is no second field.
+abbrev pub from_second : List ℕ → List Run → List ℕ
+from_second line [] = []
+from_second line (key ∷ []) = []
+from_second line (key ∷ field ∷ fields) = drop field.place (take (last_end 0 (field ∷ fields)) line)
+
+-- The name that a NAME record gives, whose line this is.
+abbrev pub name_in : List ℕ → List ℕ
+name_in line = from_second line (runs_from 0 line)
+
+-- The name behind a line with this key: a NAME record gives it, and any other line leaves it.
+abbrev pub name_behind : List ℕ → Key → List ℕ → List ℕ
+name_behind name Name line = name_in line
+name_behind name _ line = name
+
+-- The name that the last NAME record of these lines gives, and the name before them where there is none.
+abbrev pub last_name : List ℕ → List Line → List ℕ
+last_name name [] = name
+last_name name (l ∷ ls) = last_name (name_behind name (key_in (fields_in l)) l.text) ls
+
 -- The number of blocks that an NBLOCKS record names; 0 where it names none.
 abbrev pub count_of : List (List ℕ) → ℕ
 count_of [] = 0
 count_of (key ∷ []) = 0
 count_of (key ∷ count ∷ fields) = number_of count
 
+-- The number of blocks that a record names, where its key is NBLOCKS.
 abbrev pub count_at : Key → List (List ℕ) → Option ℕ
 count_at Blocks fields = Some (count_of fields)
 count_at _ fields = None
@@ -72,20 +103,33 @@ count_fault n line (key ∷ count ∷ fields) =
     (cond (not (number_of count == n) || nat_lt (2 ^ 24) (number_of count)) (Some (WrongBlocks line))
     None)
 
+-- What is wrong with a TYPE record.
+abbrev pub type_fault : ℕ → List (List ℕ) → Option UpitFault
+type_fault line [] = Some (NotUpit line)
+type_fault line (key ∷ []) = Some (NotUpit line)
+type_fault line (key ∷ word ∷ fields) = cond (bytes_eq word (codes "UPIT")) None (Some (NotUpit line))
+
+-- What is wrong with a NAME record, whose line this is.
+abbrev pub name_fault : ℕ → List ℕ → Option UpitFault
+name_fault line text = cond (nat_lt 60000 (length (name_in text))) (Some (Text line)) None
+
 -- What is wrong with a record by its key.
-abbrev pub key_fault : ℕ → ℕ → Key → List (List ℕ) → Option UpitFault
-key_fault n line Blocks fields = count_fault n line fields
-key_fault n line _ fields = None
+abbrev pub key_fault : ℕ → Line → Key → List (List ℕ) → Option UpitFault
+key_fault n l Name fields = name_fault l.number l.text
+key_fault n l FileType fields = type_fault l.number fields
+key_fault n l Blocks fields = count_fault n l.number fields
+key_fault n l _ fields = None
 
 -- What is wrong with a line of the header.
 abbrev pub header_line_fault : ℕ → Line → Option UpitFault
-header_line_fault n l = cond (is_long l) (Some (Text l.number)) (key_fault n l.number (key_in (fields_in l)) (fields_in l))
+header_line_fault n l = cond (is_long l) (Some (Text l.number)) (key_fault n l (key_in (fields_in l)) (fields_in l))
 
 -- The fault of the first faulty line of these, if any.
 abbrev pub header_lines_fault : ℕ → List Line → Option UpitFault
 header_lines_fault n [] = None
 header_lines_fault n (l ∷ ls) = option_or (header_line_fault n l) (header_lines_fault n ls)
 
+-- What is wrong with the line that ends the header, where an NBLOCKS record came or not.
 abbrev pub last_fault : Bool → ℕ → Key → Option UpitFault
 last_fault counted line End = Some (NoObjective line)
 last_fault counted line _ = cond counted None (Some (WrongBlocks line))

@@ -1,11 +1,12 @@
 -- What a text of block values says, over its list of lines.
-use Rattle.std.specs.Prelude.{◌≡◌, ℕ, ℤ, ◌<◌, List, [], length, Option, Some, None, unwrap_or, Result, Ok, Err, get_or, pos}
+use Rattle.std.specs.Prelude.{◌≡◌, ℕ, ℤ, ◌-◌, ◌<◌, ◌==◌, ◌^◌, ◌&&◌, ◌||◌, Bool, not, nat_le, slice_index, List, [], length, Option, Some, None, unwrap_or, Result, Ok, Err, get_or, pos}
 use Rattle.std.specs.Option.{option_or}
-use Rattle.fixed_worth.specs.Text.{lines_of}
+use Rattle.std.specs.List.{list_any}
+use Rattle.fixed_worth.specs.Text.{lines_of, is_separator}
 use Rattle.fixed_worth.specs.Record.{Line, numbered}
 use Rattle.upit_file.specs.declared.fault.UpitFault.{UpitFault}
 use Rattle.upit_file.specs.declared.fault.UpitFault.TheVariants.{NoMemory}
-use Rattle.upit_file.specs.Header.{header, first_count, header_fault}
+use Rattle.upit_file.specs.Header.{header, last_name, first_count, header_fault}
 use Rattle.upit_file.specs.Body.{body, first_fault, value_among}
 
 -- The lines of a text, numbered from 1 on.
@@ -33,14 +34,25 @@ fault_of n text = option_or (header_fault n (lines_in text)) (first_fault n [] (
 abbrev pub value_at : List ℕ → ℕ → ℤ
 value_at text b = value_among (body (lines_in text)) b
 
--- The name: this format has none.
+-- The name that the last NAME record of the header gives.
 abbrev pub name_of : List ℕ → List ℕ
-name_of text = []
+name_of text = last_name [] (header (lines_in text))
 
 -- What the type shows: a name, and the value of each block in millionths.
 pub record UpitView : Type 0 where
   pub name : List ℕ
   pub values : List ℤ
+
+-- The name is empty, or has at most 60,000 bytes, none of them a line feed (10), of which the first and the last are no
+-- separators.
+abbrev pub is_name : List ℕ → Bool
+is_name name =
+    (length name == 0)
+    || (nat_le (length name) 60000 && not (list_any (λ b. b == 10) name) && not (is_separator (slice_index name 0)) && not (is_separator (slice_index name (length name - 1))))
+
+-- What the type can hold: such a name, and at most 2^24 values.
+abbrev pub is_upit : List ℕ → List ℤ → Bool
+is_upit name values = is_name name && nat_le (length values) (2 ^ 24)
 
 -- The values and the name are those that the text gives to n blocks.
 pub record Denotes (n : ℕ) (text : List ℕ) (upit : UpitView) : Type 0 where

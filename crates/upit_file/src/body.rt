@@ -8,11 +8,11 @@ ghost use Rattle.upit_file.specs.Records.{UnlessMemory};
 use crate::fault::UpitFault;
 use crate::kept::Kept;
 use crate::record::{Record, read_record};
-use fixed_worth::Lines;
+use fixed_worth::{Lines, Micros};
 use std::alloc::Global;
 
-// Reads the records to the end of the text: the value of each of n blocks in millionths.
-pub(crate) fn read_body(alloc: Global, lines: &mut Lines, n: u32) -> Result<Vec<i64>, UpitFault>
+// Reads the records to the end of the text: the value of each of n blocks.
+pub(crate) fn read_body(alloc: Global, lines: &mut Lines, n: u32) -> Result<Vec<Micros>, UpitFault>
     ensures { let body = spec.before_end (numbered lines.old.number lines.old.lines) in MatchResult result
         (λ values. (spec.first_fault n [] body ≡ None) × (length values.items ≡ n)
         × ((b : ℕ) → b < n → slice_index_or values.items b (pos 0) ≡ spec.value_among body b))
@@ -25,14 +25,17 @@ pub(crate) fn read_body(alloc: Global, lines: &mut Lines, n: u32) -> Result<Vec<
         match lines.next_line() {
             Ok(Some(text)) => {
                 let line = lines.number();
-                match read_record(text, line) {
-                    Ok(Record::Skipped) => {}
-                    Ok(Record::End) => return Ok(kept.into_values()),
-                    Ok(Record::Value(block, value)) => match kept.keep(block, value, line) {
+                let read = match read_record(text, line) {
+                    Ok(read) => read,
+                    Err(fault) => return Err(fault),
+                };
+                match read {
+                    Record::Skipped => {}
+                    Record::End => return Ok(kept.into_values()),
+                    Record::Value(block, value) => match kept.keep(block, value, line) {
                         Ok(()) => {}
                         Err(fault) => return Err(fault),
                     },
-                    Err(fault) => return Err(fault),
                 }
             }
             Ok(None) => return Ok(kept.into_values()),

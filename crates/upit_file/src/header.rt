@@ -1,6 +1,6 @@
 //! Reading the header.
 
-ghost use Rattle.std.specs.Prelude.{◌≡◌, ◌≤◌, ◌^◌, ◌==◌, ◌||◌, length, drop, MatchResult, OnSome, IfSome, unwrap_or, Some, None};
+ghost use Rattle.std.specs.Prelude.{[], ◌≡◌, ◌≤◌, ◌^◌, ◌==◌, ◌||◌, length, drop, MatchResult, OnSome, IfSome, unwrap_or, Some, None};
 ghost use Rattle.fixed_worth.specs.Text.{fields_of};
 ghost use Rattle.fixed_worth.specs.Record.{numbered};
 ghost use Rattle.upit_file.specs.Header as spec;
@@ -8,6 +8,7 @@ ghost use Rattle.upit_file.specs.Records as records;
 
 use crate::fault::UpitFault;
 use crate::key::{Key, key_in};
+use crate::name::read_name;
 use fixed_worth::{Fields, Lines, whole};
 
 const MOST_BLOCKS: u64 = 1 << 24;
@@ -39,26 +40,66 @@ fn read_count(text: &[u8], wanted: Option<u32>, line: u64) -> Result<u32, UpitFa
     }
 }
 
-// Reads the header of a text, to behind the line that ends it: how many blocks the text is for.
-pub(crate) fn read_header(lines: &mut Lines, wanted: Option<u32>) -> Result<u32, UpitFault>
+// A TYPE record says that the text is of this type.
+fn read_type(text: &[u8], line: u64) -> Result<(), UpitFault>
+    requires { length text.now ≤ 65536 }
+    ensures { MatchResult result
+        (λ _. spec.type_fault line (fields_of text.now) ≡ None)
+        (λ e. spec.type_fault line (fields_of text.now) ≡ Some e) }
+{
+    let mut fields = Fields::new(text);
+    let Some(_) = fields.next() else {
+        return Err(UpitFault::NotUpit(line));
+    };
+    match fields.next() {
+        Some(word) if word.text == b"UPIT".as_slice() => Ok(()),
+        _ => Err(UpitFault::NotUpit(line)),
+    }
+}
+
+// What the header says.
+#[derive(Clone, Copy)]
+pub(crate) struct Header<'a> {
+    pub(crate) name: &'a [u8],
+    pub(crate) blocks: u32,
+}
+
+// Reads the header of a text, to behind the line that ends it, for the wanted number of blocks if there is one.
+pub(crate) fn read_header<'a>(
+    lines: &mut Lines<'a>,
+    wanted: Option<u32>,
+) -> Result<Header<'a>, UpitFault>
     requires first { lines.old.number ≡ 0 }
     requires bound { IfSome wanted (λ n. n ≤ 2 ^ 24) }
     ensures { let all = numbered 0 lines.old.lines in let n = unwrap_or wanted (records.count_in all) in MatchResult result
-        (λ count. (count ≡ n) × (count ≤ 2 ^ 24) × (spec.header_fault n all ≡ None)
+        (λ header. (header.blocks ≡ n) × (header.blocks ≤ 2 ^ 24) × (spec.header_fault n all ≡ None)
+        × (header.name.now ≡ spec.last_name [] (spec.header all))
         × (drop 1 (spec.after_header all) ≡ numbered lines.new.number lines.new.lines))
         (λ e. spec.header_fault n all ≡ Some e) }
 {
+    let mut name: &'a [u8] = b"";
     let mut counted = None;
     loop {
         match lines.next_line() {
             Ok(Some(text)) => {
                 let line = lines.number();
                 match key_in(text) {
+                    Key::Name => match read_name(text, line) {
+                        Ok(given) => name = given,
+                        Err(fault) => return Err(fault),
+                    },
+                    Key::FileType => match read_type(text, line) {
+                        Ok(()) => {}
+                        Err(fault) => return Err(fault),
+                    },
                     Key::Blocks => match read_count(text, counted.or(wanted), line) {
                         Ok(n) => counted = Some(n),
                         Err(fault) => return Err(fault),
                     },
-                    Key::Objective => return counted.ok_or(UpitFault::WrongBlocks(line)),
+                    Key::Objective => return match counted {
+                        Some(blocks) => Ok(Header { name, blocks }),
+                        None => Err(UpitFault::WrongBlocks(line)),
+                    },
                     Key::End => return Err(UpitFault::NoObjective(line)),
                     Key::Other => {}
                 }

@@ -4,13 +4,14 @@ ghost use Rattle.std.specs.Prelude.{◌≡◌, ℕ, ◌≤◌, ◌^◌, Bool, tr
 ghost use Rattle.upit_file.specs.Body as spec;
 
 use crate::fault::UpitFault;
+use fixed_worth::Micros;
 use std::alloc::{AllocError, Global};
 
 // The values of blocks, and which blocks have had a record.
 #[derive(Drop)]
 pub(crate) struct Kept {
     seen: Vec<bool>,
-    values: Vec<i64>,
+    values: Vec<Micros>,
 }
 
 impl Kept {
@@ -19,12 +20,15 @@ impl Kept {
         ensures { IfOk result (λ kept. (kept.seen.items ≡ replicate n false) × (kept.values.items ≡ replicate n (pos 0))) }
     {
         let seen = vec![in alloc; false; n as usize]?;
-        let values = vec![in alloc; 0i64; n as usize]?;
+        let Some(zero) = Micros::new(0) else {
+            unreachable!()
+        };
+        let values = vec![in alloc; zero; n as usize]?;
         Ok(Kept { seen, values })
     }
 
     // Takes the value of a block whose first record this is.
-    pub(crate) fn keep(&mut self, block: u64, value: i64, line: u64) -> Result<(), UpitFault>
+    pub(crate) fn keep(&mut self, block: u64, value: Micros, line: u64) -> Result<(), UpitFault>
         requires { length self.old.seen.items ≡ length self.old.values.items }
         ensures { let had : ℕ → Bool = λ b. slice_index_or self.old.seen.items b false in MatchResult result
             (λ _. (spec.block_fault (length self.old.seen.items) had line block ≡ None)
@@ -44,7 +48,7 @@ impl Kept {
         Ok(())
     }
 
-    pub(crate) fn into_values(self) -> Vec<i64>
+    pub(crate) fn into_values(self) -> Vec<Micros>
         ensures { result.items ≡ self.values.items }
     {
         self.values

@@ -9,6 +9,10 @@ use fixed_worth::Fields;
 /// What a record of the header is by its key.
 #[derive(Clone, Copy, Debug, PartialEq, Eq)]
 pub enum Key {
+    /// The name of what the values are.
+    Name,
+    /// The type of the text.
+    FileType,
     /// How many blocks there are.
     Blocks,
     /// The header ends.
@@ -22,7 +26,11 @@ pub enum Key {
 fn key_of(word: &[u8]) -> Key
     ensures { result ≡ spec.key_of word.now }
 {
-    if word == b"NBLOCKS".as_slice() {
+    if word == b"NAME".as_slice() {
+        Key::Name
+    } else if word == b"TYPE".as_slice() {
+        Key::FileType
+    } else if word == b"NBLOCKS".as_slice() {
         Key::Blocks
     } else if word == b"OBJECTIVE_FUNCTION".as_slice() {
         Key::Objective

@@ -1,14 +1,17 @@
-//! Reads `.upit` files, which give the blocks of an ultimate-pit problem their values.
+//! Reads and writes `.upit` files, which give the blocks of an ultimate-pit problem their values.
 //!
-//! A text has a header, whose records begin with a key such as `NBLOCKS`, and behind the line `OBJECTIVE_FUNCTION` a
-//! record of a block number and a value each. A block without a record is worth nothing. The layout is that of the
-//! files of MineLib (Espinoza and others 2013).
+//! A text has a header, whose records begin with a key such as `NAME` or `NBLOCKS`, and behind the line
+//! `OBJECTIVE_FUNCTION` a record of a block number and a value each. A block without a record is worth nothing. The
+//! layout is that of the files of MineLib (Espinoza and others 2013).
 //!
-//! It stands on `fixed_worth`, which cuts lines and fields and reads the numbers in them.
+//! It stands on `fixed_worth`, which cuts lines and fields, reads the numbers in them and sends texts.
 //!
-//! Upward it promises that [`read_upit`] gives exactly the values that `specs/Records` says the text denotes, or its
-//! first fault with the number of the line, and that [`declared_blocks`] gives the number of blocks that the header
-//! declares, or its first fault, without taking memory. `specs/Header` and `specs/Body` have the two parts of a text.
+//! Upward it promises:
+//! - [`read_upit`] gives exactly the name and the values that `specs/Records` says the text denotes, or its first fault
+//!   with the number of the line. `specs/Header` and `specs/Body` have the two parts of a text.
+//! - [`declared_blocks`] gives the number of blocks that the header declares, or its first fault, without taking memory.
+//! - [`write_upit`] sends exactly the text that `specs/Writing` gives to a name and values, without taking memory, and
+//!   that text is read back as that name and these values ([`laws::written_is_read`]).
 #![tactic(auto)]
 
 mod body;
@@ -16,14 +19,19 @@ mod fault;
 mod header;
 mod kept;
 mod key;
+pub mod laws;
+mod name;
 mod reading;
 mod record;
+mod record_line;
 mod upit;
 mod value;
+mod writing;
 
 pub use fault::UpitFault;
 pub use reading::{declared_blocks, read_upit};
 pub use upit::Upit;
+pub use writing::write_upit;
 
 #[cfg(test)]
 mod tests;

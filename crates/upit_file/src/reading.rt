@@ -20,10 +20,13 @@ pub fn declared_blocks(text: &[u8]) -> Result<u32, UpitFault>
     ensures header { IfOk result (λ n. (n ≤ 2 ^ 24) × (header_fault n (spec.lines_in text.now) ≡ None)) }
 {
     let mut lines = Lines::new(text);
-    read_header(&mut lines, None)
+    match read_header(&mut lines, None) {
+        Ok(header) => Ok(header.blocks),
+        Err(fault) => Err(fault),
+    }
 }
 
-/// The values that a text gives to n blocks: that of the block's record, and 0 where it has none.
+/// The name of a text, and the values that it gives to n blocks: that of the block's record, and 0 where it has none.
 ///
 /// Otherwise the first fault of the text, or `NoMemory` where memory is refused.
 pub fn read_upit(alloc: Global, text: &[u8], n: u32) -> Result<Upit, UpitFault>
@@ -33,11 +36,16 @@ pub fn read_upit(alloc: Global, text: &[u8], n: u32) -> Result<Upit, UpitFault>
         (λ e. spec.UnlessMemory e (spec.fault_of n text.now ≡ Some e)) }
 {
     let mut lines = Lines::new(text);
-    match read_header(&mut lines, Some(n)) {
-        Ok(_) => match read_body(alloc, &mut lines, n) {
-            Ok(values) => Ok(Upit::of(Vec::new(alloc), values)),
-            Err(fault) => Err(fault),
-        },
-        Err(fault) => Err(fault),
+    let header = match read_header(&mut lines, Some(n)) {
+        Ok(header) => header,
+        Err(fault) => return Err(fault),
+    };
+    let values = match read_body(alloc, &mut lines, n) {
+        Ok(values) => values,
+        Err(fault) => return Err(fault),
+    };
+    match Vec::from_slice(alloc, header.name) {
+        Ok(name) => Ok(Upit::of(name, values)),
+        Err(_) => Err(UpitFault::NoMemory),
     }
 }

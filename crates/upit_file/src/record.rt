@@ -9,7 +9,7 @@ ghost use Rattle.upit_file.specs.Steps.{IsRecord};
 
 use crate::fault::UpitFault;
 use crate::value::read_value;
-use fixed_worth::{Fields, is_remark, whole};
+use fixed_worth::{Fields, Micros, is_remark, whole};
 
 // What a line behind the header is.
 #[derive(Clone, Copy)]
@@ -18,8 +18,8 @@ pub(crate) enum Record {
     Skipped,
     // The text ends.
     End,
-    // A block, and its value in millionths.
-    Value(u64, i64),
+    // A block, and its value.
+    Value(u64, Micros),
 }
 
 // The record that a line is.

@@ -1,15 +1,22 @@
-//! The values of the blocks of a text.
+//! What a `.upit` file holds.
 
-ghost use Rattle.std.specs.Prelude.{◌≡◌, ◌==◌, ◌<◌, ◌≤◌, ◌^◌, pos, length, slice_index_or};
+ghost use Rattle.std.specs.Prelude.{◌≡◌, ◌==◌, ◌<◌, ◌≤◌, ◌^◌, ◌-◌, ◌&&◌, ◌||◌, pos, length, slice_index_or, IsTrue, SomeIff};
+ghost use Rattle.std.specs.List.{list_any};
+ghost use Rattle.fixed_worth.specs.Text.{is_separator};
 ghost use Rattle.upit_file.specs.Records as spec;
 
+use fixed_worth::Micros;
 use std::marker::Model;
+
+const MOST_BLOCKS: usize = 1 << 24;
+
+const MOST_NAME_BYTES: usize = 60_000;
 
 /// A name, and the value of each block: what a `.upit` file holds.
 #[derive(Drop)]
 pub struct Upit {
     name: Vec<u8>,
-    values: Vec<i64>,
+    values: Vec<Micros>,
 }
 
 impl Model for Upit {
@@ -17,12 +24,51 @@ impl Model for Upit {
 
     ghost view = { λ u. record { name = u.name.items; values = u.values.items } };
 
-    ghost invariant = { λ u. length u.values.items ≤ 2 ^ 24 };
+    ghost invariant = { λ u. IsTrue (spec.is_upit u.name.items u.values.items) };
+}
+
+#[tactic(auto, unfolding(fixed_worth::specs::Text::is_separator))]
+fn is_separator(b: u8) -> bool
+    ensures { result ≡ is_separator b }
+{
+    b == b' ' || b == b'\t' || b == b':' || b == b'\r'
+}
+
+fn has_line_feed(name: &[u8]) -> bool
+    ensures { result ≡ list_any (λ b. b == 10) name.now }
+{
+    name.iter().any(|b| *b == b'\n')
+}
+
+fn is_name(name: &[u8]) -> bool
+    ensures { result ≡ spec.is_name name.now }
+{
+    if name.is_empty() {
+        return true;
+    }
+    name.len() <= MOST_NAME_BYTES
+        && !has_line_feed(name)
+        && !is_separator(name[0])
+        && !is_separator(name[name.len() - 1])
 }
 
 impl Upit {
-    pub(crate) fn of(name: Vec<u8>, values: Vec<i64>) -> Upit
-        requires { length values.items ≤ 2 ^ 24 }
+    /// These values under this name, from block 0 on.
+    ///
+    /// `None` unless the name is empty or has at most 60,000 bytes, none of them a line feed, of which the first and the
+    /// last are no space, tab, colon or carriage return; and where there are more than 2^24 values.
+    pub fn new(name: Vec<u8>, values: Vec<Micros>) -> Option<Upit>
+        ensures { SomeIff result (IsTrue (spec.is_upit name.items values.items)) (record { name = name.items; values = values.items }) }
+    {
+        if is_name(name.as_slice()) && values.len() <= MOST_BLOCKS {
+            Some(Upit { name, values })
+        } else {
+            None
+        }
+    }
+
+    pub(crate) fn of(name: Vec<u8>, values: Vec<Micros>) -> Upit
+        requires { IsTrue (spec.is_upit name.items values.items) }
         ensures name { result.name ≡ name.items }
         ensures values { result.values ≡ values.items }
     {
@@ -44,23 +90,24 @@ impl Upit {
         self.values.is_empty()
     }
 
-    /// The name, which is empty where the text gives none.
+    /// The name, which is empty where there is none.
     pub fn name(&self) -> &[u8]
-        ensures { result.now ≡ self.now.name }
+        ensures value { result.now ≡ self.now.name }
+        ensures form { IsTrue (spec.is_name result.now) }
     {
         self.name.as_slice()
     }
 
-    /// The value of a block, in millionths.
-    pub fn value(&self, block: u32) -> i64
+    /// The value of a block.
+    pub fn value(&self, block: u32) -> Micros
         requires { block < length self.now.values }
         ensures { result ≡ slice_index_or self.now.values block (pos 0) }
     {
         self.values[block as usize]
     }
 
-    /// The values of the blocks from 0 on, in millionths.
-    pub fn values(&self) -> &[i64]
+    /// The values of the blocks from 0 on.
+    pub fn values(&self) -> &[Micros]
         ensures { result.now ≡ self.now.values }
     {
         self.values.as_slice()

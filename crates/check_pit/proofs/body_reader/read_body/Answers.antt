@@ -1,4 +1,4 @@
-use Rattle.std.proofs.Common.{ℕ, Bool, List, [], ◌∷◌, length, sym, subst, ◌∙◌}
+use Rattle.std.proofs.Common.{ℕ, Bool, [], ◌∷◌, length, sym, subst, ◌∙◌}
 use Rattle.check_pit.specs.Pieces.{Passed}
 use Rattle.check_pit.specs.BodyLines.{line_of}
 use Rattle.check_pit.specs.Certificate.{Covers, Adds}

@@ -1,4 +1,4 @@
-use Rattle.std.proofs.Common.{◌≡◌, ◌<◌, ◌∙◌, sym, length, arith, below_more}
+use Rattle.std.proofs.Common.{arith, below_more}
 use Rattle.check_pit.proofs.Amounts.{same_length, opposite_here, within_there}
 use Rattle.check_pit.proofs.checking.first_over.Goals as goal
 

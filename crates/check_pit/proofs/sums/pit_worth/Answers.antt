@@ -1,4 +1,4 @@
-use Rattle.std.proofs.Common.{◌≡◌, ◌<◌, length, arith, below_more, ap, ◌∙◌, sym}
+use Rattle.std.proofs.Common.{arith, below_more, ap, ◌∙◌, sym}
 use Rattle.ordered_group.specs.Sums.{amount_at}
 use Rattle.ordered_group.proofs.Steps.{set_step, set_skip, fits_there}
 use Rattle.closure_net.specs.Network.{holds_of}

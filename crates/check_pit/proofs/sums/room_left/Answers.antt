@@ -1,4 +1,4 @@
-use Rattle.std.proofs.Common.{◌≡◌, ◌<◌, length, arith, below_more}
+use Rattle.std.proofs.Common.{arith, below_more}
 use Rattle.ordered_group.proofs.Steps.{total_step, fits_there, fits_same}
 use Rattle.closure_net.specs.Flows.{room_at}
 use Rattle.check_pit.proofs.Amounts.{same_length, amount_here, room_here}

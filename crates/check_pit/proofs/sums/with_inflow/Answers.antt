@@ -1,4 +1,4 @@
-use Rattle.std.proofs.Common.{◌≡◌, ◌<◌, ◌≤◌, ℕ, length, arith, map, ap, ◌∙◌, get_or, refl}
+use Rattle.std.proofs.Common.{◌≡◌, length, arith, map, get_or}
 use Rattle.ordered_group.specs.Sums.{amount_at}
 use Rattle.prec_file.specs.Rests.{to_at}
 use Rattle.ordered_group.proofs.Lists.{at_map}

@@ -1,4 +1,4 @@
-use Rattle.std.proofs.Common.{◌≡◌, ℕ, ◌<◌, ◌-◌, arith, refl, length, get_or}
+use Rattle.std.proofs.Common.{arith, refl}
 use Rattle.closure_net.proofs.Ascending.{steps_ascend}
 use Rattle.closure_net.proofs.pits.is_ascending.Goals as goal
 

@@ -1,4 +1,3 @@
-use Rattle.std.proofs.Common.{ℕ, ◌≤◌, ◌<◌}
 use Rattle.closure_net.proofs.Ascending.{StepsRise}
 use Rattle.closure_net.proofs.pits.is_ascending.Given as goal
 

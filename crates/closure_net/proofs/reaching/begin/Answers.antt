@@ -1,4 +1,4 @@
-use Rattle.std.proofs.Common.{◌≡◌, ap, ◌∙◌, refl}
+use Rattle.std.proofs.Common.{ap, ◌∙◌, refl}
 use Rattle.closure_net.specs.Reached.{IsBegin}
 use Rattle.closure_net.proofs.Holding.{apart}
 use Rattle.closure_net.proofs.Spreads.{passed_add, passed_skip, passed_same}

@@ -1,7 +1,6 @@
-use Rattle.std.proofs.Common.{◌≡◌, ℕ, ◌<◌, length, arith, ◌∙◌, sym, subst, All, List}
+use Rattle.std.proofs.Common.{ℕ, ◌<◌, length, arith, ◌∙◌, subst, All, List}
 use Rattle.prec_file.specs.Rests.{above_of, below_of, IsKnown}
 use Rattle.closure_net.specs.Network.{holds_of}
-use Rattle.closure_net.specs.Reached.{IsReached}
 use Rattle.closure_net.specs.Searches.{Passed, Always, above_at, sender_at, SendsAt}
 use Rattle.closure_net.proofs.Reach.{searched_more, reached, ascends, passing_known}
 use Rattle.closure_net.proofs.reaching.pit_of.Goals as goal

@@ -1,4 +1,4 @@
-use Rattle.std.proofs.Common.{◌≡◌, map, ℕ}
+use Rattle.std.proofs.Common.{◌≡◌}
 use Rattle.closure_net.specs.Searches.{Passed, Always, above_at}
 use Rattle.closure_net.proofs.reaching.spread_down.Given as goal
 

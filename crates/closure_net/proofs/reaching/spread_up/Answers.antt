@@ -1,4 +1,4 @@
-use Rattle.std.proofs.Common.{◌≡◌, ◌<◌, ℕ, length, arith, ap, ◌∙◌, sym, get_or, subst}
+use Rattle.std.proofs.Common.{◌≡◌, ℕ, arith, ap, ◌∙◌, sym, get_or, subst}
 use Rattle.prec_file.specs.Rests.{from_at, below_of}
 use Rattle.closure_net.specs.Reached.{Carries}
 use Rattle.closure_net.specs.Searches.{SendsAt, sender_at}

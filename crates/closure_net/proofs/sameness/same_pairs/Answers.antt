@@ -1,4 +1,4 @@
-use Rattle.std.proofs.Common.{arith, refl, sym, ◌∙◌}
+use Rattle.std.proofs.Common.{arith, refl}
 use Rattle.closure_net.proofs.SameLists.{same_at_default}
 use Rattle.closure_net.proofs.sameness.same_pairs.Goals as goal
 

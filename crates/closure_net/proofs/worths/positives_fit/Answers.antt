@@ -1,8 +1,8 @@
-use Rattle.std.proofs.Common.{arith, map, below_more, ap, sym, ◌∙◌}
+use Rattle.std.proofs.Common.{arith, map, ap, sym, ◌∙◌}
 use Rattle.ordered_group.specs.Amount.{positive}
 use Rattle.ordered_group.specs.Sums.{amount_at}
 use Rattle.ordered_group.proofs.Lists.{at_map}
-use Rattle.ordered_group.proofs.Steps.{total_step, fits_there}
+use Rattle.ordered_group.proofs.Steps.{total_step, SumFits_step}
 use Rattle.closure_net.proofs.worths.positives_fit.Goals as goal
 
 pub loop-w-preserved : goal.loop-w-preserved
@@ -11,5 +11,5 @@ loop-w-preserved g c =
     let read = ap positive (at_map parts c.args.worths.now c.loop-w.w-index c.w-item.result (omega arith) c.w-item.is) ∙ sym c.positive_part.ensures in
     record {
       so_far = total_step (λ b. positive (amount_at (map parts c.args.worths.now) b)) c.loop-w.w-index _ _ _ c.loop-w.invariant.so_far read c.in-Some.ensures.1;
-      fits = below_more _ _ c.loop-w.invariant.fits (fits_there _ _ _ _ c.loop-w.invariant.so_far read c.in-Some.ensures.0);
+      fits = SumFits_step _ _ _ _ c.loop-w.invariant.fits c.loop-w.invariant.so_far read c.in-Some.ensures.0;
     }

@@ -1,15 +1,12 @@
-use Rattle.std.proofs.Common.{rules, set, ap, ◌∙◌, w64}
-use Rattle.std.proofs.lemmas.Int.{to_z-of_z}
-use mir.Val.{SFits}
 use Rattle.fixed_worth.specs.Record.{numbered}
 use Rattle.upit_file.proofs.NextLine.{Next}
 use Rattle.upit_file.proofs.BodyLines.{passes, keeps}
 use Rattle.upit_file.proofs.body.read_body.Goals as goal
 
-pub loop-text-preserved-in-Ok-Skipped : goal.loop-text-preserved-in-Ok-Skipped
-loop-text-preserved-in-Ok-Skipped c =
+pub loop-text-preserved-in-Skipped : goal.loop-text-preserved-in-Skipped
+loop-text-preserved-in-Skipped c =
     let q = rw c.in-Ok-Some.field-0-is at c.in-Ok-Some.ensures in
-    let r = rw c.in-Ok-Skipped.field-0-is at c.in-Ok-Skipped.ensures in
+    let r = rw c.in-Skipped.is at c.in-Ok-read_record.ensures in
     let h : Next c.loop-text.lines c.next_line.new.self c.number-line.result c.in-Ok-Some.text.now = record { lines = q.1; number = q.2; same = c.number-line.ensures.value; small = q.0 } in
     passes c.args.n (numbered c.args.lines.now.number c.args.lines.now.lines) c.loop-text.kept.seen.items c.loop-text.kept.values.items c.loop-text.lines c.next_line.new.self c.number-line.result c.in-Ok-Some.text.now
     c.loop-text.invariant h r.1 r.0
@@ -18,9 +15,7 @@ pub loop-text-preserved : goal.loop-text-preserved
 loop-text-preserved c =
     let q = rw c.in-Ok-Some.field-0-is at c.in-Ok-Some.ensures in
     let h : Next c.loop-text.lines c.next_line.new.self c.number-line.result c.in-Ok-Some.text.now = record { lines = q.1; number = q.2; same = c.number-line.ensures.value; small = q.0 } in
-    let r = rw c.in-Ok-Value.field-0-is at c.in-Ok-Value.ensures in
+    let r = rw c.in-Value.is at c.in-Ok-read_record.ensures in
     let k = c.in-Ok-keep.ensures in
-    let fits : SFits w64 c.in-Ok-Value.value = search rules in
-    let same = ap (set c.loop-text.kept.values.items c.in-Ok-Value.block) (to_z-of_z w64 c.in-Ok-Value.value fits) in
-    keeps c.args.n c.in-Ok-Value.block c.in-Ok-Value.value (numbered c.args.lines.now.number c.args.lines.now.lines) c.loop-text.kept.seen.items c.keep.new.self.seen.items c.loop-text.kept.values.items c.keep.new.self.values.items
-    c.loop-text.lines c.next_line.new.self c.number-line.result c.in-Ok-Some.text.now c.loop-text.invariant h r.1 r.0 r.2 r.3 r.4 k.0 k.1 (k.2 ∙ same)
+    keeps c.args.n c.in-Value.block c.in-Value.value (numbered c.args.lines.now.number c.args.lines.now.lines) c.loop-text.kept.seen.items c.keep.new.self.seen.items c.loop-text.kept.values.items c.keep.new.self.values.items
+    c.loop-text.lines c.next_line.new.self c.number-line.result c.in-Ok-Some.text.now c.loop-text.invariant h r.1 r.0 r.2 r.3 r.4 k.0 k.1 k.2

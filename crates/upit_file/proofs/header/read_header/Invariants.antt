@@ -7,7 +7,7 @@ use Rattle.upit_file.proofs.header.read_header.Given as goal
 
 abbrev pub invariant-loop-text : goal.invariant-loop-text
 invariant-loop-text l = record {
-  going : Going (unwrap_or l.wanted (count_in (numbered 0 l.fn.lines.lines))) (numbered 0 l.fn.lines.lines) l.wanted l.counted l.lines;
+  going : Going (unwrap_or l.wanted (count_in (numbered 0 l.fn.lines.lines))) (numbered 0 l.fn.lines.lines) l.name l.wanted l.counted l.lines;
   bound : IfSome l.counted (λ n. n ≤ 2 ^ 24);
 }
 

@@ -1,8 +1,6 @@
-use Rattle.std.proofs.Common.{◌≡◌, ◌+◌, ◌<◌, ◌≤◌, length, take, drop, Option, Some, sym, ap, ◌∙◌, subst, arith, true, false, ltb}
-use Rattle.std.specs.Prelude.{nat_lt}
-use Rattle.std.proofs.lemmas.Bool.Decides.{nat_tests}
-use Rattle.check_pit.specs.Pieces.{Unread, Piece, no_line, piece_at, pieces_of}
-use Rattle.check_pit.proofs.Splits.{first_piece, last_piece, long_first, long_last, cut_off, line_given}
+use Rattle.std.proofs.Common.{◌+◌, sym, ap, arith}
+use Rattle.check_pit.specs.Pieces.{Unread}
+use Rattle.check_pit.proofs.Splits.{long_first, long_last, cut_off, line_given}
 use Rattle.check_pit.proofs.piece_reader.Pieces.next_line.Goals as goal
 
 pub returns-then-end-gt-LINE_BYTES : goal.returns-then-end-gt-LINE_BYTES

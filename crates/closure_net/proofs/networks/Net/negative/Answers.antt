@@ -1,4 +1,4 @@
-use Rattle.std.proofs.Common.{◌<◌, length, arith, ap, sym, map, subst}
+use Rattle.std.proofs.Common.{◌<◌, length, arith, ap, map}
 use Rattle.std.proofs.lemmas.List.{length-map}
 use Rattle.ordered_group.specs.Amount.{zero_amount, minus, FitsPair}
 use Rattle.ordered_group.proofs.Lists.{here_from_map}

@@ -1,5 +1,4 @@
-use Rattle.std.proofs.Common.{◌≡◌, length, sym, map, ◌∙◌, ℕ, subst, List, ℤ}
-use Rattle.ordered_group.specs.Amount.{Amount}
+use Rattle.std.proofs.Common.{◌≡◌, length, sym, map, ◌∙◌, ℕ, subst}
 use Rattle.closure_net.proofs.Nets.{net_of_blocks}
 use Rattle.closure_net.proofs.networks.Net.of_worths.Goals as goal
 

@@ -1,4 +1,4 @@
-use Rattle.std.proofs.Common.{◌≡◌, ◌<◌, length, arith, ap, subst, sym, ◌∙◌, ℕ, List, set, true, ◌++◌, ◌∷◌, []}
+use Rattle.std.proofs.Common.{◌<◌, length, arith, ap, subst, sym, ℕ, List, set, true, ◌++◌, ◌∷◌, []}
 use Rattle.closure_net.specs.Searches.{IsSearch}
 use Rattle.closure_net.proofs.Marks.{search_room, search_more, read_false}
 use Rattle.std.specs.Vec.{vec_capacity}

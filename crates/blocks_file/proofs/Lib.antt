@@ -1,0 +1,9 @@
+pub mod NextLine
+pub mod Counts
+pub mod Slots
+pub mod Rows
+pub mod Shapes
+pub mod Marks
+pub mod LineAfterLine
+pub mod Lent
+pub mod Denoted

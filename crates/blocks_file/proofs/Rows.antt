@@ -1,0 +1,72 @@
+-- The values of a record's chosen columns.
+use Rattle.std.proofs.Common.{◌≡◌, ℕ, ℤ, pos, suc, ◌+◌, ◌<◌, Bool, true, false, eqb, inl, inr, List, [], ◌∷◌, length, get_or, drop, Option, Some, None, refl, sym, ap, ◌∙◌, subst, arith, true≢false}
+use Rattle.std.specs.Prelude.{◌||◌, nat_lt, is_some, unwrap_or}
+use Rattle.std.specs.List.{list_any}
+use Rattle.std.proofs.lemmas.Bool.{cases_eq}
+use Rattle.std.proofs.lemmas.Bool.Decides.{nat_tests}
+use Rattle.std.proofs.lemmas.List.{drop_more}
+use Rattle.std.proofs.lemmas.List.Folds.{list_all_at}
+use Rattle.blocks_file.specs.Records.{value_read, is_bad, are_there}
+use Rattle.blocks_file.specs.Steps.{IsRow, AreTaken, HoldsValues}
+
+-- The next field is column k.
+pub field_at : (all : List (List ℕ)) (k : ℕ) (field : List ℕ) (rest : List (List ℕ)) → field ∷ rest ≡ drop k all → k + length (field ∷ rest) ≡ length all → (get_or all k [] ≡ field) × (rest ≡ drop (k + 1) all)
+field_at all k field rest e h =
+    let more : k < length all = omega (arith, h) in
+    let d : drop k all ≡ get_or all k [] ∷ drop (k + 1) all = drop_more all k [] more in
+    (cc, cc)
+
+pub row_more : (chosen : List ℕ) (all : List (List ℕ)) (k : ℕ) (field : List ℕ) (old new : List ℤ) → IsRow chosen all k old → AreTaken chosen k field old new → get_or all k [] ≡ field → IsRow chosen all (k + 1) new
+row_more chosen all k field old new r t e = record {
+  size = t.size ∙ r.size;
+  each = λ i h l.
+      elim (cases_eq (get_or chosen i 0) k) [
+        | inl same ↦ ap (λ (c : ℕ). value_read (get_or all c [])) same ∙ ap value_read e ∙ t.here i h same
+        | inr apart ↦ r.each i h (omega arith) ∙ ap Some (sym (t.others i h apart))
+      ];
+}
+
+bad_at : (columns : List (List ℕ)) (c : ℕ) → c < length columns → value_read (get_or columns c []) ≡ None → is_bad columns c ≡ true
+bad_at columns c h e = let t : nat_lt c (length columns) ≡ true = grind (arith, nat_tests) in rw (t, e) refl
+
+or_left : (a b : Bool) → a ≡ true → (a || b) ≡ true
+or_left a b h = rw h refl
+
+or_right : (a b : Bool) → b ≡ true → (a || b) ≡ true
+or_right true b h = refl
+or_right false b h = h
+
+bad_here : (columns : List (List ℕ)) (k c : ℕ) (a b : Bool) → is_bad columns k ≡ true → (t : Bool) → eqb c k ≡ t → (t || a) ≡ true → (a ≡ true → b ≡ true) → (is_bad columns c || b) ≡ true
+bad_here columns k c a b h true e o f =
+    let same : k ≡ c = grind (arith, nat_tests) in
+    or_left (is_bad columns c) b (subst (λ (x : ℕ). is_bad columns x ≡ true) same h)
+bad_here columns k c a b h false e o f = or_right (is_bad columns c) b (f o)
+
+bad_among : (columns : List (List ℕ)) (k : ℕ) (chosen : List ℕ) → is_bad columns k ≡ true → list_any (λ c. eqb c k) chosen ≡ true → list_any (is_bad columns) chosen ≡ true
+bad_among columns k [] b h = absurd (true≢false (sym h))
+bad_among columns k (c ∷ cs) b h = bad_here columns k c (list_any (λ x. eqb x k) cs) (list_any (is_bad columns) cs) b (eqb c k) refl h (bad_among columns k cs b)
+
+pub row_bad : (all : List (List ℕ)) (k : ℕ) (field : List ℕ) (chosen : List ℕ) → k < length all → get_or all k [] ≡ field → list_any (λ c. eqb c k) chosen ≡ true → value_read field ≡ None → list_any (is_bad all) chosen ≡ true
+row_bad all k field chosen h e w none = bad_among all k chosen (bad_at all k h (ap value_read e ∙ none)) w
+
+-- No chosen column is bad where each that is there is read.
+not_bad : (columns : List (List ℕ)) (c : ℕ) (t : Bool) → nat_lt c (length columns) ≡ t → (c < length columns → is_some (value_read (get_or columns c [])) ≡ true) → is_bad columns c ≡ false
+not_bad columns c true e f = let s : is_some (value_read (get_or columns c [])) ≡ true = f (grind (arith, nat_tests)) in rw (e, s) refl
+not_bad columns c false e f = rw e refl
+
+none_bad : (columns : List (List ℕ)) (chosen : List ℕ) → ((i : ℕ) → i < length chosen → get_or chosen i 0 < length columns → is_some (value_read (get_or columns (get_or chosen i 0) [])) ≡ true) → list_any (is_bad columns) chosen ≡ false
+none_bad columns [] f = refl
+none_bad columns (c ∷ cs) f = rw (not_bad columns c (nat_lt c (length columns)) refl (f 0 (omega arith))) (none_bad columns cs (λ i h. f (suc i) (omega arith)))
+
+pub row_good : (chosen : List ℕ) (columns : List (List ℕ)) (row : List ℤ) → IsRow chosen columns (length columns) row → list_any (is_bad columns) chosen ≡ false
+row_good chosen columns row r = none_bad columns chosen (λ i h l. ap is_some (r.each i h l))
+
+there_at : (n : ℕ) (chosen : List ℕ) (i : ℕ) → are_there chosen n ≡ true → i < length chosen → (t : Bool) → nat_lt (get_or chosen i 0) n ≡ t → get_or chosen i 0 < n
+there_at n chosen i h l true e = grind (arith, nat_tests)
+there_at n chosen i h l false e = absurd (true≢false (sym h ∙ list_all_at (λ c. nat_lt c n) chosen i 0 l e))
+
+pub row_values : (chosen : List ℕ) (columns : List (List ℕ)) (row : List ℤ) → IsRow chosen columns (length columns) row → are_there chosen (length columns) ≡ true → HoldsValues chosen columns row
+row_values chosen columns row r h = record {
+  size = r.size;
+  each = λ i l. ap (λ (o : Option ℤ). unwrap_or o (pos 0)) (sym (r.each i l (there_at (length columns) chosen i h l (nat_lt (get_or chosen i 0) (length columns)) refl)));
+}

@@ -1,0 +1,11 @@
+use Rattle.std.proofs.Common.{◌≡◌, ℕ, ◌+◌, ◌<◌, ◌≤◌, length, pos}
+use Rattle.std.specs.Prelude.{slice_index_or}
+use Rattle.blocks_file.proofs.kept.put_row.Given as goal
+
+abbrev pub invariant-loop-i : goal.invariant-loop-i
+invariant-loop-i l = record {
+  size : length l.values ≡ length l.fn.values;
+  here : (j : ℕ) → j < l.i → slice_index_or l.values (l.from + j) (pos 0) ≡ slice_index_or l.row j (pos 0);
+  front : (k : ℕ) → k < l.from → slice_index_or l.values k (pos 0) ≡ slice_index_or l.fn.values k (pos 0);
+  behind : (k : ℕ) → l.from + l.i ≤ k → slice_index_or l.values k (pos 0) ≡ slice_index_or l.fn.values k (pos 0);
+}

@@ -1,0 +1,36 @@
+-- What a text of blocks denotes.
+use Rattle.std.specs.Prelude.{◌≡◌, ℕ, ℤ, pos, ◌+◌, ◌*◌, ◌<◌, ◌≤◌, ◌^◌, true, List, [], length, map, slice_index_or}
+use Rattle.std.specs.List.{range_with_len}
+use Rattle.blocks_file.specs.declared.coordinates.Place.{Place}
+use Rattle.blocks_file.specs.Records.{place_of, columns_of, value_in, has_record, record_among, lines_in, count_of}
+
+-- What the type shows: the number of blocks, the place of each, and each chosen column's values in millionths.
+pub record BlocksView : Type 0 where
+  pub blocks : ℕ
+  pub places : List Place
+  pub columns : List (List ℤ)
+
+-- The place whose coordinates are all 0.
+abbrev pub origin : Place
+origin = record { x = pos 0; y = pos 0; z = pos 0 }
+
+-- The columns of values that stand block after block.
+abbrev pub columns_from : ℕ → ℕ → List ℤ → List (List ℤ)
+columns_from width n values = map (λ i. map (λ b. slice_index_or values (b * width + i) (pos 0)) (range_with_len 0 n)) (range_with_len 0 width)
+
+-- At most 2^24 blocks, each with a place and a value of each of at most eight columns.
+pub record IsModel (n width : ℕ) (places : List Place) (values : List ℤ) : Type 0 where
+  pub bound : n ≤ 2 ^ 24
+  pub few : width ≤ 8
+  pub all_places : length places ≡ n
+  pub all_values : length values ≡ n * width
+
+-- There are as many blocks as records, each has one, and the record gives its place and its chosen values.
+pub record Denotes (chosen text : List ℕ) (m : BlocksView) : Type 0 where
+  pub count : m.blocks ≡ count_of text
+  pub each : (b : ℕ) → b < m.blocks → has_record (lines_in text) b ≡ true
+  pub all_places : length m.places ≡ m.blocks
+  pub place : (b : ℕ) → b < m.blocks → slice_index_or m.places b origin ≡ place_of (record_among (lines_in text) b)
+  pub all_columns : length m.columns ≡ length chosen
+  pub all_values : (i : ℕ) → i < length chosen → length (slice_index_or m.columns i []) ≡ m.blocks
+  pub value : (i b : ℕ) → i < length chosen → b < m.blocks → slice_index_or (slice_index_or m.columns i []) b (pos 0) ≡ value_in (columns_of (record_among (lines_in text) b)) (slice_index_or chosen i 0)

@@ -1,0 +1,4 @@
+pub mod Records
+pub mod Denotes
+pub mod Steps
+pub mod Printed

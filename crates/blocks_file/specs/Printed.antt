@@ -1,0 +1,19 @@
+-- How faults are printed.
+use Rattle.std.specs.Prelude.{ℕ, List, ◌++◌, codes}
+use Rattle.std.specs.Fmt.{decimal}
+use Rattle.blocks_file.specs.declared.faults.BlocksFault.{BlocksFault}
+use Rattle.blocks_file.specs.declared.faults.BlocksFault.TheVariants.{Text, Number, NoColumn, UnknownBlock, Repeated, TooMany, NoMemory}
+
+-- A word with a line number in parentheses.
+abbrev pub at_line : List ℕ → ℕ → List ℕ
+at_line word line = word ++ (codes "(" ++ (decimal line ++ codes ")"))
+
+-- The fault's name, with its line number in parentheses where it has one.
+abbrev pub blocks_fault_text : BlocksFault → List ℕ
+blocks_fault_text (Text line) = at_line (codes "Text") line
+blocks_fault_text (Number line) = at_line (codes "Number") line
+blocks_fault_text (NoColumn line) = at_line (codes "NoColumn") line
+blocks_fault_text (UnknownBlock line) = at_line (codes "UnknownBlock") line
+blocks_fault_text (Repeated line) = at_line (codes "Repeated") line
+blocks_fault_text (TooMany line) = at_line (codes "TooMany") line
+blocks_fault_text NoMemory = codes "NoMemory"

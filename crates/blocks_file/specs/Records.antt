@@ -1,0 +1,134 @@
+-- What a text of blocks says, over its list of lines.
+use Rattle.std.specs.Prelude.{ℕ, ℤ, pos, negsuc, ◌^◌, ◌==◌, ◌||◌, ◌&&◌, Bool, not, cond, List, [], ◌∷◌, ◌++◌, length, nat_lt, nat_le, int_lt, Option, Some, None, is_some, unwrap_or, Result, Ok, Err, slice_index_or}
+use Rattle.std.specs.Option.{option_or}
+use Rattle.std.specs.Result.{result_ok}
+use Rattle.std.specs.List.{list_all, list_any, flat_map}
+use Rattle.fixed_worth.specs.declared.numerals.NumberFault.{NumberFault}
+use Rattle.fixed_worth.specs.Numeral.{signed_of}
+use Rattle.fixed_worth.specs.Decimal.{decimal_of}
+use Rattle.fixed_worth.specs.Text.{lines_of, fields_of}
+use Rattle.fixed_worth.specs.Record.{Line, numbered, reads, is_skipped}
+pub use Rattle.fixed_worth.specs.Record.{number_of}
+use Rattle.blocks_file.specs.declared.coordinates.Place.{Place}
+use Rattle.blocks_file.specs.declared.faults.BlocksFault.{BlocksFault}
+use Rattle.blocks_file.specs.declared.faults.BlocksFault.TheVariants.{Text, Number, NoColumn, UnknownBlock, Repeated, TooMany, NoMemory}
+
+-- A whole number of 32 bits; -(2 ^ 31) - 1 and 2 ^ 31 are the nearest that are none.
+abbrev pub in_range : Result ℤ NumberFault → Option ℤ
+in_range (Ok z) = cond (int_lt (negsuc (2 ^ 31)) z && int_lt z (pos (2 ^ 31))) (Some z) None
+in_range (Err e) = None
+
+-- The coordinate that a field is.
+abbrev pub coordinate_read : List ℕ → Option ℤ
+coordinate_read field = in_range (signed_of field)
+
+-- The value that a field is, in millionths.
+abbrev pub value_read : List ℕ → Option ℤ
+value_read field = result_ok (decimal_of field)
+
+-- A record's first field is its block.
+abbrev pub block_of : List (List ℕ) → ℕ
+block_of [] = 0
+block_of (block ∷ fields) = number_of block
+
+-- The place that three fields are; a coordinate is 0 where its field is none.
+abbrev pub place_at : List ℕ → List ℕ → List ℕ → Place
+place_at x y z = record { x = unwrap_or (coordinate_read x) (pos 0); y = unwrap_or (coordinate_read y) (pos 0); z = unwrap_or (coordinate_read z) (pos 0) }
+
+-- A record's place: its second, third and fourth field.
+abbrev pub place_of : List (List ℕ) → Place
+place_of (block ∷ x ∷ y ∷ z ∷ columns) = place_at x y z
+place_of _ = place_at [] [] []
+
+-- A record's columns: the fields behind its place.
+abbrev pub columns_of : List (List ℕ) → List (List ℕ)
+columns_of (block ∷ x ∷ y ∷ z ∷ columns) = columns
+columns_of _ = []
+
+-- The value of column c, in millionths; 0 where there is none.
+abbrev pub value_in : List (List ℕ) → ℕ → ℤ
+value_in columns c = unwrap_or (value_read (slice_index_or columns c [])) (pos 0)
+
+-- Column c is there, and is no value.
+abbrev pub is_bad : List (List ℕ) → ℕ → Bool
+is_bad columns c = nat_lt c (length columns) && not (is_some (value_read (slice_index_or columns c [])))
+
+-- The chosen columns are all below a number of columns.
+abbrev pub are_there : List ℕ → ℕ → Bool
+are_there chosen count = list_all (λ c. nat_lt c count) chosen
+
+-- The first four fields are a block and a place.
+abbrev pub head_reads : List ℕ → List ℕ → List ℕ → List ℕ → Bool
+head_reads block x y z = reads block && is_some (coordinate_read x) && is_some (coordinate_read y) && is_some (coordinate_read z)
+
+-- What is wrong with a record by itself: too few fields, what is no number, or a chosen column that is not there.
+abbrev pub shape_fault : ℕ → List ℕ → List (List ℕ) → Option BlocksFault
+shape_fault line chosen (block ∷ x ∷ y ∷ z ∷ columns) =
+    cond (not (head_reads block x y z) || list_any (is_bad columns) chosen) (Some (Number line))
+    (cond (not (are_there chosen (length columns))) (Some (NoColumn line))
+    None)
+shape_fault line chosen _ = Some (Text line)
+
+-- What is wrong with a record for this block among n, where these had records before.
+abbrev pub block_fault : ℕ → (ℕ → Bool) → ℕ → ℕ → Option BlocksFault
+block_fault n had line block = cond (nat_le n block) (Some (UnknownBlock line)) (cond (had block) (Some (Repeated line)) None)
+
+-- What is wrong with a line's fields: a skipped line has no fault.
+abbrev pub record_fault : ℕ → List ℕ → (ℕ → Bool) → ℕ → List (List ℕ) → Option BlocksFault
+record_fault n chosen had line fields = cond (is_skipped fields) None (option_or (shape_fault line chosen fields) (block_fault n had line (block_of fields)))
+
+-- The line is a record of block b.
+abbrev pub is_record_of : ℕ → List (List ℕ) → Bool
+is_record_of b fields = not (is_skipped fields) && (block_of fields == b)
+
+-- A record of block b is among the lines.
+abbrev pub has_record : List Line → ℕ → Bool
+has_record lines b = list_any (λ l. is_record_of b (fields_of l.text)) lines
+
+-- The fields of the first record of block b, if there is one.
+abbrev pub record_among : List Line → ℕ → List (List ℕ)
+record_among [] b = []
+record_among (l ∷ lines) b = cond (is_record_of b (fields_of l.text)) (fields_of l.text) (record_among lines b)
+
+-- The fault of the first faulty line, if any, behind these lines.
+abbrev pub first_fault : ℕ → List ℕ → List Line → List Line → Option BlocksFault
+first_fault n chosen before [] = None
+first_fault n chosen before (l ∷ lines) = option_or (record_fault n chosen (has_record before) l.number (fields_of l.text)) (first_fault n chosen (before ++ l ∷ []) lines)
+
+-- The fault of the first line of more than 65,536 bytes, if any, skipped or not.
+abbrev pub long_fault : List Line → Option BlocksFault
+long_fault [] = None
+long_fault (l ∷ lines) = cond (nat_lt 65536 (length l.text)) (Some (Text l.number)) (long_fault lines)
+
+-- The numbers of the lines that are records.
+abbrev pub record_lines : List Line → List ℕ
+record_lines lines = flat_map (λ l. cond (is_skipped (fields_of l.text)) [] (l.number ∷ [])) lines
+
+-- The fault of the record after so many, if there is one.
+abbrev pub extra_fault : ℕ → List ℕ → Option BlocksFault
+extra_fault most records = cond (nat_lt most (length records)) (Some (TooMany (slice_index_or records most 0))) None
+
+-- More than 2^24 records are too many.
+abbrev pub many_fault : List Line → Option BlocksFault
+many_fault lines = extra_fault (2 ^ 24) (record_lines lines)
+
+-- The faults that come before all that is wrong with single records.
+abbrev pub early_fault : List Line → Option BlocksFault
+early_fault lines = option_or (long_fault lines) (many_fault lines)
+
+-- The lines of a text, numbered from 1 on.
+abbrev pub lines_in : List ℕ → List Line
+lines_in text = numbered 0 (lines_of text)
+
+-- The number of blocks of a text: that of its records.
+abbrev pub count_of : List ℕ → ℕ
+count_of text = length (record_lines (lines_in text))
+
+-- The fault of a text, where these columns are chosen.
+abbrev pub fault_of : List ℕ → List ℕ → Option BlocksFault
+fault_of chosen text = option_or (early_fault (lines_in text)) (first_fault (count_of text) chosen [] (lines_in text))
+
+-- The fault is want of memory, or the claim holds.
+abbrev pub UnlessMemory : BlocksFault → Type 0 → Type 0
+UnlessMemory NoMemory claim = Unit {0}
+UnlessMemory _ claim = claim

@@ -1,0 +1,31 @@
+//! Places of blocks.
+
+ghost use Rattle.std.specs.Prelude.{◌≡◌};
+ghost use Rattle.blocks_file.specs.Records as spec;
+
+use fixed_worth::signed_whole;
+
+/// Where a block is: its coordinate along each of three axes, as the text gives it.
+#[derive(Clone, Copy, PartialEq, Eq, PartialOrd, Ord, Debug)]
+pub struct Place {
+    /// Along the first axis.
+    pub x: i32,
+    /// Along the second axis.
+    pub y: i32,
+    /// Along the third axis, which is the height.
+    pub z: i32,
+}
+
+// The coordinate that a field is.
+pub(crate) fn read_coordinate(field: &[u8]) -> Option<i32>
+    ensures { result ≡ spec.coordinate_read field.now }
+{
+    match signed_whole(field) {
+        Ok(value) => if value >= -2_147_483_648 && value < 2_147_483_648 {
+            Some(value as i32)
+        } else {
+            None
+        },
+        Err(_) => None,
+    }
+}

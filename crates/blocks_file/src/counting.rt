@@ -1,0 +1,52 @@
+//! How many records a text has.
+
+ghost use Rattle.std.specs.Prelude.{◌≡◌, ◌≤◌, ◌^◌, not, Some, None, length, MatchResult};
+ghost use Rattle.fixed_worth.specs.Text.{fields_of};
+ghost use Rattle.fixed_worth.specs.Record.{is_skipped};
+ghost use Rattle.blocks_file.specs.Records as spec;
+
+use crate::BlocksFault;
+use fixed_worth::{Fields, Lines, is_remark};
+
+const MOST_BLOCKS: u64 = 1 << 24;
+
+fn is_record(line: &[u8]) -> bool
+    requires { length line.now ≤ 65536 }
+    ensures { result ≡ not (is_skipped (fields_of line.now)) }
+{
+    match Fields::new(line).next() {
+        Some(field) => !is_remark(field.text),
+        None => false,
+    }
+}
+
+// Counts the records of a text that has no line that is too long, and not too many records.
+pub(crate) fn count_records(text: &[u8]) -> Result<u32, BlocksFault>
+    ensures { let all = spec.lines_in text.now in MatchResult result
+        (λ n. (spec.long_fault all ≡ None) × (spec.many_fault all ≡ None) × (n ≡ length (spec.record_lines all)) × (n ≤ 2 ^ 24))
+        (λ e. spec.early_fault all ≡ Some e) }
+{
+    let mut lines = Lines::new(text);
+    let mut count: u64 = 0;
+    // the line of the first record that is too many
+    let mut extra: u64 = 0;
+    loop {
+        match lines.next_line() {
+            Ok(Some(line)) => {
+                let number = lines.number();
+                if is_record(line) {
+                    if count == MOST_BLOCKS {
+                        extra = number;
+                    }
+                    count += 1;
+                }
+            }
+            Ok(None) => return if count > MOST_BLOCKS {
+                Err(BlocksFault::TooMany(extra))
+            } else {
+                Ok(count as u32)
+            },
+            Err(_) => return Err(BlocksFault::Text(lines.number() + 1)),
+        }
+    }
+}

@@ -1,0 +1,81 @@
+//! Reading a text.
+
+ghost use Rattle.std.specs.Prelude.{◌≡◌, ◌≤◌, ◌^◌, [], Some, None, length, MatchResult};
+ghost use Rattle.blocks_file.specs.Records as spec;
+ghost use Rattle.blocks_file.specs.Denotes.{Denotes};
+ghost use Rattle.blocks_file.specs.Steps.{AreKept};
+
+use crate::counting::count_records;
+use crate::kept::{Kept, zeros};
+use crate::record::read_record;
+use crate::{BlockModel, BlocksFault};
+use fixed_worth::Lines;
+use std::alloc::Global;
+
+// Reads the records of a text that has n of them.
+fn read_records(alloc: Global, text: &[u8], columns: &[u32], n: u32) -> Result<Kept, BlocksFault>
+    requires few { length columns.now ≤ 8 }
+    requires short { spec.long_fault (spec.lines_in text.now) ≡ None }
+    requires counted { n ≡ length (spec.record_lines (spec.lines_in text.now)) }
+    requires bound { n ≤ 2 ^ 24 }
+    ensures { let all = spec.lines_in text.now in MatchResult result
+        (λ kept. (spec.first_fault n columns.now [] all ≡ None) × AreKept n columns.now all kept.places.items kept.values.items)
+        (λ e. spec.UnlessMemory e (spec.first_fault n columns.now [] all ≡ Some e)) }
+{
+    let Ok(mut kept) = Kept::new(alloc, n, columns.len() as u32) else {
+        return Err(BlocksFault::NoMemory);
+    };
+    let Ok(mut row) = zeros(alloc, columns.len()) else {
+        return Err(BlocksFault::NoMemory);
+    };
+    let mut lines = Lines::new(text);
+    loop {
+        match lines.next_line() {
+            Ok(Some(line)) => {
+                let number = lines.number();
+                match read_record(row.as_mut_slice(), columns, line, number) {
+                    Ok(Some(record)) => match kept.keep(
+                        record.block,
+                        record.place,
+                        row.as_slice(),
+                        number,
+                    ) {
+                        Ok(()) => {}
+                        Err(fault) => return Err(fault),
+                    },
+                    Ok(None) => {}
+                    Err(fault) => return Err(fault),
+                }
+            }
+            Ok(None) => return Ok(kept),
+            // counting has met no line that is too long
+            Err(_) => unreachable!(),
+        }
+    }
+}
+
+/// The blocks of a text, with their places and at most eight chosen columns. Column 0 is the first field behind `z`; a
+/// column may be chosen twice, and none need be.
+///
+/// A record is `block x y z` and any number of columns. Lines without a field, and those whose first field begins with
+/// `%`, are skipped. The blocks of a text are those from 0 up to the number of its records, each once, in any order.
+///
+/// # Errors
+/// `Text` for the first line of more than 65,536 bytes; then `TooMany` for the record after the 2^24th. Otherwise that
+/// of the first faulty line, and of its faults the first in this order: `Text` for fewer than four fields, `Number`,
+/// `NoColumn`, `UnknownBlock`, `Repeated`. `NoMemory` where memory is refused.
+pub fn read_blocks(alloc: Global, text: &[u8], columns: &[u32]) -> Result<BlockModel, BlocksFault>
+    requires { length columns.now ≤ 8 }
+    ensures { MatchResult result
+        (λ m. (spec.fault_of columns.now text.now ≡ None) × Denotes columns.now text.now m)
+        (λ e. spec.UnlessMemory e (spec.fault_of columns.now text.now ≡ Some e)) }
+{
+    let n = match count_records(text) {
+        Ok(n) => n,
+        Err(fault) => return Err(fault),
+    };
+    match read_records(alloc, text, columns, n) {
+        Ok(kept) => Ok(BlockModel::of(n, columns.len() as u32, kept.places, kept.values)),
+        Err(fault) => Err(fault),
+    }
+}

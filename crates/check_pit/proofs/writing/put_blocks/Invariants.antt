@@ -1,0 +1,11 @@
+use Rattle.std.proofs.Common.{◌≡◌, map, drop}
+use Rattle.check_pit.specs.Written.{block_at, amount_lines, body_text}
+use Rattle.check_pit.proofs.Puts.{Put}
+use Rattle.check_pit.proofs.writing.put_blocks.Given as goal
+
+-- the lines of the amounts that are left are left to put
+abbrev pub invariant-loop-k : goal.invariant-loop-k
+invariant-loop-k g l = record {
+  put : Put (g.W.Write.contents l.fn.out) (g.W.Write.contents l.out) l.fn.page l.page (body_text (amount_lines (block_at l.kind) l.k (drop l.k (map g.G.OrderedGroup.parts_of l.amounts)))) (body_text (amount_lines (block_at l.kind) 0 (map g.G.OrderedGroup.parts_of l.amounts)));
+  kept : g.W.CountedWrite.failed l.out ≡ g.W.CountedWrite.failed l.fn.out;
+}

@@ -1,0 +1,92 @@
+-- The one text of a certificate.
+use Rattle.std.specs.Prelude.{ℕ, ℤ, pos, ◌+◌, ◌&&◌, Bool, cond, List, [], ◌∷◌, ◌++◌, map, slice_index_or}
+use Rattle.std.specs.Fmt.{decimal, signed_decimal}
+use Rattle.std.specs.Ordering.{int_eq}
+use lib.Chars.{codes}
+use Rattle.ordered_group.specs.declared.groups.Group.{Group}
+use Rattle.ordered_group.specs.declared.groups.Group.TheVariants as group
+use Rattle.ordered_group.specs.Amount.{Amount}
+use Rattle.closure_net.specs.Network.{FlowView}
+use Rattle.check_pit.specs.declared.headers.Header.{Header}
+use Rattle.check_pit.specs.declared.headers.Price.{Price}
+use Rattle.check_pit.specs.declared.headers.Price.TheVariants.{Objective, Factor}
+use Rattle.check_pit.specs.declared.lines_of_body.Kind.{Kind}
+use Rattle.check_pit.specs.declared.lines_of_body.Kind.TheVariants.{Pit, Source, Rest, Sink, End}
+use Rattle.check_pit.specs.declared.lines_of_body.BodyLine.{BodyLine}
+
+-- words with a single space between two
+abbrev pub spaced : List (List ℕ) → List ℕ
+spaced [] = []
+spaced (w ∷ []) = w
+spaced (w ∷ v ∷ ws) = w ++ (32 ∷ spaced (v ∷ ws))
+
+-- lines of words, with a line feed behind each
+abbrev pub lines_text : List (List (List ℕ)) → List ℕ
+lines_text [] = []
+lines_text (words ∷ lines) = spaced words ++ (10 ∷ lines_text lines)
+
+abbrev pub price_word : Price → List ℕ
+price_word Objective = codes "OBJECTIVE"
+price_word (Factor k) = decimal k
+
+abbrev pub group_word : Group → List ℕ
+group_word group.Worth = codes "WORTH"
+group_word group.Pair = codes "PAIR"
+
+-- the words of the first four lines
+abbrev pub header_words : Header → List (List (List ℕ))
+header_words h =
+    (codes "PITCERT" ∷ codes "1" ∷ [])
+    ∷ (codes "BLOCKS" ∷ decimal h.blocks ∷ [])
+    ∷ (codes "PRICE" ∷ price_word h.price ∷ [])
+    ∷ (codes "GROUP" ∷ group_word h.group ∷ [])
+    ∷ []
+
+-- the words of a line of a kind
+abbrev pub words_with : Kind → BodyLine → List (List ℕ)
+words_with Pit l = codes "PIT" ∷ decimal l.block ∷ []
+words_with Source l = codes "SOURCE" ∷ decimal l.block ∷ signed_decimal l.worth ∷ signed_decimal l.count ∷ []
+words_with Rest l = codes "REST" ∷ decimal l.block ∷ decimal l.other ∷ signed_decimal l.worth ∷ signed_decimal l.count ∷ []
+words_with Sink l = codes "SINK" ∷ decimal l.block ∷ signed_decimal l.worth ∷ signed_decimal l.count ∷ []
+words_with End l = codes "END" ∷ []
+
+abbrev pub line_words : BodyLine → List (List ℕ)
+line_words l = words_with l.kind l
+
+-- the line of a block of the pit, of an amount at a block, and of the amount over the pair at a place
+abbrev pub pit_at : ℕ → BodyLine
+pit_at b = record { kind = Pit; block = b; other = 0; worth = pos 0; count = pos 0 }
+
+abbrev pub block_at : Kind → ℕ → Amount → BodyLine
+block_at kind b x = record { kind = kind; block = b; other = 0; worth = x.w; count = x.c }
+
+abbrev pub pair_at : List (ℕ × ℕ) → ℕ → Amount → BodyLine
+pair_at pairs k x = record { kind = Rest; block = (slice_index_or pairs k (0, 0)).0; other = (slice_index_or pairs k (0, 0)).1; worth = x.w; count = x.c }
+
+abbrev pub is_zero : Amount → Bool
+is_zero x = int_eq x.w (pos 0) && int_eq x.c (pos 0)
+
+-- the lines of amounts from place k on; a zero has none
+abbrev pub amount_lines : (ℕ → Amount → BodyLine) → ℕ → List Amount → List BodyLine
+amount_lines line k [] = []
+amount_lines line k (x ∷ xs) = cond (is_zero x) (amount_lines line (k + 1) xs) (line k x ∷ amount_lines line (k + 1) xs)
+
+-- the lines of a flow, and those of a pit and a flow, in order
+abbrev pub flow_lines : List (ℕ × ℕ) → FlowView → List BodyLine
+flow_lines pairs flow = amount_lines (block_at Source) 0 flow.source ++ (amount_lines (pair_at pairs) 0 flow.rest ++ amount_lines (block_at Sink) 0 flow.sink)
+
+abbrev pub value_lines : List (ℕ × ℕ) → List ℕ → FlowView → List BodyLine
+value_lines pairs pit flow = map pit_at pit ++ flow_lines pairs flow
+
+abbrev pub body_text : List BodyLine → List ℕ
+body_text ls = lines_text (map line_words ls)
+
+abbrev pub end_text : List ℕ
+end_text = lines_text ((codes "END" ∷ []) ∷ [])
+
+abbrev pub header_with : ℕ → Price → Group → Header
+header_with n price name = record { blocks = n; price = price; group = name }
+
+-- the text of a certificate
+abbrev pub text_of : Header → List (ℕ × ℕ) → List ℕ → FlowView → List ℕ
+text_of h pairs pit flow = lines_text (header_words h) ++ (body_text (value_lines pairs pit flow) ++ end_text)

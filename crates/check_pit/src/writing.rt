@@ -1,0 +1,303 @@
+//! Writing a certificate.
+
+ghost use Rattle.std.specs.Prelude.{◌≡◌, ℕ, ◌+◌, ◌-◌, ◌^◌, ◌<◌, ◌≤◌, ◌⊎◌, [], ◌∷◌, ◌++◌, length, map, OnOk, OnErr};
+ghost use Rattle.std.specs.Fmt.{decimal, signed_decimal};
+ghost use Rattle.std.specs.Io.KnownBytes.{Appends};
+ghost use Rattle.fixed_worth.specs.Device.{ReceivedPrefix, SentOrHeld};
+ghost use Rattle.check_pit.specs.Written as spec;
+ghost use Rattle.check_pit.specs.Written.{spaced, line_words, lines_text, header_words, body_text, end_text, amount_lines, block_at, pair_at, pit_at, flow_lines, value_lines, header_with, text_of};
+ghost use Rattle.check_pit.specs.Certificate.{Covers};
+
+use crate::certificates::Certificate;
+use crate::headers::{Header, Price};
+use crate::lines_of_body::{BodyLine, Kind};
+use closure_net::{Flow, Pit};
+use fixed_worth::{CountedWrite, Page, ShortLine, WriteFault};
+use ordered_group::{Group, OrderedGroup};
+use prec_file::Rests;
+
+// Adds a number with its sign.
+fn push_signed(text: &mut ShortLine, number: i128)
+    requires { length text.old + 40 ≤ 192 }
+    ensures text { text.new ≡ text.old ++ signed_decimal number }
+    ensures length { length text.new ≤ length text.old + 40 }
+{
+    if number < 0 {
+        text.push(b"-");
+    }
+    text.push_number(number.unsigned_abs());
+}
+
+// Adds a space, a number, a space and a number.
+fn push_amount(text: &mut ShortLine, line: &BodyLine)
+    requires { length text.old + 82 ≤ 192 }
+    ensures text { text.new ≡ text.old ++ (32 ∷ (signed_decimal line.now.worth ++ (32 ∷ signed_decimal line.now.count))) }
+    ensures length { length text.new ≤ length text.old + 82 }
+{
+    text.push(b" ");
+    push_signed(text, line.worth);
+    text.push(b" ");
+    push_signed(text, line.count);
+}
+
+// The line with a line feed.
+fn written(line: &BodyLine) -> ShortLine
+    ensures { result ≡ spaced (line_words line.now) ++ (10 ∷ []) }
+{
+    let mut text = ShortLine::new();
+    match line.kind {
+        Kind::Pit => {
+            text.push(b"PIT ");
+            text.push_number(line.block as u128);
+        }
+        Kind::Source => {
+            text.push(b"SOURCE ");
+            text.push_number(line.block as u128);
+            push_amount(&mut text, line);
+        }
+        Kind::Rest => {
+            text.push(b"REST ");
+            text.push_number(line.block as u128);
+            text.push(b" ");
+            text.push_number(line.other as u128);
+            push_amount(&mut text, line);
+        }
+        Kind::Sink => {
+            text.push(b"SINK ");
+            text.push_number(line.block as u128);
+            push_amount(&mut text, line);
+        }
+        Kind::End => text.push(b"END"),
+    }
+    text.push(b"\n");
+    text
+}
+
+fn push_price(text: &mut ShortLine, price: Price)
+    requires { length text.old + 39 ≤ 192 }
+    ensures text { text.new ≡ text.old ++ spec.price_word price }
+    ensures length { length text.new ≤ length text.old + 39 }
+{
+    match price {
+        Price::Objective => text.push(b"OBJECTIVE"),
+        Price::Factor(factor) => text.push_number(factor as u128),
+    }
+}
+
+fn push_group(text: &mut ShortLine, group: Group)
+    requires { length text.old + 6 ≤ 192 }
+    ensures text { text.new ≡ text.old ++ (spec.group_word group ++ (10 ∷ [])) }
+{
+    match group {
+        Group::Worth => text.push(b"WORTH\n"),
+        Group::Pair => text.push(b"PAIR\n"),
+    }
+}
+
+// The first four lines.
+fn written_header(header: &Header) -> ShortLine
+    ensures { result ≡ lines_text (header_words header.now) }
+{
+    let mut text = ShortLine::new();
+    text.push(b"PITCERT 1\nBLOCKS ");
+    text.push_number(header.blocks as u128);
+    text.push(b"\nPRICE ");
+    push_price(&mut text, header.price);
+    text.push(b"\nGROUP ");
+    push_group(&mut text, header.group);
+    text
+}
+
+fn is_zero<G: OrderedGroup>(amount: G) -> bool
+    ensures { result ≡ spec.is_zero (G.parts_of amount) }
+{
+    let (worth, count) = amount.parts();
+    worth == 0 && count == 0
+}
+
+// The line of an amount at a block.
+fn block_line<G: OrderedGroup>(kind: Kind, block: u32, amount: G) -> BodyLine
+    ensures { result ≡ block_at kind block (G.parts_of amount) }
+{
+    let (worth, count) = amount.parts();
+    BodyLine {
+        kind,
+        block,
+        other: 0,
+        worth,
+        count,
+    }
+}
+
+// The line of an amount over a pair.
+fn pair_line<G: OrderedGroup>(rests: &Rests, pair: u32, amount: G) -> BodyLine
+    requires { pair < length rests.now.pairs }
+    ensures { result ≡ pair_at rests.now.pairs pair (G.parts_of amount) }
+{
+    let (block, other) = rests.pair(pair);
+    let (worth, count) = amount.parts();
+    BodyLine {
+        kind: Kind::Rest,
+        block,
+        other,
+        worth,
+        count,
+    }
+}
+
+fn put_line<W: CountedWrite>(
+    page: &mut Page,
+    out: &mut W,
+    line: &BodyLine,
+) -> Result<(), WriteFault>
+    requires { W.failed out.old < 2 ^ 64 - 1 }
+    ensures held { OnOk result (SentOrHeld (W.contents out.old) (W.contents out.new) page.new (page.old ++ (spaced (line_words line.now) ++ (10 ∷ [])))) }
+    ensures kept { OnOk result (W.failed out.new ≡ W.failed out.old) }
+    ensures prefix { OnErr result (ReceivedPrefix (W.contents out.old) (W.contents out.new) (page.old ++ (spaced (line_words line.now) ++ (10 ∷ [])))) }
+    ensures counted { OnErr result (W.failed out.new ≡ W.failed out.old + 1) }
+{
+    let text = written(line);
+    page.put(out, text.as_bytes())
+}
+
+// The PIT lines.
+fn put_pit<W: CountedWrite>(page: &mut Page, out: &mut W, pit: &Pit) -> Result<(), WriteFault>
+    requires { W.failed out.old < 2 ^ 64 - 1 }
+    ensures held { OnOk result (SentOrHeld (W.contents out.old) (W.contents out.new) page.new (page.old ++ body_text (map pit_at pit.now))) }
+    ensures kept { OnOk result (W.failed out.new ≡ W.failed out.old) }
+    ensures prefix { OnErr result (ReceivedPrefix (W.contents out.old) (W.contents out.new) (page.old ++ body_text (map pit_at pit.now))) }
+    ensures counted { OnErr result (W.failed out.new ≡ W.failed out.old + 1) }
+{
+    let blocks = pit.blocks();
+    for block in blocks {
+        let line = BodyLine {
+            kind: Kind::Pit,
+            block: *block,
+            other: 0,
+            worth: 0,
+            count: 0,
+        };
+        match put_line(page, out, &line) {
+            Ok(()) => {}
+            Err(fault) => return Err(fault),
+        }
+    }
+    Ok(())
+}
+
+// The SOURCE or SINK lines.
+fn put_blocks<G: OrderedGroup, W: CountedWrite>(
+    page: &mut Page,
+    out: &mut W,
+    kind: Kind,
+    amounts: &[G],
+) -> Result<(), WriteFault>
+    requires few { length amounts.now ≤ 2 ^ 24 }
+    requires room { W.failed out.old < 2 ^ 64 - 1 }
+    ensures held { OnOk result (SentOrHeld (W.contents out.old) (W.contents out.new) page.new (page.old ++ body_text (amount_lines (block_at kind) 0 (map G.parts_of amounts.now)))) }
+    ensures kept { OnOk result (W.failed out.new ≡ W.failed out.old) }
+    ensures prefix { OnErr result (ReceivedPrefix (W.contents out.old) (W.contents out.new) (page.old ++ body_text (amount_lines (block_at kind) 0 (map G.parts_of amounts.now)))) }
+    ensures counted { OnErr result (W.failed out.new ≡ W.failed out.old + 1) }
+{
+    for (k, amount) in amounts.iter().enumerate() {
+        if !is_zero(*amount) {
+            match put_line(page, out, &block_line(kind, k as u32, *amount)) {
+                Ok(()) => {}
+                Err(fault) => return Err(fault),
+            }
+        }
+    }
+    Ok(())
+}
+
+// The REST lines.
+fn put_pairs<G: OrderedGroup, W: CountedWrite>(
+    page: &mut Page,
+    out: &mut W,
+    rests: &Rests,
+    amounts: &[G],
+) -> Result<(), WriteFault>
+    requires few { length rests.now.pairs ≤ 2 ^ 27 }
+    requires fits { length amounts.now ≡ length rests.now.pairs }
+    requires room { W.failed out.old < 2 ^ 64 - 1 }
+    ensures held { OnOk result (SentOrHeld (W.contents out.old) (W.contents out.new) page.new (page.old ++ body_text (amount_lines (pair_at rests.now.pairs) 0 (map G.parts_of amounts.now)))) }
+    ensures kept { OnOk result (W.failed out.new ≡ W.failed out.old) }
+    ensures prefix { OnErr result (ReceivedPrefix (W.contents out.old) (W.contents out.new) (page.old ++ body_text (amount_lines (pair_at rests.now.pairs) 0 (map G.parts_of amounts.now)))) }
+    ensures counted { OnErr result (W.failed out.new ≡ W.failed out.old + 1) }
+{
+    for (k, amount) in amounts.iter().enumerate() {
+        if !is_zero(*amount) {
+            match put_line(page, out, &pair_line(rests, k as u32, *amount)) {
+                Ok(()) => {}
+                Err(fault) => return Err(fault),
+            }
+        }
+    }
+    Ok(())
+}
+
+// The SOURCE, REST and SINK lines.
+fn put_flow<G: OrderedGroup, W: CountedWrite>(
+    page: &mut Page,
+    out: &mut W,
+    rests: &Rests,
+    flow: &Flow<G>,
+) -> Result<(), WriteFault>
+    requires covers { Covers rests.now.blocks (length rests.now.pairs) flow.now }
+    requires room { W.failed out.old < 2 ^ 64 - 1 }
+    ensures held { OnOk result (SentOrHeld (W.contents out.old) (W.contents out.new) page.new (page.old ++ body_text (flow_lines rests.now.pairs flow.now))) }
+    ensures kept { OnOk result (W.failed out.new ≡ W.failed out.old) }
+    ensures prefix { OnErr result (ReceivedPrefix (W.contents out.old) (W.contents out.new) (page.old ++ body_text (flow_lines rests.now.pairs flow.now))) }
+    ensures counted { OnErr result (W.failed out.new ≡ W.failed out.old + 1) }
+{
+    let _n = rests.len();
+    put_blocks(page, out, Kind::Source, flow.source())?;
+    put_pairs(page, out, rests, flow.rest())?;
+    put_blocks(page, out, Kind::Sink, flow.sink())
+}
+
+// Everything behind the header.
+fn put_body<G: OrderedGroup, W: CountedWrite>(
+    page: &mut Page,
+    out: &mut W,
+    rests: &Rests,
+    certificate: &Certificate<G>,
+) -> Result<(), WriteFault>
+    requires covers { Covers rests.now.blocks (length rests.now.pairs) certificate.now.flow }
+    requires room { W.failed out.old < 2 ^ 64 - 1 }
+    ensures held { OnOk result (SentOrHeld (W.contents out.old) (W.contents out.new) page.new (page.old ++ (body_text (value_lines rests.now.pairs certificate.now.pit certificate.now.flow) ++ end_text))) }
+    ensures kept { OnOk result (W.failed out.new ≡ W.failed out.old) }
+    ensures prefix { OnErr result (ReceivedPrefix (W.contents out.old) (W.contents out.new) (page.old ++ (body_text (value_lines rests.now.pairs certificate.now.pit certificate.now.flow) ++ end_text))) }
+    ensures counted { OnErr result (W.failed out.new ≡ W.failed out.old + 1) }
+{
+    put_pit(page, out, &certificate.pit)?;
+    put_flow(page, out, rests, &certificate.flow)?;
+    page.put(out, b"END\n")
+}
+
+/// Writes a certificate, which [`crate::read_certificate`] reads back for the same blocks and pairs. It takes no memory.
+///
+/// # Errors
+/// `Device` at the first write that fails: the writer has then received a prefix of the text.
+pub fn write_certificate<G: OrderedGroup, W: CountedWrite>(
+    certificate: &Certificate<G>,
+    rests: &Rests,
+    out: &mut W,
+) -> Result<(), WriteFault>
+    requires covers { Covers rests.now.blocks (length rests.now.pairs) certificate.now.flow }
+    requires room { W.failed out.old < 2 ^ 64 - 1 }
+    ensures sent { OnOk result (Appends (W.contents out.old) (W.contents out.new) (text_of (header_with certificate.now.blocks certificate.now.price G.name) rests.now.pairs certificate.now.pit certificate.now.flow)) }
+    ensures kept { OnOk result (W.failed out.new ≡ W.failed out.old) }
+    ensures prefix { OnErr result (ReceivedPrefix (W.contents out.old) (W.contents out.new) (text_of (header_with certificate.now.blocks certificate.now.price G.name) rests.now.pairs certificate.now.pit certificate.now.flow)) }
+    ensures counted { OnErr result (W.failed out.new ≡ W.failed out.old + 1) }
+{
+    let header = Header {
+        blocks: certificate.blocks,
+        price: certificate.price,
+        group: G::group(),
+    };
+    let mut page = Page::new();
+    page.put(out, written_header(&header).as_bytes())?;
+    put_body(&mut page, out, rests, certificate)?;
+    page.finish(out)
+}

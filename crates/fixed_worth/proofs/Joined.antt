@@ -1,0 +1,132 @@
+-- Lines and words that are put together are cut apart again.
+use Rattle.std.proofs.Common.{◌≡◌, ℕ, ◌+◌, Bool, true, false, not, eqb, List, [], ◌∷◌, ◌++◌, length, drop, refl, sym, ap, ◌∙◌, subst, arith, append_assoc, append-nil}
+use Rattle.std.specs.Prelude.{◌&&◌, map, nat_lt}
+use Rattle.std.specs.List.{list_all, flat_map, position_or_len, onto_first}
+use Rattle.std.proofs.lemmas.List.Folds.{list_all-append}
+use Rattle.std.proofs.Math.Seq.{take-append_seam, drop-append_seam, take-length, drop-length}
+use Rattle.fixed_worth.specs.Text.{lines_of, fields_of, is_separator, runs_from}
+use Rattle.fixed_worth.specs.Laws.{with_line_feeds}
+use Rattle.fixed_worth.proofs.Cuts.{Runs, first_run}
+
+-- ---- tests of all bytes
+
+pub both_pass : (a b : Bool) → (a && b) ≡ true → (a ≡ true) × (b ≡ true)
+both_pass true b h = (refl, h)
+both_pass false b h = absurd cc
+
+pub pass_both : (a b : Bool) → a ≡ true → b ≡ true → (a && b) ≡ true
+pass_both a b g h = rw (g, h) refl
+
+-- what passes a test passes one that asks for less
+pub all_pass_weaker : (p q : ℕ → Bool) → ((b : ℕ) → p b ≡ true → q b ≡ true) → (bs : List ℕ) → list_all p bs ≡ true → list_all q bs ≡ true
+all_pass_weaker p q w [] h = refl
+all_pass_weaker p q w (b ∷ bs) h =
+    let k = both_pass (p b) (list_all p bs) h in
+    pass_both (q b) (list_all q bs) (w b k.0) (all_pass_weaker p q w bs k.1)
+
+not_passes : (t : Bool) → not t ≡ true → t ≡ false
+not_passes true h = cc
+not_passes false h = refl
+
+-- ---- lines
+
+-- no byte is a line feed
+abbrev pub is_one_line : List ℕ → Bool
+is_one_line line = list_all (λ b. not (eqb b 10)) line
+
+-- a line, its line feed, and what follows
+pub line_cut : (line rest : List ℕ) → is_one_line line ≡ true → lines_of (line ++ (10 ∷ rest)) ≡ line ∷ lines_of rest
+line_cut [] rest h = refl
+line_cut (b ∷ bs) rest h =
+    let q = both_pass (not (eqb b 10)) (is_one_line bs) h in
+    let e : eqb b 10 ≡ false = not_passes (eqb b 10) q.0 in
+    rw e (ap (onto_first b) (line_cut bs rest q.1))
+
+-- lines with a line feed behind each are the lines of their text
+pub lines_cut : (lines : List (List ℕ)) → list_all is_one_line lines ≡ true → lines_of (with_line_feeds lines) ≡ lines
+lines_cut [] h = refl
+lines_cut (line ∷ lines) h =
+    let q = both_pass (is_one_line line) (list_all is_one_line lines) h in
+    line_cut line (with_line_feeds lines) q.0 ∙ ap (λ ls. line ∷ ls) (lines_cut lines q.1)
+
+pub with_line_feeds-append : (xs ys : List (List ℕ)) → with_line_feeds (xs ++ ys) ≡ with_line_feeds xs ++ with_line_feeds ys
+with_line_feeds-append [] ys = refl
+with_line_feeds-append (x ∷ xs) ys =
+    ap (λ l. x ++ (10 ∷ l)) (with_line_feeds-append xs ys) ∙ sym (append_assoc x (10 ∷ with_line_feeds xs) (with_line_feeds ys))
+
+-- ---- words
+
+-- no byte is a separator, and there is one
+abbrev pub is_word : List ℕ → Bool
+is_word word = nat_lt 0 (length word) && list_all (λ b. not (is_separator b)) word
+
+-- words, a space (32) before each
+abbrev pub behind_spaces : List (List ℕ) → List ℕ
+behind_spaces words = flat_map (λ word. 32 ∷ word) words
+
+space : is_separator 32 ≡ true
+unfolding is_separator
+space = refl
+
+word_ends : (word rest : List ℕ) → list_all (λ b. not (is_separator b)) word ≡ true → position_or_len is_separator (word ++ (32 ∷ rest)) ≡ length word
+word_ends [] rest h = rw space refl
+word_ends (b ∷ bs) rest h =
+    let q = both_pass (not (is_separator b)) (list_all (λ x. not (is_separator x)) bs) h in
+    let e : is_separator b ≡ false = not_passes (is_separator b) q.0 in
+    let n : position_or_len is_separator (b ∷ (bs ++ (32 ∷ rest))) ≡ 1 + position_or_len is_separator (bs ++ (32 ∷ rest)) = rw e refl in
+    omega (arith, n, word_ends bs rest q.1)
+
+word_is_all : (word : List ℕ) → list_all (λ b. not (is_separator b)) word ≡ true → position_or_len is_separator word ≡ length word
+word_is_all [] h = refl
+word_is_all (b ∷ bs) h =
+    let q = both_pass (not (is_separator b)) (list_all (λ x. not (is_separator x)) bs) h in
+    let e : is_separator b ≡ false = not_passes (is_separator b) q.0 in
+    let n : position_or_len is_separator (b ∷ bs) ≡ 1 + position_or_len is_separator bs = rw e refl in
+    omega (arith, n, word_is_all bs q.1)
+
+-- the first word of a line
+word_cut : (p : ℕ) (word rest : List ℕ) → is_word word ≡ true
+    → runs_from p (word ++ (32 ∷ rest)) ≡ record { text = word; place = p } ∷ runs_from (p + length word + 1) rest
+word_cut p [] rest h = absurd cc
+word_cut p (b ∷ bs) rest h =
+    let s = (both_pass (nat_lt 0 (length (b ∷ bs))) (list_all (λ x. not (is_separator x)) (b ∷ bs)) h).1 in
+    let e : is_separator b ≡ false = not_passes (is_separator b) (both_pass (not (is_separator b)) (list_all (λ x. not (is_separator x)) bs) s).0 in
+    let r : Runs p (b ∷ bs ++ (32 ∷ rest)) (length (b ∷ bs)) = subst (λ (w : ℕ). Runs p (b ∷ bs ++ (32 ∷ rest)) w) (word_ends (b ∷ bs) rest s) (first_run p (b ∷ bs ++ (32 ∷ rest)) (omega arith) e) in
+    r
+    ∙ ap (λ t. record { text = t; place = p } ∷ runs_from (p + length (b ∷ bs)) (drop (length (b ∷ bs)) (b ∷ bs ++ (32 ∷ rest)))) (take-append_seam (b ∷ bs) (32 ∷ rest))
+    ∙ ap (λ t. record { text = b ∷ bs; place = p } ∷ runs_from (p + length (b ∷ bs)) t) (drop-append_seam (b ∷ bs) (32 ∷ rest))
+    ∙ rw space refl
+
+word_alone : (p : ℕ) (word : List ℕ) → is_word word ≡ true → runs_from p word ≡ record { text = word; place = p } ∷ []
+word_alone p [] h = absurd cc
+word_alone p (b ∷ bs) h =
+    let s = (both_pass (nat_lt 0 (length (b ∷ bs))) (list_all (λ x. not (is_separator x)) (b ∷ bs)) h).1 in
+    let e : is_separator b ≡ false = not_passes (is_separator b) (both_pass (not (is_separator b)) (list_all (λ x. not (is_separator x)) bs) s).0 in
+    let r : Runs p (b ∷ bs) (length (b ∷ bs)) = subst (λ (w : ℕ). Runs p (b ∷ bs) w) (word_is_all (b ∷ bs) s) (first_run p (b ∷ bs) (omega arith) e) in
+    r
+    ∙ ap (λ t. record { text = t; place = p } ∷ runs_from (p + length (b ∷ bs)) (drop (length (b ∷ bs)) (b ∷ bs))) (take-length (b ∷ bs))
+    ∙ ap (λ t. record { text = b ∷ bs; place = p } ∷ runs_from (p + length (b ∷ bs)) t) (drop-length (b ∷ bs))
+
+words_cut : (p : ℕ) (word : List ℕ) (words : List (List ℕ)) → is_word word ≡ true → list_all is_word words ≡ true
+    → map (λ r. r.text) (runs_from p (word ++ behind_spaces words)) ≡ word ∷ words
+words_cut p word [] h g =
+    ap (λ line. map (λ r. r.text) (runs_from p line)) (append-nil word) ∙ ap (map (λ r. r.text)) (word_alone p word h)
+words_cut p word (next ∷ words) h g =
+    let q = both_pass (is_word next) (list_all is_word words) g in
+    ap (map (λ r. r.text)) (word_cut p word (next ++ behind_spaces words) h)
+    ∙ ap (λ fields. word ∷ fields) (words_cut (p + length word + 1) next words q.0 q.1)
+
+-- words with single spaces between are the fields of their line
+pub fields_cut : (word : List ℕ) (words : List (List ℕ)) → is_word word ≡ true → list_all is_word words ≡ true → fields_of (word ++ behind_spaces words) ≡ word ∷ words
+fields_cut = words_cut 0
+
+behind_spaces_is_one_line : (words : List (List ℕ)) → list_all is_one_line words ≡ true → is_one_line (behind_spaces words) ≡ true
+behind_spaces_is_one_line [] h = refl
+behind_spaces_is_one_line (word ∷ words) h =
+    let q = both_pass (is_one_line word) (list_all is_one_line words) h in
+    list_all-append (λ b. not (eqb b 10)) word (behind_spaces words) ∙ pass_both (is_one_line word) (is_one_line (behind_spaces words)) q.0 (behind_spaces_is_one_line words q.1)
+
+-- words without line feeds, with single spaces between, are one line
+pub joined_is_one_line : (word : List ℕ) (words : List (List ℕ)) → is_one_line word ≡ true → list_all is_one_line words ≡ true → is_one_line (word ++ behind_spaces words) ≡ true
+joined_is_one_line word words h g =
+    list_all-append (λ b. not (eqb b 10)) word (behind_spaces words) ∙ pass_both (is_one_line word) (is_one_line (behind_spaces words)) h (behind_spaces_is_one_line words g)

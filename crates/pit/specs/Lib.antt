@@ -1,0 +1,10 @@
+pub mod Mines
+pub mod Readings
+pub mod Judgements
+pub mod Faults
+pub mod OutputLines
+pub mod Inputs
+pub mod Engines
+pub mod Statuses
+pub mod Verdicts
+pub mod Judging

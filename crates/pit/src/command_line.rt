@@ -1,0 +1,95 @@
+//! The words of the command line, read by `clap`: which command, on which files.
+
+use clap::error::ErrorKind;
+use clap::{Arg, ArgAction, ArgMatches, Command, Error};
+use std::alloc::{AllocError, Global};
+
+const ABOUT: &str =
+    "Finds and checks the ultimate pit of a block model: the set of blocks worth most in which every block has all that it rests on.";
+
+const STATUSES: &str =
+    "Exit status:\n  0  done: the answer is on standard output\n  1  refused: the certificate doesn't prove its pit\n  2  usage: the words of the command line are wrong\n  3  a file is wrong: standard error names the file, the fault and its line\n  4  memory was refused, or a file or the output failed\n\nWithout words pit checks a small example that it carries, and prints the answer.";
+
+const CHECK_ABOUT: &str = "Checks a certificate: does its flow prove that its pit is the best?";
+
+const CHECK_DETAILS: &str =
+    "Checks a certificate: does its flow prove that its pit is the best?\n\nPrints ACCEPTED, the number of blocks and the worth, or REFUSED and the reason. What is accepted is proved: the pit holds every block that a block of it rests on, and no such pit is worth more.";
+
+/// The files of a check.
+#[derive(Clone, Copy)]
+pub struct CheckFiles<'a> {
+    pub prec: &'a str,
+    pub upit: &'a str,
+    pub certificate: &'a str,
+}
+
+/// What the words ask for.
+#[derive(Clone, Copy)]
+pub enum Request<'a> {
+    Check(CheckFiles<'a>),
+}
+
+/// Reads the words, of which the first is the program's name. The error prints itself.
+pub fn request_of<'a>(alloc: Global, words: &'a [String]) -> Result<Request<'a>, Error> {
+    let matches = pit_command(alloc)?.try_get_matches_from(words)?;
+    match matches.subcommand() {
+        Some(("check", words)) => Ok(Request::Check(check_files(words))),
+        _ => Err(pit_command(alloc)?.error(ErrorKind::MissingSubcommand, "a command is missing")?),
+    }
+}
+
+fn pit_command<'a>(alloc: Global) -> Result<Command<'a>, AllocError> {
+    let check = check_command(alloc)?;
+    Command::new(alloc, "pit")
+        .about(ABOUT)
+        .after_help(STATUSES)
+        .subcommand_required(true)
+        .subcommand(check)
+}
+
+fn check_command<'a>(alloc: Global) -> Result<Command<'a>, AllocError> {
+    Command::new(alloc, "check")
+        .about(CHECK_ABOUT)
+        .long_about(CHECK_DETAILS)
+        .after_help(STATUSES)
+        .arg(file_option(alloc, "prec", "Which blocks rest on which: MineLib's .prec"))?
+        .arg(file_option(alloc, "upit", "What each block is worth: MineLib's .upit"))?
+        .arg(file_word(
+            alloc,
+            "certificate",
+            "CERT",
+            "The pit and its flow: a PITCERT text",
+        ))
+}
+
+// An option that must be given and names a file.
+fn file_option<'a>(alloc: Global, name: &'a str, help: &'a str) -> Arg<'a> {
+    Arg::new(alloc, name)
+        .long(name)
+        .value_name("FILE")
+        .required(true)
+        .action(ArgAction::Set)
+        .help(help)
+}
+
+// A word that must be given and names a file.
+fn file_word<'a>(alloc: Global, name: &'a str, shown: &'a str, help: &'a str) -> Arg<'a> {
+    Arg::new(alloc, name)
+        .value_name(shown)
+        .required(true)
+        .action(ArgAction::Set)
+        .help(help)
+}
+
+fn check_files<'a>(words: &ArgMatches<'a>) -> CheckFiles<'a> {
+    CheckFiles {
+        prec: text_of(words, "prec"),
+        upit: text_of(words, "upit"),
+        certificate: text_of(words, "certificate"),
+    }
+}
+
+// A word that clap made sure of.
+fn text_of<'a>(words: &ArgMatches<'a>, name: &str) -> &'a str {
+    words.get_str(name).unwrap_or("")
+}

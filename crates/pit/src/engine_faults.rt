@@ -1,0 +1,70 @@
+//! Why an engine could not answer.
+
+use check_pit::CertFault;
+use closure_net::NetFault;
+use prec_file::PrecFault;
+use std::fmt;
+use thiserror::Error;
+use upit_file::UpitFault;
+
+/// What is wrong with an input: it is too long to be read, or its text has a fault.
+#[derive(Clone, Copy, Debug, PartialEq, Eq)]
+pub enum Problem<F> {
+    /// The input has more than 2^32 bytes.
+    InputTooLong,
+    /// The text has this fault.
+    Fault(F),
+}
+
+impl<F: fmt::Display> fmt::Display for Problem<F> {
+    fn fmt<W: fmt::Write>(&self, f: &mut fmt::Formatter<W>) -> fmt::Result {
+        match self {
+            Problem::InputTooLong => f.write_str("InputTooLong"),
+            Problem::Fault(fault) => write!(f, "{fault}"),
+        }
+    }
+}
+
+/// What is wrong with a certificate.
+#[derive(Clone, Copy, Debug, PartialEq, Eq)]
+pub enum CertificateProblem {
+    /// The input has more than 2^32 bytes.
+    InputTooLong,
+    /// The certificate is for another kind of model.
+    WrongPrice,
+    /// The text has this fault.
+    Fault(CertFault),
+}
+
+impl fmt::Display for CertificateProblem {
+    fn fmt<W: fmt::Write>(&self, f: &mut fmt::Formatter<W>) -> fmt::Result {
+        match self {
+            CertificateProblem::InputTooLong => f.write_str("InputTooLong"),
+            CertificateProblem::WrongPrice => f.write_str("WrongPrice"),
+            CertificateProblem::Fault(fault) => write!(f, "{fault}"),
+        }
+    }
+}
+
+/// Why an engine could not answer: what is wrong, and with which of its inputs.
+#[derive(Clone, Copy, Debug, PartialEq, Eq, Error)]
+pub enum EngineFault {
+    /// The values of the blocks.
+    #[error("upit {0}")]
+    Upit(Problem<UpitFault>),
+    /// The precedence.
+    #[error("prec {0}")]
+    Prec(Problem<PrecFault>),
+    /// The worths don't fit the numbers that the network needs.
+    #[error("model {0}")]
+    Model(NetFault),
+    /// The certificate.
+    #[error("certificate {0}")]
+    Certificate(CertificateProblem),
+    /// An allocation was refused.
+    #[error("memory")]
+    Memory,
+    /// A read or a write failed, or a file could not be opened.
+    #[error("device")]
+    Device,
+}

@@ -1,0 +1,83 @@
+//! Reading the inputs of an engine, each whole and with its own fault.
+
+ghost use Rattle.std.specs.Prelude.{◌≡◌, ◌+◌, ◌-◌, ◌^◌, ◌<◌, ◌≤◌, ◌↔◌, ℕ, ◌⊎◌, length, IfSome, MatchResult, IsErrOf};
+ghost use Rattle.pit.specs.Inputs.{ReadsUpit, ReadsPrec, UpitReadFails, PrecReadFails, TextReadFails};
+
+use crate::engine_faults::{CertificateProblem, EngineFault, Problem};
+use fixed_worth::{CountedRead, InputFault, read_whole};
+use prec_file::{PrecFault, Rests, read_prec};
+use std::alloc::Global;
+use upit_file::{Upit, UpitFault, declared_blocks, read_upit};
+
+// The most bytes of an input.
+const LONGEST: u64 = 1 << 32;
+
+/// The values of the blocks, as many as the text declares.
+pub fn upit_from<R: CountedRead>(alloc: Global, from: &mut R) -> Result<Upit, EngineFault>
+    requires { R.failed from.old < 2 ^ 64 - 1 }
+    ensures read { IfSome (R.remaining from.old) (λ text. MatchResult result (ReadsUpit text) (UpitReadFails text)) }
+    ensures device { IsErrOf result EngineFault.Device ↔ (R.failed from.new ≡ R.failed from.old + 1) }
+    ensures kept { ¬ IsErrOf result EngineFault.Device → R.failed from.new ≡ R.failed from.old }
+{
+    let text = match read_whole(alloc, from, LONGEST) {
+        Ok(text) => text,
+        Err(InputFault::Device) => return Err(EngineFault::Device),
+        Err(InputFault::InputTooLong) => return Err(EngineFault::Upit(Problem::InputTooLong)),
+        Err(InputFault::NoMemory) => return Err(EngineFault::Memory),
+    };
+    upit_of(alloc, text.as_slice())
+}
+
+// The values that a text gives to the blocks that it declares.
+fn upit_of(alloc: Global, text: &[u8]) -> Result<Upit, EngineFault>
+    ensures read { MatchResult result (ReadsUpit text.now) (UpitReadFails text.now) }
+    ensures no_device { ¬ IsErrOf result EngineFault.Device }
+{
+    let blocks = match declared_blocks(text) {
+        Ok(blocks) => blocks,
+        Err(fault) => return Err(EngineFault::Upit(Problem::Fault(fault))),
+    };
+    match read_upit(alloc, text, blocks) {
+        Ok(upit) => Ok(upit),
+        Err(UpitFault::NoMemory) => Err(EngineFault::Memory),
+        Err(fault) => Err(EngineFault::Upit(Problem::Fault(fault))),
+    }
+}
+
+/// What rests on what among n blocks.
+pub fn rests_from<R: CountedRead>(alloc: Global, from: &mut R, n: u32) -> Result<Rests, EngineFault>
+    requires blocks { n ≤ 2 ^ 24 }
+    requires room { R.failed from.old < 2 ^ 64 - 1 }
+    ensures read { IfSome (R.remaining from.old) (λ text. MatchResult result (ReadsPrec n text) (PrecReadFails n text)) }
+    ensures device { IsErrOf result EngineFault.Device ↔ (R.failed from.new ≡ R.failed from.old + 1) }
+    ensures kept { ¬ IsErrOf result EngineFault.Device → R.failed from.new ≡ R.failed from.old }
+{
+    let text = match read_whole(alloc, from, LONGEST) {
+        Ok(text) => text,
+        Err(InputFault::Device) => return Err(EngineFault::Device),
+        Err(InputFault::InputTooLong) => return Err(EngineFault::Prec(Problem::InputTooLong)),
+        Err(InputFault::NoMemory) => return Err(EngineFault::Memory),
+    };
+    match read_prec(alloc, text.as_slice(), n) {
+        Ok(rests) => Ok(rests),
+        Err(PrecFault::NoMemory) => Err(EngineFault::Memory),
+        Err(fault) => Err(EngineFault::Prec(Problem::Fault(fault))),
+    }
+}
+
+/// The text of a certificate.
+pub fn certificate_from<R: CountedRead>(alloc: Global, from: &mut R) -> Result<Vec<u8>, EngineFault>
+    requires { R.failed from.old < 2 ^ 64 - 1 }
+    ensures read { IfSome (R.remaining from.old) (λ text. MatchResult result (λ v. v.items ≡ text) (TextReadFails text)) }
+    ensures device { IsErrOf result EngineFault.Device ↔ (R.failed from.new ≡ R.failed from.old + 1) }
+    ensures kept { ¬ IsErrOf result EngineFault.Device → R.failed from.new ≡ R.failed from.old }
+{
+    match read_whole(alloc, from, LONGEST) {
+        Ok(text) => Ok(text),
+        Err(InputFault::Device) => Err(EngineFault::Device),
+        Err(InputFault::InputTooLong) => Err(EngineFault::Certificate(
+            CertificateProblem::InputTooLong,
+        )),
+        Err(InputFault::NoMemory) => Err(EngineFault::Memory),
+    }
+}

@@ -1,0 +1,102 @@
+//! `pit`: the ultimate pit of a block model, checked.
+//!
+//! Stands on every crate of the repository. The engines (`checks`) read bytes and write bytes, and
+//! their contracts say which; this file connects them to the words of the command line, to files
+//! and to standard output, and gives the exit status.
+#![tactic(auto)]
+
+mod checks;
+mod command_line;
+mod engine_faults;
+mod fault_lines;
+mod inputs;
+mod judgements;
+mod judging;
+mod stored_run;
+#[cfg(test)]
+mod tests;
+mod verdict_lines;
+
+use checks::check_engine;
+use clap::error::ErrorKind;
+use command_line::{CheckFiles, Request, request_of};
+use engine_faults::EngineFault;
+use fault_lines::{status, write_fault};
+use fixed_worth::Counted;
+use judgements::Verdict;
+use std::fs::File;
+use std::process::ExitCode;
+use std::rt::{Env, Files};
+use std::{env, io};
+use stored_run::stored_check;
+
+// The exit status where the words are wrong.
+const USAGE: u8 = 2;
+
+fn main(rt: HostRuntime) -> ExitCode {
+    let mut errors = Counted::new(rt.stderr());
+    match run(&rt) {
+        Ok(status) => ExitCode::from(status),
+        Err(fault) => {
+            // Where standard error fails too, the status alone says what was wrong.
+            let _ = write_fault(&fault, &mut errors);
+            ExitCode::from(status(&Err(fault)))
+        }
+    }
+}
+
+// Does what the words ask for, and gives the exit status.
+fn run<R: Files + Print + Eprint + Env + AllocGlobal>(rt: &R) -> Result<u8, EngineFault> {
+    let given = match env::args(rt) {
+        Ok(given) => given,
+        Err(error) if error.kind() == io::ErrorKind::OutOfMemory => return Err(EngineFault::Memory),
+        Err(_) => return usage(rt),
+    };
+    let words: Vec<String> = match given.collect(rt.alloc()) {
+        Ok(words) => words,
+        Err(_) => return Err(EngineFault::Memory),
+    };
+    if words.len() <= 1 {
+        let mut out = Counted::new(io::writer(rt));
+        return Ok(status(&Ok(stored_check(rt.alloc(), &mut out)?)));
+    }
+    match request_of(rt.alloc(), words.as_slice()) {
+        Ok(Request::Check(files)) => Ok(status(&Ok(check_files(rt, files)?))),
+        Err(error) => {
+            if error.kind() == ErrorKind::OutOfMemory {
+                return Err(EngineFault::Memory);
+            }
+            match error.print(rt) {
+                Ok(()) => Ok(error.exit_code() as u8),
+                Err(_) => Err(EngineFault::Device),
+            }
+        }
+    }
+}
+
+// The words can't be read at all.
+fn usage<R: Eprint>(rt: &R) -> Result<u8, EngineFault> {
+    match rt.eprintln("fault: usage") {
+        Ok(()) => Ok(USAGE),
+        Err(_) => Err(EngineFault::Device),
+    }
+}
+
+// Checks a certificate for the files of a mine. All files are opened before any is read.
+fn check_files<R: Files + Print + AllocGlobal>(
+    rt: &R,
+    files: CheckFiles<'_>,
+) -> Result<Verdict, EngineFault> {
+    let mut prec = Counted::new(opened(rt, files.prec)?);
+    let mut upit = Counted::new(opened(rt, files.upit)?);
+    let mut certificate = Counted::new(opened(rt, files.certificate)?);
+    let mut out = Counted::new(io::writer(rt));
+    check_engine(rt.alloc(), &mut upit, &mut prec, &mut certificate, &mut out)
+}
+
+fn opened<R: Files>(rt: &R, path: &str) -> Result<R::File, EngineFault> {
+    match File::open(rt, path) {
+        Ok(file) => Ok(file),
+        Err(_) => Err(EngineFault::Device),
+    }
+}

@@ -1,0 +1,108 @@
+-- The lines of a written file, and their fields.
+use Rattle.std.proofs.Common.{◌≡◌, ℕ, zero, suc, ◌+◌, ◌*◌, ◌<◌, ◌≤◌, ◌^◌, Bool, true, List, [], ◌∷◌, ◌++◌, length, get_or, refl, sym, ap, ◌∙◌, subst, arith, append_assoc, length-append, All}
+use Rattle.std.specs.Prelude.{map}
+use Rattle.std.specs.List.{list_all}
+use Rattle.std.specs.Fmt.{decimal}
+use Rattle.std.proofs.lemmas.Fmt.{length-decimal-le}
+use Rattle.std.proofs.lemmas.List.{get_or_default}
+use Rattle.std.proofs.lemmas.List.Elements.{All-weaker}
+use Rattle.std.proofs.lemmas.List.Folds.{flat_map-map, list_all-append}
+use Rattle.fixed_worth.specs.Text.{lines_of, fields_of}
+use Rattle.fixed_worth.specs.Laws.{with_line_feeds}
+use Rattle.fixed_worth.proofs.Joined.{is_one_line, is_word, behind_spaces, lines_cut, with_line_feeds-append, fields_cut, joined_is_one_line, pass_both}
+use Rattle.fixed_worth.proofs.WrittenNumbers.{decimal_is_word, decimal_is_one_line, decimals_pass}
+use Rattle.prec_file.specs.Rests.{IsKnown, IsRising, above_of, first_of}
+use Rattle.prec_file.specs.Written.{spaced, line_of, lines_below, AreNarrow}
+use Rattle.prec_file.proofs.Finding.{above_at}
+
+-- What is known of a value whose blocks are narrow.
+pub record IsWritable (n : ℕ) (ps : List (ℕ × ℕ)) : Type 0 where
+  pub blocks : n ≤ 2 ^ 24
+  pub few : length ps ≤ 2 ^ 27
+  pub known : All (IsKnown n) ps
+  pub rising : IsRising ps
+  pub narrow : AreNarrow (record { blocks = n; pairs = ps })
+
+-- the predecessors of a block are blocks
+pub above_known : (n : ℕ) (ps : List (ℕ × ℕ)) (b : ℕ) → IsWritable n ps → All (λ p. p < n) (above_of ps b)
+above_known n ps b w k d l =
+    let a = above_at ps w.rising b k l in
+    let known = (w.known (first_of ps b + k) (0, 0) a.0).1 in
+    let e : get_or ps (first_of ps b + k) (0, 0) ≡ (b, get_or (above_of ps b) k 0) = a.1 in
+    let to = ap (λ (p : ℕ × ℕ). p.1) e in
+    let P : ℕ → Type 0 = λ p. p < n in
+    subst P (to ∙ get_or_default (above_of ps b) k 0 d l) known
+
+-- The words behind the block.
+abbrev pub words_at : List (ℕ × ℕ) → ℕ → List (List ℕ)
+words_at ps b = decimal (length (above_of ps b)) ∷ map decimal (above_of ps b)
+
+-- The line without its line feed, and all lines below a block.
+abbrev pub row : List (ℕ × ℕ) → ℕ → List ℕ
+row ps b = decimal b ++ behind_spaces (words_at ps b)
+
+abbrev pub rows : List (ℕ × ℕ) → ℕ → List (List ℕ)
+rows ps zero = []
+rows ps (suc b) = rows ps b ++ (row ps b ∷ [])
+
+regroup : (x y s t : List ℕ) → (x ++ y) ++ (s ++ t) ≡ (x ++ (y ++ s)) ++ t
+regroup x y s t = simp append_assoc
+
+line_is : (ps : List (ℕ × ℕ)) (b : ℕ) → line_of ps b ≡ row ps b ++ (10 ∷ [])
+line_is ps b =
+    let above = above_of ps b in
+    let e : behind_spaces (map decimal above) ≡ spaced above = flat_map-map (λ word. 32 ∷ word) decimal above in
+    regroup (decimal b) (32 ∷ decimal (length above)) (spaced above) (10 ∷ [])
+    ∙ ap (λ s. (decimal b ++ ((32 ∷ decimal (length above)) ++ s)) ++ (10 ∷ [])) (sym e)
+
+text_is : (ps : List (ℕ × ℕ)) (n : ℕ) → lines_below ps n ≡ with_line_feeds (rows ps n)
+text_is ps zero = refl
+text_is ps (suc n) =
+    ap (λ l. l ++ line_of ps n) (text_is ps n)
+    ∙ ap (λ l. with_line_feeds (rows ps n) ++ l) (line_is ps n)
+    ∙ sym (with_line_feeds-append (rows ps n) (row ps n ∷ []))
+
+small : (n : ℕ) (ps : List (ℕ × ℕ)) (b : ℕ) → IsWritable n ps → All (λ p. p < 2 ^ 64) (above_of ps b)
+small n ps b w = All-weaker (λ p. p < n) (λ p. p < 2 ^ 64) (λ p l. omega (arith, w.blocks)) (above_of ps b) (above_known n ps b w)
+
+words_pass : (test : List ℕ → Bool) → ((k : ℕ) → k < 2 ^ 64 → test (decimal k) ≡ true) → (n : ℕ) (ps : List (ℕ × ℕ)) (b : ℕ) → IsWritable n ps → b < n → list_all test (words_at ps b) ≡ true
+words_pass test each n ps b w l =
+    pass_both (test (decimal (length (above_of ps b)))) (list_all test (map decimal (above_of ps b))) (each (length (above_of ps b)) (omega (arith, w.narrow b l)))
+    (decimals_pass test each (above_of ps b) (small n ps b w))
+
+row_is_one_line : (n : ℕ) (ps : List (ℕ × ℕ)) (b : ℕ) → IsWritable n ps → b < n → is_one_line (row ps b) ≡ true
+row_is_one_line n ps b w l =
+    joined_is_one_line (decimal b) (words_at ps b) (decimal_is_one_line b (omega (arith, w.blocks))) (words_pass is_one_line decimal_is_one_line n ps b w l)
+
+rows_are_lines : (n : ℕ) (ps : List (ℕ × ℕ)) (m : ℕ) → IsWritable n ps → m ≤ n → list_all is_one_line (rows ps m) ≡ true
+rows_are_lines n ps zero w l = refl
+rows_are_lines n ps (suc m) w l =
+    list_all-append is_one_line (rows ps m) (row ps m ∷ [])
+    ∙ pass_both (list_all is_one_line (rows ps m)) (list_all is_one_line (row ps m ∷ [])) (rows_are_lines n ps m w (omega arith))
+    (pass_both (is_one_line (row ps m)) true (row_is_one_line n ps m w (omega arith)) refl)
+
+-- the lines of the text
+pub text_lines : (n : ℕ) (ps : List (ℕ × ℕ)) → IsWritable n ps → lines_of (lines_below ps n) ≡ rows ps n
+text_lines n ps w = ap lines_of (text_is ps n) ∙ lines_cut (rows ps n) (rows_are_lines n ps n w (omega arith))
+
+-- the fields of a line
+pub row_fields : (n : ℕ) (ps : List (ℕ × ℕ)) (b : ℕ) → IsWritable n ps → b < n → fields_of (row ps b) ≡ decimal b ∷ words_at ps b
+row_fields n ps b w l = fields_cut (decimal b) (words_at ps b) (decimal_is_word b (omega (arith, w.blocks))) (words_pass is_word decimal_is_word n ps b w l)
+
+-- how long a line is
+numbers_short : (xs : List ℕ) → All (λ p. p < 2 ^ 24) xs → length (behind_spaces (map decimal xs)) ≤ 9 * length xs
+numbers_short [] h = omega arith
+numbers_short (x ∷ xs) h =
+    let here : x < 2 ^ 24 = h 0 0 (omega arith) in
+    let a : length (decimal x) ≤ 8 = length-decimal-le 8 x (omega arith) (omega arith) (omega arith) in
+    let b = numbers_short xs (λ k d l. h (suc k) d (omega arith)) in
+    omega (arith, length-append (32 ∷ decimal x) (behind_spaces (map decimal xs)))
+
+pub row_short : (n : ℕ) (ps : List (ℕ × ℕ)) (b : ℕ) → IsWritable n ps → b < n → length (row ps b) ≤ 65536
+row_short n ps b w l =
+    let above = above_of ps b in
+    let few = w.narrow b l in
+    let head : length (decimal b) ≤ 8 = length-decimal-le 8 b (omega arith) (omega (arith, w.blocks)) (omega (arith, w.blocks)) in
+    let count : length (decimal (length above)) ≤ 4 = length-decimal-le 4 (length above) (omega arith) (omega arith) (omega arith) in
+    let rest = numbers_short above (All-weaker (λ p. p < n) (λ p. p < 2 ^ 24) (λ p i. omega (arith, w.blocks)) above (above_known n ps b w)) in
+    omega (arith, length-append (decimal b) (behind_spaces (words_at ps b)), length-append (32 ∷ decimal (length above)) (behind_spaces (map decimal above)))

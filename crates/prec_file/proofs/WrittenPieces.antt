@@ -1,0 +1,38 @@
+-- The pieces of a written file, one after the other.
+use Rattle.std.proofs.Common.{◌≡◌, ℕ, zero, suc, ◌+◌, ◌<◌, ◌≤◌, inl, inr, List, [], ◌∷◌, ◌++◌, length, get_or, take, drop, refl, sym, ap, ◌∙◌, add-one, arith, append_assoc, append-nil}
+use Rattle.std.specs.Fmt.{decimal}
+use Rattle.std.proofs.lemmas.List.{take-append-drop}
+use Rattle.std.proofs.lemmas.Bool.{cases_eq}
+use Rattle.std.proofs.Math.Seq.{take-suc}
+use Rattle.std.proofs.lemmas.Grind.{flat_map-append}
+use Rattle.prec_file.specs.Written.{spaced, line_of, lines_below}
+
+-- one more number
+pub spaced_more : (before : List ℕ) (numbers : List ℕ) (i : ℕ) → i < length numbers
+    → (before ++ spaced (take i numbers)) ++ (32 ∷ decimal (get_or numbers i 0)) ≡ before ++ spaced (take (i + 1) numbers)
+spaced_more before numbers i here =
+    append_assoc before (spaced (take i numbers)) (32 ∷ decimal (get_or numbers i 0))
+    ∙ ap (λ l. before ++ (spaced (take i numbers) ++ l)) (sym (append-nil (32 ∷ decimal (get_or numbers i 0))))
+    ∙ ap (λ l. before ++ l) (sym (flat_map-append (λ n. 32 ∷ decimal n) (take i numbers) (get_or numbers i 0 ∷ [])))
+    ∙ ap (λ l. before ++ spaced l) (sym (rw add-one (take-suc numbers i 0 here)))
+
+-- the first numbers and the others
+pub spaced_parts : (before : List ℕ) (numbers : List ℕ) (i : ℕ) → (before ++ spaced (take i numbers)) ++ spaced (drop i numbers) ≡ before ++ spaced numbers
+spaced_parts before numbers i =
+    append_assoc before (spaced (take i numbers)) (spaced (drop i numbers))
+    ∙ ap (λ l. before ++ l) (sym (flat_map-append (λ n. 32 ∷ decimal n) (take i numbers) (drop i numbers)) ∙ ap spaced (take-append-drop i numbers))
+
+-- one more line
+pub lines_more : (ps : List (ℕ × ℕ)) (b : ℕ) → lines_below ps b ++ line_of ps b ≡ lines_below ps (b + 1)
+lines_more ps b = rw add-one refl
+
+-- The first lines are the front of all lines.
+pub lines_front : (ps : List (ℕ × ℕ)) (b n : ℕ) → b ≤ n → (rest : List ℕ) × (lines_below ps b ++ rest ≡ lines_below ps n)
+lines_front ps b zero h = let e : b ≡ 0 = omega arith in ([], append-nil (lines_below ps b) ∙ ap (lines_below ps) e)
+lines_front ps b (suc n) h =
+    elim (cases_eq b (suc n)) [
+      | inl e ↦ ([], append-nil (lines_below ps b) ∙ ap (lines_below ps) e)
+      | inr d ↦
+          let q = lines_front ps b n (omega arith) in
+          (q.0 ++ line_of ps n, sym (append_assoc (lines_below ps b) q.0 (line_of ps n)) ∙ ap (λ l. l ++ line_of ps n) q.1)
+    ]

@@ -1,0 +1,30 @@
+use Rattle.std.proofs.Common.{◌+◌, ◌∷◌, ◌++◌, take, drop, get_or, sym, subst, ◌∙◌, arith, append-nil, refl}
+use Rattle.std.specs.Fmt.{decimal}
+use Rattle.fixed_worth.specs.Device.{SentOrHeld, ReceivedPrefix}
+use Rattle.fixed_worth.proofs.Pieces.{all_held, held_more, held_more_prefix, prefix_of_part}
+use Rattle.prec_file.specs.Written.{spaced}
+use Rattle.prec_file.proofs.WrittenPieces.{spaced_more, spaced_parts}
+use Rattle.prec_file.proofs.writing.put_all_spaced.Goals as goal
+
+pub loop-number-init : goal.loop-number-init
+loop-number-init g c = (subst (SentOrHeld _ _ c.args.page.now) (sym (append-nil c.args.page.now)) (all_held _ c.args.page.now), refl)
+
+pub put_spaced-requires : goal.put_spaced-requires
+put_spaced-requires g c = omega (arith, c.loop-number.invariant.1, c.requires)
+
+pub loop-number-preserved : goal.loop-number-preserved
+loop-number-preserved g c = (
+  subst (SentOrHeld (g.W.Write.contents c.args.out.now) (g.W.Write.contents c.put_spaced.new.out) c.put_spaced.new.page)
+      (spaced_more c.args.page.now c.args.numbers.now c.loop-number.number-index c.loop-number-test.true)
+      (held_more _ _ _ _ _ _ _ c.loop-number.invariant.0 c.in-Ok.ensures.held),
+  c.in-Ok.ensures.kept ∙ c.loop-number.invariant.1,
+)
+
+pub returns-in-Err-clause-prefix : goal.returns-in-Err-clause-prefix
+returns-in-Err-clause-prefix g c =
+    let numbers = c.args.numbers.now in
+    let i = c.loop-number.number-index in
+    prefix_of_part _ _ (c.args.page.now ++ spaced (take (i + 1) numbers)) (spaced (drop (i + 1) numbers)) _ (spaced_parts c.args.page.now numbers (i + 1))
+    (subst (ReceivedPrefix (g.W.Write.contents c.args.out.now) (g.W.Write.contents c.put_spaced.new.out))
+    (spaced_more c.args.page.now numbers i c.loop-number-test.true)
+    (held_more_prefix _ _ _ c.loop-number.page _ (32 ∷ decimal (get_or numbers i 0)) c.loop-number.invariant.0 c.in-Err.ensures.prefix))

@@ -1,0 +1,158 @@
+//! Writing a precedence file.
+
+ghost use Rattle.std.specs.Prelude.{◌≡◌, ℕ, ◌+◌, ◌-◌, ◌^◌, ◌<◌, ◌≤◌, [], ◌∷◌, ◌++◌, length, OnOk, OnErr, IfErr, MatchOption};
+ghost use Rattle.std.specs.Fmt.{decimal};
+ghost use Rattle.std.specs.Io.KnownBytes.{Appends};
+ghost use Rattle.fixed_worth.specs.Device.{ReceivedPrefix, SentOrHeld};
+ghost use Rattle.prec_file.specs.Rests.{IsFirstNot};
+ghost use Rattle.prec_file.specs.Written.{prec_text, line_of, spaced, IsNarrowAt, AreNarrow, WriteFaultStands};
+
+use crate::{PrecWriteFault, Rests};
+use fixed_worth::{CountedWrite, Page, WriteFault, WrittenNumber};
+
+// The most predecessors of a block: with eight digits each, its line stays below the reader's limit of 65,536 bytes.
+const WIDEST: usize = 7_000;
+
+// The first block that rests on too many.
+fn first_wide(rests: &Rests) -> Option<u32>
+    ensures { MatchOption result (AreNarrow rests.now) (λ b. IsFirstNot (IsNarrowAt rests.now) rests.now.blocks b) }
+{
+    for b in 0..rests.len() {
+        if rests.above(b).len() > WIDEST {
+            return Some(b);
+        }
+    }
+    None
+}
+
+// Puts a space and a number.
+fn put_spaced<W: CountedWrite>(page: &mut Page, out: &mut W, number: u64) -> Result<(), WriteFault>
+    requires { W.failed out.old < 2 ^ 64 - 1 }
+    ensures held { OnOk result (SentOrHeld (W.contents out.old) (W.contents out.new) page.new (page.old ++ (32 ∷ decimal number))) }
+    ensures kept { OnOk result (W.failed out.new ≡ W.failed out.old) }
+    ensures prefix { OnErr result (ReceivedPrefix (W.contents out.old) (W.contents out.new) (page.old ++ (32 ∷ decimal number))) }
+    ensures counted { OnErr result (W.failed out.new ≡ W.failed out.old + 1) }
+{
+    let digits = WrittenNumber::of(number as u128);
+    match page.put(out, b" ") {
+        Ok(()) => page.put(out, digits.as_bytes()),
+        Err(fault) => Err(fault),
+    }
+}
+
+// Puts numbers, a space before each.
+fn put_all_spaced<W: CountedWrite>(
+    page: &mut Page,
+    out: &mut W,
+    numbers: &[u32],
+) -> Result<(), WriteFault>
+    requires { W.failed out.old < 2 ^ 64 - 1 }
+    ensures held { OnOk result (SentOrHeld (W.contents out.old) (W.contents out.new) page.new (page.old ++ spaced numbers.now)) }
+    ensures kept { OnOk result (W.failed out.new ≡ W.failed out.old) }
+    ensures prefix { OnErr result (ReceivedPrefix (W.contents out.old) (W.contents out.new) (page.old ++ spaced numbers.now)) }
+    ensures counted { OnErr result (W.failed out.new ≡ W.failed out.old + 1) }
+{
+    for number in numbers {
+        match put_spaced(page, out, *number as u64) {
+            Ok(()) => {}
+            Err(fault) => return Err(fault),
+        }
+    }
+    Ok(())
+}
+
+// Puts a block and how many predecessors it has.
+fn put_head<W: CountedWrite>(
+    page: &mut Page,
+    out: &mut W,
+    block: u32,
+    count: u64,
+) -> Result<(), WriteFault>
+    requires { W.failed out.old < 2 ^ 64 - 1 }
+    ensures held { OnOk result (SentOrHeld (W.contents out.old) (W.contents out.new) page.new (page.old ++ (decimal block ++ (32 ∷ decimal count)))) }
+    ensures kept { OnOk result (W.failed out.new ≡ W.failed out.old) }
+    ensures prefix { OnErr result (ReceivedPrefix (W.contents out.old) (W.contents out.new) (page.old ++ (decimal block ++ (32 ∷ decimal count)))) }
+    ensures counted { OnErr result (W.failed out.new ≡ W.failed out.old + 1) }
+{
+    let digits = WrittenNumber::of(block as u128);
+    match page.put(out, digits.as_bytes()) {
+        Ok(()) => put_spaced(page, out, count),
+        Err(fault) => Err(fault),
+    }
+}
+
+// Puts the predecessors of a block, and ends its line.
+fn put_rest<W: CountedWrite>(page: &mut Page, out: &mut W, above: &[u32]) -> Result<(), WriteFault>
+    requires { W.failed out.old < 2 ^ 64 - 1 }
+    ensures held { OnOk result (SentOrHeld (W.contents out.old) (W.contents out.new) page.new (page.old ++ (spaced above.now ++ (10 ∷ [])))) }
+    ensures kept { OnOk result (W.failed out.new ≡ W.failed out.old) }
+    ensures prefix { OnErr result (ReceivedPrefix (W.contents out.old) (W.contents out.new) (page.old ++ (spaced above.now ++ (10 ∷ [])))) }
+    ensures counted { OnErr result (W.failed out.new ≡ W.failed out.old + 1) }
+{
+    match put_all_spaced(page, out, above) {
+        Ok(()) => page.put(out, b"\n"),
+        Err(fault) => Err(fault),
+    }
+}
+
+// Puts the line of a block.
+fn put_line<W: CountedWrite>(
+    page: &mut Page,
+    out: &mut W,
+    rests: &Rests,
+    block: u32,
+) -> Result<(), WriteFault>
+    requires known { block < rests.now.blocks }
+    requires room { W.failed out.old < 2 ^ 64 - 1 }
+    ensures held { OnOk result (SentOrHeld (W.contents out.old) (W.contents out.new) page.new (page.old ++ line_of rests.now.pairs block)) }
+    ensures kept { OnOk result (W.failed out.new ≡ W.failed out.old) }
+    ensures prefix { OnErr result (ReceivedPrefix (W.contents out.old) (W.contents out.new) (page.old ++ line_of rests.now.pairs block)) }
+    ensures counted { OnErr result (W.failed out.new ≡ W.failed out.old + 1) }
+{
+    let above = rests.above(block);
+    match put_head(page, out, block, above.len() as u64) {
+        Ok(()) => put_rest(page, out, above),
+        Err(fault) => Err(fault),
+    }
+}
+
+// Writes the lines of all blocks.
+fn write_lines<W: CountedWrite>(rests: &Rests, out: &mut W) -> Result<(), WriteFault>
+    requires { W.failed out.old < 2 ^ 64 - 1 }
+    ensures sent { OnOk result (Appends (W.contents out.old) (W.contents out.new) (prec_text rests.now)) }
+    ensures kept { OnOk result (W.failed out.new ≡ W.failed out.old) }
+    ensures prefix { OnErr result (ReceivedPrefix (W.contents out.old) (W.contents out.new) (prec_text rests.now)) }
+    ensures counted { OnErr result (W.failed out.new ≡ W.failed out.old + 1) }
+{
+    let mut page = Page::new();
+    for block in 0..rests.len() {
+        match put_line(&mut page, out, rests, block) {
+            Ok(()) => {}
+            Err(fault) => return Err(fault),
+        }
+    }
+    page.finish(out)
+}
+
+/// Writes pairs as a precedence file, which [`crate::read_prec`] reads back: for each block, ascending, the line
+/// `b k p1 .. pk` of its k predecessors, ascending, with single spaces. It takes no memory.
+///
+/// # Errors
+/// `TooWide` with the first block that has more than 7,000 predecessors; nothing is written then. `Device` at the first
+/// write that fails: the writer has then received a prefix of the text.
+pub fn write_prec<W: CountedWrite>(rests: &Rests, out: &mut W) -> Result<(), PrecWriteFault>
+    requires { W.failed out.old < 2 ^ 64 - 1 }
+    ensures sent { OnOk result (Appends (W.contents out.old) (W.contents out.new) (prec_text rests.now)) }
+    ensures kept { OnOk result (W.failed out.new ≡ W.failed out.old) }
+    ensures narrow { OnOk result (AreNarrow rests.now) }
+    ensures fault { IfErr result (λ e. WriteFaultStands rests.now (W.contents out.old) (W.contents out.new) (W.failed out.old) (W.failed out.new) e) }
+{
+    match first_wide(rests) {
+        Some(block) => return Err(PrecWriteFault::TooWide(block)),
+        None => {}
+    }
+    match write_lines(rests, out) {
+        Ok(()) => Ok(()),
+        Err(_) => Err(PrecWriteFault::Device),
+    }
+}

@@ -1,0 +1,143 @@
+-- The lines of blocks are read back.
+use Rattle.std.proofs.Common.{◌≡◌, ℕ, ℤ, pos, zero, suc, ◌+◌, ◌^◌, ◌<◌, ◌≤◌, Bool, true, false, cond, not, eqb, List, [], ◌∷◌, ◌++◌, length, get_or, Some, None, refl, ap, ◌∙◌, arith, All, length-append}
+use Rattle.std.specs.Prelude.{◌&&◌, ◌||◌, nat_le, unsigned_abs, codes}
+use Rattle.std.specs.Option.{option_or}
+use Rattle.std.specs.List.{list_all}
+use Rattle.std.specs.Fmt.{decimal}
+use Rattle.std.proofs.lemmas.Bool.Decides.{nat_tests}
+use Rattle.std.proofs.lemmas.Fmt.{decimal_nonempty, length-decimal-le_wide}
+use Rattle.std.proofs.lemmas.List.Folds.{list_all-append}
+use Rattle.fixed_worth.specs.Numeral.{is_digit}
+use Rattle.fixed_worth.specs.Printed.{printed}
+use Rattle.fixed_worth.specs.Record.{Line, numbered, is_remark, is_skipped}
+use Rattle.fixed_worth.specs.Text.{is_separator, fields_of}
+use Rattle.fixed_worth.proofs.Lengths.{printed_micros_short}
+use Rattle.upit_file.specs.declared.fault.UpitFault.TheVariants.{Text}
+use Rattle.upit_file.specs.Header.{is_long, fields_in, is_end}
+use Rattle.upit_file.specs.Body.{block_of, value_of, shape_fault, record_fault, line_fault, is_record_of, has_record, value_among, first_fault, before_end}
+use Rattle.upit_file.specs.Writing.{record_line, record_lines}
+use Rattle.upit_file.proofs.NextLine.{line, short}
+use Rattle.upit_file.proofs.BodyLines.{has-push}
+use Rattle.upit_file.proofs.Words.{is_word, decimal_digits, digits_are_word, digit_no_separator, two_fields}
+use Rattle.upit_file.proofs.ReadBack.{whole_read, printed_read, printed_all, printed_some}
+use Rattle.upit_file.proofs.LinesBack.{is_line, AreLines, digit_no_line_feed, digits_are_line}
+
+abbrev pub Sizes : List ℤ → Type 0
+Sizes [] = Unit {0}
+Sizes (v ∷ vs) = (unsigned_abs v ≤ 10 ^ 18) × Sizes vs
+
+pub sizes_each : (vs : List ℤ) → All (λ v. unsigned_abs v ≤ 10 ^ 18) vs → Sizes vs
+sizes_each [] a = tt
+sizes_each (v ∷ vs) a = (a 0 v (omega arith), sizes_each vs (λ k d h. a (suc k) d (omega arith)))
+
+printed_word : (v : ℤ) → unsigned_abs v ≤ 10 ^ 18 → is_word (printed 6 v) ≡ true
+unfolding is_separator
+printed_word v h = printed_all (λ b. not (is_separator b)) v digit_no_separator refl refl h
+
+pub record_fields : (b : ℕ) (v : ℤ) → b < 2 ^ 24 → unsigned_abs v ≤ 10 ^ 18 → fields_of (record_line b v) ≡ decimal b ∷ printed 6 v ∷ []
+record_fields b v h s = two_fields (decimal b) (printed 6 v) (decimal_nonempty b (omega arith)) (printed_some v s) (digits_are_word (decimal b) (decimal_digits b (omega arith))) (printed_word v s)
+
+record_short : (b : ℕ) (v : ℤ) → b < 2 ^ 24 → unsigned_abs v ≤ 10 ^ 18 → length (record_line b v) ≤ 65536
+record_short b v h s =
+    let a = length-decimal-le_wide 8 b (omega arith) (omega arith) (omega arith) in
+    let p = printed_micros_short v s in
+    omega (arith, length-append (decimal b) (32 ∷ printed 6 v))
+
+digits_no_remark : (ds : List ℕ) → list_all is_digit ds ≡ true → is_remark ds ≡ false
+digits_no_remark [] h = refl
+digits_no_remark (d ∷ ds) h = by_test (is_digit d) refl h
+  where
+    by_test : (t : Bool) → is_digit d ≡ t → (t && list_all is_digit ds) ≡ true → eqb d 37 ≡ false
+    by_test true e k = grind (arith, nat_tests)
+    by_test false e k = cc
+
+-- The line is the record of block b with the value v.
+record IsRecordOf (b : ℕ) (v : ℤ) (l : Line) : Type 0 where
+  small : is_long l ≡ false
+  open_so : is_end (fields_in l) ≡ false
+  kept : is_skipped (fields_in l) ≡ false
+  shape : shape_fault l.number (fields_in l) ≡ None
+  block : block_of (fields_in l) ≡ b
+  worth : value_of (fields_in l) ≡ v
+
+two_shape : (line b : ℕ) (v : ℤ) → b < 2 ^ 24 → unsigned_abs v ≤ 10 ^ 18 → shape_fault line (decimal b ∷ printed 6 v ∷ []) ≡ None
+two_shape line b v h s = rw (whole_read b (omega arith), printed_read v s) refl
+
+two_block : (b : ℕ) (v : ℤ) → b < 2 ^ 24 → block_of (decimal b ∷ printed 6 v ∷ []) ≡ b
+two_block b v h = rw (whole_read b (omega arith)) refl
+
+two_worth : (b : ℕ) (v : ℤ) → unsigned_abs v ≤ 10 ^ 18 → value_of (decimal b ∷ printed 6 v ∷ []) ≡ v
+two_worth b v s = rw (printed_read v s) refl
+
+is_record : (k b : ℕ) (v : ℤ) → b < 2 ^ 24 → unsigned_abs v ≤ 10 ^ 18 → IsRecordOf b v (line k (record_line b v))
+is_record k b v h s =
+    let t = short (record_line b v) (record_short b v h s) in
+    let f : fields_in (line k (record_line b v)) ≡ decimal b ∷ printed 6 v ∷ [] = rw t (record_fields b v h s) in
+    record {
+      small = t;
+      open_so = ap is_end f;
+      kept = ap is_skipped f ∙ digits_no_remark (decimal b) (decimal_digits b (omega arith));
+      shape = ap (shape_fault k) f ∙ two_shape k b v h s;
+      block = ap block_of f ∙ two_block b v h;
+      worth = ap value_of f ∙ two_worth b v s;
+    }
+
+record_of : (b j : ℕ) (v : ℤ) (l : Line) → IsRecordOf b v l → is_record_of j (fields_in l) ≡ eqb b j
+record_of b j v l r = rw (r.kept) (ap (λ x. eqb x j) r.block)
+
+no_record_fault : (n line b : ℕ) (had : ℕ → Bool) (fields : List (List ℕ)) → is_skipped fields ≡ false → shape_fault line fields ≡ None → block_of fields ≡ b → nat_le n b ≡ false → had b ≡ false → record_fault n had line fields ≡ None
+no_record_fault n line b had fields e f g h k = rw (e, f, g, h, k) refl
+
+no_line_fault : (n b : ℕ) (v : ℤ) (had : ℕ → Bool) (l : Line) → IsRecordOf b v l → b < n → had b ≡ false → line_fault n had l ≡ None
+no_line_fault n b v had l r h f =
+    let known : nat_le n b ≡ false = grind (arith, nat_tests) in
+    ap (λ t. cond t (Some (Text l.number)) (record_fault n had l.number (fields_in l))) r.small ∙ no_record_fault n l.number b had (fields_in l) r.kept r.shape r.block known f
+
+-- The records have no fault.
+pub no_first_fault : (n k b : ℕ) (vs : List ℤ) (before : List Line) → b + length vs ≤ n → n ≤ 2 ^ 24 → Sizes vs → ((j : ℕ) → b ≤ j → has_record before j ≡ false) → first_fault n before (numbered k (record_lines b vs)) ≡ None
+no_first_fault n k b [] before h m s new = refl
+no_first_fault n k b (v ∷ vs) before h m s new =
+    let l = line (k + 1) (record_line b v) in
+    let r = is_record (k + 1) b v (omega arith) s.0 in
+    let none = no_line_fault n b v (has_record before) l r (omega arith) (new b (omega arith)) in
+    let later : (j : ℕ) → b + 1 ≤ j → has_record (before ++ l ∷ []) j ≡ false = λ j i.
+    let other : eqb b j ≡ false = grind (arith, nat_tests) in
+    has-push before l j ∙ ap (λ t. has_record before j || t) (record_of b j v l r ∙ other) ∙ ap (λ t. t || false) (new j (omega arith)) in
+    ap (λ o. option_or o (first_fault n (before ++ l ∷ []) (numbered (k + 1) (record_lines (b + 1) vs)))) none ∙ no_first_fault n (k + 1) (b + 1) vs (before ++ l ∷ []) (omega arith) m s.1 later
+
+-- Each block has its value.
+pub values_back : (k b i : ℕ) (vs : List ℤ) → i < length vs → b + length vs ≤ 2 ^ 24 → Sizes vs → value_among (numbered k (record_lines b vs)) (b + i) ≡ get_or vs i (pos 0)
+values_back k b i [] h m s = absurd (omega arith)
+values_back k b zero (v ∷ vs) h m s =
+    let l = line (k + 1) (record_line b v) in
+    let r = is_record (k + 1) b v (omega arith) s.0 in
+    let here : eqb b (b + 0) ≡ true = grind (arith, nat_tests) in
+    let t : is_record_of (b + 0) (fields_in l) ≡ true = record_of b (b + 0) v l r ∙ here in
+    ap (λ x. cond x (value_of (fields_in l)) (value_among (numbered (k + 1) (record_lines (b + 1) vs)) (b + 0))) t ∙ r.worth
+values_back k b (suc i) (v ∷ vs) h m s =
+    let l = line (k + 1) (record_line b v) in
+    let r = is_record (k + 1) b v (omega arith) s.0 in
+    let other : eqb b (b + suc i) ≡ false = grind (arith, nat_tests) in
+    let t : is_record_of (b + suc i) (fields_in l) ≡ false = record_of b (b + suc i) v l r ∙ other in
+    let j : b + suc i ≡ b + 1 + i = omega arith in
+    ap (λ x. cond x (value_of (fields_in l)) (value_among (numbered (k + 1) (record_lines (b + 1) vs)) (b + suc i))) t
+    ∙ ap (value_among (numbered (k + 1) (record_lines (b + 1) vs))) j ∙ values_back (k + 1) (b + 1) i vs (omega arith) (omega arith) s.1
+
+-- The records end at EOF.
+pub body_back : (k b : ℕ) (vs : List ℤ) → b + length vs ≤ 2 ^ 24 → Sizes vs → before_end (numbered k (record_lines b vs ++ (codes "EOF" ∷ []))) ≡ numbered k (record_lines b vs)
+unfolding is_separator
+body_back k b [] m s = refl
+body_back k b (v ∷ vs) m s =
+    let l = line (k + 1) (record_line b v) in
+    let r = is_record (k + 1) b v (omega arith) s.0 in
+    ap (λ t. cond t [] (l ∷ before_end (numbered (k + 1) (record_lines (b + 1) vs ++ (codes "EOF" ∷ []))))) r.open_so
+    ∙ ap (λ ls. l ∷ ls) (body_back (k + 1) (b + 1) vs (omega arith) s.1)
+
+-- No record has a line feed.
+pub record_lines_whole : (b : ℕ) (vs : List ℤ) → b + length vs ≤ 2 ^ 24 → Sizes vs → AreLines (record_lines b vs)
+record_lines_whole b [] m s = tt
+record_lines_whole b (v ∷ vs) m s =
+    let q : ℕ → Bool = λ c. not (eqb c 10) in
+    let a : is_line (decimal b) ≡ true = digits_are_line (decimal b) (decimal_digits b (omega arith)) in
+    let p : is_line (printed 6 v) ≡ true = printed_all q v digit_no_line_feed refl refl s.0 in
+    (list_all-append q (decimal b) (32 ∷ printed 6 v) ∙ rw (a, p) refl, record_lines_whole (b + 1) vs (omega arith) s.1)

@@ -1,0 +1,225 @@
+-- The header's lines are read back.
+use Rattle.std.proofs.Common.{◌≡◌, ℕ, suc, ◌+◌, ◌-◌, ◌^◌, ◌<◌, ◌≤◌, Bool, true, false, cond, not, eqb, List, [], ◌∷◌, ◌++◌, length, take, drop, get_or, Some, None, refl, sym, ap, ◌∙◌, subst, arith, length-append}
+use Rattle.std.specs.Prelude.{◌&&◌, nat_lt, nat_le, is_some, codes, map}
+use Rattle.std.specs.Option.{option_or}
+use Rattle.std.specs.List.{list_any, position_or_len}
+use Rattle.std.specs.Fmt.{decimal}
+use Rattle.std.proofs.lemmas.Bool.Decides.{nat_tests}
+use Rattle.std.proofs.lemmas.Fmt.{decimal_nonempty, length-decimal-le_wide}
+use Rattle.std.proofs.lemmas.List.{take_all}
+use Rattle.fixed_worth.specs.Record.{Line}
+use Rattle.fixed_worth.specs.Text.{Run, is_separator, run_before, runs_from}
+use Rattle.fixed_worth.proofs.Cuts.{first_run}
+use Rattle.upit_file.specs.declared.key.Key.{Key}
+use Rattle.upit_file.specs.declared.key.Key.TheVariants.{Name, FileType, Blocks, Objective}
+use Rattle.upit_file.specs.declared.fault.UpitFault.TheVariants.{Text}
+use Rattle.upit_file.specs.Header.{is_long, fields_in, key_in, header, after_header, first_count, count_fault, key_fault, last_end, from_second, name_in, last_name, header_line_fault, header_lines_fault, last_fault, end_fault, header_fault}
+use Rattle.upit_file.specs.Records.{is_name}
+use Rattle.upit_file.proofs.NextLine.{line, short}
+use Rattle.upit_file.proofs.Words.{word_run, gap_run, one_word, decimal_digits, digits_are_word}
+use Rattle.upit_file.proofs.ReadBack.{whole_read}
+
+-- ---- the name
+
+-- The last field ends where the text does, where the text ends in no separator.
+abbrev last_of : ℕ → List ℕ → ℕ
+last_of b [] = b
+last_of b (c ∷ cs) = last_of c cs
+
+ends_before : (b p e : ℕ) (rs : List Run) → 0 < length rs → last_end e (run_before b p rs) ≡ last_end e rs
+ends_before b p e [] h = absurd (omega arith)
+ends_before b p e (r ∷ rs) h = by_place (eqb r.place (p + 1)) refl
+  where
+    by_place : (t : Bool) → eqb r.place (p + 1) ≡ t → last_end e (cond t (record { text = b ∷ r.text; place = p } ∷ rs) (record { text = b ∷ []; place = p } ∷ r ∷ rs)) ≡ last_end (r.place + length r.text) rs
+    by_place true f = let k : p + suc (length r.text) ≡ r.place + length r.text = grind (arith, nat_tests) in ap (λ n. last_end n rs) k
+    by_place false f = refl
+
+some_before : (b p : ℕ) (rs : List Run) → 0 < length (run_before b p rs)
+some_before b p [] = omega arith
+some_before b p (r ∷ rs) = elim (eqb r.place (p + 1)) as (λ t. 0 < length (cond t (record { text = b ∷ r.text; place = p } ∷ rs) (record { text = b ∷ []; place = p } ∷ r ∷ rs))) [ true ↦ omega arith | false ↦ omega arith ]
+
+abbrev EndsAt : ℕ → List Run → ℕ → Type 0
+EndsAt e rs n = (0 < length rs) × (last_end e rs ≡ n)
+
+ends_step : (p e b n : ℕ) (rs : List Run) (t : Bool) → EndsAt e rs n → EndsAt e (cond t rs (run_before b p rs)) n
+ends_step p e b n rs true h = h
+ends_step p e b n rs false h = (some_before b p rs, ends_before b p e rs h.0 ∙ h.1)
+
+ends_at : (p e b : ℕ) (bs : List ℕ) → is_separator (last_of b bs) ≡ false → EndsAt e (runs_from p (b ∷ bs)) (p + length (b ∷ bs))
+ends_at p e b [] h = rw h (omega arith, refl)
+ends_at p e b (c ∷ cs) h =
+    let k : p + 1 + length (c ∷ cs) ≡ p + length (b ∷ c ∷ cs) = omega arith in
+    let ih : EndsAt e (runs_from (p + 1) (c ∷ cs)) (p + length (b ∷ c ∷ cs)) = subst (EndsAt e (runs_from (p + 1) (c ∷ cs))) k (ends_at (p + 1) e c cs h) in
+    ends_step p e b (p + length (b ∷ c ∷ cs)) (runs_from (p + 1) (c ∷ cs)) (is_separator b) ih
+
+last_is : (c : ℕ) (cs : List ℕ) → get_or (c ∷ cs) (length cs) 0 ≡ last_of c cs
+last_is c [] = refl
+last_is c (d ∷ ds) = last_is d ds
+
+and_first : (a b : Bool) → (a && b) ≡ true → (a ≡ true) × (b ≡ true)
+and_first true b h = (refl, h)
+and_first false b h = cc
+
+not_true : (t : Bool) → not t ≡ true → t ≡ false
+not_true true h = cc
+not_true false h = refl
+
+-- What a name is that is not empty.
+record NameParts (c : ℕ) (cs : List ℕ) : Type 0 where
+  few : length (c ∷ cs) ≤ 60000
+  whole : list_any (λ b. eqb b 10) (c ∷ cs) ≡ false
+  first : is_separator c ≡ false
+  last : is_separator (last_of c cs) ≡ false
+
+name_parts : (c : ℕ) (cs : List ℕ) → is_name (c ∷ cs) ≡ true → NameParts c cs
+name_parts c cs h =
+    let some : eqb (suc (length cs)) 0 ≡ false = grind (arith, nat_tests) in
+    let a = nat_le (length (c ∷ cs)) 60000 in
+    let b = not (list_any (λ x. eqb x 10) (c ∷ cs)) in
+    let d = not (is_separator c) in
+    let e = not (is_separator (get_or (c ∷ cs) (suc (length cs) - 1) 0)) in
+    let all : (a && b && d && e) ≡ true = rw some at h in
+    let p = and_first (a && b && d) e all in
+    let q = and_first (a && b) d p.0 in
+    let r = and_first a b q.0 in
+    let k : suc (length cs) - 1 ≡ length cs = omega arith in
+    record {
+      few = (let t : nat_le (suc (length cs)) 60000 ≡ true = r.0 in grind (arith, nat_tests));
+      whole = not_true _ r.1;
+      first = not_true (is_separator c) q.1;
+      last = ap is_separator (sym (last_is c cs)) ∙ ap (λ i. is_separator (get_or (c ∷ cs) i 0)) (sym k) ∙ not_true _ p.1;
+    }
+
+pub name_few : (name : List ℕ) → is_name name ≡ true → length name ≤ 60000
+name_few [] h = omega arith
+name_few (c ∷ cs) h = (name_parts c cs h).few
+
+pub name_whole : (name : List ℕ) → is_name name ≡ true → list_any (λ b. eqb b 10) name ≡ false
+name_whole [] h = refl
+name_whole (c ∷ cs) h = (name_parts c cs h).whole
+
+-- The fields of a NAME line: the key, and those of the name.
+name_runs : (name : List ℕ) → runs_from 0 (codes "NAME: " ++ name) ≡ record { text = codes "NAME"; place = 0 } ∷ runs_from 6 name
+unfolding is_separator
+name_runs name =
+    let key : Run = record { text = codes "NAME"; place = 0 } in
+    word_run 0 78 (65 ∷ 77 ∷ 69 ∷ []) (58 ∷ 32 ∷ name) refl refl ∙ ap (λ (rs : List Run). key ∷ rs) (gap_run 4 58 (32 ∷ name) refl ∙ gap_run 5 32 name refl)
+
+second_is : (line : List ℕ) (key r : Run) (rs : List Run) (n : ℕ) → r.place ≡ 6 → last_end 0 (r ∷ rs) ≡ n → length line ≤ n → from_second line (key ∷ r ∷ rs) ≡ drop 6 line
+second_is line key r rs n e f h = ap (λ p. drop p (take (last_end 0 (r ∷ rs)) line)) e ∙ ap (λ m. drop 6 (take m line)) f ∙ ap (drop 6) (take_all n line h)
+
+pub name_back : (name : List ℕ) → is_name name ≡ true → name_in (codes "NAME: " ++ name) ≡ name
+name_back [] h = ap (from_second (codes "NAME: ")) (name_runs [])
+name_back (c ∷ cs) h =
+    let p = name_parts c cs h in
+    let key : Run = record { text = codes "NAME"; place = 0 } in
+    let line = codes "NAME: " ++ (c ∷ cs) in
+    let w = position_or_len is_separator (c ∷ cs) in
+    let r : Run = record { text = take w (c ∷ cs); place = 6 } in
+    let rest = runs_from (6 + w) (drop w (c ∷ cs)) in
+    let runs : runs_from 6 (c ∷ cs) ≡ r ∷ rest = first_run 6 (c ∷ cs) (omega arith) p.first in
+    let end : last_end 0 (r ∷ rest) ≡ 6 + length (c ∷ cs) = ap (last_end 0) (sym runs) ∙ (ends_at 6 0 c cs p.last).1 in
+    ap (from_second line) (name_runs (c ∷ cs) ∙ ap (λ (rs : List Run). key ∷ rs) runs) ∙ second_is line key r rest (6 + length (c ∷ cs)) refl end (omega arith)
+
+-- ---- the four lines
+
+abbrev texts : List Run → List (List ℕ)
+texts rs = map (λ r. r.text) rs
+
+name_key : (fields : List (List ℕ)) → key_in (codes "NAME" ∷ fields) ≡ Name
+name_key [] = refl
+name_key (f ∷ fs) = refl
+
+fault_by_key : (n : ℕ) (l : Line) (k : Key) → is_long l ≡ false → key_in (fields_in l) ≡ k → header_line_fault n l ≡ key_fault n l k (fields_in l)
+fault_by_key n l k s e = ap (λ t. cond t (Some (Text l.number)) (key_fault n l (key_in (fields_in l)) (fields_in l))) s ∙ ap (λ x. key_fault n l x (fields_in l)) e
+
+-- A line of the header with this key has no fault.
+record IsSound (n : ℕ) (k : Key) (l : Line) : Type 0 where
+  key : key_in (fields_in l) ≡ k
+  sound : header_line_fault n l ≡ None
+
+name_sound : (n : ℕ) (name : List ℕ) → is_name name ≡ true → IsSound n Name (line 1 (codes "NAME: " ++ name))
+name_sound n name h =
+    let few = name_few name h in
+    let s = short (codes "NAME: " ++ name) (omega (arith, length-append (codes "NAME: ") name)) in
+    let f : fields_in (line 1 (codes "NAME: " ++ name)) ≡ codes "NAME" ∷ texts (runs_from 6 name) = rw s (ap texts (name_runs name)) in
+    let k : key_in (fields_in (line 1 (codes "NAME: " ++ name))) ≡ Name = ap key_in f ∙ name_key (texts (runs_from 6 name)) in
+    let small : nat_lt 60000 (length name) ≡ false = grind (arith, nat_tests) in
+    record {
+      key = k;
+      sound = fault_by_key n (line 1 (codes "NAME: " ++ name)) Name s k ∙ ap (λ (xs : List ℕ). cond (nat_lt 60000 (length xs)) (Some (Text 1)) None) (name_back name h) ∙ ap (λ t. cond t (Some (Text 1)) None) small;
+    }
+
+type_sound : (n : ℕ) → IsSound n FileType (line 2 (codes "TYPE: UPIT"))
+unfolding is_separator
+type_sound n = record { key = refl; sound = refl }
+
+objective_key : key_in (fields_in (line 4 (codes "OBJECTIVE_FUNCTION:"))) ≡ Objective
+unfolding is_separator
+objective_key = refl
+
+count_runs : (n : ℕ) → n < 2 ^ 64 → runs_from 0 (codes "NBLOCKS: " ++ decimal n) ≡ record { text = codes "NBLOCKS"; place = 0 } ∷ record { text = decimal n; place = 9 } ∷ []
+unfolding is_separator
+count_runs n h =
+    let key : Run = record { text = codes "NBLOCKS"; place = 0 } in
+    word_run 0 78 (66 ∷ 76 ∷ 79 ∷ 67 ∷ 75 ∷ 83 ∷ []) (58 ∷ 32 ∷ decimal n) refl refl
+    ∙ ap (λ (rs : List Run). key ∷ rs) (gap_run 7 58 (32 ∷ decimal n) refl ∙ gap_run 8 32 (decimal n) refl ∙ one_word 9 (decimal n) (decimal_nonempty n h) (digits_are_word (decimal n) (decimal_digits n (omega arith))))
+
+count_sound_fields : (n line : ℕ) → n ≤ 2 ^ 24 → count_fault n line (codes "NBLOCKS" ∷ decimal n ∷ []) ≡ None
+count_sound_fields n line h =
+    let same : eqb n n ≡ true = grind (arith, nat_tests) in
+    let small : nat_lt (2 ^ 24) n ≡ false = grind (arith, nat_tests) in
+    rw (whole_read n (omega arith), same, small) refl
+
+count_sound : (n : ℕ) → n ≤ 2 ^ 24 → IsSound n Blocks (line 3 (codes "NBLOCKS: " ++ decimal n))
+count_sound n h =
+    let few = length-decimal-le_wide 20 n (omega arith) (omega arith) (omega arith) in
+    let l = line 3 (codes "NBLOCKS: " ++ decimal n) in
+    let s = short (codes "NBLOCKS: " ++ decimal n) (omega (arith, length-append (codes "NBLOCKS: ") (decimal n))) in
+    let f : fields_in (line 3 (codes "NBLOCKS: " ++ decimal n)) ≡ codes "NBLOCKS" ∷ decimal n ∷ [] = rw s (ap texts (count_runs n (omega arith))) in
+    let k : key_in (fields_in l) ≡ Blocks = ap key_in f in
+    record { key = k; sound = fault_by_key n l Blocks s k ∙ ap (count_fault n 3) f ∙ count_sound_fields n 3 h }
+
+-- ---- the four lines together
+
+split_at_end : (n : ℕ) (a b c d : Line) (rest : List Line) → IsSound n Name a → IsSound n FileType b → IsSound n Blocks c → key_in (fields_in d) ≡ Objective → (header (a ∷ b ∷ c ∷ d ∷ rest) ≡ a ∷ b ∷ c ∷ []) × (after_header (a ∷ b ∷ c ∷ d ∷ rest) ≡ d ∷ rest)
+split_at_end n a b c d rest x y z e = (rw (x.key, y.key, z.key, e) refl, rw (x.key, y.key, z.key, e) refl)
+
+lines_sound : (n : ℕ) (a b c : Line) → IsSound n Name a → IsSound n FileType b → IsSound n Blocks c → header_lines_fault n (a ∷ b ∷ c ∷ []) ≡ None
+lines_sound n a b c x y z =
+    ap (λ o. option_or o (header_lines_fault n (b ∷ c ∷ []))) x.sound ∙ ap (λ o. option_or o (header_lines_fault n (c ∷ []))) y.sound ∙ ap (λ o. option_or o None) z.sound
+
+counted : (n : ℕ) (a b c : Line) → IsSound n Name a → IsSound n FileType b → IsSound n Blocks c → is_some (first_count (a ∷ b ∷ c ∷ [])) ≡ true
+counted n a b c x y z = rw (x.key, y.key, z.key) refl
+
+name_of_lines : (n : ℕ) (a b c : Line) → IsSound n Name a → IsSound n FileType b → IsSound n Blocks c → last_name [] (a ∷ b ∷ c ∷ []) ≡ name_in a.text
+name_of_lines n a b c x y z = rw (x.key, y.key, z.key) refl
+
+four_sound : (n : ℕ) (a b c d : Line) (rest : List Line) → IsSound n Name a → IsSound n FileType b → IsSound n Blocks c → key_in (fields_in d) ≡ Objective → header_fault n (a ∷ b ∷ c ∷ d ∷ rest) ≡ None
+four_sound n a b c d rest x y z e =
+    let all = a ∷ b ∷ c ∷ d ∷ rest in
+    let split = split_at_end n a b c d rest x y z e in
+    ap (λ (hs : List Line). option_or (header_lines_fault n hs) (end_fault (is_some (first_count hs)) (length all) (after_header all))) split.0
+    ∙ ap (λ (rs : List Line). option_or (header_lines_fault n (a ∷ b ∷ c ∷ [])) (end_fault (is_some (first_count (a ∷ b ∷ c ∷ []))) (length all) rs)) split.1
+    ∙ ap (λ o. option_or o (end_fault (is_some (first_count (a ∷ b ∷ c ∷ []))) (length all) (d ∷ rest))) (lines_sound n a b c x y z)
+    ∙ ap (λ t. end_fault t (length all) (d ∷ rest)) (counted n a b c x y z)
+    ∙ ap (last_fault true d.number) e
+
+-- The header of a written text.
+abbrev pub written : List ℕ → ℕ → List Line → List Line
+written name n rest = line 1 (codes "NAME: " ++ name) ∷ line 2 (codes "TYPE: UPIT") ∷ line 3 (codes "NBLOCKS: " ++ decimal n) ∷ line 4 (codes "OBJECTIVE_FUNCTION:") ∷ rest
+
+pub header_back : (n : ℕ) (name : List ℕ) (rest : List Line) → is_name name ≡ true → n ≤ 2 ^ 24 → (header_fault n (written name n rest) ≡ None) × (last_name [] (header (written name n rest)) ≡ name) × (drop 1 (after_header (written name n rest)) ≡ rest)
+header_back n name rest h few =
+    let a = line 1 (codes "NAME: " ++ name) in
+    let b = line 2 (codes "TYPE: UPIT") in
+    let c = line 3 (codes "NBLOCKS: " ++ decimal n) in
+    let d = line 4 (codes "OBJECTIVE_FUNCTION:") in
+    let x = name_sound n name h in
+    let y = type_sound n in
+    let z = count_sound n few in
+    let split = split_at_end n a b c d rest x y z objective_key in (
+      four_sound n a b c d rest x y z objective_key,
+      ap (last_name []) split.0 ∙ name_of_lines n a b c x y z ∙ name_back name h,
+      ap (drop 1) split.1,
+    )

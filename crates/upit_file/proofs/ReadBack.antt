@@ -1,0 +1,293 @@
+-- A printed value is read back.
+use Rattle.std.proofs.Common.{◌≡◌, ℕ, ℤ, pos, negsuc, neg_ℤ, zero, suc, ◌+◌, ◌-◌, ◌*◌, ◌/◌, ◌%◌, ◌^◌, ◌<◌, ◌≤◌, Bool, true, false, cond, not, eqb, List, [], ◌∷◌, ◌++◌, length, take, drop, replicate, Result, Ok, Err, refl, sym, ap, ◌∙◌, subst, arith, append-nil, length-append, pow-add}
+use Rattle.std.specs.Prelude.{◌&&◌, ◌||◌, nat_lt, nat_le, unsigned_abs}
+use Rattle.std.specs.Int.{is_negative}
+use Rattle.std.specs.Fmt.{decimal, sign_text}
+use Rattle.std.specs.List.{list_all, position_or_len, before_first, after_first}
+use Rattle.std.proofs.Math.Seq.{take-append_seam, take-length, drop-append-add}
+use Rattle.std.proofs.lemmas.Bool.Decides.{nat_tests}
+use Rattle.std.proofs.lemmas.List.{length-replicate, drop_all}
+use Rattle.std.proofs.lemmas.List.Folds.{list_all-append}
+use Rattle.std.proofs.lemmas.Fmt.{length-decimal-le_wide, decimal_nonempty}
+use Rattle.fixed_worth.specs.declared.numerals.NumberFault.{NumberFault}
+use Rattle.fixed_worth.specs.declared.numerals.NumberFault.TheVariants.{NotANumber, TooLong}
+use Rattle.fixed_worth.specs.Numeral.{is_digit, is_number, value_of, whole_of, is_minus, unsigned_of, with_sign}
+use Rattle.fixed_worth.specs.Decimal.{is_mark, is_point, mantissa_of, whole_part, fraction_part, exponent_of, has_mark, most, decimal_of}
+use Rattle.fixed_worth.specs.Printed.{fixed_width, digit_before, without_trailing_zeros, fraction_text, printed}
+use Rattle.fixed_worth.specs.Rounding.{rounded_of}
+use Rattle.fixed_worth.proofs.Digits.{value_of-append}
+use Rattle.fixed_worth.proofs.Powers.{rounds_up}
+use Rattle.upit_file.proofs.Words.{decimal_digits, value_of_decimal, first_place, Breaks}
+
+-- ---- a whole number
+
+pub whole_read : (n : ℕ) → n < 2 ^ 64 → whole_of (decimal n) ≡ Ok n
+unfolding whole_of
+whole_read n h =
+    let digits : list_all is_digit (decimal n) ≡ true = decimal_digits n (omega arith) in
+    let short = length-decimal-le_wide 20 n (omega arith) (omega arith) (omega arith) in
+    let long = decimal_nonempty n h in
+    let some : nat_lt 0 (length (decimal n)) ≡ true = grind (arith, nat_tests) in
+    let few : nat_lt 39 (length (decimal n)) ≡ false = grind (arith, nat_tests) in
+    let value : value_of (decimal n) ≡ n = value_of_decimal n (omega arith) in
+    let small : nat_lt n (2 ^ 64) ≡ true = grind (arith, nat_tests) in
+    rw (some, digits, few, value, small) refl
+
+-- ---- a fraction
+
+digits_before : (d : ℕ) (ds : List ℕ) → is_digit d ≡ true → list_all is_digit ds ≡ true → list_all is_digit (digit_before d ds) ≡ true
+digits_before d [] h k = elim (eqb d 48) as (λ t. list_all is_digit (cond t [] (d ∷ [])) ≡ true) [ true ↦ refl | false ↦ rw h refl ]
+digits_before d (e ∷ es) h k = rw (h, k) refl
+
+and_first : (a b : Bool) → (a && b) ≡ true → (a ≡ true) × (b ≡ true)
+and_first true b h = (refl, h)
+and_first false b h = cc
+
+trimmed_digits : (ds : List ℕ) → list_all is_digit ds ≡ true → list_all is_digit (without_trailing_zeros ds) ≡ true
+trimmed_digits [] h = refl
+trimmed_digits (d ∷ ds) h =
+    let p = and_first (is_digit d) (list_all is_digit ds) h in
+    digits_before d (without_trailing_zeros ds) p.0 (trimmed_digits ds p.1)
+
+-- Dropped zeros count as tens.
+abbrev Same : List ℕ → List ℕ → Type 0
+Same short all = (length short ≤ length all) × (value_of short * 10 ^ (length all - length short) ≡ value_of all)
+
+spread : (d p q v w : ℕ) → v * q ≡ w → (d * p + v) * q ≡ d * (p * q) + w
+spread d p q v w e = omega (arith, e)
+
+same_more : (d : ℕ) (short all : List ℕ) → Same short all → Same (d ∷ short) (d ∷ all)
+same_more d short all s =
+    let k : suc (length all) - suc (length short) ≡ length all - length short = omega arith in
+    let p : 10 ^ length short * 10 ^ (length all - length short) ≡ 10 ^ length all = sym (pow-add 10 (length short) (length all - length short)) ∙ ap (λ n. 10 ^ n) (let e : length short + (length all - length short) ≡ length all = omega (arith, s.0) in e) in
+    let f : ((d - 48) * 10 ^ length short + value_of short) * 10 ^ (length all - length short) ≡ (d - 48) * (10 ^ length short * 10 ^ (length all - length short)) + value_of all = spread (d - 48) (10 ^ length short) (10 ^ (length all - length short)) (value_of short) (value_of all) s.1 in
+    (omega (arith, s.0), ap (λ n. ((d - 48) * 10 ^ length short + value_of short) * 10 ^ n) k ∙ f ∙ ap (λ n. (d - 48) * n + value_of all) p)
+
+same_before : (d : ℕ) (short all : List ℕ) → Same short all → Same (digit_before d short) (d ∷ all)
+same_before d [] all s = by_zero (eqb d 48) refl
+  where
+    by_zero : (t : Bool) → eqb d 48 ≡ t → Same (cond t [] (d ∷ [])) (d ∷ all)
+    by_zero true e =
+        let z : d - 48 ≡ 0 = grind (arith, nat_tests) in
+        let v : 0 ≡ value_of all = omega (arith, s.1) in
+        let f : (d - 48) * 10 ^ length all + value_of all ≡ 0 = rw z (omega (arith, v)) in
+        (omega arith, omega (arith, f))
+    by_zero false e = same_more d [] all s
+same_before d (e ∷ es) all s = same_more d (e ∷ es) all s
+
+pub trimmed_same : (ds : List ℕ) → Same (without_trailing_zeros ds) ds
+trimmed_same [] = (omega arith, refl)
+trimmed_same (d ∷ ds) = same_before d (without_trailing_zeros ds) ds (trimmed_same ds)
+
+zeros_digits : (k : ℕ) → list_all is_digit (replicate k 48) ≡ true
+zeros_digits zero = refl
+zeros_digits (suc k) = zeros_digits k
+
+zeros_value : (k : ℕ) (ds : List ℕ) → value_of (replicate k 48 ++ ds) ≡ value_of ds
+zeros_value zero ds = refl
+zeros_value (suc k) ds = omega (arith, zeros_value k ds)
+
+-- The places behind the point, of which six make one.
+abbrev places : ℕ → List ℕ
+places f = without_trailing_zeros (fixed_width 6 f)
+
+record Fraction (f : ℕ) (ds : List ℕ) : Type 0 where
+  digits : list_all is_digit ds ≡ true
+  few : length ds ≤ 6
+  value : value_of ds * 10 ^ (6 - length ds) ≡ f
+
+places_are : (f : ℕ) → f < 10 ^ 6 → Fraction f (places f)
+places_are f h =
+    let all : list_all is_digit (fixed_width 6 f) ≡ true = list_all-append is_digit (replicate (6 - length (decimal f)) 48) (decimal f) ∙ rw (zeros_digits (6 - length (decimal f)), decimal_digits f (omega arith)) refl in
+    let short = length-decimal-le_wide 6 f (omega arith) h (omega arith) in
+    let six : length (fixed_width 6 f) ≡ 6 = omega (arith, length-append (replicate (6 - length (decimal f)) 48) (decimal f), length-replicate {A = ℕ} (6 - length (decimal f)) 48) in
+    let v : value_of (fixed_width 6 f) ≡ f = zeros_value (6 - length (decimal f)) (decimal f) ∙ value_of_decimal f (omega arith) in
+    let s = trimmed_same (fixed_width 6 f) in
+    record {
+      digits = trimmed_digits (fixed_width 6 f) all;
+      few = omega (arith, s.0);
+      value = ap (λ n. value_of (places f) * 10 ^ (n - length (places f))) (sym six) ∙ s.1 ∙ v;
+    }
+
+-- ---- a printed value
+
+-- Each byte of a printed value is a digit, a minus (45) or a point (46).
+all_of : (q : ℕ → Bool) (ds : List ℕ) → ((b : ℕ) → is_digit b ≡ true → q b ≡ true) → list_all is_digit ds ≡ true → list_all q ds ≡ true
+all_of q [] d h = refl
+all_of q (b ∷ bs) d h = let r = and_first (is_digit b) (list_all is_digit bs) h in rw (d b r.0, all_of q bs d r.1) refl
+
+fraction_all : (q : ℕ → Bool) (f : ℕ) → ((b : ℕ) → is_digit b ≡ true → q b ≡ true) → q 46 ≡ true → f < 10 ^ 6 → list_all q (fraction_text 6 f) ≡ true
+unfolding fraction_text
+fraction_all q f d p h =
+    let g = places_are f h in
+    elim (eqb f 0) as (λ t. list_all q (cond t [] (46 ∷ places f)) ≡ true) [ true ↦ refl | false ↦ rw (p) (all_of q (places f) d g.digits) ]
+
+sign_all : (q : ℕ → Bool) (t : Bool) → q 45 ≡ true → list_all q (sign_text t) ≡ true
+sign_all q true h = rw h refl
+sign_all q false h = refl
+
+pub printed_all : (q : ℕ → Bool) (z : ℤ) → ((b : ℕ) → is_digit b ≡ true → q b ≡ true) → q 46 ≡ true → q 45 ≡ true → unsigned_abs z ≤ 10 ^ 18 → list_all q (printed 6 z) ≡ true
+unfolding printed
+printed_all q z d p m h =
+    let w = unsigned_abs z / 10 ^ 6 in
+    let f = unsigned_abs z % 10 ^ 6 in
+    let a : list_all q (decimal w) ≡ true = all_of q (decimal w) d (decimal_digits w (omega arith)) in
+    let b : list_all q (fraction_text 6 f) ≡ true = fraction_all q f d p (omega arith) in
+    list_all-append q (sign_text (is_negative z)) (decimal w ++ fraction_text 6 f) ∙ rw (sign_all q (is_negative z) m) (list_all-append q (decimal w) (fraction_text 6 f) ∙ rw (a, b) refl)
+
+-- The parts of a text that is read as a decimal: what stands before the point and behind it, and a minus or none.
+record Parts (text whole fraction : List ℕ) (minus : Bool) : Type 0 where
+  mark : has_mark text ≡ false
+  exponent : exponent_of text ≡ []
+  front : whole_part text ≡ whole
+  behind : fraction_part text ≡ fraction
+  sign : is_minus text ≡ minus
+
+-- The decimal of such parts.
+abbrev decimal_from : List ℕ → List ℕ → List ℕ → Bool → Bool → Result ℤ NumberFault
+decimal_from whole fraction exponent mark minus =
+    cond (not (is_number (whole ++ fraction) && (not mark || nat_lt 0 (length (unsigned_of exponent))) && list_all is_digit (unsigned_of exponent))) (Err NotANumber)
+    (cond (nat_lt 36 (length (whole ++ fraction)) || nat_lt 40 (value_of (unsigned_of exponent))) (Err TooLong)
+    (with_sign minus (most (10 ^ 18) (rounded_of (value_of (whole ++ fraction)) (cond (is_minus exponent) 6 (6 + value_of (unsigned_of exponent))) (cond (is_minus exponent) (length fraction + value_of (unsigned_of exponent)) (length fraction))))))
+
+from_parts : (text whole fraction : List ℕ) (minus : Bool) → Parts text whole fraction minus → decimal_of text ≡ decimal_from whole fraction [] false minus
+from_parts text whole fraction minus p =
+    ap (λ (w : List ℕ). decimal_from w (fraction_part text) (exponent_of text) (has_mark text) (is_minus text)) p.front
+    ∙ ap (λ (f : List ℕ). decimal_from whole f (exponent_of text) (has_mark text) (is_minus text)) p.behind
+    ∙ ap (λ (e : List ℕ). decimal_from whole fraction e (has_mark text) (is_minus text)) p.exponent
+    ∙ ap (λ (k : Bool). decimal_from whole fraction [] k (is_minus text)) p.mark
+    ∙ ap (λ (m : Bool). decimal_from whole fraction [] false m) p.sign
+
+-- What the digits of such parts are read as.
+digits_read : (whole fraction : List ℕ) (minus : Bool) (n : ℕ) → list_all is_digit (whole ++ fraction) ≡ true → 0 < length whole → length whole ≤ 13 → length fraction ≤ 6 → value_of (whole ++ fraction) * 10 ^ (6 - length fraction) ≡ n → n ≤ 10 ^ 18
+    → decimal_from whole fraction [] false minus ≡ Ok (cond minus (neg_ℤ (pos n)) (pos n))
+digits_read whole fraction minus n digits some few six value small =
+    let all : length (whole ++ fraction) ≡ length whole + length fraction = length-append whole fraction in
+    let a : nat_lt 0 (length (whole ++ fraction)) ≡ true = grind (arith, nat_tests) in
+    let b : nat_lt 36 (length (whole ++ fraction)) ≡ false = grind (arith, nat_tests) in
+    let r : rounded_of (value_of (whole ++ fraction)) 6 (length fraction) ≡ n = rounds_up (value_of (whole ++ fraction)) 6 (length fraction) six ∙ value in
+    let m : nat_le n (10 ^ 18) ≡ true = grind (arith, nat_tests) in
+    rw (a, digits, b, r, m) refl
+
+-- ---- the parts of a printed value
+
+digit_no_mark : (b : ℕ) → is_digit b ≡ true → not (is_mark b) ≡ true
+unfolding is_mark
+digit_no_mark b h = grind (arith, nat_tests)
+
+digit_no_point : (b : ℕ) → is_digit b ≡ true → not (is_point b) ≡ true
+unfolding is_point
+digit_no_point b h = grind (arith, nat_tests)
+
+no_place : (p : ℕ → Bool) (w : List ℕ) → list_all (λ b. not (p b)) w ≡ true → position_or_len p w ≡ length w
+no_place p w h = ap (position_or_len p) (sym (append-nil w)) ∙ first_place p w [] h tt
+
+abbrev pointed : Bool → List ℕ → List ℕ
+pointed none g = cond none [] (46 ∷ g)
+
+abbrev behind_point : Bool → List ℕ → List ℕ
+behind_point none g = cond none [] g
+
+pointed_all : (q : ℕ → Bool) (t : Bool) (g : List ℕ) → q 46 ≡ true → list_all q g ≡ true → list_all q (pointed t g) ≡ true
+pointed_all q true g p h = refl
+pointed_all q false g p h = rw (p, h) refl
+
+breaks_at_point : (t : Bool) (g : List ℕ) → Breaks is_point (pointed t g)
+unfolding is_point
+breaks_at_point true g = tt
+breaks_at_point false g = refl
+
+unsigned_so : (s : Bool) (d : ℕ) (bs : List ℕ) → is_digit d ≡ true → unsigned_of (sign_text s ++ (d ∷ bs)) ≡ d ∷ bs
+unsigned_so true d bs h = refl
+unsigned_so false d bs h =
+    let plus : eqb d 43 ≡ false = grind (arith, nat_tests) in
+    let minus : eqb d 45 ≡ false = grind (arith, nat_tests) in
+    rw (plus, minus) refl
+
+minus_so : (s : Bool) (d : ℕ) (bs : List ℕ) → is_digit d ≡ true → is_minus (sign_text s ++ (d ∷ bs)) ≡ s
+minus_so true d bs h = refl
+minus_so false d bs h = grind (arith, nat_tests)
+
+behind_so : (t : Bool) (w g : List ℕ) → drop (length w + 1) (w ++ pointed t g) ≡ behind_point t g
+behind_so true w g = drop_all (length w + 1) (w ++ []) (omega (arith, length-append w []))
+behind_so false w g = drop-append-add w (46 ∷ g) 1
+
+no_marks : (s t : Bool) (w g : List ℕ) → list_all is_digit w ≡ true → list_all is_digit g ≡ true → list_all (λ b. not (is_mark b)) (sign_text s ++ (w ++ pointed t g)) ≡ true
+unfolding is_mark
+no_marks s t w g h k =
+    let q : ℕ → Bool = λ b. not (is_mark b) in
+    list_all-append q (sign_text s) (w ++ pointed t g) ∙ rw (sign_all q s refl) (list_all-append q w (pointed t g) ∙ rw (all_of q w digit_no_mark h, pointed_all q t g refl (all_of q g digit_no_mark k)) refl)
+
+parts_are : (s t : Bool) (d : ℕ) (ds g : List ℕ) → list_all is_digit (d ∷ ds) ≡ true → list_all is_digit g ≡ true → Parts (sign_text s ++ ((d ∷ ds) ++ pointed t g)) (d ∷ ds) (behind_point t g) s
+unfolding has_mark exponent_of whole_part fraction_part
+parts_are s t d ds g h k =
+    let w = d ∷ ds in
+    let text = sign_text s ++ ((d ∷ ds) ++ pointed t g) in
+    let first : is_digit d ≡ true = (and_first (is_digit d) (list_all is_digit ds) h).0 in
+    let at : position_or_len is_mark (sign_text s ++ ((d ∷ ds) ++ pointed t g)) ≡ length (sign_text s ++ ((d ∷ ds) ++ pointed t g)) = no_place is_mark text (no_marks s t (d ∷ ds) g h k) in
+    let all : before_first is_mark text ≡ text = ap (λ n. take n text) at ∙ take-length text in
+    let mantissa : mantissa_of text ≡ (d ∷ ds) ++ pointed t g = ap unsigned_of all ∙ unsigned_so s d (ds ++ pointed t g) first in
+    let point : position_or_len is_point ((d ∷ ds) ++ pointed t g) ≡ length (d ∷ ds) = first_place is_point (d ∷ ds) (pointed t g) (all_of (λ b. not (is_point b)) (d ∷ ds) digit_no_point h) (breaks_at_point t g) in
+    record {
+      mark = (let n = length text in let l : nat_lt (length text) (length text) ≡ false = grind (arith, nat_tests) in ap (λ i. nat_lt i (length text)) at ∙ l);
+      exponent = ap (λ i. drop (i + 1) text) at ∙ drop_all (length text + 1) text (omega arith);
+      front = ap (before_first is_point) mantissa ∙ ap (λ i. take i ((d ∷ ds) ++ pointed t g)) point ∙ take-append_seam (d ∷ ds) (pointed t g);
+      behind = ap (after_first is_point) mantissa ∙ ap (λ i. drop (i + 1) ((d ∷ ds) ++ pointed t g)) point ∙ behind_so t (d ∷ ds) g;
+      sign = minus_so s d (ds ++ pointed t g) first;
+    }
+
+behind_digits : (t : Bool) (g : List ℕ) → list_all is_digit g ≡ true → list_all is_digit (behind_point t g) ≡ true
+behind_digits true g h = refl
+behind_digits false g h = h
+
+behind_few : (t : Bool) (g : List ℕ) → length g ≤ 6 → length (behind_point t g) ≤ 6
+behind_few true g h = omega arith
+behind_few false g h = h
+
+-- What the two parts are worth together.
+worth_none : (w : ℕ) (whole : List ℕ) → value_of whole ≡ w → value_of (whole ++ []) * 10 ^ 6 ≡ w * 10 ^ 6
+worth_none w whole e = ap (λ ds. value_of ds * 10 ^ 6) (append-nil whole) ∙ ap (λ n. n * 10 ^ 6) e
+
+shift : (w p q v f : ℕ) → v * q ≡ f → (w * p + v) * q ≡ w * (p * q) + f
+shift w p q v f e = omega (arith, e)
+
+worth_some : (w f : ℕ) (whole g : List ℕ) → value_of whole ≡ w → Fraction f g → value_of (whole ++ g) * 10 ^ (6 - length g) ≡ w * 10 ^ 6 + f
+worth_some w f whole g e p =
+    let six : 10 ^ length g * 10 ^ (6 - length g) ≡ 10 ^ 6 = sym (pow-add 10 (length g) (6 - length g)) ∙ ap (λ n. 10 ^ n) (let k : length g + (6 - length g) ≡ 6 = omega (arith, p.few) in k) in
+    ap (λ n. n * 10 ^ (6 - length g)) (value_of-append whole g ∙ ap (λ n. n * 10 ^ length g + value_of g) e)
+    ∙ shift w (10 ^ length g) (10 ^ (6 - length g)) (value_of g) f p.value ∙ ap (λ n. w * n + f) six
+
+worth : (w f : ℕ) (t : Bool) (whole : List ℕ) → eqb f 0 ≡ t → value_of whole ≡ w → Fraction f (places f) → value_of (whole ++ behind_point t (places f)) * 10 ^ (6 - length (behind_point t (places f))) ≡ w * 10 ^ 6 + f
+worth w f true whole e v p = let z : f ≡ 0 = grind (arith, nat_tests) in worth_none w whole v ∙ omega (arith, z)
+worth w f false whole e v p = worth_some w f whole (places f) v p
+
+signed_back : (z : ℤ) → cond (is_negative z) (neg_ℤ (pos (unsigned_abs z))) (pos (unsigned_abs z)) ≡ z
+signed_back (pos n) = let e : is_negative (pos n) ≡ false = grind (arith, nat_tests) in rw e refl
+signed_back (negsuc n) = refl
+
+read_whole : (s t : Bool) (w f n : ℕ) (ds : List ℕ) → decimal w ≡ ds → w < 10 ^ 13 → f < 10 ^ 6 → eqb f 0 ≡ t → w * 10 ^ 6 + f ≡ n → n ≤ 10 ^ 18 → decimal_of (sign_text s ++ (ds ++ pointed t (places f))) ≡ Ok (cond s (neg_ℤ (pos n)) (pos n))
+read_whole s t w f n [] e h k z all small = absurd (omega (arith, ap length e, decimal_nonempty w (omega arith)))
+read_whole s t w f n (d ∷ ds) e h k z all small =
+    let p = places_are f k in
+    let whole : list_all is_digit (d ∷ ds) ≡ true = subst (λ (xs : List ℕ). list_all is_digit xs ≡ true) e (decimal_digits w (omega arith)) in
+    let digits : list_all is_digit ((d ∷ ds) ++ behind_point t (places f)) ≡ true = list_all-append is_digit (d ∷ ds) (behind_point t (places f)) ∙ rw (whole, behind_digits t (places f) p.digits) refl in
+    let value : value_of (d ∷ ds) ≡ w = ap value_of (sym e) ∙ value_of_decimal w (omega arith) in
+    let few : length (d ∷ ds) ≤ 13 = omega (arith, ap length e, length-decimal-le_wide 13 w (omega arith) h (omega arith)) in
+    from_parts (sign_text s ++ ((d ∷ ds) ++ pointed t (places f))) (d ∷ ds) (behind_point t (places f)) s (parts_are s t d ds (places f) whole p.digits)
+    ∙ digits_read (d ∷ ds) (behind_point t (places f)) s n digits (omega arith) few (behind_few t (places f) p.few) (worth w f t (d ∷ ds) z value p ∙ all) small
+
+-- A printed value is read as that value.
+pub printed_read : (z : ℤ) → unsigned_abs z ≤ 10 ^ 18 → decimal_of (printed 6 z) ≡ Ok z
+unfolding printed fraction_text
+printed_read z h =
+    let n = unsigned_abs z in
+    let all : n / 10 ^ 6 * 10 ^ 6 + n % 10 ^ 6 ≡ n = omega arith in
+    read_whole (is_negative z) (eqb (n % 10 ^ 6) 0) (n / 10 ^ 6) (n % 10 ^ 6) n (decimal (n / 10 ^ 6)) refl (omega arith) (omega arith) refl all h ∙ ap (λ v. Ok v) (signed_back z)
+
+some_digits : (s : Bool) (ds rest : List ℕ) → 0 < length ds → 0 < length (sign_text s ++ (ds ++ rest))
+some_digits s ds rest h = omega (arith, length-append (sign_text s) (ds ++ rest), length-append ds rest)
+
+-- Something is printed.
+pub printed_some : (z : ℤ) → unsigned_abs z ≤ 10 ^ 18 → 0 < length (printed 6 z)
+unfolding printed
+printed_some z h = some_digits (is_negative z) (decimal (unsigned_abs z / 10 ^ 6)) (fraction_text 6 (unsigned_abs z % 10 ^ 6)) (decimal_nonempty (unsigned_abs z / 10 ^ 6) (omega arith))

@@ -1,0 +1,58 @@
+-- The line of a block, by its pieces.
+use Rattle.std.proofs.Common.{◌≡◌, ℕ, ℤ, pos, negsuc, ◌<ℤ◌, ◌≤ℤ◌, true, false, eqb, ◌-◌, ◌/◌, ◌%◌, ◌^◌, ◌≤◌, List, [], ◌∷◌, ◌++◌, length, take, replicate, sym, ap, ◌∙◌, refl, arith, append_assoc, append-nil}
+use Rattle.std.specs.Prelude.{unsigned_abs}
+use Rattle.std.specs.Int.{is_negative}
+use Rattle.std.specs.Fmt.{decimal, sign_text}
+use Rattle.std.proofs.lemmas.Bool.Decides.{nat_tests}
+use Rattle.std.proofs.lemmas.Int.{ints}
+use Rattle.std.proofs.lemmas.List.{take-replicate}
+use Rattle.fixed_worth.specs.Printed.{fixed_width, without_trailing_zeros, fraction_text, printed}
+use Rattle.upit_file.specs.Writing.{record_line}
+
+pub no_fraction : (n : ℕ) (old : List ℕ) → n ≡ 0 → old ≡ old ++ fraction_text 6 n
+unfolding fraction_text
+no_fraction n old e = rw e (sym (append-nil old))
+
+some_fraction : (n w d : ℕ) → (n ≡ 0 → ⊥) → without_trailing_zeros (fixed_width 6 n) ≡ fixed_width w d → 46 ∷ fixed_width w d ≡ fraction_text 6 n
+unfolding fraction_text
+some_fraction n w d some same =
+    let more : eqb n 0 ≡ false = grind (arith, nat_tests) in
+    rw (more, same) refl
+
+regrouped : (a x y : List ℕ) → ((a ++ (46 ∷ [])) ++ x) ++ y ≡ a ++ (46 ∷ (x ++ y))
+regrouped a x y = simp append_assoc
+
+-- A point, leading zeros, and the digits.
+pub fraction_pushed : (n w d zeros : ℕ) (old number line : List ℕ) → (n ≡ 0 → ⊥) → without_trailing_zeros (fixed_width 6 n) ≡ fixed_width w d → number ≡ decimal d → zeros ≡ w - length number → w ≤ 6
+    → line ≡ ((old ++ (46 ∷ [])) ++ take zeros (replicate 6 48)) ++ number → line ≡ old ++ fraction_text 6 n
+fraction_pushed n w d zeros old number line some same e z six f =
+    f ∙ ap (λ k. ((old ++ (46 ∷ [])) ++ k) ++ number) (take-replicate zeros 6 48 (omega arith)) ∙ regrouped old (replicate zeros 48) number
+    ∙ ap (λ k. old ++ (46 ∷ (replicate k 48 ++ number))) z ∙ ap (λ ds. old ++ (46 ∷ (replicate (w - length ds) 48 ++ ds))) e ∙ ap (λ t. old ++ t) (some_fraction n w d some same)
+
+together : (a s w f : List ℕ) → (((a ++ (32 ∷ [])) ++ s) ++ w) ++ f ≡ a ++ (32 ∷ (s ++ (w ++ f)))
+together a s w f = simp append_assoc
+
+-- The number, a space, the sign, the whole part and the fraction.
+pub line_made : (b size : ℕ) (z : ℤ) (one two three four five : List ℕ) → size ≡ unsigned_abs z → one ≡ decimal b → two ≡ one ++ (32 ∷ []) → three ≡ two ++ sign_text (is_negative z) → four ≡ three ++ decimal (size / 10 ^ 6)
+    → five ≡ four ++ fraction_text 6 (size % 10 ^ 6) → five ≡ record_line b z
+unfolding printed
+line_made b size z one two three four five e p q r s t =
+    let w = decimal (size / 10 ^ 6) in
+    let f = fraction_text 6 (size % 10 ^ 6) in
+    let m = sign_text (is_negative z) in
+    t ∙ ap (λ x. x ++ f) (s ∙ ap (λ x. x ++ w) (r ∙ ap (λ x. x ++ m) (q ∙ ap (λ x. x ++ (32 ∷ [])) p))) ∙ together (decimal b) m w f
+    ∙ ap (λ n. decimal b ++ (32 ∷ (m ++ (decimal (n / 10 ^ 6) ++ fraction_text 6 (n % 10 ^ 6))))) e
+
+negative : (z : ℤ) → z <ℤ pos 0 → is_negative z ≡ true
+negative (pos n) h = absurd (omega (arith, ints))
+negative (negsuc n) h = refl
+
+not_negative : (z : ℤ) → pos 0 ≤ℤ z → is_negative z ≡ false
+not_negative (pos n) h = grind (arith, nat_tests)
+not_negative (negsuc n) h = absurd (omega (arith, ints))
+
+pub minus_pushed : (z m : ℤ) (old line : List ℕ) → m ≡ z → m <ℤ pos 0 → line ≡ old ++ (45 ∷ []) → line ≡ old ++ sign_text (is_negative z)
+minus_pushed z m old line e h s = s ∙ ap (λ t. old ++ sign_text t) (sym (negative m h) ∙ ap is_negative e)
+
+pub none_pushed : (z m : ℤ) (old line : List ℕ) → m ≡ z → pos 0 ≤ℤ m → line ≡ old → line ≡ old ++ sign_text (is_negative z)
+none_pushed z m old line e h s = s ∙ sym (append-nil old) ∙ ap (λ t. old ++ sign_text t) (sym (not_negative m h) ∙ ap is_negative e)

@@ -1,0 +1,54 @@
+-- What is written is read back.
+use Rattle.std.proofs.Common.{◌≡◌, ℕ, ℤ, ◌+◌, ◌^◌, ◌≤◌, Bool, true, false, List, [], ◌∷◌, ◌++◌, length, refl, sym, ap, ◌∙◌, arith}
+use Rattle.std.specs.Prelude.{◌&&◌, nat_le, codes}
+use Rattle.std.specs.Option.{option_or}
+use Rattle.std.specs.Fmt.{decimal}
+use Rattle.std.proofs.lemmas.Bool.Decides.{nat_tests}
+use Rattle.fixed_worth.specs.Record.{Line, numbered}
+use Rattle.upit_file.specs.Header.{header, last_name, header_fault}
+use Rattle.upit_file.specs.Body.{body, before_end, first_fault, value_among}
+use Rattle.upit_file.specs.Records.{UpitView, is_name, lines_in}
+use Rattle.upit_file.specs.Writing.{header_lines, record_lines, upit_lines, upit_text}
+use Rattle.upit_file.specs.RoundTrip.{CanBeWritten, IsReadBack}
+use Rattle.upit_file.proofs.Words.{decimal_digits}
+use Rattle.upit_file.proofs.LinesBack.{is_line, AreLines, lines_back, lines-append, none_is_line, digits_are_line}
+use Rattle.upit_file.proofs.HeaderBack.{name_whole, written, header_back}
+use Rattle.upit_file.proofs.BodyBack.{Sizes, sizes_each, no_first_fault, values_back, body_back, record_lines_whole}
+
+and_first : (a b : Bool) → (a && b) ≡ true → (a ≡ true) × (b ≡ true)
+and_first true b h = (refl, h)
+and_first false b h = cc
+
+-- No line that is written has a line feed within.
+all_lines : (name : List ℕ) (vs : List ℤ) → is_name name ≡ true → length vs ≤ 2 ^ 24 → Sizes vs → AreLines (header_lines name (length vs) ++ (record_lines 0 vs ++ (codes "EOF" ∷ [])))
+all_lines name vs h few s =
+    let a : is_line name ≡ true = none_is_line name (name_whole name h) in
+    let b : is_line (decimal (length vs)) ≡ true = digits_are_line (decimal (length vs)) (decimal_digits (length vs) (omega arith)) in
+    (a, (refl, (b, (refl, lines-append (record_lines 0 vs) (codes "EOF" ∷ []) (record_lines_whole 0 vs (omega arith) s) (refl, tt)))))
+
+-- The lines that are read are those that were written.
+read_lines : (u : UpitView) → is_name u.name ≡ true → length u.values ≤ 2 ^ 24 → Sizes u.values → lines_in (upit_text u) ≡ written u.name (length u.values) (numbered 4 (record_lines 0 u.values ++ (codes "EOF" ∷ [])))
+read_lines u h few s = ap (numbered 0) (lines_back (upit_lines u) (all_lines u.name u.values h few s))
+
+pub read_back : (u : UpitView) → CanBeWritten u → IsReadBack u
+read_back u c =
+    let n = length u.values in
+    let form = and_first (is_name u.name) (nat_le (length u.values) (2 ^ 24)) c.form in
+    let few : length u.values ≤ 2 ^ 24 = let t : nat_le (length u.values) (2 ^ 24) ≡ true = form.1 in grind (arith, nat_tests) in
+    let s = sizes_each u.values c.sizes in
+    let rest = numbered 4 (record_lines 0 u.values ++ (codes "EOF" ∷ [])) in
+    let lines = read_lines u form.0 few s in
+    let h = header_back n u.name rest form.0 few in
+    let records : body (lines_in (upit_text u)) ≡ numbered 4 (record_lines 0 u.values) = ap body lines ∙ ap before_end h.2 ∙ body_back 4 0 u.values (omega arith) s in
+    record {
+      sound = ap (λ (ls : List Line). option_or (header_fault n ls) (first_fault n [] (body (lines_in (upit_text u))))) lines
+          ∙ ap (λ o. option_or o (first_fault n [] (body (lines_in (upit_text u))))) h.0
+          ∙ ap (first_fault n []) records ∙ no_first_fault n 4 0 u.values [] (omega arith) few s (λ j i. refl);
+      same = record {
+        count = refl;
+        worth = λ b i.
+            let z : 0 + b ≡ b = omega arith in
+            sym (ap (λ (ls : List Line). value_among ls b) records ∙ ap (value_among (numbered 4 (record_lines 0 u.values))) (sym z) ∙ values_back 4 0 b u.values i (omega arith) s);
+        named = sym (ap (λ (ls : List Line). last_name [] (header ls)) lines ∙ h.1);
+      };
+    }

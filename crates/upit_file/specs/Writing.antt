@@ -1,0 +1,27 @@
+-- The one text of a name and values.
+use Rattle.std.specs.Prelude.{ℕ, ℤ, ◌+◌, List, [], ◌∷◌, ◌++◌, length, codes}
+use Rattle.std.specs.Fmt.{decimal}
+use Rattle.fixed_worth.specs.Laws.{with_line_feeds}
+use Rattle.fixed_worth.specs.Printed.{printed}
+use Rattle.upit_file.specs.Records.{UpitView}
+
+-- The lines of the header for n blocks.
+abbrev pub header_lines : List ℕ → ℕ → List (List ℕ)
+header_lines name n = (codes "NAME: " ++ name) ∷ codes "TYPE: UPIT" ∷ (codes "NBLOCKS: " ++ decimal n) ∷ codes "OBJECTIVE_FUNCTION:" ∷ []
+
+-- The line of block b: its number, a space (32) and its value with at most six places.
+abbrev pub record_line : ℕ → ℤ → List ℕ
+record_line b value = decimal b ++ (32 ∷ printed 6 value)
+
+-- The lines of the blocks from b on.
+abbrev pub record_lines : ℕ → List ℤ → List (List ℕ)
+record_lines b [] = []
+record_lines b (value ∷ values) = record_line b value ∷ record_lines (b + 1) values
+
+-- The lines of a name and values.
+abbrev pub upit_lines : UpitView → List (List ℕ)
+upit_lines u = header_lines u.name (length u.values) ++ (record_lines 0 u.values ++ (codes "EOF" ∷ []))
+
+-- The text of a name and values: a line feed behind each line.
+abbrev pub upit_text : UpitView → List ℕ
+upit_text u = with_line_feeds (upit_lines u)

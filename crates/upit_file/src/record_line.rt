@@ -1,0 +1,61 @@
+//! The line of a block.
+
+ghost use Rattle.std.specs.Prelude.{◌≡◌, ℕ, ◌+◌, ◌-◌, ◌*◌, ◌/◌, ◌%◌, ◌<◌, ◌≤◌, ◌^◌, [], ◌∷◌, ◌++◌, length, unsigned_abs};
+ghost use Rattle.fixed_worth.specs.Printed.{fixed_width, without_trailing_zeros, fraction_text, printed};
+ghost use Rattle.upit_file.specs.Writing as spec;
+
+use fixed_worth::{Micros, ShortLine, WrittenNumber};
+
+const MILLION: u64 = 1_000_000;
+
+// Millionths without their trailing zeros, and how many places they then have.
+fn trimmed(millionths: u64) -> (u64, usize)
+    requires some { 0 < millionths }
+    requires below_one { millionths < 10 ^ 6 }
+    ensures same { without_trailing_zeros (fixed_width 6 millionths) ≡ fixed_width result.1 result.0 }
+    ensures width { (0 < result.1) × (result.1 ≤ 6) }
+    ensures below_one { result.0 < 10 ^ 6 }
+{
+    let mut digits = millionths;
+    let mut width = 6;
+    while digits % 10 == 0 {
+        digits /= 10;
+        width -= 1;
+    }
+    (digits, width)
+}
+
+// The places behind the point at the end of the line, and the point where there are some.
+fn push_fraction(line: &mut ShortLine, millionths: u64)
+    requires below_one { millionths < 10 ^ 6 }
+    requires room { length line.old + 46 ≤ 192 }
+    ensures { line.new ≡ line.old ++ fraction_text 6 millionths }
+{
+    if millionths == 0 {
+        return;
+    }
+    let (digits, width) = trimmed(millionths);
+    let number = WrittenNumber::of(u128::from(digits));
+    let zeros = width.saturating_sub(number.as_bytes().len());
+    let (leading, _) = b"000000".split_at(zeros);
+    line.push(b".");
+    line.push(leading);
+    line.push(number.as_bytes());
+}
+
+// The line of a block with its value, without its line feed.
+pub(crate) fn record_line(block: u32, value: Micros) -> ShortLine
+    ensures { result ≡ spec.record_line block value }
+{
+    let millionths = value.get();
+    let size = millionths.unsigned_abs();
+    let mut line = ShortLine::new();
+    line.push_number(u128::from(block));
+    line.push(b" ");
+    if millionths < 0 {
+        line.push(b"-");
+    }
+    line.push_number(u128::from(size / MILLION));
+    push_fraction(&mut line, size % MILLION);
+    line
+}

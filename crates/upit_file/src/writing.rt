@@ -1,0 +1,126 @@
+//! Writing the text of a name and values.
+
+ghost use Rattle.std.specs.Prelude.{◌≡◌, ℕ, ◌+◌, ◌-◌, ◌^◌, ◌<◌, ◌≤◌, [], ◌∷◌, ◌++◌, length, codes, OnOk, OnErr};
+ghost use Rattle.std.specs.Fmt.{decimal};
+ghost use Rattle.std.specs.Io.KnownBytes.{Appends};
+ghost use Rattle.fixed_worth.specs.Laws.{with_line_feeds};
+ghost use Rattle.fixed_worth.specs.Device.{ReceivedPrefix, SentOrHeld};
+ghost use Rattle.upit_file.specs.Writing as spec;
+
+use crate::record_line::record_line;
+use crate::upit::Upit;
+use fixed_worth::{CountedWrite, Micros, Page, WriteFault, WrittenNumber};
+
+fn put_two<W: CountedWrite>(
+    page: &mut Page,
+    out: &mut W,
+    first: &[u8],
+    second: &[u8],
+) -> Result<(), WriteFault>
+    requires { W.failed out.old < 2 ^ 64 - 1 }
+    ensures held { OnOk result (SentOrHeld (W.contents out.old) (W.contents out.new) page.new (page.old ++ (first.now ++ second.now))) }
+    ensures kept { OnOk result (W.failed out.new ≡ W.failed out.old) }
+    ensures prefix { OnErr result (ReceivedPrefix (W.contents out.old) (W.contents out.new) (page.old ++ (first.now ++ second.now))) }
+    ensures counted { OnErr result (W.failed out.new ≡ W.failed out.old + 1) }
+{
+    match page.put(out, first) {
+        Ok(()) => page.put(out, second),
+        Err(fault) => Err(fault),
+    }
+}
+
+// A line of two parts, and a line feed.
+fn put_line<W: CountedWrite>(
+    page: &mut Page,
+    out: &mut W,
+    first: &[u8],
+    second: &[u8],
+) -> Result<(), WriteFault>
+    requires { W.failed out.old < 2 ^ 64 - 1 }
+    ensures held { OnOk result (SentOrHeld (W.contents out.old) (W.contents out.new) page.new (page.old ++ with_line_feeds ((first.now ++ second.now) ∷ []))) }
+    ensures kept { OnOk result (W.failed out.new ≡ W.failed out.old) }
+    ensures prefix { OnErr result (ReceivedPrefix (W.contents out.old) (W.contents out.new) (page.old ++ with_line_feeds ((first.now ++ second.now) ∷ []))) }
+    ensures counted { OnErr result (W.failed out.new ≡ W.failed out.old + 1) }
+{
+    match put_two(page, out, first, second) {
+        Ok(()) => page.put(out, b"\n"),
+        Err(fault) => Err(fault),
+    }
+}
+
+fn put_header<W: CountedWrite>(
+    page: &mut Page,
+    out: &mut W,
+    name: &[u8],
+    n: u32,
+) -> Result<(), WriteFault>
+    requires { W.failed out.old < 2 ^ 64 - 1 }
+    ensures held { OnOk result (SentOrHeld (W.contents out.old) (W.contents out.new) page.new (page.old ++ with_line_feeds (spec.header_lines name.now n))) }
+    ensures kept { OnOk result (W.failed out.new ≡ W.failed out.old) }
+    ensures prefix { OnErr result (ReceivedPrefix (W.contents out.old) (W.contents out.new) (page.old ++ with_line_feeds (spec.header_lines name.now n))) }
+    ensures counted { OnErr result (W.failed out.new ≡ W.failed out.old + 1) }
+{
+    match put_line(page, out, b"NAME: ", name) {
+        Ok(()) => {}
+        Err(fault) => return Err(fault),
+    }
+    match put_line(page, out, b"TYPE: UPIT", b"") {
+        Ok(()) => {}
+        Err(fault) => return Err(fault),
+    }
+    let count = WrittenNumber::of(u128::from(n));
+    match put_line(page, out, b"NBLOCKS: ", count.as_bytes()) {
+        Ok(()) => put_line(page, out, b"OBJECTIVE_FUNCTION:", b""),
+        Err(fault) => Err(fault),
+    }
+}
+
+fn put_records<W: CountedWrite>(
+    page: &mut Page,
+    out: &mut W,
+    values: &[Micros],
+) -> Result<(), WriteFault>
+    requires room { W.failed out.old < 2 ^ 64 - 1 }
+    requires count { length values.now ≤ 2 ^ 24 }
+    ensures held { OnOk result (SentOrHeld (W.contents out.old) (W.contents out.new) page.new (page.old ++ with_line_feeds (spec.record_lines 0 values.now))) }
+    ensures kept { OnOk result (W.failed out.new ≡ W.failed out.old) }
+    ensures prefix { OnErr result (ReceivedPrefix (W.contents out.old) (W.contents out.new) (page.old ++ with_line_feeds (spec.record_lines 0 values.now))) }
+    ensures counted { OnErr result (W.failed out.new ≡ W.failed out.old + 1) }
+{
+    let mut block: u32 = 0;
+    for value in values {
+        let line = record_line(block, *value);
+        match put_line(page, out, line.as_bytes(), b"") {
+            Ok(()) => {}
+            Err(fault) => return Err(fault),
+        }
+        block += 1;
+    }
+    Ok(())
+}
+
+/// Writes the text of a name and values, a line for every block, as `specs/Writing` has it.
+///
+/// Takes no memory, and sends the text in large pieces. [`WriteFault::Device`] at the first write that fails: the writer
+/// has then received a prefix of the text.
+pub fn write_upit<W: CountedWrite>(upit: &Upit, out: &mut W) -> Result<(), WriteFault>
+    requires { W.failed out.old < 2 ^ 64 - 1 }
+    ensures sent { OnOk result (Appends (W.contents out.old) (W.contents out.new) (spec.upit_text upit.now)) }
+    ensures kept { OnOk result (W.failed out.new ≡ W.failed out.old) }
+    ensures prefix { OnErr result (ReceivedPrefix (W.contents out.old) (W.contents out.new) (spec.upit_text upit.now)) }
+    ensures counted { OnErr result (W.failed out.new ≡ W.failed out.old + 1) }
+{
+    let mut page = Page::new();
+    match put_header(&mut page, out, upit.name(), upit.len()) {
+        Ok(()) => {}
+        Err(fault) => return Err(fault),
+    }
+    match put_records(&mut page, out, upit.values()) {
+        Ok(()) => {}
+        Err(fault) => return Err(fault),
+    }
+    match put_line(&mut page, out, b"EOF", b"") {
+        Ok(()) => page.finish(out),
+        Err(fault) => Err(fault),
+    }
+}
