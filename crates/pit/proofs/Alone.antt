@@ -1,22 +1,19 @@
 -- The texts denote one mine, one net, one pit and one flow.
-use Rattle.std.proofs.Common.{◌≡◌, ◌≢◌, ◌↔◌, ℕ, ◌<◌, ℤ, Bool, true, false, not, ◌&&◌, List, length, get_or, refl, sym, ap, ◌∙◌, subst, arith, IsTrue, Option, Some, None, Result, Ok, Err, ◌⊎◌, inl, inr, IfSome}
-use Rattle.std.specs.List.{Contains}
+use Rattle.std.proofs.Common.{◌≡◌, ℕ, ◌<◌, ℤ, Bool, List, length, sym, ap, ◌∙◌, subst, arith, Result, Ok}
 use Rattle.ordered_group.specs.Amount.{Amount, zero_amount}
 use Rattle.ordered_group.specs.Sums.{amount_at}
 use Rattle.ordered_group.specs.declared.groups.Group.{Group}
-use Rattle.prec_file.specs.Rests.{ArePairsOf}
 use Rattle.prec_file.specs.Records as prec
 use Rattle.prec_file.proofs.OneListing.{one_listing}
-use Rattle.upit_file.specs.Records as upit
 use Rattle.closure_net.specs.Network.{NetView, FlowView, IsNet}
-use Rattle.closure_net.specs.Mine.{Mine, IsNetOf}
+use Rattle.closure_net.specs.Mine.{IsNetOf}
 use Rattle.closure_net.proofs.SameLists.{same_at_default}
 use Rattle.check_pit.specs.declared.headers.Header.{Header}
 use Rattle.check_pit.specs.Checks.{IsSound, FaultStands}
 use Rattle.check_pit.specs.Certificate.{lines_of_text, Denotes}
 use Rattle.check_pit.specs.declared.faults.PitFault.{PitFault}
 use Rattle.check_pit.proofs.Verdicts.{no_fault}
-use Rattle.pit.specs.Mines.{rests_by, mine_of, DenoteMine}
+use Rattle.pit.specs.Mines.{mine_of}
 use Rattle.pit.specs.Readings.{block_by, counts_by, Reads}
 use Rattle.pit.proofs.Listed.{listed_pairs}
 

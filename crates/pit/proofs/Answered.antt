@@ -1,5 +1,5 @@
 -- From the parts of a check to its answer, where the readers tell their bytes.
-use Rattle.std.proofs.Common.{◌≡◌, ℕ, List, length, refl, sym, ap, ◌∙◌, subst, Option, Some, None, Result, Ok, Err, inl, inr, IfSome}
+use Rattle.std.proofs.Common.{◌≡◌, ℕ, List, length, refl, sym, ◌∙◌, subst, Option, Some, None, Result, Ok, Err, inl, inr, IfSome}
 use Rattle.std.specs.Io.KnownBytes.{Appends, Keeps}
 use Rattle.prec_file.specs.Rests.{RestsView}
 use Rattle.prec_file.specs.Records as prec
@@ -10,7 +10,6 @@ use Rattle.pit.specs.declared.judgements.Verdict.{Verdict}
 use Rattle.pit.specs.declared.engine_faults.EngineFault.{EngineFault}
 use Rattle.pit.specs.declared.engine_faults.EngineFault.TheVariants as engine
 use Rattle.pit.specs.declared.engine_faults.CertificateProblem.TheVariants as problem
-use Rattle.pit.specs.Mines.{DenoteMine}
 use Rattle.pit.specs.Faults.{Fails}
 use Rattle.pit.specs.Inputs.{ReadsUpit, ReadsPrec, TextReadFails}
 use Rattle.pit.specs.Judgements.{IsJudged}

@@ -1,16 +1,10 @@
 -- What follows of the answer for a sound certificate.
-use Rattle.std.proofs.Common.{◌≡◌, ◌≢◌, ℕ, List, refl, sym, ap, ◌∙◌, subst, length, Option, Some, None, Result, Ok, Err, ◌⊎◌, inl, inr, IfSome}
-use Rattle.closure_net.specs.declared.networks.NetFault.{NetFault}
-use Rattle.prec_file.specs.Records as prec
-use Rattle.upit_file.specs.Records as upit
-use Rattle.check_pit.specs.Checks.{IsSound}
+use Rattle.std.proofs.Common.{ℕ, List, Option, Some, None, Result, Ok, Err, inl, inr, IfSome}
 use Rattle.pit.specs.declared.judgements.Verdict.{Verdict}
 use Rattle.pit.specs.declared.judgements.Verdict.TheVariants.{Done, No}
 use Rattle.pit.specs.declared.engine_faults.EngineFault.{EngineFault}
 use Rattle.pit.specs.declared.engine_faults.EngineFault.TheVariants as engine
-use Rattle.pit.specs.Readings.{Reads}
-use Rattle.pit.specs.Faults.{Fails}
-use Rattle.pit.specs.Engines.{Checks, SoundIsAccepted, AcceptsUnlessHindered}
+use Rattle.pit.specs.Engines.{Checks, SoundIsAccepted}
 use Rattle.pit.proofs.Alone.{sound_stands}
 use Rattle.pit.specs.declared.engine_faults.Problem.TheVariants as problem
 use Rattle.pit.specs.declared.engine_faults.CertificateProblem.TheVariants as certificate

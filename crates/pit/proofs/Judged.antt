@@ -1,19 +1,18 @@
 -- From what was read to the judgement.
-use Rattle.std.proofs.Common.{◌≡◌, ◌↔◌, ◌≢◌, ℕ, ◌+◌, ◌<◌, ◌≤◌, ℤ, pos, ◌*ℤ◌, Bool, true, false, not, ◌&&◌, ◌||◌, ◌==◌, List, [], ◌∷◌, length, map, get_or, refl, sym, ap, ◌∙◌, subst, arith, All, IsTrue, Option, None, Some, Result, Ok, Err, inl, inr, ◌⊎◌}
+use Rattle.std.proofs.Common.{◌≡◌, ℕ, ◌<◌, ℤ, pos, ◌*ℤ◌, Bool, List, length, map, get_or, refl, sym, ap, ◌∙◌, subst, arith, None, Some, Ok, inr}
 use Rattle.std.proofs.lemmas.List.{length-map, get_or-map}
-use Rattle.std.specs.List.{Contains}
 use Rattle.ordered_group.specs.Amount.{Amount, zero_amount}
 use Rattle.ordered_group.specs.Sums.{where_so}
-use Rattle.ordered_group.specs.Sets.{worth_in, count_in, group_sum}
+use Rattle.ordered_group.specs.Sets.{group_sum}
 use Rattle.ordered_group.specs.Laws.{SumsTellWorth}
 use Rattle.ordered_group.specs.declared.groups.Group.{Group}
 use Rattle.ordered_group.proofs.Totals.Ranges.{total-same}
-use Rattle.prec_file.specs.Rests.{RestsView, ArePairsOf}
+use Rattle.prec_file.specs.Rests.{RestsView}
 use Rattle.prec_file.specs.Records as prec
 use Rattle.upit_file.specs.Records as upit
-use Rattle.closure_net.specs.Network.{NetView, FlowView, net_view, IsNet, holds_of, IsAscending}
+use Rattle.closure_net.specs.Network.{NetView, FlowView, net_view, IsNet, holds_of}
 use Rattle.closure_net.specs.Closure.{IsGreatest, group_worth}
-use Rattle.closure_net.specs.Mine.{Mine, IsNetOf}
+use Rattle.closure_net.specs.Mine.{IsNetOf}
 use Rattle.check_pit.specs.Checks.{IsSound, FaultStands}
 use Rattle.check_pit.specs.Certificate.{fault_of, lines_of_text, IsRead, Denotes, UnlessMemory}
 use Rattle.check_pit.specs.declared.faults.PitFault.{PitFault}
@@ -22,8 +21,8 @@ use Rattle.check_pit.specs.declared.headers.Header.{Header}
 use Rattle.check_pit.specs.declared.headers.Price.TheVariants.{Objective}
 use Rattle.check_pit.specs.Pieces.{pieces_of}
 use Rattle.check_pit.specs.Header.{header_of}
-use Rattle.pit.specs.Mines.{rests_by, mine_of, DenoteMine}
-use Rattle.pit.specs.Readings.{block_by, counts_by, Reads}
+use Rattle.pit.specs.Mines.{mine_of, DenoteMine}
+use Rattle.pit.specs.Readings.{Reads}
 use Rattle.pit.specs.Judgements.{IsAccepted, IsRefused}
 use Rattle.pit.specs.Faults.{IsHeader, AreWorths, BodyFails, NetFails, Fails}
 use Rattle.closure_net.specs.Faults.{WorthsFaultStands}

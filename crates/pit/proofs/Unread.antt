@@ -1,6 +1,5 @@
 -- Where the texts are read, no fault of a text stands.
-use Rattle.std.proofs.Common.{◌≡◌, ◌≢◌, ℕ, ℤ, Bool, List, refl, sym, ap, ◌∙◌, subst, length, Option, Some, None, Result, Ok, Err, ◌⊎◌, inl, inr}
-use Rattle.ordered_group.specs.Amount.{Amount}
+use Rattle.std.proofs.Common.{◌≡◌, ℕ, List, sym, ap, ◌∙◌, subst, Option, Some, None, Result, Ok, Err, ◌⊎◌, inl, inr}
 use Rattle.ordered_group.specs.declared.groups.Group.{Group}
 use Rattle.prec_file.specs.Records as prec
 use Rattle.prec_file.specs.declared.prec_fault.PrecFault.{PrecFault}
@@ -9,7 +8,6 @@ use Rattle.upit_file.specs.declared.fault.UpitFault.{UpitFault}
 use Rattle.closure_net.specs.Network.{NetView}
 use Rattle.closure_net.specs.Mine.{IsNetOf}
 use Rattle.check_pit.specs.declared.headers.Header.{Header}
-use Rattle.check_pit.specs.declared.headers.Price.TheVariants.{Objective}
 use Rattle.check_pit.specs.Certificate.{fault_of}
 use Rattle.check_pit.specs.declared.cert_faults.CertFault.{CertFault}
 use Rattle.pit.specs.Mines.{mine_of, DenoteMine}

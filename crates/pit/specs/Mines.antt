@@ -1,5 +1,5 @@
 -- The mine that two files denote.
-use Rattle.std.specs.Prelude.{◌≡◌, ℕ, ℤ, pos, ◌*ℤ◌, ◌==◌, ◌&&◌, Bool, not, List, Option, None, Result, Ok}
+use Rattle.std.specs.Prelude.{◌≡◌, ℕ, pos, ◌*ℤ◌, ◌==◌, ◌&&◌, Bool, not, List, None, Ok}
 use Rattle.std.specs.List.{list_any}
 use Rattle.closure_net.specs.Mine.{Mine}
 use Rattle.prec_file.specs.Records as prec

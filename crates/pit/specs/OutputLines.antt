@@ -1,5 +1,5 @@
 -- The lines that the program prints.
-use Rattle.std.specs.Prelude.{ℕ, ℤ, List, [], ◌∷◌, ◌++◌, codes, decimal}
+use Rattle.std.specs.Prelude.{ℕ, List, [], ◌∷◌, ◌++◌, codes, decimal}
 use Rattle.fixed_worth.specs.Printed.{printed}
 use Rattle.ordered_group.specs.declared.groups.Group.{Group}
 use Rattle.ordered_group.specs.declared.groups.Group.TheVariants.{Worth, Pair}

@@ -1,12 +1,11 @@
 -- What the three texts of a check denote together.
-use Rattle.std.specs.Prelude.{◌≡◌, ℕ, ◌<◌, All, ℤ, Bool, false, true, List, Option, None, Result, Ok}
+use Rattle.std.specs.Prelude.{◌≡◌, ℕ, ◌<◌, All, ℤ, Bool, false, true, List, None, Ok}
 use Rattle.ordered_group.specs.Amount.{Amount}
 use Rattle.ordered_group.specs.Block.{worth_block, counted_block}
 use Rattle.ordered_group.specs.declared.groups.Group.{Group}
 use Rattle.ordered_group.specs.declared.groups.Group.TheVariants.{Worth, Pair}
 use Rattle.closure_net.specs.Network.{NetView, FlowView, IsNet, IsAscending}
 use Rattle.closure_net.specs.Mine.{Mine, IsRichest, IsBest, IsNetOf}
-use Rattle.check_pit.specs.declared.headers.Header.{Header}
 use Rattle.check_pit.specs.declared.headers.Price.TheVariants.{Objective}
 use Rattle.check_pit.specs.Pieces.{pieces_of}
 use Rattle.check_pit.specs.Header.{header_of}

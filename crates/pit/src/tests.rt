@@ -1,7 +1,43 @@
+// Devices of the tests' own claim nothing of their bytes, so what is answered is asserted as the tests run.
+
+use crate::checks::check_engine;
+use crate::engine_faults::{CertificateProblem, EngineFault, Problem};
+use crate::fault_lines::{status, write_fault};
 use crate::judgements::Verdict;
 use crate::stored_run::stored_check;
-use fixed_worth::Counted;
+use check_pit::CertFault;
+use closure_net::NetFault;
+use fixed_worth::{Counted, WriteFault};
+use prec_file::PrecFault;
+use std::alloc::Global;
+use std::io;
+use std::io::{Error, ErrorKind, Read, Write};
 use std::test::Fail;
+use upit_file::UpitFault;
+
+const VALUES: &[u8] = b"NBLOCKS: 3\nOBJECTIVE_FUNCTION:\n0 6\n1 5\n2 -10\n";
+
+const PRECEDENCE: &[u8] = b"0 1 2\n1 1 2\n";
+
+/// A device whose every call fails.
+#[derive(Drop)]
+struct Failing;
+
+impl Read for Failing {
+    fn read(&mut self, _buf: &mut [u8]) -> io::Result<usize> {
+        Err(Error::from(ErrorKind::BrokenPipe))
+    }
+}
+
+impl Write for Failing {
+    fn write(&mut self, _buf: &[u8]) -> io::Result<usize> {
+        Err(Error::from(ErrorKind::BrokenPipe))
+    }
+
+    fn flush(&mut self) -> io::Result<()> {
+        Err(Error::from(ErrorKind::BrokenPipe))
+    }
+}
 
 #[test]
 fn the_stored_run_is_accepted(rt: HostRuntime) -> Result<(), Fail> {
@@ -10,4 +46,86 @@ fn the_stored_run_is_accepted(rt: HostRuntime) -> Result<(), Fail> {
     let text = out.into_inner();
     assert_eq!(rt; text.as_slice(), b"ACCEPTED 3 1\n".as_slice());
     Ok(())
+}
+
+#[test]
+fn a_pit_that_is_not_closed_is_refused(rt: HostRuntime) {
+    let certificate =
+        b"PITCERT 1\nBLOCKS 3\nPRICE OBJECTIVE\nGROUP PAIR\nPIT 0\nPIT 1\nSOURCE 0 6000000000 -1\nSOURCE 1 4000000000 2\nREST 0 2 6000000000 -1\nREST 1 2 4000000000 2\nSINK 2 10000000000 1\nEND\n";
+    let mut out = Counted::new(Vec::new(rt.alloc()));
+    let answer = check_engine(
+        rt.alloc(),
+        &mut Counted::new(VALUES),
+        &mut Counted::new(PRECEDENCE),
+        &mut Counted::new(certificate.as_slice()),
+        &mut out,
+    );
+    assert!(rt; answer == Ok(Verdict::No));
+    assert!(rt; out.into_inner().as_slice() == b"REFUSED NotClosed(0, 2)\n".as_slice());
+}
+
+#[test]
+fn a_failed_read_writes_nothing(rt: HostRuntime) {
+    let mut out = Counted::new(Vec::new(rt.alloc()));
+    let answer = check_engine(
+        rt.alloc(),
+        &mut Counted::new(VALUES),
+        &mut Counted::new(Failing),
+        &mut Counted::new(VALUES),
+        &mut out,
+    );
+    assert!(rt; answer == Err(EngineFault::Device));
+    assert!(rt; out.into_inner().is_empty());
+}
+
+// Whether the fault has this line and this exit status.
+fn is_told(alloc: Global, fault: EngineFault, line: &[u8], number: u8) -> bool {
+    let mut out = Counted::new(Vec::new(alloc));
+    let written = write_fault(&fault, &mut out);
+    written == Ok(()) && out.into_inner().as_slice() == line && status(&Err(fault)) == number
+}
+
+#[test]
+fn each_fault_has_its_line_and_status(rt: HostRuntime) {
+    let long = Problem::InputTooLong;
+    let told: [(EngineFault, &[u8], u8); 8] = [
+        (
+            EngineFault::Upit(Problem::Fault(UpitFault::NoObjective(0))),
+            b"fault: upit NoObjective(0)\n",
+            3,
+        ),
+        (EngineFault::Upit(long), b"fault: upit InputTooLong\n", 3),
+        (
+            EngineFault::Prec(Problem::Fault(PrecFault::WrongCount(3))),
+            b"fault: prec WrongCount(3)\n",
+            3,
+        ),
+        (
+            EngineFault::Model(NetFault::TooLarge),
+            b"fault: model TooLarge\n",
+            3,
+        ),
+        (
+            EngineFault::Certificate(CertificateProblem::Fault(CertFault::Text(4))),
+            b"fault: certificate Text(4)\n",
+            3,
+        ),
+        (
+            EngineFault::Certificate(CertificateProblem::WrongPrice),
+            b"fault: certificate WrongPrice\n",
+            3,
+        ),
+        (EngineFault::Memory, b"fault: memory\n", 4),
+        (EngineFault::Device, b"fault: device\n", 4),
+    ];
+    for (fault, line, number) in told {
+        assert!(rt; is_told(rt.alloc(), fault, line, number));
+    }
+    assert!(rt; status(&Ok(Verdict::Done)) == 0 && status(&Ok(Verdict::No)) == 1);
+}
+
+#[test]
+fn a_failing_writer_is_answered(rt: HostRuntime) {
+    let answer = write_fault(&EngineFault::Memory, &mut Counted::new(Failing));
+    assert!(rt; answer == Err(WriteFault::Device));
 }

@@ -1,4 +1,3 @@
-use Rattle.std.proofs.Common.{◌≡◌, sym, ◌∙◌, ap, Ok}
 use Rattle.pit.proofs.Answered.{text_answer, judge_answer, line_answer_by, failed_answer, items_are}
 use Rattle.pit.proofs.checks.check_all.Goals as goal
 

@@ -1,4 +1,4 @@
-use Rattle.std.proofs.Common.{◌≡◌, ◌∙◌, refl, sym}
+use Rattle.std.proofs.Common.{◌∙◌, refl, sym}
 use Rattle.pit.proofs.Judged.{header_is}
 use Rattle.pit.proofs.judging.judge.Goals as goal
 

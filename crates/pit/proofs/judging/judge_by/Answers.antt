@@ -1,5 +1,4 @@
-use Rattle.std.proofs.Common.{◌≡◌, ◌*ℤ◌, ℕ, ℤ, pos, List, map, sym, subst, ◌∙◌}
-use Rattle.closure_net.specs.Faults.{WorthsFaultStands}
+use Rattle.std.proofs.Common.{sym, subst, ◌∙◌}
 use Rattle.pit.specs.declared.engine_faults.EngineFault.{EngineFault}
 use Rattle.pit.specs.Faults.{Fails}
 use Rattle.pit.proofs.Judged.{net_fails, net_known}

@@ -1,4 +1,4 @@
-use Rattle.std.proofs.Common.{◌≡◌, ◌≤◌, length, ap, arith}
+use Rattle.std.proofs.Common.{length, ap, arith}
 use Rattle.closure_net.specs.Network.{NetView}
 use Rattle.pit.proofs.judging.worth_of.Goals as goal
 
