@@ -14,15 +14,15 @@ import os
 import subprocess
 import sys
 import tempfile
-import time
 from collections import namedtuple
 from decimal import Decimal
 from pathlib import Path
 
 PIT = Path(__file__).resolve().parent.parent / "crates" / "pit" / "out" / "pit"
+START = 'exec 3<&0; { read go <&3; exec "$@" </dev/null >&2 3<&-; } & echo $!'
 SUBREAPER = 36  # prctl's PR_SET_CHILD_SUBREAPER
 
-Run = namedtuple("Run", "status output cpu user wall peak")
+Run = namedtuple("Run", "status output cpu peak")
 
 
 def adopt_orphans():
@@ -35,21 +35,23 @@ def run(words, core):
     """Runs a program on one core, and gives its status, output, CPU seconds and peak memory in MB.
 
     Linux counts the memory of a process that calls exec as memory of the new program too. A small shell starts the
-    program, so that this is the shell's memory and not Python's, which would hide a small program's peak.
+    program, so that this is the shell's memory and not Python's, which would hide a small program's peak. The program
+    waits for a line until the shell has ended, so that the shell can't take its usage.
     """
     with tempfile.TemporaryFile() as out:
-        start = time.monotonic()
-        shell = subprocess.Popen(["taskset", "-c", str(core), "sh", "-c", '"$@" >&2 & echo $!', "sh"] + words,
-                                 stdin=subprocess.DEVNULL, stdout=subprocess.PIPE, stderr=out)
+        shell = subprocess.Popen(["taskset", "-c", str(core), "sh", "-c", START, "sh"] + words,
+                                 stdin=subprocess.PIPE, stdout=subprocess.PIPE, stderr=out)
         pid = int(shell.stdout.readline())
         shell.stdout.close()
         shell.wait()
+        shell.stdin.write(b"go\n")
+        shell.stdin.close()
         _, status, usage = os.wait4(pid, 0)
-        wall = time.monotonic() - start
         out.seek(0)
         text = out.read().decode(errors="replace").strip()
-    return Run(os.waitstatus_to_exitcode(status), text, usage.ru_utime + usage.ru_stime, usage.ru_utime, wall,
-               usage.ru_maxrss * 1024 / 1e6)
+    # Linux parts user from system seconds by its clock's ticks; their sum alone is exact.
+    cpu = usage.ru_utime + usage.ru_stime
+    return Run(os.waitstatus_to_exitcode(status), text, cpu, usage.ru_maxrss * 1024 / 1e6)
 
 
 def verdict(text):
@@ -68,7 +70,7 @@ def rounds(commands, count, core):
 
 
 def best(runs):
-    return min(r.cpu for r in runs), min(r.user for r in runs), min(r.peak for r in runs)
+    return min(r.cpu for r in runs), min(r.peak for r in runs)
 
 
 def size_of(prec):
@@ -108,13 +110,10 @@ def check(peers, models, count, core):
         if len(answers) != 1 or None in answers:
             sys.exit(f"bench: {model}: the programs disagree or refuse:\n{ours[-1].output}\n{theirs[-1].output}")
         blocks, pairs = size_of(prec)
-        cpu, user, peak = best(ours)
-        their_cpu, their_user, their_peak = best(theirs)
+        (cpu, peak), (their_cpu, their_peak) = best(ours), best(theirs)
         rows.append([model, f"{blocks:,}", f"{pairs:,}", f"{cpu:.3f}", f"{their_cpu:.3f}", f"{cpu / their_cpu:.1f}",
-                     f"{user:.3f}", f"{their_user:.3f}", f"{peak:.1f}", f"{their_peak:.1f}",
-                     f"{peak / their_peak:.1f}"])
-    table(["model", "blocks", "pairs", "pit s", "peer s", "ratio", "pit user s", "peer user s", "pit MB", "peer MB",
-           "ratio"], rows)
+                     f"{peak:.1f}", f"{their_peak:.1f}", f"{peak / their_peak:.1f}"])
+    table(["model", "blocks", "pairs", "pit s", "peer s", "ratio", "pit peak MB", "peer peak MB", "ratio"], rows)
 
 
 def readers(peers, models, count, core):
@@ -131,7 +130,7 @@ def readers(peers, models, count, core):
             if any("Truncated" not in r.output for r in theirs):
                 sys.exit(f"bench: {model}: the peer didn't come to the certificate: {theirs[-1].output}")
             size = (os.path.getsize(prec) + os.path.getsize(upit)) / 1e6
-            (cpu, _, peak), (their_cpu, _, their_peak) = best(ours), best(theirs)
+            (cpu, peak), (their_cpu, their_peak) = best(ours), best(theirs)
             rows.append([model, f"{size:.1f}", f"{cpu:.3f}", f"{their_cpu:.3f}", f"{size / cpu:.0f}",
                          f"{size / their_cpu:.0f}", f"{cpu / their_cpu:.1f}", f"{peak:.1f}", f"{their_peak:.1f}",
                          f"{peak / their_peak:.1f}"])
