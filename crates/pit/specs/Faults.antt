@@ -3,6 +3,7 @@ use Rattle.std.specs.Prelude.{◌≡◌, ◌≢◌, ℕ, ◌<◌, ◌^◌, ℤ, 
 use Rattle.ordered_group.specs.declared.groups.Group.{Group}
 use Rattle.closure_net.specs.Faults.{WorthsFaultStands}
 use Rattle.closure_net.specs.declared.networks.NetFault.{NetFault}
+use Rattle.closure_net.specs.declared.networks.NetFault.TheVariants as net_fault
 use Rattle.upit_file.specs.Records as upit
 use Rattle.upit_file.specs.declared.fault.UpitFault.{UpitFault}
 use Rattle.prec_file.specs.Records as prec
@@ -57,6 +58,11 @@ pub record NetFails (values : List ℕ) (n : ℕ) (group : Group) (fault : NetFa
   pub are : AreWorths n values worths
   pub stands : WorthsFaultStands (block_by group) n worths fault
 
+-- the same by the fault: want of memory isn't one of the mine
+abbrev pub ModelFails : List ℕ → ℕ → Group → NetFault → Type 0
+ModelFails values n group net_fault.NoMemory = ⊥
+ModelFails values n group fault = NetFails values n group fault
+
 -- there is a net of the mine, and for its pairs the text has this fault
 pub record BodyFails (values precedence text : List ℕ) (n : ℕ) (fault : CertFault) : Type 0 where
   pub group : Group
@@ -83,7 +89,7 @@ CertificateFails values precedence text n (certificate.Fault fault) = HeaderFail
 abbrev pub Fails : List ℕ → List ℕ → List ℕ → EngineFault → Type 0
 Fails values precedence text (engine.Upit p) = UpitFails values p
 Fails values precedence text (engine.Prec p) = (n : ℕ) × ValuesRead values n × PrecFails n precedence p
-Fails values precedence text (engine.Model fault) = (n : ℕ) × DenoteMine values precedence n × (group : Group) × IsHeader text n group × NetFails values n group fault
+Fails values precedence text (engine.Model fault) = (n : ℕ) × DenoteMine values precedence n × (group : Group) × IsHeader text n group × ModelFails values n group fault
 Fails values precedence text (engine.Certificate p) = (n : ℕ) × DenoteMine values precedence n × CertificateFails values precedence text n p
 Fails values precedence text engine.Memory = Unit {0}
 Fails values precedence text engine.Device = Unit {0}
