@@ -10,7 +10,8 @@ use Rattle.closure_net.specs.Network.{flow_view}
 use Rattle.check_pit.specs.declared.lines_of_body.Kind.TheVariants.{Rest}
 use Rattle.check_pit.specs.declared.lines_of_body.BodyLine.{BodyLine}
 use Rattle.check_pit.specs.BodyLines.{is_of_model}
-use Rattle.check_pit.specs.Certificate.{Gathered, with_source, with_rest, with_sink, Covers, Adds, has_pair, amount_of}
+use Rattle.check_pit.specs.Certificate.{Covers, has_pair, amount_of}
+use Rattle.check_pit.specs.Gathered.{Gathered, with_source, with_rest, with_sink, Adds}
 
 -- One amount of a list is changed.
 pub source_set : {X : Type 0} (f : X → Amount) (pit : List ℕ) (ss rs ts : List X) (b : ℕ) (x : X) (g : Gathered) → record { pit = pit; flow = flow_view (map f ss) (map f rs) (map f ts) } ≡ g
@@ -69,20 +70,20 @@ rest_absent has line r h = rw r h
 pub rest_present : (has : ℕ → ℕ → Bool) (line : BodyLine) → line.kind ≡ Rest → has line.block line.other ≡ true → is_of_model has line.kind line ≡ true
 rest_present has line r h = rw r h
 
-ltb_true : (i j : ℕ) → ltb i j ≡ true → i < j
+pub ltb_true : (i j : ℕ) → ltb i j ≡ true → i < j
 ltb_true i j h = grind (arith, nat_tests)
 
 ltb_neither : (i j : ℕ) → ltb i j ≡ false → ltb j i ≡ false → i ≡ j
 ltb_neither i j g h = grind (arith, nat_tests)
 
 -- Each pair stands once in the list.
-apart : (ps : List (ℕ × ℕ)) (i j : ℕ) (q : ℕ × ℕ) → IsRising ps → i < j → j < length ps → get_or ps i (0, 0) ≡ q → get_or ps j (0, 0) ≡ q → ⊥
+pub apart : (ps : List (ℕ × ℕ)) (i j : ℕ) (q : ℕ × ℕ) → IsRising ps → i < j → j < length ps → get_or ps i (0, 0) ≡ q → get_or ps j (0, 0) ≡ q → ⊥
 apart ps i j q r h l e f =
     let a : (get_or ps i (0, 0)).0 ≡ (get_or ps j (0, 0)).0 = ap (λ (x : ℕ × ℕ). x.0) (e ∙ sym f) in
     let b : (get_or ps i (0, 0)).1 ≡ (get_or ps j (0, 0)).1 = ap (λ (x : ℕ × ℕ). x.1) (e ∙ sym f) in
     elim (r.rises i j h l) [ inl x ↦ omega (arith, a, b, x) | inr x ↦ omega (arith, a, b, x.1) ]
 
-one_place : (ps : List (ℕ × ℕ)) (i j : ℕ) (q : ℕ × ℕ) → IsRising ps → i < length ps → j < length ps → get_or ps i (0, 0) ≡ q → get_or ps j (0, 0) ≡ q → (t u : Bool) → ltb i j ≡ t → ltb j i ≡ u → i ≡ j
+pub one_place : (ps : List (ℕ × ℕ)) (i j : ℕ) (q : ℕ × ℕ) → IsRising ps → i < length ps → j < length ps → get_or ps i (0, 0) ≡ q → get_or ps j (0, 0) ≡ q → (t u : Bool) → ltb i j ≡ t → ltb j i ≡ u → i ≡ j
 one_place ps i j q r h l e f true u x y = absurd (apart ps i j q r (ltb_true i j x) l e f)
 one_place ps i j q r h l e f false true x y = absurd (apart ps j i q r (ltb_true j i y) h f e)
 one_place ps i j q r h l e f false false x y = ltb_neither i j x y

@@ -6,7 +6,7 @@ use Rattle.std.specs.Result.{result_unwrap_or}
 use Rattle.std.proofs.lemmas.Bool.Decides.{nat_tests, Decides-int_eq}
 use Rattle.fixed_worth.specs.declared.numerals.NumberFault.{NumberFault}
 use Rattle.fixed_worth.specs.Numeral.{plain_of}
-use Rattle.ordered_group.specs.Amount.{Amount}
+use Rattle.ordered_group.specs.Amount.{Amount, zero_amount}
 use Rattle.ordered_group.specs.Sums.{amount_at}
 use Rattle.check_pit.specs.declared.cert_faults.CertFault.{CertFault}
 use Rattle.check_pit.specs.declared.cert_faults.CertFault.TheVariants as fault
@@ -17,7 +17,8 @@ use Rattle.check_pit.specs.declared.lines_of_body.Kind.TheVariants.{Pit, Source,
 use Rattle.check_pit.specs.declared.lines_of_body.BodyLine.{BodyLine}
 use Rattle.check_pit.specs.Pieces.{Piece, Unread, Passed, piece_at, read_line, in_line, no_line, unless_fault, within, number_below, words_of}
 use Rattle.check_pit.specs.BodyLines.{kind_of, amount_said, amount_in, is_amount, numbered_line, pit_line, block_line, rest_line, end_line, line_with, line_of_words, line_of, is_end, is_of_model, may_follow, line_behind, next_line, end_fault, fault_from, body_fault, lines_in}
-use Rattle.check_pit.specs.Certificate.{Gathered, Covers, Adds, UnlessMemory, has_pair, pit_of, block_if_pit, given, gives_source, gives_rest, gives_sink, is_rest}
+use Rattle.check_pit.specs.Certificate.{Covers, UnlessMemory, has_pair, pit_of, block_if_pit, given, gives_source, gives_rest, gives_sink, is_rest, amount_of}
+use Rattle.check_pit.specs.Gathered.{Gathered, Adds}
 
 -- A line that is read has what its text gives.
 in_line_ok : {A : Type 0} (k : ℕ) (r : Result A LineFault) (x : A) → in_line k r ≡ Ok x → r ≡ Ok x
@@ -88,10 +89,42 @@ counted_in counts (Ok w) (Err e) a h = absurd cc
 counted_in counts (Err d) (Ok c) a h = absurd cc
 counted_in counts (Err d) (Err e) a h = absurd cc
 
+-- A line of such a kind has an amount.
+abbrev pub carries : Kind → Bool
+carries Pit = false
+carries Source = true
+carries Rest = true
+carries Sink = true
+carries End = false
+
+amount_tested : (counts : Bool) (w c : ℤ) (a : ℤ × ℤ) (t : Bool) → is_amount counts w c ≡ t → cond t (Some (w, c)) None ≡ Some a → is_amount counts a.0 a.1 ≡ true
+amount_tested counts w c a true e h = subst (λ (x : ℤ × ℤ). is_amount counts x.0 x.1 ≡ true) (ap (λ (o : Option (ℤ × ℤ)). unwrap_or o a) h) e
+amount_tested counts w c a false e h = absurd cc
+
+amount_said_so : (counts : Bool) (r s : Result ℤ NumberFault) (a : ℤ × ℤ) → amount_said counts r s ≡ Some a → is_amount counts a.0 a.1 ≡ true
+amount_said_so counts (Ok w) (Ok c) a h = amount_tested counts w c a (is_amount counts w c) refl h
+amount_said_so counts (Ok w) (Err e) a h = absurd cc
+amount_said_so counts (Err d) (Ok c) a h = absurd cc
+amount_said_so counts (Err d) (Err e) a h = absurd cc
+
+amount_parts : (line : BodyLine) (a : ℤ × ℤ) → Some a ≡ Some (line.worth, line.count) → amount_of line ≡ record { w = a.0; c = a.1 }
+amount_parts line a h = sym (ap (λ (o : Option (ℤ × ℤ)). record { w = (unwrap_or o a).0; c = (unwrap_or o a).1 }) h)
+
+abbrev no_parts : ℤ × ℤ
+no_parts = (pos 0, pos 0)
+
+no_amount : (line : BodyLine) → Some no_parts ≡ Some (line.worth, line.count) → amount_of line ≡ zero_amount
+no_amount line h = amount_parts line no_parts h
+
+not_carried : (line : BodyLine) (kind : Kind) {P : Type 0} → line.kind ≡ kind → carries kind ≡ false → carries line.kind ≡ true → P
+not_carried line kind e f h = absurd (let z : true ≡ false = sym h ∙ ap carries e ∙ f in cc)
+
 -- What a reader may rely on: where the line is not the last one, its block is one of n; only a REST line has a predecessor; and the count fits the group.
 pub record Sound (counts : Bool) (n : ℕ) (line : BodyLine) : Type 0 where
   pub block : is_end line.kind ≡ false → line.block < n
   pub other : is_rest line.kind ≡ false → line.other ≡ 0
+  pub none : line.kind ≡ Pit → amount_of line ≡ zero_amount
+  pub some : carries line.kind ≡ true → is_amount counts line.worth line.count ≡ true
   pub count : Counted counts line.count
 
 abbrev refused : Result BodyLine LineFault
@@ -103,9 +136,11 @@ no_line_is line h = absurd cc
 none_other : (o : Option ℕ) (line : BodyLine) → o ≡ Some line.other → o ≡ Some 0 → line.other ≡ 0
 none_other o line e f = ap (λ (x : Option ℕ). unwrap_or x 0) (sym e ∙ f)
 
-sound_amount : (counts : Bool) (n : ℕ) (kind : Kind) (b w c : List ℕ) (o : Option ℕ) (line : BodyLine) → Numbered kind (number_below n b) o (amount_in counts w c) line → (is_rest kind ≡ false → o ≡ Some 0) → Sound counts n line
-sound_amount counts n kind b w c o line m z = record {
+sound_amount : (counts : Bool) (n : ℕ) (kind : Kind) (b w c : List ℕ) (o : Option ℕ) (line : BodyLine) → Numbered kind (number_below n b) o (amount_in counts w c) line → (is_rest kind ≡ false → o ≡ Some 0) → carries kind ≡ true → Sound counts n line
+sound_amount counts n kind b w c o line m z y = record {
   other = λ e. none_other o line m.other_is (z (sym (ap is_rest m.kind_is) ∙ e));
+  none = λ e. absurd (let f : true ≡ false = sym y ∙ ap carries (sym m.kind_is ∙ e) in cc);
+  some = λ _. amount_said_so counts (plain_of w) (plain_of c) (line.worth, line.count) m.amount_is;
   block = λ _. below_limit n line.block b m.block_is;
   count = counted_in counts (plain_of w) (plain_of c) (line.worth, line.count) m.amount_is;
 }
@@ -114,36 +149,36 @@ sound_pit : (counts : Bool) (n : ℕ) (words : List (List ℕ)) (line : BodyLine
 sound_pit counts n [] line h = no_line_is line h
 sound_pit counts n (b ∷ []) line h =
     let m = numbered Pit (number_below n b) (Some 0) (Some (pos 0, pos 0)) line h in
-    record { block = λ _. below_limit n line.block b m.block_is; other = λ _. none_other (Some 0) line m.other_is refl; count = inr (sym (ap (λ (o : Option (ℤ × ℤ)). (unwrap_or o (pos 0, pos 0)).1) m.amount_is)) }
+    record { block = λ _. below_limit n line.block b m.block_is; other = λ _. none_other (Some 0) line m.other_is refl; none = λ _. no_amount line m.amount_is; some = λ h. not_carried line _ m.kind_is refl h; count = inr (sym (ap (λ (o : Option (ℤ × ℤ)). (unwrap_or o (pos 0, pos 0)).1) m.amount_is)) }
 sound_pit counts n (b ∷ w ∷ ws) line h = no_line_is line h
 
-sound_block : (counts : Bool) (n : ℕ) (kind : Kind) (words : List (List ℕ)) (line : BodyLine) → block_line counts n kind words ≡ Ok line → Sound counts n line
-sound_block counts n kind [] line h = no_line_is line h
-sound_block counts n kind (b ∷ []) line h = no_line_is line h
-sound_block counts n kind (b ∷ w ∷ []) line h = no_line_is line h
-sound_block counts n kind (b ∷ w ∷ c ∷ []) line h = sound_amount counts n kind b w c (Some 0) line (numbered kind (number_below n b) (Some 0) (amount_in counts w c) line h) (λ _. refl)
-sound_block counts n kind (b ∷ w ∷ c ∷ d ∷ ds) line h = no_line_is line h
+sound_block : (counts : Bool) (n : ℕ) (kind : Kind) (words : List (List ℕ)) (line : BodyLine) → carries kind ≡ true → block_line counts n kind words ≡ Ok line → Sound counts n line
+sound_block counts n kind [] line y h = no_line_is line h
+sound_block counts n kind (b ∷ []) line y h = no_line_is line h
+sound_block counts n kind (b ∷ w ∷ []) line y h = no_line_is line h
+sound_block counts n kind (b ∷ w ∷ c ∷ []) line y h = sound_amount counts n kind b w c (Some 0) line (numbered kind (number_below n b) (Some 0) (amount_in counts w c) line h) (λ _. refl) y
+sound_block counts n kind (b ∷ w ∷ c ∷ d ∷ ds) line y h = no_line_is line h
 
 sound_rest : (counts : Bool) (n : ℕ) (words : List (List ℕ)) (line : BodyLine) → rest_line counts n words ≡ Ok line → Sound counts n line
 sound_rest counts n [] line h = no_line_is line h
 sound_rest counts n (b ∷ []) line h = no_line_is line h
 sound_rest counts n (b ∷ p ∷ []) line h = no_line_is line h
 sound_rest counts n (b ∷ p ∷ w ∷ []) line h = no_line_is line h
-sound_rest counts n (b ∷ p ∷ w ∷ c ∷ []) line h = sound_amount counts n Rest b w c (number_below n p) line (numbered Rest (number_below n b) (number_below n p) (amount_in counts w c) line h) (λ e. absurd (let z : true ≡ false = e in cc))
+sound_rest counts n (b ∷ p ∷ w ∷ c ∷ []) line h = sound_amount counts n Rest b w c (number_below n p) line (numbered Rest (number_below n b) (number_below n p) (amount_in counts w c) line h) (λ e. absurd (let z : true ≡ false = e in cc)) refl
 sound_rest counts n (b ∷ p ∷ w ∷ c ∷ d ∷ ds) line h = no_line_is line h
 
 sound_end : (counts : Bool) (n : ℕ) (words : List (List ℕ)) (line : BodyLine) → end_line words ≡ Ok line → Sound counts n line
 sound_end counts n [] line h =
     let m = numbered End (Some 0) (Some 0) (Some (pos 0, pos 0)) line h in
-    record { block = λ e. absurd (let z : true ≡ false = sym (ap is_end m.kind_is) ∙ e in cc); other = λ _. none_other (Some 0) line m.other_is refl; count = inr (sym (ap (λ (o : Option (ℤ × ℤ)). (unwrap_or o (pos 0, pos 0)).1) m.amount_is)) }
+    record { block = λ e. absurd (let z : true ≡ false = sym (ap is_end m.kind_is) ∙ e in cc); other = λ _. none_other (Some 0) line m.other_is refl; none = λ _. no_amount line m.amount_is; some = λ h. not_carried line _ m.kind_is refl h; count = inr (sym (ap (λ (o : Option (ℤ × ℤ)). (unwrap_or o (pos 0, pos 0)).1) m.amount_is)) }
 sound_end counts n (w ∷ ws) line h = no_line_is line h
 
 sound_with : (counts : Bool) (n : ℕ) (o : Option Kind) (words : List (List ℕ)) (line : BodyLine) → line_with counts n o words ≡ Ok line → Sound counts n line
 sound_with counts n None words line h = no_line_is line h
 sound_with counts n (Some Pit) words line h = sound_pit counts n words line h
-sound_with counts n (Some Source) words line h = sound_block counts n Source words line h
+sound_with counts n (Some Source) words line h = sound_block counts n Source words line refl h
 sound_with counts n (Some Rest) words line h = sound_rest counts n words line h
-sound_with counts n (Some Sink) words line h = sound_block counts n Sink words line h
+sound_with counts n (Some Sink) words line h = sound_block counts n Sink words line refl h
 sound_with counts n (Some End) words line h = sound_end counts n words line h
 
 sound_words : (counts : Bool) (n : ℕ) (words : List (List ℕ)) (line : BodyLine) → line_of_words counts n words ≡ Ok line → Sound counts n line

@@ -19,10 +19,20 @@ use Rattle.check_pit.specs.BodyLines.{line_of, is_end, is_of_model, is_above, ma
 use Rattle.check_pit.specs.Certificate.{pit_of, block_if_pit, is_rest}
 use Rattle.check_pit.proofs.Going.{Sound, text_read, sound}
 
--- Lines that stand in order, each made of its numbers and none of them the last.
-abbrev pub InOrder : Bool → ℕ → Option BodyLine → List BodyLine → Type 0
-InOrder counts n previous [] = Unit {0}
-InOrder counts n previous (l ∷ ls) = (may_follow previous l ≡ true) × Sound counts n l × (is_end l.kind ≡ false) × InOrder counts n (Some l) ls
+-- Lines that stand in order, of each of which P holds.
+abbrev pub InOrder : (BodyLine → Type 0) → Option BodyLine → List BodyLine → Type 0
+InOrder P previous [] = Unit {0}
+InOrder P previous (l ∷ ls) = (may_follow previous l ≡ true) × P l × InOrder P (Some l) ls
+
+pub in_order_weaker : (P Q : BodyLine → Type 0) → ((l : BodyLine) → P l → Q l) → (previous : Option BodyLine) (ls : List BodyLine) → InOrder P previous ls → InOrder Q previous ls
+in_order_weaker P Q f previous [] h = tt
+in_order_weaker P Q f previous (l ∷ ls) h = (h.0, f l h.1, in_order_weaker P Q f (Some l) ls h.2)
+
+-- A line that is read, not the last one, and of the model.
+pub record Good (counts : Bool) (n : ℕ) (has : ℕ → ℕ → Bool) (l : BodyLine) : Type 0 where
+  pub sound : Sound counts n l
+  pub last : is_end l.kind ≡ false
+  pub of_model : is_of_model has l.kind l ≡ true
 
 bind_ok : {A B : Type 0} (r : Result A CertFault) (f : A → Result B CertFault) (x : B) → (r >>= f) ≡ Ok x → (a : A) × (r ≡ Ok a) × (f a ≡ Ok x)
 bind_ok (Ok a) f x h = (a, refl, h)
@@ -34,37 +44,49 @@ order_ok previous k r line true e h =
     (subst (λ (x : BodyLine). may_follow previous x ≡ true) same e, same)
 order_ok previous k r line false e h = absurd cc
 
-model_ok : (has : ℕ → ℕ → Bool) (k : ℕ) (r line : BodyLine) (t : Bool) → cond t (Ok r) (Err (fault.UnknownPair k)) ≡ Ok line → r ≡ line
-model_ok has k r line true h = ap (λ (x : Result BodyLine CertFault). result_unwrap_or x r) h
-model_ok has k r line false h = absurd cc
+model_ok : (has : ℕ → ℕ → Bool) (k : ℕ) (r line : BodyLine) (t : Bool) → is_of_model has r.kind r ≡ t → cond t (Ok r) (Err (fault.UnknownPair k)) ≡ Ok line → (is_of_model has line.kind line ≡ true) × (r ≡ line)
+model_ok has k r line true e h =
+    let same : r ≡ line = ap (λ (x : Result BodyLine CertFault). result_unwrap_or x r) h in
+    (subst (λ (x : BodyLine). is_of_model has x.kind x ≡ true) same e, same)
+model_ok has k r line false e h = absurd cc
 
--- A line that is next has what its text gives, and may follow.
-met : (counts : Bool) (n : ℕ) (has : ℕ → ℕ → Bool) (previous : Option BodyLine) (k : ℕ) (p : Piece) (line : BodyLine) → next_line counts n has previous k p ≡ Ok line → (line_of counts n p.text ≡ Ok line) × (may_follow previous line ≡ true)
+-- A line that is next is read, may follow, and is of the model.
+pub record Met (counts : Bool) (n : ℕ) (has : ℕ → ℕ → Bool) (previous : Option BodyLine) (k : ℕ) (p : Piece) (line : BodyLine) : Type 0 where
+  pub read : read_line (line_of counts n) k p ≡ Ok line
+  pub follows : may_follow previous line ≡ true
+  pub of_model : is_of_model has line.kind line ≡ true
+
+pub met : (counts : Bool) (n : ℕ) (has : ℕ → ℕ → Bool) (previous : Option BodyLine) (k : ℕ) (p : Piece) (line : BodyLine) → next_line counts n has previous k p ≡ Ok line → Met counts n has previous k p line
 met counts n has previous k p line h =
     let q = bind_ok (line_behind counts n previous k p) (in_model has k) line h in
-    let m = model_ok has k q.0 line (is_of_model has q.0.kind q.0) q.2 in
+    let m = model_ok has k q.0 line (is_of_model has q.0.kind q.0) refl q.2 in
     let r = bind_ok (read_line (line_of counts n) k p) (in_order previous k) q.0 q.1 in
     let o = order_ok previous k r.0 q.0 (may_follow previous r.0) refl r.2 in
-    let same : r.0 ≡ line = o.1 ∙ m in
-    (text_read (line_of counts n) k p line (r.1 ∙ ap (λ (x : BodyLine). Ok x) same), subst (λ (x : BodyLine). may_follow previous x ≡ true) m o.0)
+    let same : r.0 ≡ line = o.1 ∙ m.1 in
+    record {
+      read = r.1 ∙ ap (λ (x : BodyLine). Ok x) same;
+      follows = subst (λ (x : BodyLine). may_follow previous x ≡ true) m.1 o.0;
+      of_model = m.0;
+    }
 
 -- The lines of a text without a fault stand in order.
-go_on : (counts : Bool) (n : ℕ) (has : ℕ → ℕ → Bool) (previous : Option BodyLine) (k : ℕ) (p : Piece) (ps : List Piece) (line : BodyLine) (t : Bool) → is_end line.kind ≡ t → line_of counts n p.text ≡ Ok line → may_follow previous line ≡ true
-    → cond t (end_fault (k + 1) ps) (body_fault counts n has (Some line) (k + 1) ps) ≡ None → (body_fault counts n has (Some line) (k + 1) ps ≡ None → InOrder counts n (Some line) (lines_in counts n ps))
-    → InOrder counts n previous (cond t [] (line ∷ lines_in counts n ps))
-go_on counts n has previous k p ps line true e f m h ih = tt
-go_on counts n has previous k p ps line false e f m h ih = (m, sound counts n p.text line f, e, ih h)
+go_on : (counts : Bool) (n : ℕ) (has : ℕ → ℕ → Bool) (previous : Option BodyLine) (k : ℕ) (p : Piece) (ps : List Piece) (line : BodyLine) (t : Bool) → is_end line.kind ≡ t → line_of counts n p.text ≡ Ok line → may_follow previous line ≡ true → is_of_model has line.kind line ≡ true
+    → cond t (end_fault (k + 1) ps) (body_fault counts n has (Some line) (k + 1) ps) ≡ None → (body_fault counts n has (Some line) (k + 1) ps ≡ None → InOrder (Good counts n has) (Some line) (lines_in counts n ps))
+    → InOrder (Good counts n has) previous (cond t [] (line ∷ lines_in counts n ps))
+go_on counts n has previous k p ps line true e f m o h ih = tt
+go_on counts n has previous k p ps line false e f m o h ih = (m, record { sound = sound counts n p.text line f; last = e; of_model = o }, ih h)
 
 read_on : (counts : Bool) (n : ℕ) (has : ℕ → ℕ → Bool) (previous : Option BodyLine) (k : ℕ) (p : Piece) (ps : List Piece) (r : Result BodyLine CertFault) → next_line counts n has previous (k + 1) p ≡ r
-    → fault_from (end_fault (k + 1) ps) (λ line. body_fault counts n has (Some line) (k + 1) ps) r ≡ None → ((line : BodyLine) → body_fault counts n has (Some line) (k + 1) ps ≡ None → InOrder counts n (Some line) (lines_in counts n ps))
-    → InOrder counts n previous (lines_from (lines_in counts n ps) (line_of counts n p.text))
+    → fault_from (end_fault (k + 1) ps) (λ line. body_fault counts n has (Some line) (k + 1) ps) r ≡ None → ((line : BodyLine) → body_fault counts n has (Some line) (k + 1) ps ≡ None → InOrder (Good counts n has) (Some line) (lines_in counts n ps))
+    → InOrder (Good counts n has) previous (lines_from (lines_in counts n ps) (line_of counts n p.text))
 read_on counts n has previous k p ps (Err e) f h ih = absurd cc
 read_on counts n has previous k p ps (Ok line) f h ih =
     let q = met counts n has previous (k + 1) p line f in
-    let on = go_on counts n has previous k p ps line (is_end line.kind) refl q.0 q.1 h (ih line) in
-    subst (λ (r : Result BodyLine LineFault). InOrder counts n previous (lines_from (lines_in counts n ps) r)) (sym q.0) on
+    let read = text_read (line_of counts n) (k + 1) p line q.read in
+    let on = go_on counts n has previous k p ps line (is_end line.kind) refl read q.follows q.of_model h (ih line) in
+    subst (λ (r : Result BodyLine LineFault). InOrder (Good counts n has) previous (lines_from (lines_in counts n ps) r)) (sym read) on
 
-pub stands_in_order : (counts : Bool) (n : ℕ) (has : ℕ → ℕ → Bool) (previous : Option BodyLine) (k : ℕ) (ps : List Piece) → body_fault counts n has previous k ps ≡ None → InOrder counts n previous (lines_in counts n ps)
+pub stands_in_order : (counts : Bool) (n : ℕ) (has : ℕ → ℕ → Bool) (previous : Option BodyLine) (k : ℕ) (ps : List Piece) → body_fault counts n has previous k ps ≡ None → InOrder (Good counts n has) previous (lines_in counts n ps)
 stands_in_order counts n has previous k [] h = absurd cc
 stands_in_order counts n has previous k (p ∷ ps) h =
     read_on counts n has previous k p ps (next_line counts n has previous (k + 1) p) refl h (λ line g. stands_in_order counts n has (Some line) (k + 1) ps g)
@@ -102,9 +124,9 @@ later counts n l m bs Rest e s t a ih i h = let z = ih i h in let y : Rest ≡ P
 later counts n l m bs Sink e s t a ih i h = let z = ih i h in let y : Sink ≡ Pit = sym e ∙ z.0 in absurd cc
 later counts n l m bs End e s t a ih i h = let z = ih i h in let y : End ≡ Pit = sym e ∙ z.0 in absurd cc
 
-later_pits : (counts : Bool) (n : ℕ) (l : BodyLine) (ls : List BodyLine) → Sound counts n l → InOrder counts n (Some l) ls → (i : ℕ) → i < length (pit_of ls) → (l.kind ≡ Pit) × (l.block < get_or (pit_of ls) i 0)
-later_pits counts n l [] s o i h = absurd (omega arith)
-later_pits counts n l (m ∷ ms) s o i h = later counts n l m (pit_of ms) m.kind refl s o.1 o.0 (later_pits counts n m ms o.1 o.3) i h
+later_pits : (counts : Bool) (n : ℕ) (has : ℕ → ℕ → Bool) (l : BodyLine) (ls : List BodyLine) → Sound counts n l → InOrder (Good counts n has) (Some l) ls → (i : ℕ) → i < length (pit_of ls) → (l.kind ≡ Pit) × (l.block < get_or (pit_of ls) i 0)
+later_pits counts n has l [] s o i h = absurd (omega arith)
+later_pits counts n has l (m ∷ ms) s o i h = later counts n l m (pit_of ms) m.kind refl s o.1.sound o.0 (later_pits counts n has m ms o.1.sound o.2) i h
 
 rising : (b : ℕ) (bs : List ℕ) → ((i : ℕ) → i < length bs → b < get_or bs i 0) → IsAscending bs → IsAscending (b ∷ bs)
 rising b bs f h zero zero i j = absurd (omega arith)
@@ -119,9 +141,9 @@ with_pit counts n m bs Rest e f h = h
 with_pit counts n m bs Sink e f h = h
 with_pit counts n m bs End e f h = h
 
-pub ascending : (counts : Bool) (n : ℕ) (previous : Option BodyLine) (ls : List BodyLine) → InOrder counts n previous ls → IsAscending (pit_of ls)
-ascending counts n previous [] o = λ i j g h. absurd (omega arith)
-ascending counts n previous (l ∷ ls) o = with_pit counts n l (pit_of ls) l.kind refl (later_pits counts n l ls o.1 o.3) (ascending counts n (Some l) ls o.3)
+pub ascending : (counts : Bool) (n : ℕ) (has : ℕ → ℕ → Bool) (previous : Option BodyLine) (ls : List BodyLine) → InOrder (Good counts n has) previous ls → IsAscending (pit_of ls)
+ascending counts n has previous [] o = λ i j g h. absurd (omega arith)
+ascending counts n has previous (l ∷ ls) o = with_pit counts n l (pit_of ls) l.kind refl (later_pits counts n has l ls o.1.sound o.2) (ascending counts n has (Some l) ls o.2)
 
 known_on : (n b : ℕ) (bs : List ℕ) → b < n → All (λ x. x < n) bs → All (λ x. x < n) (b ∷ bs)
 known_on n b bs f h zero d i = f
@@ -134,6 +156,6 @@ known_pit n b bs Rest f h = h
 known_pit n b bs Sink f h = h
 known_pit n b bs End f h = h
 
-pub known : (counts : Bool) (n : ℕ) (previous : Option BodyLine) (ls : List BodyLine) → InOrder counts n previous ls → All (λ x. x < n) (pit_of ls)
-known counts n previous [] o = λ k d h. absurd (omega arith)
-known counts n previous (l ∷ ls) o = known_pit n l.block (pit_of ls) l.kind (o.1.block o.2) (known counts n (Some l) ls o.3)
+pub known : (counts : Bool) (n : ℕ) (has : ℕ → ℕ → Bool) (previous : Option BodyLine) (ls : List BodyLine) → InOrder (Good counts n has) previous ls → All (λ x. x < n) (pit_of ls)
+known counts n has previous [] o = λ k d h. absurd (omega arith)
+known counts n has previous (l ∷ ls) o = known_pit n l.block (pit_of ls) l.kind (o.1.sound.block o.1.last) (known counts n has (Some l) ls o.2)

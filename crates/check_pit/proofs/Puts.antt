@@ -1,6 +1,6 @@
 -- A text that is put line after line.
-use Rattle.std.proofs.Common.{◌≡◌, ℕ, zero, suc, ◌+◌, ◌<◌, Bool, true, false, not, cond, List, [], ◌∷◌, ◌++◌, length, map, get_or, drop, Option, Result, Ok, Err, refl, sym, ap, ◌∙◌, subst, append_assoc, append-nil, add-one, drop-cons, arith}
-use Rattle.std.specs.Result.{OnErr}
+use Rattle.std.proofs.Common.{◌≡◌, ℕ, zero, suc, ◌+◌, ◌<◌, Bool, true, false, cond, List, [], ◌∷◌, ◌++◌, length, map, get_or, drop, Option, Result, Ok, Err, refl, sym, ap, ◌∙◌, subst, append_assoc, append-nil, add-one, drop-cons, arith}
+use Rattle.std.specs.Result.{OnOk, OnErr}
 use Rattle.std.specs.Io.KnownBytes.{Appends}
 use Rattle.fixed_worth.specs.Device.{ReceivedPrefix, SentOrHeld}
 use Rattle.fixed_worth.proofs.Pieces.{all_held, held_more, held_more_prefix, prefix_of_first, held_both, held_sent, held_prefix, prefix_in_first, prefix_in_second}
@@ -8,7 +8,7 @@ use Rattle.ordered_group.specs.Amount.{Amount, zero_amount}
 use Rattle.closure_net.specs.Network.{FlowView}
 use Rattle.check_pit.specs.declared.lines_of_body.Kind.TheVariants.{Source, Sink}
 use Rattle.check_pit.specs.declared.lines_of_body.BodyLine.{BodyLine}
-use Rattle.check_pit.specs.Written.{spaced, line_words, lines_text, body_text, amount_lines, is_zero, pit_at, block_at, pair_at, flow_lines}
+use Rattle.check_pit.specs.Written.{spaced, line_words, body_text, amount_lines, is_zero, pit_at, block_at, pair_at, flow_lines}
 
 -- Of all that is to be put, behind what was held at first, this is left.
 pub record Put (a b : Option (List ℕ)) (first now left all : List ℕ) : Type 0 where
@@ -122,6 +122,10 @@ body_parts ls ms end = sym (append_assoc (body_text ls) (body_text ms) end) ∙ 
 pub on_err : {X Y P : Type 0} (r : Result X Y) → P → OnErr r P
 on_err (Ok x) h = tt
 on_err (Err e) h = h
+
+pub on_ok : {X Y P : Type 0} (r : Result X Y) → P → OnOk r P
+on_ok (Ok x) h = h
+on_ok (Err e) h = tt
 
 -- The three parts of a flow.
 abbrev pub sources : List Amount → List ℕ

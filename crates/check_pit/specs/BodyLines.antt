@@ -29,6 +29,7 @@ kind_of key =
 abbrev pub is_amount : Bool → ℤ → ℤ → Bool
 is_amount counts w c = cond (int_eq c (pos 0)) (not (int_eq w (pos 0))) counts
 
+-- the amount of two numbers that are written rightly
 abbrev pub amount_said : Bool → Result ℤ NumberFault → Result ℤ NumberFault → Option (ℤ × ℤ)
 amount_said counts (Ok w) (Ok c) = cond (is_amount counts w c) (Some (w, c)) None
 amount_said counts (Ok w) (Err e) = None
@@ -64,6 +65,7 @@ abbrev pub end_line : List (List ℕ) → Result BodyLine LineFault
 end_line [] = numbered_line End (Some 0) (Some 0) (Some (pos 0, pos 0))
 end_line (w ∷ ws) = Err Text
 
+-- the line of a kind, by the words behind its key
 abbrev pub line_with : Bool → ℕ → Option Kind → List (List ℕ) → Result BodyLine LineFault
 line_with counts n None words = Err Text
 line_with counts n (Some Pit) words = pit_line n words
@@ -72,6 +74,7 @@ line_with counts n (Some Rest) words = rest_line counts n words
 line_with counts n (Some Sink) words = block_line counts n Sink words
 line_with counts n (Some End) words = end_line words
 
+-- the line that words are, of which the first is its key
 abbrev pub line_of_words : Bool → ℕ → List (List ℕ) → Result BodyLine LineFault
 line_of_words counts n [] = Err Text
 line_of_words counts n (key ∷ words) = line_with counts n (kind_of key) words
@@ -88,6 +91,7 @@ rank Rest = 2
 rank Sink = 3
 rank End = 4
 
+-- the last line of a certificate
 abbrev pub is_end : Kind → Bool
 is_end Pit = false
 is_end Source = false
@@ -112,9 +116,11 @@ is_of_model has Rest line = has line.block line.other
 is_of_model has Sink line = true
 is_of_model has End line = true
 
+-- the line, where it may follow
 abbrev pub in_order : Option BodyLine → ℕ → BodyLine → Result BodyLine CertFault
 in_order previous k line = cond (may_follow previous line) (Ok line) (Err (fault.OutOfOrder k))
 
+-- the line, where it is of the model
 abbrev pub in_model : (ℕ → ℕ → Bool) → ℕ → BodyLine → Result BodyLine CertFault
 in_model has k line = cond (is_of_model has line.kind line) (Ok line) (Err (fault.UnknownPair k))
 
@@ -145,6 +151,7 @@ abbrev pub body_fault : Bool → ℕ → (ℕ → ℕ → Bool) → Option BodyL
 body_fault counts n has previous k [] = Some fault.Truncated
 body_fault counts n has previous k (p ∷ ps) = fault_from (end_fault (k + 1) ps) (λ line. body_fault counts n has (Some line) (k + 1) ps) (next_line counts n has previous (k + 1) p)
 
+-- a line and those behind it, where it is read and is not END
 abbrev pub lines_from : List BodyLine → Result BodyLine LineFault → List BodyLine
 lines_from behind (Err e) = []
 lines_from behind (Ok line) = cond (is_end line.kind) [] (line ∷ behind)

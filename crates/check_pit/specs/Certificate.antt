@@ -1,10 +1,10 @@
 -- What a certificate's text says, and what is wrong with it.
-use Rattle.std.specs.Prelude.{◌≡◌, ℕ, ◌<◌, ◌==◌, ◌&&◌, Bool, true, false, cond, List, [], ◌∷◌, ◌++◌, length, drop, slice_index_or, slice_set, All, Option, Some, None, Result, Ok, Err}
+use Rattle.std.specs.Prelude.{◌≡◌, ℕ, ◌<◌, ◌==◌, ◌&&◌, Bool, true, false, cond, List, [], ◌∷◌, length, drop, slice_index_or, All, Option, Some, None, Result, Ok, Err}
 use Rattle.std.specs.List.{list_any}
 use Rattle.ordered_group.specs.declared.groups.Group.{Group}
 use Rattle.ordered_group.specs.Amount.{Amount, zero_amount}
 use Rattle.ordered_group.specs.Sums.{amount_at}
-use Rattle.closure_net.specs.Network.{FlowView, flow_view, IsAscending}
+use Rattle.closure_net.specs.Network.{FlowView, IsAscending}
 use Rattle.check_pit.specs.declared.headers.Header.{Header}
 use Rattle.check_pit.specs.declared.headers.Wanted.{Wanted}
 use Rattle.check_pit.specs.declared.headers.Price.{Price}
@@ -16,6 +16,7 @@ use Rattle.check_pit.specs.declared.lines_of_body.BodyLine.{BodyLine}
 use Rattle.check_pit.specs.Pieces.{Piece, pieces_of}
 use Rattle.check_pit.specs.Header.{header_for}
 use Rattle.check_pit.specs.BodyLines.{body_fault, lines_in}
+use Rattle.check_pit.specs.Written.{header_with, text_of}
 
 -- the pair is among these
 abbrev pub has_pair : List (ℕ × ℕ) → ℕ → ℕ → Bool
@@ -25,9 +26,11 @@ has_pair pairs b p = list_any (λ q. (q.0 == b) && (q.1 == p)) pairs
 abbrev pub body_of : List ℕ → List Piece
 body_of text = drop 4 (pieces_of text)
 
+-- what the header must say for n blocks and a group
 abbrev pub wanted_for : ℕ → Group → Option Wanted
 wanted_for n name = Some (record { blocks = n; group = name })
 
+-- the fault of the header, or else of the lines behind it
 abbrev pub fault_behind : Bool → ℕ → List (ℕ × ℕ) → List Piece → Result Header CertFault → Option CertFault
 fault_behind counts n pairs body (Err e) = Some e
 fault_behind counts n pairs body (Ok header) = body_fault counts n (has_pair pairs) None 4 body
@@ -36,10 +39,11 @@ fault_behind counts n pairs body (Ok header) = body_fault counts n (has_pair pai
 abbrev pub fault_of : Bool → Group → ℕ → List (ℕ × ℕ) → List ℕ → Option CertFault
 fault_of counts name n pairs text = fault_behind counts n pairs (body_of text) (header_for (wanted_for n name) (pieces_of text))
 
+-- the two numbers of a line
 abbrev pub amount_of : BodyLine → Amount
 amount_of line = record { w = line.worth; c = line.count }
 
--- the blocks of PIT lines, in order
+-- blocks behind the block of a line, where that is a PIT line
 abbrev pub block_if_pit : Kind → ℕ → List ℕ → List ℕ
 block_if_pit Pit b bs = b ∷ bs
 block_if_pit Source b bs = bs
@@ -47,11 +51,12 @@ block_if_pit Rest b bs = bs
 block_if_pit Sink b bs = bs
 block_if_pit End b bs = bs
 
+-- the blocks of the PIT lines, in order
 abbrev pub pit_of : List BodyLine → List ℕ
 pit_of [] = []
 pit_of (l ∷ ls) = block_if_pit l.kind l.block (pit_of ls)
 
--- a SOURCE line, a REST line and a SINK line
+-- a SOURCE line
 abbrev pub is_source : Kind → Bool
 is_source Pit = false
 is_source Source = true
@@ -59,6 +64,7 @@ is_source Rest = false
 is_source Sink = false
 is_source End = false
 
+-- a REST line
 abbrev pub is_rest : Kind → Bool
 is_rest Pit = false
 is_rest Source = false
@@ -66,6 +72,7 @@ is_rest Rest = true
 is_rest Sink = false
 is_rest End = false
 
+-- a SINK line
 abbrev pub is_sink : Kind → Bool
 is_sink Pit = false
 is_sink Source = false
@@ -73,50 +80,28 @@ is_sink Rest = false
 is_sink Sink = true
 is_sink End = false
 
--- whether a line gives the amount from the source for a block, over a pair, or to the sink for a block
+-- whether a line gives the amount from the source for a block
 abbrev pub gives_source : ℕ → BodyLine → Bool
 gives_source b l = is_source l.kind && (l.block == b)
 
+-- whether a line gives the amount over a pair
 abbrev pub gives_rest : ℕ × ℕ → BodyLine → Bool
 gives_rest q l = is_rest l.kind && ((q.0 == l.block) && (q.1 == l.other))
 
+-- whether a line gives the amount to the sink for a block
 abbrev pub gives_sink : ℕ → BodyLine → Bool
 gives_sink b l = is_sink l.kind && (l.block == b)
 
--- the amount that the lines give, or this one where none does
+-- the amount that the lines give, or this one where none does; of lines in order at most one gives it
 abbrev pub given : (BodyLine → Bool) → Amount → List BodyLine → Amount
 given gives x [] = x
 given gives x (l ∷ ls) = given gives (cond (gives l) (amount_of l) x) ls
-
--- a pit and a flow, as far as they are gathered
-pub record Gathered : Type 0 where
-  pub pit : List ℕ
-  pub flow : FlowView
-
-abbrev pub with_block : ℕ → Gathered → Gathered
-with_block b g = record { pit = g.pit ++ b ∷ []; flow = g.flow }
-
-abbrev pub with_source : ℕ → Amount → Gathered → Gathered
-with_source b x g = record { pit = g.pit; flow = flow_view (slice_set g.flow.source b x) g.flow.rest g.flow.sink }
-
-abbrev pub with_rest : ℕ → Amount → Gathered → Gathered
-with_rest k x g = record { pit = g.pit; flow = flow_view g.flow.source (slice_set g.flow.rest k x) g.flow.sink }
-
-abbrev pub with_sink : ℕ → Amount → Gathered → Gathered
-with_sink b x g = record { pit = g.pit; flow = flow_view g.flow.source g.flow.rest (slice_set g.flow.sink b x) }
 
 -- the flow has an amount for each of n blocks and m pairs
 pub record Covers (n m : ℕ) (flow : FlowView) : Type 0 where
   pub sources : length flow.source ≡ n
   pub rests : length flow.rest ≡ m
   pub sinks : length flow.sink ≡ n
-
--- the lines are added to what was gathered before
-pub record Adds (n : ℕ) (pairs : List (ℕ × ℕ)) (lines : List BodyLine) (before later : Gathered) : Type 0 where
-  pub pit : later.pit ≡ before.pit ++ pit_of lines
-  pub source : (b : ℕ) → b < n → amount_at later.flow.source b ≡ given (gives_source b) (amount_at before.flow.source b) lines
-  pub rest : (k : ℕ) → k < length pairs → amount_at later.flow.rest k ≡ given (gives_rest (slice_index_or pairs k (0, 0))) (amount_at before.flow.rest k) lines
-  pub sink : (b : ℕ) → b < n → amount_at later.flow.sink b ≡ given (gives_sink b) (amount_at before.flow.sink b) lines
 
 -- the pit and the flow that the lines say: an amount without a line is zero
 pub record Denotes (n : ℕ) (pairs : List (ℕ × ℕ)) (lines : List BodyLine) (blocks : List ℕ) (flow : FlowView) : Type 0 where
@@ -126,16 +111,18 @@ pub record Denotes (n : ℕ) (pairs : List (ℕ × ℕ)) (lines : List BodyLine)
   pub rest : (k : ℕ) → k < length pairs → amount_at flow.rest k ≡ given (gives_rest (slice_index_or pairs k (0, 0))) zero_amount lines
   pub sink : (b : ℕ) → b < n → amount_at flow.sink b ≡ given (gives_sink b) zero_amount lines
 
+-- the lines of a text behind its header, before END
 abbrev pub lines_of_text : Bool → ℕ → List ℕ → List BodyLine
 lines_of_text counts n text = lines_in counts n (body_of text)
 
--- The numbers, the pit and the flow that a text without a fault gives.
+-- The numbers, the pit and the flow that a text without a fault gives; and it is the one text of these.
 pub record IsRead (counts : Bool) (name : Group) (n : ℕ) (pairs : List (ℕ × ℕ)) (text : List ℕ) (blocks : ℕ) (price : Price) (pit : List ℕ) (flow : FlowView) : Type 0 where
   pub header : header_for (wanted_for n name) (pieces_of text) ≡ Ok (record { blocks = n; price = price; group = name })
   pub same_blocks : blocks ≡ n
   pub denotes : Denotes n pairs (lines_of_text counts n text) pit flow
   pub ascending : IsAscending pit
   pub known : All (λ b. b < n) pit
+  pub spelled : text ≡ text_of (header_with n price name) pairs pit flow
 
 -- want of memory says nothing of the text
 abbrev pub UnlessMemory : CertFault → Type 0 → Type 0

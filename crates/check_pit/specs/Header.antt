@@ -18,6 +18,7 @@ abbrev pub value_behind : List ℕ → List (List ℕ) → Option (List ℕ)
 value_behind key (k ∷ v ∷ []) = cond (bytes_eq k key) (Some v) None
 value_behind key _ = None
 
+-- what is read of a number, or that it is none
 abbrev pub or_number : {A : Type 0} → Option A → Result A LineFault
 or_number (Some a) = Ok a
 or_number None = Err Number
@@ -32,6 +33,7 @@ wanted_blocks None o = o
 wanted_blocks (Some wanted) None = None
 wanted_blocks (Some wanted) (Some n) = cond (n == wanted.blocks) (Some n) None
 
+-- the number of blocks that a word says
 abbrev pub blocks_said : Option Wanted → Option (List ℕ) → Result ℕ LineFault
 blocks_said wanted None = Err Text
 blocks_said wanted (Some word) = or_number (wanted_blocks wanted (number_below (2 ^ 24 + 1) word))
@@ -40,10 +42,12 @@ blocks_said wanted (Some word) = or_number (wanted_blocks wanted (number_below (
 abbrev pub blocks_in : Option Wanted → List ℕ → Result ℕ LineFault
 blocks_in wanted text = blocks_said wanted (value_behind (codes "BLOCKS") (words_of text))
 
+-- the price at a factor
 abbrev pub factor_of : Option ℕ → Option Price
 factor_of (Some k) = Some (Factor k)
 factor_of None = None
 
+-- the price that a word says
 abbrev pub price_said : Option (List ℕ) → Result Price LineFault
 price_said None = Err Text
 price_said (Some word) = cond (bytes_eq word (codes "OBJECTIVE")) (Ok Objective) (or_number (factor_of (number_below 10001 word)))
@@ -52,6 +56,7 @@ price_said (Some word) = cond (bytes_eq word (codes "OBJECTIVE")) (Ok Objective)
 abbrev pub price_in : List ℕ → Result Price LineFault
 price_in text = price_said (value_behind (codes "PRICE") (words_of text))
 
+-- two names of one group
 abbrev pub is_same_group : Group → Group → Bool
 is_same_group Worth Worth = true
 is_same_group Worth Pair = false
@@ -67,6 +72,7 @@ wanted_group (Some wanted) group = cond (is_same_group wanted.group group) (Ok g
 abbrev pub group_in : Option Wanted → List ℕ → Result Group LineFault
 group_in wanted text = cond (bytes_eq text (codes "GROUP WORTH")) (wanted_group wanted Worth) (cond (bytes_eq text (codes "GROUP PAIR")) (wanted_group wanted Pair) (Err Text))
 
+-- a result, and what is made of it where it is no fault
 infixl 10 ◌>>=◌
 abbrev pub ◌>>=◌ : {A B : Type 0} → Result A CertFault → (A → Result B CertFault) → Result B CertFault
 Ok a >>= f = f a

@@ -6,7 +6,9 @@ pub mod Closing
 pub mod Duality
 pub mod FaultText
 pub mod Fits
+pub mod Gathered
 pub mod Header
 pub mod Pieces
 pub mod PrintedFaults
+pub mod ReadBack
 pub mod Written

@@ -47,6 +47,7 @@ in_line k (Ok a) = Ok a
 in_line k (Err Text) = Err (fault.Text k)
 in_line k (Err Number) = Err (fault.Number k)
 
+-- a fault, or else what is read
 abbrev pub unless_fault : {A : Type 0} → Option CertFault → Result A CertFault → Result A CertFault
 unless_fault (Some e) r = Err e
 unless_fault None r = r

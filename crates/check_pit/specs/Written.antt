@@ -1,5 +1,5 @@
 -- The one text of a certificate.
-use Rattle.std.specs.Prelude.{ℕ, ℤ, pos, ◌+◌, ◌&&◌, Bool, cond, List, [], ◌∷◌, ◌++◌, map, slice_index_or}
+use Rattle.std.specs.Prelude.{ℕ, pos, ◌+◌, ◌&&◌, Bool, cond, List, [], ◌∷◌, ◌++◌, map, slice_index_or}
 use Rattle.std.specs.Fmt.{decimal, signed_decimal}
 use Rattle.std.specs.Ordering.{int_eq}
 use lib.Chars.{codes}
@@ -25,10 +25,12 @@ abbrev pub lines_text : List (List (List ℕ)) → List ℕ
 lines_text [] = []
 lines_text (words ∷ lines) = spaced words ++ (10 ∷ lines_text lines)
 
+-- the word of a price
 abbrev pub price_word : Price → List ℕ
 price_word Objective = codes "OBJECTIVE"
 price_word (Factor k) = decimal k
 
+-- the word of a group
 abbrev pub group_word : Group → List ℕ
 group_word group.Worth = codes "WORTH"
 group_word group.Pair = codes "PAIR"
@@ -50,19 +52,23 @@ words_with Rest l = codes "REST" ∷ decimal l.block ∷ decimal l.other ∷ sig
 words_with Sink l = codes "SINK" ∷ decimal l.block ∷ signed_decimal l.worth ∷ signed_decimal l.count ∷ []
 words_with End l = codes "END" ∷ []
 
+-- the words of a line
 abbrev pub line_words : BodyLine → List (List ℕ)
 line_words l = words_with l.kind l
 
--- the line of a block of the pit, of an amount at a block, and of the amount over the pair at a place
+-- the line of a block of the pit
 abbrev pub pit_at : ℕ → BodyLine
 pit_at b = record { kind = Pit; block = b; other = 0; worth = pos 0; count = pos 0 }
 
+-- the line of an amount at a block
 abbrev pub block_at : Kind → ℕ → Amount → BodyLine
 block_at kind b x = record { kind = kind; block = b; other = 0; worth = x.w; count = x.c }
 
+-- the line of the amount over the pair at a place
 abbrev pub pair_at : List (ℕ × ℕ) → ℕ → Amount → BodyLine
 pair_at pairs k x = record { kind = Rest; block = (slice_index_or pairs k (0, 0)).0; other = (slice_index_or pairs k (0, 0)).1; worth = x.w; count = x.c }
 
+-- both numbers of the amount are 0
 abbrev pub is_zero : Amount → Bool
 is_zero x = int_eq x.w (pos 0) && int_eq x.c (pos 0)
 
@@ -71,19 +77,23 @@ abbrev pub amount_lines : (ℕ → Amount → BodyLine) → ℕ → List Amount 
 amount_lines line k [] = []
 amount_lines line k (x ∷ xs) = cond (is_zero x) (amount_lines line (k + 1) xs) (line k x ∷ amount_lines line (k + 1) xs)
 
--- the lines of a flow, and those of a pit and a flow, in order
+-- the lines of a flow, in order
 abbrev pub flow_lines : List (ℕ × ℕ) → FlowView → List BodyLine
 flow_lines pairs flow = amount_lines (block_at Source) 0 flow.source ++ (amount_lines (pair_at pairs) 0 flow.rest ++ amount_lines (block_at Sink) 0 flow.sink)
 
+-- the lines of a pit and a flow, in order
 abbrev pub value_lines : List (ℕ × ℕ) → List ℕ → FlowView → List BodyLine
 value_lines pairs pit flow = map pit_at pit ++ flow_lines pairs flow
 
+-- the text of lines
 abbrev pub body_text : List BodyLine → List ℕ
 body_text ls = lines_text (map line_words ls)
 
+-- the text of the last line
 abbrev pub end_text : List ℕ
 end_text = lines_text ((codes "END" ∷ []) ∷ [])
 
+-- a header by what it says
 abbrev pub header_with : ℕ → Price → Group → Header
 header_with n price name = record { blocks = n; price = price; group = name }
 

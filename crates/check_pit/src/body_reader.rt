@@ -3,7 +3,8 @@
 ghost use Rattle.std.specs.Prelude.{◌≡◌, ℕ, [], ◌∷◌, length, Some, None, Ok, Err, MatchResult};
 ghost use Rattle.check_pit.specs.BodyLines as spec;
 ghost use Rattle.check_pit.specs.BodyLines.{body_fault, lines_in};
-ghost use Rattle.check_pit.specs.Certificate.{Covers, Adds, UnlessMemory, has_pair};
+ghost use Rattle.check_pit.specs.Certificate.{Covers, UnlessMemory, has_pair};
+ghost use Rattle.check_pit.specs.Gathered.{Adds};
 
 use crate::cert_faults::CertFault;
 use crate::gathering::{Parts, counts};

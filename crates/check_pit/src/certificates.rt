@@ -32,7 +32,10 @@ pub struct Certificate<G: OrderedGroup> {
 
 /// Reads a certificate for these blocks and pairs, with amounts of the group G.
 ///
-/// The fault is that of the first faulty line; `NoMemory` comes only where memory was refused.
+/// The text that is read is the only one of its certificate: what [`crate::write_certificate`] writes.
+///
+/// # Errors
+/// The fault of the first faulty line; `NoMemory` only where memory was refused.
 pub fn read_certificate<G: OrderedGroup>(
     alloc: Global,
     text: &[u8],

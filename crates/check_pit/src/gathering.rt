@@ -6,7 +6,8 @@ ghost use Rattle.ordered_group.specs.Sums.{amount_at};
 ghost use Rattle.prec_file.specs.Rests.{IsRests};
 ghost use Rattle.closure_net.specs.Network.{IsAscending};
 ghost use Rattle.check_pit.specs.BodyLines.{is_end, is_of_model};
-ghost use Rattle.check_pit.specs.Certificate.{Gathered, Covers, Adds, UnlessMemory, with_block, with_source, with_rest, with_sink, amount_of, has_pair};
+ghost use Rattle.check_pit.specs.Certificate.{Covers, UnlessMemory, amount_of, has_pair};
+ghost use Rattle.check_pit.specs.Gathered.{Gathered, Adds, with_block, with_source, with_rest, with_sink};
 
 use crate::cert_faults::CertFault;
 use crate::lines_of_body::{BodyLine, Kind};
@@ -28,7 +29,7 @@ pub struct Parts<G: OrderedGroup> {
 impl<G: OrderedGroup> Model for Parts<G> {
     ghost use Rattle.std.specs.Prelude.{map};
     ghost use Rattle.closure_net.specs.Network.{flow_view};
-    ghost use Rattle.check_pit.specs.Certificate.{Gathered};
+    ghost use Rattle.check_pit.specs.Gathered.{Gathered};
 
     ghost Value = { Gathered };
 

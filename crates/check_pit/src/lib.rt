@@ -4,7 +4,8 @@
 //! whatever `check` accepts is closed, and no closed set sums to more; whatever it refuses has the
 //! fault that it names, and none that comes before it; and a closed, tight pit with a flow whose
 //! sums fit is never refused. `read_certificate` accepts exactly the texts of the grammar, with the
-//! pit and the flow that their lines say, and otherwise names the first faulty line.
+//! pit and the flow that their lines say, and otherwise names the first faulty line; each certificate
+//! has one text, which `write_certificate` writes, and which is read back as that certificate.
 #![tactic(auto)]
 
 mod accepted_pits;

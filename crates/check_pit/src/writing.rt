@@ -1,12 +1,14 @@
 //! Writing a certificate.
 
-ghost use Rattle.std.specs.Prelude.{◌≡◌, ℕ, ◌+◌, ◌-◌, ◌^◌, ◌<◌, ◌≤◌, ◌⊎◌, [], ◌∷◌, ◌++◌, length, map, OnOk, OnErr};
+ghost use Rattle.std.specs.Prelude.{◌≡◌, ℕ, ◌+◌, ◌-◌, ◌^◌, ◌<◌, ◌≤◌, ◌⊎◌, All, [], ◌∷◌, ◌++◌, length, map, OnOk, OnErr};
 ghost use Rattle.std.specs.Fmt.{decimal, signed_decimal};
 ghost use Rattle.std.specs.Io.KnownBytes.{Appends};
 ghost use Rattle.fixed_worth.specs.Device.{ReceivedPrefix, SentOrHeld};
+ghost use Rattle.ordered_group.specs.Sums.{amount_at};
 ghost use Rattle.check_pit.specs.Written as spec;
 ghost use Rattle.check_pit.specs.Written.{spaced, line_words, lines_text, header_words, body_text, end_text, amount_lines, block_at, pair_at, pit_at, flow_lines, value_lines, header_with, text_of};
 ghost use Rattle.check_pit.specs.Certificate.{Covers};
+ghost use Rattle.check_pit.specs.ReadBack.{Writable, AreWritable, IsPrice, IsReadBack};
 
 use crate::certificates::Certificate;
 use crate::headers::{Header, Price};
@@ -109,7 +111,8 @@ fn written_header(header: &Header) -> ShortLine
 }
 
 fn is_zero<G: OrderedGroup>(amount: G) -> bool
-    ensures { result ≡ spec.is_zero (G.parts_of amount) }
+    ensures zero { result ≡ spec.is_zero (G.parts_of amount) }
+    ensures writable { Writable G.counts (G.parts_of amount) }
 {
     let (worth, count) = amount.parts();
     worth == 0 && count == 0
@@ -195,6 +198,7 @@ fn put_blocks<G: OrderedGroup, W: CountedWrite>(
     requires few { length amounts.now ≤ 2 ^ 24 }
     requires room { W.failed out.old < 2 ^ 64 - 1 }
     ensures held { OnOk result (SentOrHeld (W.contents out.old) (W.contents out.new) page.new (page.old ++ body_text (amount_lines (block_at kind) 0 (map G.parts_of amounts.now)))) }
+    ensures writable { OnOk result ((k : ℕ) → k < length amounts.now → Writable G.counts (amount_at (map G.parts_of amounts.now) k)) }
     ensures kept { OnOk result (W.failed out.new ≡ W.failed out.old) }
     ensures prefix { OnErr result (ReceivedPrefix (W.contents out.old) (W.contents out.new) (page.old ++ body_text (amount_lines (block_at kind) 0 (map G.parts_of amounts.now)))) }
     ensures counted { OnErr result (W.failed out.new ≡ W.failed out.old + 1) }
@@ -221,6 +225,7 @@ fn put_pairs<G: OrderedGroup, W: CountedWrite>(
     requires fits { length amounts.now ≡ length rests.now.pairs }
     requires room { W.failed out.old < 2 ^ 64 - 1 }
     ensures held { OnOk result (SentOrHeld (W.contents out.old) (W.contents out.new) page.new (page.old ++ body_text (amount_lines (pair_at rests.now.pairs) 0 (map G.parts_of amounts.now)))) }
+    ensures writable { OnOk result ((k : ℕ) → k < length amounts.now → Writable G.counts (amount_at (map G.parts_of amounts.now) k)) }
     ensures kept { OnOk result (W.failed out.new ≡ W.failed out.old) }
     ensures prefix { OnErr result (ReceivedPrefix (W.contents out.old) (W.contents out.new) (page.old ++ body_text (amount_lines (pair_at rests.now.pairs) 0 (map G.parts_of amounts.now)))) }
     ensures counted { OnErr result (W.failed out.new ≡ W.failed out.old + 1) }
@@ -246,6 +251,7 @@ fn put_flow<G: OrderedGroup, W: CountedWrite>(
     requires covers { Covers rests.now.blocks (length rests.now.pairs) flow.now }
     requires room { W.failed out.old < 2 ^ 64 - 1 }
     ensures held { OnOk result (SentOrHeld (W.contents out.old) (W.contents out.new) page.new (page.old ++ body_text (flow_lines rests.now.pairs flow.now))) }
+    ensures writable { OnOk result (AreWritable G.counts flow.now) }
     ensures kept { OnOk result (W.failed out.new ≡ W.failed out.old) }
     ensures prefix { OnErr result (ReceivedPrefix (W.contents out.old) (W.contents out.new) (page.old ++ body_text (flow_lines rests.now.pairs flow.now))) }
     ensures counted { OnErr result (W.failed out.new ≡ W.failed out.old + 1) }
@@ -266,6 +272,7 @@ fn put_body<G: OrderedGroup, W: CountedWrite>(
     requires covers { Covers rests.now.blocks (length rests.now.pairs) certificate.now.flow }
     requires room { W.failed out.old < 2 ^ 64 - 1 }
     ensures held { OnOk result (SentOrHeld (W.contents out.old) (W.contents out.new) page.new (page.old ++ (body_text (value_lines rests.now.pairs certificate.now.pit certificate.now.flow) ++ end_text))) }
+    ensures writable { OnOk result (AreWritable G.counts certificate.now.flow) }
     ensures kept { OnOk result (W.failed out.new ≡ W.failed out.old) }
     ensures prefix { OnErr result (ReceivedPrefix (W.contents out.old) (W.contents out.new) (page.old ++ (body_text (value_lines rests.now.pairs certificate.now.pit certificate.now.flow) ++ end_text))) }
     ensures counted { OnErr result (W.failed out.new ≡ W.failed out.old + 1) }
@@ -275,7 +282,8 @@ fn put_body<G: OrderedGroup, W: CountedWrite>(
     page.put(out, b"END\n")
 }
 
-/// Writes a certificate, which [`crate::read_certificate`] reads back for the same blocks and pairs. It takes no memory.
+/// Writes a certificate. It takes no memory. Where its number of blocks is the model's, its factor is at most 10,000 and
+/// its pit has blocks of the model alone, [`crate::read_certificate`] reads it back, for the same blocks and pairs.
 ///
 /// # Errors
 /// `Device` at the first write that fails: the writer has then received a prefix of the text.
@@ -287,6 +295,8 @@ pub fn write_certificate<G: OrderedGroup, W: CountedWrite>(
     requires covers { Covers rests.now.blocks (length rests.now.pairs) certificate.now.flow }
     requires room { W.failed out.old < 2 ^ 64 - 1 }
     ensures sent { OnOk result (Appends (W.contents out.old) (W.contents out.new) (text_of (header_with certificate.now.blocks certificate.now.price G.name) rests.now.pairs certificate.now.pit certificate.now.flow)) }
+    ensures read_back { OnOk result (certificate.now.blocks ≡ rests.now.blocks → IsPrice certificate.now.price → All (λ b. b < rests.now.blocks) certificate.now.pit
+        → IsReadBack G.counts G.name rests.now.blocks rests.now.pairs (text_of (header_with certificate.now.blocks certificate.now.price G.name) rests.now.pairs certificate.now.pit certificate.now.flow) certificate.now.price certificate.now.pit certificate.now.flow) }
     ensures kept { OnOk result (W.failed out.new ≡ W.failed out.old) }
     ensures prefix { OnErr result (ReceivedPrefix (W.contents out.old) (W.contents out.new) (text_of (header_with certificate.now.blocks certificate.now.price G.name) rests.now.pairs certificate.now.pit certificate.now.flow)) }
     ensures counted { OnErr result (W.failed out.new ≡ W.failed out.old + 1) }
@@ -296,6 +306,8 @@ pub fn write_certificate<G: OrderedGroup, W: CountedWrite>(
         price: certificate.price,
         group: G::group(),
     };
+    let _blocks = rests.len();
+    let _pit = certificate.pit.blocks();
     let mut page = Page::new();
     page.put(out, written_header(&header).as_bytes())?;
     put_body(&mut page, out, rests, certificate)?;

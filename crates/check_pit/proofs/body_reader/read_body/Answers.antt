@@ -1,7 +1,8 @@
 use Rattle.std.proofs.Common.{ℕ, Bool, [], ◌∷◌, length, sym, subst, ◌∙◌}
 use Rattle.check_pit.specs.Pieces.{Passed}
 use Rattle.check_pit.specs.BodyLines.{line_of}
-use Rattle.check_pit.specs.Certificate.{Covers, Adds}
+use Rattle.check_pit.specs.Certificate.{Covers}
+use Rattle.check_pit.specs.Gathered.{Adds}
 use Rattle.check_pit.proofs.Going.{goes_on}
 use Rattle.check_pit.proofs.body_reader.read_body.Goals as goal
 

@@ -4,7 +4,8 @@ use Rattle.check_pit.specs.declared.headers.Wanted.{Wanted}
 use Rattle.check_pit.specs.Pieces.{Piece}
 use Rattle.check_pit.specs.Header.{header_for}
 use Rattle.check_pit.specs.Certificate.{Covers, IsRead}
-use Rattle.check_pit.proofs.Wants.{IsEmpty, header_wanted, none_ascends, all_read}
+use Rattle.check_pit.proofs.Wants.{header_wanted}
+use Rattle.check_pit.proofs.Whole.{IsEmpty, none_ascends, all_read}
 use Rattle.check_pit.proofs.certificates.read_certificate.Goals as goal
 
 pub read_body-requires-after_bounds : goal.read_body-requires-after_bounds
@@ -32,7 +33,7 @@ returns g c =
     let made = c.in-Ok.ensures in
     let empty : IsEmpty c.in-Ok.parts = record { pit = made.empty; source = made.source; rest = made.rest; sink = made.sink } in
     let q = all_read counts name n pairs text w c.in_ok-header.header c.read_header.new.pieces c.in-Ok.parts c.read_body.new.parts c.len.ensures.is c.group.ensures
-    (subst (λ (ps : List Piece). header_for (Some w) ps ≡ Ok c.in_ok-header.header) e h.0) (h.1 ∙ ap (drop 4) e) h.2 empty r.0 r.1 r.2 in (
+    (subst (λ (ps : List Piece). header_for (Some w) ps ≡ Ok c.in_ok-header.header) e h.0) (h.1 ∙ ap (drop 4) e) h.2 empty c.len.ensures.all r.0 r.1 r.2 in (
       q.0,
       subst (λ (f : FlowView). IsRead counts name n pairs text c.in_ok-header.header.blocks c.in_ok-header.header.price c.in-Some.pit f) (sym c.in-Some.ensures.1)
           (subst (λ (bs : List ℕ). IsRead counts name n pairs text c.in_ok-header.header.blocks c.in_ok-header.header.price bs c.read_body.new.parts.flow) (sym c.in-Some.ensures.0) q.1),

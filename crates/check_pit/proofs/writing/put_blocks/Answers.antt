@@ -1,15 +1,16 @@
-use Rattle.std.proofs.Common.{◌≡◌, ℕ, ◌+◌, ◌<◌, List, length, map, drop, get_or, sym, ap, subst, ◌∙◌, refl, arith, not, eqb}
-use Rattle.std.proofs.lemmas.Bool.Decides.{nat_tests}
+use Rattle.std.proofs.Common.{below_more, ◌+◌, ◌<◌, length, map, drop, sym, subst, ◌∙◌, refl, arith}
 use Rattle.std.proofs.lemmas.List.{length-map}
-use Rattle.ordered_group.specs.Amount.{zero_amount}
+use Rattle.ordered_group.specs.Sums.{amount_at}
+use Rattle.check_pit.specs.ReadBack.{Writable}
 use Rattle.check_pit.specs.Written.{block_at, amount_lines, body_text}
-use Rattle.check_pit.proofs.Puts.{Put, put_begins, at_map, line_put, line_failed, line_skipped}
+use Rattle.check_pit.proofs.Puts.{put_begins, at_map, line_put, line_failed, line_skipped}
 use Rattle.check_pit.proofs.writing.put_blocks.Goals as goal
 use Rattle.check_pit.proofs.writing.put_blocks.Goals.{then-not-is_zero+in-Ok, else-not-is_zero}
 
 pub loop-k-init : goal.loop-k-init
 loop-k-init g c = record {
   put = put_begins (g.W.Write.contents c.args.out.now) c.args.page.now (body_text (amount_lines (block_at c.args.kind) 0 (map g.G.OrderedGroup.parts_of c.args.amounts.now)));
+  writable = λ j h. absurd (omega arith);
   kept = refl;
 }
 
@@ -21,7 +22,7 @@ returns-in-Err-clause-prefix g c =
     let k = c.loop-k.k in
     let x = c.index-amounts-k.result in
     line_failed line xs k (f x) c.block_line.result (g.W.Write.contents c.args.out.now) (g.W.Write.contents c.loop-k.out) (g.W.Write.contents c.put_line.new.out) c.args.page.now c.loop-k.page (body_text (amount_lines line 0 xs))
-    (simp length-map c.loop-k-test.true) (at_map f c.args.amounts.now k x c.loop-k-test.true c.index-amounts-k.is) (sym c.is_zero.ensures ∙ c.if-not-is_zero.true) c.block_line.ensures c.loop-k.invariant.put c.in-Err.ensures.prefix
+    (simp length-map c.loop-k-test.true) (at_map f c.args.amounts.now k x c.loop-k-test.true c.index-amounts-k.is) (sym c.is_zero.ensures.zero ∙ c.if-not-is_zero.true) c.block_line.ensures c.loop-k.invariant.put c.in-Err.ensures.prefix
 
 pub loop-k-preserved : goal.loop-k-preserved
 loop-k-preserved g c =
@@ -37,17 +38,21 @@ loop-k-preserved g c =
     let left = body_text (amount_lines line (k + 1) (drop (k + 1) xs)) in
     let inside : k < length xs = simp length-map c.loop-k-test.true in
     let here = at_map f c.args.amounts.now k x c.loop-k-test.true c.index-amounts-k.is in
+    let here_too = subst (Writable g.G.OrderedGroup.counts) (sym here) c.is_zero.ensures.writable in
+    let more = below_more (λ j. Writable g.G.OrderedGroup.counts (amount_at xs j)) k c.loop-k.invariant.writable here_too in
     elim c.if-not-is_zero.branch [
       | then-not-is_zero+in-Ok w ↦
-          let put = line_put line xs k (f x) w.block_line.result first before (g.W.Write.contents w.put_line.new.out) c.args.page.now c.loop-k.page w.put_line.new.page all inside here (sym c.is_zero.ensures ∙ w.if-not-is_zero.true) w.block_line.ensures c.loop-k.invariant.put w.in-Ok.ensures.held in
+          let put = line_put line xs k (f x) w.block_line.result first before (g.W.Write.contents w.put_line.new.out) c.args.page.now c.loop-k.page w.put_line.new.page all inside here (sym c.is_zero.ensures.zero ∙ w.if-not-is_zero.true) w.block_line.ensures c.loop-k.invariant.put w.in-Ok.ensures.held in
           record {
             put = rw (w.page-is, w.out-is) put;
+            writable = more;
             kept = rw w.out-is (w.in-Ok.ensures.kept ∙ c.loop-k.invariant.kept);
           }
       | else-not-is_zero w ↦
-          let put = line_skipped line xs k (f x) first before c.args.page.now c.loop-k.page all inside here (sym c.is_zero.ensures ∙ w.if-not-is_zero.false) c.loop-k.invariant.put in
+          let put = line_skipped line xs k (f x) first before c.args.page.now c.loop-k.page all inside here (sym c.is_zero.ensures.zero ∙ w.if-not-is_zero.false) c.loop-k.invariant.put in
           record {
             put = rw (w.page-is, w.out-is) put;
+            writable = more;
             kept = rw w.out-is c.loop-k.invariant.kept;
           }
     ]

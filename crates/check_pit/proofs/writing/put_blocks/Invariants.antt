@@ -1,4 +1,6 @@
-use Rattle.std.proofs.Common.{◌≡◌, map, drop}
+use Rattle.std.proofs.Common.{◌≡◌, ℕ, ◌<◌, map, drop}
+use Rattle.ordered_group.specs.Sums.{amount_at}
+use Rattle.check_pit.specs.ReadBack.{Writable}
 use Rattle.check_pit.specs.Written.{block_at, amount_lines, body_text}
 use Rattle.check_pit.proofs.Puts.{Put}
 use Rattle.check_pit.proofs.writing.put_blocks.Given as goal
@@ -7,5 +9,6 @@ use Rattle.check_pit.proofs.writing.put_blocks.Given as goal
 abbrev pub invariant-loop-k : goal.invariant-loop-k
 invariant-loop-k g l = record {
   put : Put (g.W.Write.contents l.fn.out) (g.W.Write.contents l.out) l.fn.page l.page (body_text (amount_lines (block_at l.kind) l.k (drop l.k (map g.G.OrderedGroup.parts_of l.amounts)))) (body_text (amount_lines (block_at l.kind) 0 (map g.G.OrderedGroup.parts_of l.amounts)));
+  writable : (j : ℕ) → j < l.k → Writable g.G.OrderedGroup.counts (amount_at (map g.G.OrderedGroup.parts_of l.amounts) j);
   kept : g.W.CountedWrite.failed l.out ≡ g.W.CountedWrite.failed l.fn.out;
 }

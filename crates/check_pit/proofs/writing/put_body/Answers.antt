@@ -1,6 +1,6 @@
 use Rattle.std.proofs.Common.{map}
 use Rattle.std.proofs.lemmas.Result.{on_ok_weaker, on_err_weaker}
-use Rattle.check_pit.specs.Written.{pit_at, body_text, flow_lines, value_lines, end_text}
+use Rattle.check_pit.specs.Written.{pit_at, body_text, flow_lines, end_text}
 use Rattle.check_pit.proofs.Puts.{on_err, body_parts, first_failed, second_failed, third_failed, three_held}
 use Rattle.check_pit.proofs.writing.put_body.Goals as goal
 

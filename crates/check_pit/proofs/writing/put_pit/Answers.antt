@@ -1,5 +1,4 @@
-use Rattle.std.proofs.Common.{sym, ap, subst, ◌∙◌, List, ℕ, map}
-use Rattle.fixed_worth.specs.Device.{ReceivedPrefix}
+use Rattle.std.proofs.Common.{◌∙◌, map}
 use Rattle.check_pit.specs.Written.{pit_at, body_text}
 use Rattle.check_pit.proofs.Puts.{block_put, block_failed}
 use Rattle.check_pit.proofs.writing.put_pit.Goals as goal

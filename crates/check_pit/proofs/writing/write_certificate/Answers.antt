@@ -1,11 +1,13 @@
-use Rattle.std.proofs.Common.{◌≡◌, ℕ, List, ◌++◌, [], ap, subst, ◌∙◌}
+use Rattle.std.proofs.Common.{◌≡◌, ℕ, List, ◌++◌, [], ap, sym, subst, ◌∙◌}
 use Rattle.std.proofs.lemmas.Result.{on_ok_weaker, on_err_weaker}
 use Rattle.fixed_worth.specs.Device.{ReceivedPrefix, SentOrHeld}
 use Rattle.fixed_worth.proofs.Pieces.{prefix_of_first, prefix_in_second}
 use Rattle.ordered_group.specs.declared.groups.Group.{Group}
 use Rattle.check_pit.specs.declared.headers.Price.{Price}
-use Rattle.check_pit.specs.Written.{lines_text, header_words, header_with, body_text, value_lines, end_text}
-use Rattle.check_pit.proofs.Puts.{on_err, both_sent, last_failed}
+use Rattle.check_pit.specs.Written.{lines_text, header_words, header_with, body_text, value_lines, end_text, text_of}
+use Rattle.check_pit.specs.ReadBack.{IsReadBack}
+use Rattle.check_pit.proofs.Puts.{on_err, on_ok, both_sent, last_failed}
+use Rattle.check_pit.proofs.Whole.{read_back}
 use Rattle.check_pit.proofs.writing.write_certificate.Goals as goal
 
 -- What is put first is the header.
@@ -60,3 +62,12 @@ returns-clause-prefix g c =
     let rest = body_text (value_lines c.args.rests.now.pairs v.pit v.flow) ++ end_text in
     let is = first_is c.new-page.result c.as_bytes.result.now c.written_header.result v.blocks v.price c.group.result name c.new-page.ensures c.as_bytes.ensures c.written_header.ensures c.group.ensures in
     on_err_weaker c.finish.result (last_failed a b d e c.put.new.self c.put_body.new.page head rest (subst (SentOrHeld a b c.put.new.self) is c.in_ok-put.ensures.held) c.in_ok-put_body.ensures.held) c.finish.ensures.prefix
+
+pub returns-clause-read_back : goal.returns-clause-read_back
+returns-clause-read_back g c =
+    let v = c.args.certificate.now in
+    let r = c.args.rests.now in
+    let counts = g.G.OrderedGroup.counts in
+    let name = g.G.OrderedGroup.name in
+    on_ok c.finish.result (λ same price known. subst (λ (n : ℕ). IsReadBack counts name r.blocks r.pairs (text_of (header_with n v.price name) r.pairs v.pit v.flow) v.price v.pit v.flow) (sym same)
+    (read_back counts name r.blocks r.pairs v.price v.pit v.flow c.len-blocks.ensures.all price c.blocks-pit.ensures.ascending known c.requires.covers c.in_ok-put_body.ensures.writable))

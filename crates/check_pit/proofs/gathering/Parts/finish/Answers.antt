@@ -1,6 +1,6 @@
 use Rattle.std.proofs.Common.{sym, ap, subst}
 use Rattle.closure_net.specs.Network.{IsAscending}
-use Rattle.check_pit.specs.Certificate.{Gathered}
+use Rattle.check_pit.specs.Gathered.{Gathered}
 use Rattle.check_pit.proofs.gathering.Parts.finish.Goals as goal
 
 pub returns-in-None : goal.returns-in-None

@@ -1,0 +1,121 @@
+-- A header without a fault is spelled as its values are.
+use Rattle.std.proofs.Common.{◌≡◌, ℕ, ◌+◌, ◌^◌, Bool, true, false, cond, eqb, List, [], ◌∷◌, ◌++◌, drop, Option, Some, None, Result, Ok, Err, refl, sym, ap, ◌∙◌, append_assoc}
+use Rattle.std.specs.Prelude.{unwrap_or}
+use Rattle.std.specs.Result.{result_unwrap_or}
+use Rattle.std.specs.Str.{bytes_eq}
+use Rattle.std.specs.Fmt.{decimal}
+use Rattle.std.proofs.lemmas.Slice.Eq.{bytes_eq-Decides}
+use lib.Chars.{codes}
+use Rattle.ordered_group.specs.declared.groups.Group.{Group}
+use Rattle.ordered_group.specs.declared.groups.Group.TheVariants.{Worth, Pair}
+use Rattle.check_pit.specs.declared.headers.Header.{Header}
+use Rattle.check_pit.specs.declared.headers.Wanted.{Wanted}
+use Rattle.check_pit.specs.declared.headers.Price.{Price}
+use Rattle.check_pit.specs.declared.headers.Price.TheVariants.{Objective}
+use Rattle.check_pit.specs.declared.cert_faults.LineFault.{LineFault}
+use Rattle.check_pit.specs.declared.cert_faults.LineFault.TheVariants.{Text}
+use Rattle.check_pit.specs.Pieces.{Piece, piece_at, read_line, words_of, number_below}
+use Rattle.check_pit.specs.Header.{header_for, version_in, value_behind, or_number, wanted_blocks, blocks_said, blocks_in, factor_of, price_said, price_in, is_same_group, wanted_group, group_in}
+use Rattle.check_pit.specs.Written.{spaced, lines_text, price_word, group_word, header_words}
+use Rattle.check_pit.proofs.Texts.{pieces_text, words_make_line}
+use Rattle.check_pit.proofs.Going.{text_read}
+use Rattle.check_pit.proofs.Spelling.{number_is, read_ends, piece_text}
+use Rattle.check_pit.proofs.Wants.{joined}
+
+-- What stands behind a key.
+behind_at : (key k v w : List ℕ) (t : Bool) → (t ≡ true → k ≡ key) → cond t (Some v) None ≡ Some w → k ∷ v ∷ [] ≡ key ∷ w ∷ []
+behind_at key k v w true e h = ap (λ (x : List ℕ). x ∷ v ∷ []) (e refl) ∙ ap (λ (o : Option (List ℕ)). key ∷ unwrap_or o w ∷ []) h
+behind_at key k v w false e h = absurd cc
+
+behind_is : (key w : List ℕ) (words : List (List ℕ)) → value_behind key words ≡ Some w → words ≡ key ∷ w ∷ []
+behind_is key w [] h = absurd cc
+behind_is key w (k ∷ []) h = absurd cc
+behind_is key w (k ∷ v ∷ []) h = behind_at key k v w (bytes_eq k key) (bytes_eq-Decides k key).0 h
+behind_is key w (k ∷ v ∷ u ∷ us) h = absurd cc
+
+keyed : (key w text : List ℕ) → value_behind key (words_of text) ≡ Some w → text ≡ spaced (key ∷ w ∷ [])
+keyed key w text h = sym (words_make_line text) ∙ ap spaced (behind_is key w (words_of text) h)
+
+abbrev accepted : Result (Unit {0}) LineFault
+accepted = Ok tt
+
+abbrev refused : Result (Unit {0}) LineFault
+refused = Err Text
+
+version_at : (text : List ℕ) (t : Bool) → (t ≡ true → text ≡ codes "PITCERT 1") → cond t accepted refused ≡ accepted → text ≡ codes "PITCERT 1"
+version_at text true e h = e refl
+version_at text false e h = absurd cc
+
+version_is : (text : List ℕ) → version_in text ≡ accepted → text ≡ codes "PITCERT 1"
+version_is text h = version_at text (bytes_eq text (codes "PITCERT 1")) (bytes_eq-Decides text (codes "PITCERT 1")).0 h
+
+-- The number of blocks.
+number_kept : (w : Wanted) (k n : ℕ) (t : Bool) → or_number (cond t (Some k) None) ≡ Ok n → Some k ≡ Some n
+number_kept w k n true h = ap (λ (r : Result ℕ LineFault). Some (result_unwrap_or r n)) h
+number_kept w k n false h = absurd cc
+
+number_wanted : (wanted : Option Wanted) (o : Option ℕ) (n : ℕ) → or_number (wanted_blocks wanted o) ≡ Ok n → o ≡ Some n
+number_wanted None (Some k) n h = ap (λ (r : Result ℕ LineFault). Some (result_unwrap_or r n)) h
+number_wanted None None n h = absurd cc
+number_wanted (Some w) (Some k) n h = number_kept w k n (eqb k w.blocks) h
+number_wanted (Some w) None n h = absurd cc
+
+blocks_at : (wanted : Option Wanted) (text : List ℕ) (o : Option (List ℕ)) (n : ℕ) → value_behind (codes "BLOCKS") (words_of text) ≡ o → blocks_said wanted o ≡ Ok n → text ≡ spaced (codes "BLOCKS" ∷ decimal n ∷ [])
+blocks_at wanted text (Some w) n e h = keyed (codes "BLOCKS") w text e ∙ ap (λ (x : List ℕ). spaced (codes "BLOCKS" ∷ x ∷ [])) (number_is w (2 ^ 24 + 1) n (number_wanted wanted (number_below (2 ^ 24 + 1) w) n h))
+blocks_at wanted text None n e h = absurd cc
+
+-- The price.
+factor_at : (w : List ℕ) (o : Option ℕ) (price : Price) → number_below 10001 w ≡ o → or_number (factor_of o) ≡ Ok price → w ≡ price_word price
+factor_at w (Some k) price e h = number_is w 10001 k e ∙ ap (λ (r : Result Price LineFault). price_word (result_unwrap_or r price)) h
+factor_at w None price e h = absurd cc
+
+word_at : (w : List ℕ) (price : Price) (t : Bool) → (t ≡ true → w ≡ codes "OBJECTIVE") → cond t (Ok Objective) (or_number (factor_of (number_below 10001 w))) ≡ Ok price → w ≡ price_word price
+word_at w price true e h = e refl ∙ ap (λ (r : Result Price LineFault). price_word (result_unwrap_or r price)) h
+word_at w price false e h = factor_at w (number_below 10001 w) price refl h
+
+price_at : (text : List ℕ) (o : Option (List ℕ)) (price : Price) → value_behind (codes "PRICE") (words_of text) ≡ o → price_said o ≡ Ok price → text ≡ spaced (codes "PRICE" ∷ price_word price ∷ [])
+price_at text (Some w) price e h = keyed (codes "PRICE") w text e ∙ ap (λ (x : List ℕ). spaced (codes "PRICE" ∷ x ∷ [])) (word_at w price (bytes_eq w (codes "OBJECTIVE")) (bytes_eq-Decides w (codes "OBJECTIVE")).0 h)
+price_at text None price e h = absurd cc
+
+-- The group.
+group_kept : (a b g : Group) (t : Bool) → cond t (Ok b) (Err Text) ≡ Ok g → b ≡ g
+group_kept a b g true h = ap (λ (r : Result Group LineFault). result_unwrap_or r g) h
+group_kept a b g false h = absurd cc
+
+group_same : (wanted : Option Wanted) (b g : Group) → wanted_group wanted b ≡ Ok g → b ≡ g
+group_same None b g h = ap (λ (r : Result Group LineFault). result_unwrap_or r g) h
+group_same (Some w) b g h = group_kept w.group b g (is_same_group w.group b) h
+
+group_at : (wanted : Option Wanted) (text : List ℕ) (g : Group) (t u : Bool) → (t ≡ true → text ≡ codes "GROUP WORTH") → (u ≡ true → text ≡ codes "GROUP PAIR") → cond t (wanted_group wanted Worth) (cond u (wanted_group wanted Pair) (Err Text)) ≡ Ok g
+    → text ≡ spaced (codes "GROUP" ∷ group_word g ∷ [])
+group_at wanted text g true u e f h = e refl ∙ ap (λ (x : Group). spaced (codes "GROUP" ∷ group_word x ∷ [])) (group_same wanted Worth g h)
+group_at wanted text g false true e f h = f refl ∙ ap (λ (x : Group). spaced (codes "GROUP" ∷ group_word x ∷ [])) (group_same wanted Pair g h)
+group_at wanted text g false false e f h = absurd cc
+
+-- A text that has no more lines can't be read.
+no_piece : {A : Type 0} (f : List ℕ → Result A LineFault) (k : ℕ) (x : A) {P : Type 0} → read_line f k (record { text = []; ended = false }) ≡ Ok x → P
+no_piece f k x h = absurd (let z : false ≡ true = read_ends f k (record { text = []; ended = false }) x h in cc)
+
+pub regroup : (a b c rest : List ℕ) → (codes "PITCERT 1" ++ (10 ∷ (a ++ (10 ∷ (b ++ (10 ∷ (c ++ (10 ∷ [])))))))) ++ rest ≡ codes "PITCERT 1" ++ (10 ∷ (a ++ (10 ∷ (b ++ (10 ∷ (c ++ (10 ∷ rest)))))))
+regroup a b c rest = simp append_assoc
+
+four : (ps : List Piece) (wanted : Option Wanted) (h : Header) → read_line version_in 1 (piece_at ps 0) ≡ Ok tt → read_line (blocks_in wanted) 2 (piece_at ps 1) ≡ Ok h.blocks → read_line price_in 3 (piece_at ps 2) ≡ Ok h.price → read_line (group_in wanted) 4 (piece_at ps 3) ≡ Ok h.group
+    → pieces_text ps ≡ lines_text (header_words h) ++ pieces_text (drop 4 ps)
+four [] wanted h a b c d = no_piece version_in 1 tt a
+four (p ∷ []) wanted h a b c d = no_piece (blocks_in wanted) 2 h.blocks b
+four (p ∷ q ∷ []) wanted h a b c d = no_piece price_in 3 h.price c
+four (p ∷ q ∷ r ∷ []) wanted h a b c d = no_piece (group_in wanted) 4 h.group d
+four (p ∷ q ∷ r ∷ s ∷ ps) wanted h a b c d =
+    let one = piece_text p (q ∷ r ∷ s ∷ ps) (codes "PITCERT 1") (read_ends version_in 1 p tt a) (version_is p.text (text_read version_in 1 p tt a)) in
+    let two = piece_text q (r ∷ s ∷ ps) (spaced (codes "BLOCKS" ∷ decimal h.blocks ∷ [])) (read_ends (blocks_in wanted) 2 q h.blocks b) (blocks_at wanted q.text (value_behind (codes "BLOCKS") (words_of q.text)) h.blocks refl (text_read (blocks_in wanted) 2 q h.blocks b)) in
+    let three = piece_text r (s ∷ ps) (spaced (codes "PRICE" ∷ price_word h.price ∷ [])) (read_ends price_in 3 r h.price c) (price_at r.text (value_behind (codes "PRICE") (words_of r.text)) h.price refl (text_read price_in 3 r h.price c)) in
+    let last = piece_text s ps (spaced (codes "GROUP" ∷ group_word h.group ∷ [])) (read_ends (group_in wanted) 4 s h.group d)
+    (group_at wanted s.text h.group (bytes_eq s.text (codes "GROUP WORTH")) (bytes_eq s.text (codes "GROUP PAIR")) (bytes_eq-Decides s.text (codes "GROUP WORTH")).0 (bytes_eq-Decides s.text (codes "GROUP PAIR")).0 (text_read (group_in wanted) 4 s h.group d)) in
+    let all : pieces_text (p ∷ q ∷ r ∷ s ∷ ps) ≡ codes "PITCERT 1" ++ (10 ∷ (spaced (codes "BLOCKS" ∷ decimal h.blocks ∷ []) ++ (10 ∷ (spaced (codes "PRICE" ∷ price_word h.price ∷ []) ++ (10 ∷ (spaced (codes "GROUP" ∷ group_word h.group ∷ []) ++ (10 ∷ pieces_text ps))))))) =
+    one ∙ ap (λ (t : List ℕ). codes "PITCERT 1" ++ (10 ∷ t)) (two ∙ ap (λ (t : List ℕ). spaced (codes "BLOCKS" ∷ decimal h.blocks ∷ []) ++ (10 ∷ t)) (three ∙ ap (λ (t : List ℕ). spaced (codes "PRICE" ∷ price_word h.price ∷ []) ++ (10 ∷ t)) last)) in
+    all ∙ sym (regroup (spaced (codes "BLOCKS" ∷ decimal h.blocks ∷ [])) (spaced (codes "PRICE" ∷ price_word h.price ∷ [])) (spaced (codes "GROUP" ∷ group_word h.group ∷ [])) (pieces_text ps))
+
+pub header_is : (wanted : Option Wanted) (ps : List Piece) (h : Header) → header_for wanted ps ≡ Ok h → pieces_text ps ≡ lines_text (header_words h) ++ pieces_text (drop 4 ps)
+header_is wanted ps h e =
+    let q = joined (read_line version_in 1 (piece_at ps 0)) (read_line (blocks_in wanted) 2 (piece_at ps 1)) (read_line price_in 3 (piece_at ps 2)) (read_line (group_in wanted) 4 (piece_at ps 3)) h e in
+    four ps wanted h q.version q.blocks q.price q.group
