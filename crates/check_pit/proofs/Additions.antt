@@ -14,20 +14,15 @@ use Rattle.check_pit.specs.Certificate.{Covers, has_pair, amount_of}
 use Rattle.check_pit.specs.Gathered.{Gathered, with_source, with_rest, with_sink, Adds}
 
 -- One amount of a list is changed.
-pub source_set : {X : Type 0} (f : X → Amount) (pit : List ℕ) (ss rs ts : List X) (b : ℕ) (x : X) (g : Gathered) → record { pit = pit; flow = flow_view (map f ss) (map f rs) (map f ts) } ≡ g
-    → record { pit = pit; flow = flow_view (map f (set ss b x)) (map f rs) (map f ts) } ≡ with_source b (f x) g
-source_set f pit ss rs ts b x g is =
-    ap (λ (xs : List Amount). record { pit = pit; flow = flow_view xs (map f rs) (map f ts) }) (map-set f ss b x) ∙ ap (with_source b (f x)) is
+pub source_set : {X : Type 0} (f : X → Amount) (pit : List ℕ) (ss ts : List X) (rs : List Amount) (b : ℕ) (x : X) (g : Gathered) → record { pit = pit; flow = flow_view (map f ss) rs (map f ts) } ≡ g
+    → record { pit = pit; flow = flow_view (map f (set ss b x)) rs (map f ts) } ≡ with_source b (f x) g
+source_set f pit ss ts rs b x g is =
+    ap (λ (xs : List Amount). record { pit = pit; flow = flow_view xs rs (map f ts) }) (map-set f ss b x) ∙ ap (with_source b (f x)) is
 
-pub rest_set : {X : Type 0} (f : X → Amount) (pit : List ℕ) (ss rs ts : List X) (k : ℕ) (x : X) (g : Gathered) → record { pit = pit; flow = flow_view (map f ss) (map f rs) (map f ts) } ≡ g
-    → record { pit = pit; flow = flow_view (map f ss) (map f (set rs k x)) (map f ts) } ≡ with_rest k (f x) g
-rest_set f pit ss rs ts k x g is =
-    ap (λ (xs : List Amount). record { pit = pit; flow = flow_view (map f ss) xs (map f ts) }) (map-set f rs k x) ∙ ap (with_rest k (f x)) is
-
-pub sink_set : {X : Type 0} (f : X → Amount) (pit : List ℕ) (ss rs ts : List X) (b : ℕ) (x : X) (g : Gathered) → record { pit = pit; flow = flow_view (map f ss) (map f rs) (map f ts) } ≡ g
-    → record { pit = pit; flow = flow_view (map f ss) (map f rs) (map f (set ts b x)) } ≡ with_sink b (f x) g
-sink_set f pit ss rs ts b x g is =
-    ap (λ (xs : List Amount). record { pit = pit; flow = flow_view (map f ss) (map f rs) xs }) (map-set f ts b x) ∙ ap (with_sink b (f x)) is
+pub sink_set : {X : Type 0} (f : X → Amount) (pit : List ℕ) (ss ts : List X) (rs : List Amount) (b : ℕ) (x : X) (g : Gathered) → record { pit = pit; flow = flow_view (map f ss) rs (map f ts) } ≡ g
+    → record { pit = pit; flow = flow_view (map f ss) rs (map f (set ts b x)) } ≡ with_sink b (f x) g
+sink_set f pit ss ts rs b x g is =
+    ap (λ (xs : List Amount). record { pit = pit; flow = flow_view (map f ss) rs xs }) (map-set f ts b x) ∙ ap (with_sink b (f x)) is
 
 -- Whether a pair is among the model's.
 abbrev is_pair : ℕ → ℕ → ℕ × ℕ → Bool

@@ -3,7 +3,7 @@
 ghost use Rattle.std.specs.Prelude.{◌≤◌, ◌^◌, length};
 
 use crate::{PitFault, check};
-use closure_net::{Flow, Net, Pit};
+use closure_net::{Carried, Flow, Net, Pit};
 use ordered_group::{OrderedGroup, Worth, WorthSize};
 use prec_file::Rests;
 use std::alloc::Global;
@@ -33,7 +33,7 @@ fn flow_of<G: OrderedGroup>(
 ) -> Result<Flow<G>, Fail> {
     Ok(Flow::new(
         Vec::from_slice(alloc, source)?,
-        Vec::from_slice(alloc, rest)?,
+        Carried::from_list(Vec::from_slice(alloc, rest)?),
         Vec::from_slice(alloc, sink)?,
     ))
 }

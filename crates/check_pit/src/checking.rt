@@ -14,7 +14,7 @@ use crate::accepted_pits::Accepted;
 use crate::closing::first_open;
 use crate::faults::PitFault;
 use crate::sums::{balance_of, pit_worth, room_left};
-use closure_net::{Flow, Net, Pit};
+use closure_net::{Carried, Flow, Net, Pit};
 use ordered_group::{OrderedGroup, at_most, negative_part, positive_part, same};
 
 // Whether all blocks are blocks of a net of n.
@@ -43,11 +43,27 @@ fn none_negative<G: OrderedGroup>(amounts: &[G]) -> bool
     true
 }
 
+// Whether no pair carries less than nothing.
+fn none_carried_negative<G: OrderedGroup>(pairs: u32, rest: &Carried<G>) -> bool
+    requires { length rest.now ≡ pairs }
+    ensures { IsTrue result ↔ NoneNegative rest.now }
+{
+    for k in 0..pairs {
+        if !at_most(G::zero(), rest.at(k)) {
+            return false;
+        }
+    }
+    true
+}
+
 // Whether no amount of the flow is negative.
-fn none_below_zero<G: OrderedGroup>(flow: &Flow<G>) -> bool
+fn none_below_zero<G: OrderedGroup>(net: &Net<G>, flow: &Flow<G>) -> bool
+    requires { FlowFits net.now flow.now }
     ensures { IsTrue result ↔ NoneBelowZero flow.now }
 {
-    none_negative(flow.source()) && none_negative(flow.rest()) && none_negative(flow.sink())
+    none_negative(flow.source())
+        && none_carried_negative(net.rests().pairs(), flow.rest())
+        && none_negative(flow.sink())
 }
 
 // Whether a block with these amounts keeps to its worth.
@@ -128,7 +144,7 @@ pub fn check<'a, G: OrderedGroup>(
     if let Some((b, p)) = first_open(net, pit) {
         return Err(PitFault::NotClosed(b, p));
     }
-    if !none_below_zero(flow) {
+    if !none_below_zero(net, flow) {
         return Err(PitFault::Negative);
     }
     if let Some(b) = first_over(net, flow) {

@@ -18,8 +18,9 @@ fn first_lacking(rests: &Rests, pit: &Pit, b: u32) -> Option<u32>
         (λ p. IsLacking rests.now.pairs (holds_of pit.now) b p) }
 {
     let above = rests.above(b);
+    let mut place = 0;
     for p in above {
-        if !pit.holds(*p) {
+        if !pit.holds_near(&mut place, *p) {
             return Some(*p);
         }
     }
@@ -33,8 +34,9 @@ pub(crate) fn first_open<G: OrderedGroup>(net: &Net<G>, pit: &Pit) -> Option<(u3
         (λ pair. IsFirstOpen net.now.pairs (holds_of pit.now) pair) }
 {
     let rests = net.rests();
+    let mut place = 0;
     for b in 0..rests.len() {
-        if pit.holds(b) {
+        if pit.holds_near(&mut place, b) {
             match first_lacking(rests, pit, b) {
                 Some(p) => return Some((b, p)),
                 None => {}

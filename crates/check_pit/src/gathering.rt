@@ -11,7 +11,7 @@ ghost use Rattle.check_pit.specs.Gathered.{Gathered, Adds, with_block, with_sour
 
 use crate::cert_faults::CertFault;
 use crate::lines_of_body::{BodyLine, Kind};
-use closure_net::{Flow, Pit};
+use closure_net::{Carried, Flow, Pit};
 use ordered_group::OrderedGroup;
 use prec_file::Rests;
 use std::alloc::{AllocError, Global};
@@ -22,7 +22,7 @@ use std::marker::Model;
 pub struct Parts<G: OrderedGroup> {
     pit: Vec<u32>,
     source: Vec<G>,
-    rest: Vec<G>,
+    rest: Carried<G>,
     sink: Vec<G>,
 }
 
@@ -33,7 +33,7 @@ impl<G: OrderedGroup> Model for Parts<G> {
 
     ghost Value = { Gathered };
 
-    ghost view = { λ p. record { pit = p.pit.items; flow = flow_view (map G.parts_of p.source.items) (map G.parts_of p.rest.items) (map G.parts_of p.sink.items) } };
+    ghost view = { λ p. record { pit = p.pit.items; flow = flow_view (map G.parts_of p.source.items) p.rest (map G.parts_of p.sink.items) } };
 }
 
 // So many amounts of zero. A clone of an amount isn't known to be the same, so each is made anew.
@@ -75,7 +75,7 @@ impl<G: OrderedGroup> Parts<G> {
         ensures sink { IfOk result (λ p. (b : ℕ) → amount_at p.flow.sink b ≡ zero_amount) }
     {
         let source = zeros(alloc, n)?;
-        let rest = zeros(alloc, m)?;
+        let rest = Carried::nothing(alloc, m)?;
         let sink = zeros(alloc, n)?;
         Ok(Parts {
             pit: Vec::new(alloc),
@@ -101,11 +101,14 @@ impl<G: OrderedGroup> Parts<G> {
         self.source[block as usize] = amount;
     }
 
-    fn put_rest(&mut self, pair: u32, amount: G)
+    fn put_rest(&mut self, pair: u32, amount: G) -> Result<(), CertFault>
         requires { pair < length self.old.flow.rest }
-        ensures { self.new ≡ with_rest pair (G.parts_of amount) self.old }
+        ensures { MatchResult result (λ _. self.new ≡ with_rest pair (G.parts_of amount) self.old) (λ e. e ≡ CertFault.NoMemory) }
     {
-        self.rest[pair as usize] = amount;
+        match self.rest.set(pair, amount) {
+            Ok(()) => Ok(()),
+            Err(_) => Err(CertFault::NoMemory),
+        }
     }
 
     fn put_sink(&mut self, block: u32, amount: G)
@@ -131,7 +134,7 @@ impl<G: OrderedGroup> Parts<G> {
             Kind::Pit => return self.put_block(line.block),
             Kind::Source => self.put_source(line.block, amount(line)),
             Kind::Rest => match rests.find(line.block, line.other) {
-                Some(pair) => self.put_rest(pair, amount(line)),
+                Some(pair) => self.put_rest(pair, amount(line))?,
                 None => return Err(CertFault::UnknownPair(number)),
             },
             Kind::Sink => self.put_sink(line.block, amount(line)),

@@ -9,22 +9,22 @@ ghost use Rattle.closure_net.specs.Closure.{group_worth};
 ghost use Rattle.closure_net.specs.Flows.{inflow, outflow, still_to_give};
 ghost use Rattle.check_pit.specs.Fits.{EndFits, EndLeaves, SetFits, SetLeaves, RoomFits, RoomLeaves};
 
-use closure_net::{Flow, Net, Pit};
+use closure_net::{Carried, Flow, Net, Pit};
 use ordered_group::{OrderedGroup, positive_part, same};
 use prec_file::Rests;
 
 // The start and all that the pairs bring into b, added in the order of the pairs.
-pub(crate) fn with_inflow<G: OrderedGroup>(start: G, rests: &Rests, rest: &[G], b: u32) -> Option<G>
+pub(crate) fn with_inflow<G: OrderedGroup>(start: G, rests: &Rests, rest: &Carried<G>, b: u32) -> Option<G>
     requires lengths { length rest.now ≡ length rests.now.pairs }
     requires known { b < rests.now.blocks }
-    ensures { let f = amount_at (map G.parts_of rest.now) in let ps = rests.now.pairs in let m = length ps in MatchOption result
+    ensures { let f = amount_at rest.now in let ps = rests.now.pairs in let m = length ps in MatchOption result
         (EndLeaves (G.parts_of start) (to_at ps) f b m)
-        (λ r. (G.parts_of r ≡ plus (G.parts_of start) (inflow ps (map G.parts_of rest.now) m b)) × EndFits (G.parts_of start) (to_at ps) f b m) }
+        (λ r. (G.parts_of r ≡ plus (G.parts_of start) (inflow ps rest.now m b)) × EndFits (G.parts_of start) (to_at ps) f b m) }
 {
     let mut sum = start;
     let numbers = rests.below(b);
     for k in numbers {
-        match sum.try_add(rest[*k as usize]) {
+        match sum.try_add(rest.at(*k)) {
             Some(next) => sum = next,
             None => return None,
         }
@@ -36,22 +36,22 @@ pub(crate) fn with_inflow<G: OrderedGroup>(start: G, rests: &Rests, rest: &[G], 
 pub(crate) fn with_outflow<G: OrderedGroup>(
     start: G,
     rests: &Rests,
-    rest: &[G],
+    rest: &Carried<G>,
     b: u32,
 ) -> Option<G>
     requires lengths { length rest.now ≡ length rests.now.pairs }
     requires known { b < rests.now.blocks }
-    ensures { let f = amount_at (map G.parts_of rest.now) in let ps = rests.now.pairs in let m = length ps in MatchOption result
+    ensures { let f = amount_at rest.now in let ps = rests.now.pairs in let m = length ps in MatchOption result
         (EndLeaves (G.parts_of start) (from_at ps) f b m)
-        (λ r. (G.parts_of r ≡ plus (G.parts_of start) (outflow ps (map G.parts_of rest.now) m b)) × EndFits (G.parts_of start) (from_at ps) f b m) }
+        (λ r. (G.parts_of r ≡ plus (G.parts_of start) (outflow ps rest.now m b)) × EndFits (G.parts_of start) (from_at ps) f b m) }
 {
     let mut sum = start;
     // the pairs are in order, which the number of blocks tells, so those of b lie side by side
     let _n = rests.len();
-    let first = rests.first(b) as usize;
+    let first = rests.first(b);
     let count = rests.above(b).len();
     for i in 0..count {
-        match sum.try_add(rest[first + i]) {
+        match sum.try_add(rest.at(first + i as u32)) {
             Some(next) => sum = next,
             None => return None,
         }
@@ -63,13 +63,13 @@ pub(crate) fn with_outflow<G: OrderedGroup>(
 pub(crate) fn balance_of<G: OrderedGroup>(
     rests: &Rests,
     source: G,
-    rest: &[G],
+    rest: &Carried<G>,
     sink: G,
     b: u32,
 ) -> Option<bool>
     requires lengths { length rest.now ≡ length rests.now.pairs }
     requires known { b < rests.now.blocks }
-    ensures { let fs = map G.parts_of rest.now in let ps = rests.now.pairs in let m = length ps in MatchOption result
+    ensures { let fs = rest.now in let ps = rests.now.pairs in let m = length ps in MatchOption result
         (EndLeaves (G.parts_of source) (to_at ps) (amount_at fs) b m ⊎ EndLeaves (G.parts_of sink) (from_at ps) (amount_at fs) b m)
         (λ r. EndFits (G.parts_of source) (to_at ps) (amount_at fs) b m
         × EndFits (G.parts_of sink) (from_at ps) (amount_at fs) b m
@@ -89,8 +89,9 @@ pub(crate) fn pit_worth<G: OrderedGroup>(net: &Net<G>, pit: &Pit) -> Option<G>
 {
     let worths = net.worths();
     let mut sum = G::zero();
+    let mut place = 0;
     for b in 0..worths.len() {
-        if pit.holds(b as u32) {
+        if pit.holds_near(&mut place, b as u32) {
             match sum.try_add(worths[b]) {
                 Some(next) => sum = next,
                 None => return None,

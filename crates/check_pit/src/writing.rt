@@ -13,7 +13,7 @@ ghost use Rattle.check_pit.specs.ReadBack.{Writable, AreWritable, IsPrice, IsRea
 use crate::certificates::Certificate;
 use crate::headers::{Header, Price};
 use crate::lines_of_body::{BodyLine, Kind};
-use closure_net::{Flow, Pit};
+use closure_net::{Carried, Flow, Pit};
 use fixed_worth::{CountedWrite, Page, ShortLine, WriteFault};
 use ordered_group::{Group, OrderedGroup};
 use prec_file::Rests;
@@ -219,20 +219,21 @@ fn put_pairs<G: OrderedGroup, W: CountedWrite>(
     page: &mut Page,
     out: &mut W,
     rests: &Rests,
-    amounts: &[G],
+    amounts: &Carried<G>,
 ) -> Result<(), WriteFault>
     requires few { length rests.now.pairs ≤ 2 ^ 27 }
     requires fits { length amounts.now ≡ length rests.now.pairs }
     requires room { W.failed out.old < 2 ^ 64 - 1 }
-    ensures held { OnOk result (SentOrHeld (W.contents out.old) (W.contents out.new) page.new (page.old ++ body_text (amount_lines (pair_at rests.now.pairs) 0 (map G.parts_of amounts.now)))) }
-    ensures writable { OnOk result ((k : ℕ) → k < length amounts.now → Writable G.counts (amount_at (map G.parts_of amounts.now) k)) }
+    ensures held { OnOk result (SentOrHeld (W.contents out.old) (W.contents out.new) page.new (page.old ++ body_text (amount_lines (pair_at rests.now.pairs) 0 amounts.now))) }
+    ensures writable { OnOk result ((k : ℕ) → k < length amounts.now → Writable G.counts (amount_at amounts.now k)) }
     ensures kept { OnOk result (W.failed out.new ≡ W.failed out.old) }
-    ensures prefix { OnErr result (ReceivedPrefix (W.contents out.old) (W.contents out.new) (page.old ++ body_text (amount_lines (pair_at rests.now.pairs) 0 (map G.parts_of amounts.now)))) }
+    ensures prefix { OnErr result (ReceivedPrefix (W.contents out.old) (W.contents out.new) (page.old ++ body_text (amount_lines (pair_at rests.now.pairs) 0 amounts.now))) }
     ensures counted { OnErr result (W.failed out.new ≡ W.failed out.old + 1) }
 {
-    for (k, amount) in amounts.iter().enumerate() {
-        if !is_zero(*amount) {
-            match put_line(page, out, &pair_line(rests, k as u32, *amount)) {
+    for k in 0..amounts.len() {
+        let amount = amounts.at(k as u32);
+        if !is_zero(amount) {
+            match put_line(page, out, &pair_line(rests, k as u32, amount)) {
                 Ok(()) => {}
                 Err(fault) => return Err(fault),
             }

@@ -1,11 +1,13 @@
 -- Ascending lists, and what a binary search among one finds.
-use Rattle.std.proofs.Common.{◌≡◌, ℕ, zero, suc, ◌-◌, ◌<◌, ◌≤◌, List, length, get_or, arith, inl, inr, Result, Ok, Err, subst, sym, ap, ◌∙◌}
+use Rattle.std.proofs.Common.{◌≡◌, ℕ, zero, suc, ◌+◌, ◌-◌, ◌<◌, ◌≤◌, false, List, length, get_or, take, drop, slice_range, arith, inl, inr, Result, Ok, Err, MatchResult, subst, sym, ap, ◌∙◌, length-drop}
 use Rattle.std.specs.List.Sorted.{IsBinarySearchResult}
 use Rattle.std.specs.Ordering.{nat_cmp}
 use Rattle.std.specs.Result.{is_ok}
 use Rattle.std.proofs.lemmas.Bool.{cases_eq, cases_lt, cases_Bool}
 use Rattle.std.proofs.lemmas.List.Sorted.{searched}
+use Rattle.std.proofs.lemmas.List.{get_or-take, get_or-drop, length-take-le}
 use Rattle.closure_net.specs.Network.{IsAscending, holds_of}
+use Rattle.closure_net.specs.Places.{StandsFrom, StandsBelow}
 use Rattle.closure_net.proofs.Holding.{holds_at, place_of}
 
 -- each place from 1 up to m is above the one before it
@@ -29,6 +31,60 @@ not_falling xs a i j h l = elim (cases_eq i j) [
   | inl e ↦ let P : ℕ → Type 0 = λ k. get_or xs i 0 ≤ get_or xs k 0 in subst P e (omega arith)
   | inr d ↦ omega (arith, a i j (omega arith) l)
 ]
+
+length-part : (xs : List ℕ) (i k : ℕ) → i + k ≤ length xs → length (take k (drop i xs)) ≡ k
+length-part xs i k h = length-take-le k (drop i xs) (omega (arith, length-drop i xs))
+
+get_or-part : (xs : List ℕ) (i k j : ℕ) → j < k → get_or (take k (drop i xs)) j 0 ≡ get_or xs (i + j) 0
+get_or-part xs i k j h = get_or-take k (drop i xs) j 0 h ∙ get_or-drop i xs j 0
+
+-- blocks lie at least as far apart as their places
+pub apart_by_places : (xs : List ℕ) → IsAscending xs → (i k : ℕ) → i + k < length xs → get_or xs i 0 + k ≤ get_or xs (i + k) 0
+apart_by_places xs a i zero l = let e : i + zero ≡ i = omega arith in let P : ℕ → Type 0 = λ q. get_or xs i 0 + zero ≤ get_or xs q 0 in subst P (sym e) (omega arith)
+apart_by_places xs a i (suc k) l =
+    let r = apart_by_places xs a i k (omega arith) in
+    let s : get_or xs (i + k) 0 < get_or xs (i + suc k) 0 = a (i + k) (i + suc k) (omega arith) l in
+    omega (arith, r, s)
+
+-- a part of an ascending list ascends
+part_ascends : (xs : List ℕ) (i k : ℕ) → IsAscending xs → i + k ≤ length xs → IsAscending (take k (drop i xs))
+part_ascends xs i k a h p q l m =
+    let e : length (take k (drop i xs)) ≡ k = length-part xs i k h in
+    let m' : q < k = omega (arith, e, m) in
+    let f = get_or-part xs i k p (omega arith) in
+    let g = get_or-part xs i k q m' in
+    let s = a (i + p) (i + q) (omega arith) (omega arith) in
+    omega (arith, f, g, s)
+
+-- what a binary search in a part of an ascending list says of the whole, where nothing else can hold the block
+pub found_in_part : (xs : List ℕ) (x from to : ℕ) (r : Result ℕ ℕ) → IsAscending xs → from ≤ to → to ≤ length xs
+    → StandsFrom xs x from → StandsBelow xs x from to
+    → IsBinarySearchResult (λ y. nat_cmp y x) (slice_range xs from to) r
+    → MatchResult r (λ i. (from + i < length xs) × (get_or xs (from + i) 0 ≡ x)) (λ _. holds_of xs x ≡ false)
+found_in_part xs x from to (Ok i) a h l low high b =
+    let k = to - from in
+    let c : from + k ≤ length xs = omega arith in
+    let e : length (take k (drop from xs)) ≡ k = length-part xs from k c in
+    let s = searched (take k (drop from xs)) x (Ok i) b (not_falling (take k (drop from xs)) (part_ascends xs from k a c)) in
+    let i' : i < k = omega (arith, e, s.0) in
+    (omega arith, sym (get_or-part xs from k i i') ∙ s.1)
+found_in_part xs x from to (Err i) a h l low high b =
+    let k = to - from in
+    let c : from + k ≤ length xs = omega arith in
+    let e : length (take k (drop from xs)) ≡ k = length-part xs from k c in
+    let s = searched (take k (drop from xs)) x (Err i) b (not_falling (take k (drop from xs)) (part_ascends xs from k a c)) in
+    elim (cases_Bool (holds_of xs x)) [
+      | inl t ↦
+          let p = place_of xs x t in
+          let f = low p.0 p.1 p.2 in
+          let g = high p.0 p.1 f p.2 in
+          let j = p.0 - from in
+          let j' : j < k = omega arith in
+          let w : from + j ≡ p.0 = omega arith in
+          let v : get_or (take k (drop from xs)) j 0 ≡ x = get_or-part xs from k j j' ∙ ap (λ q. get_or xs q 0) w ∙ p.2 in
+          elim (cases_lt j i) [ inl u ↦ absurd (omega (arith, s.1 j u, v)) | inr u ↦ absurd (omega (arith, s.2 j u (omega (arith, e, j')), v)) ]
+      | inr f ↦ f
+    ]
 
 -- a binary search finds what the list holds, and nothing else
 pub found_is_held : (xs : List ℕ) (x : ℕ) (r : Result ℕ ℕ) → IsAscending xs → IsBinarySearchResult (λ y. nat_cmp y x) xs r → is_ok r ≡ holds_of xs x

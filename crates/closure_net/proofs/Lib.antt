@@ -1,4 +1,5 @@
 pub mod Holding
+pub mod Places
 pub mod Ascending
 pub mod SameLists
 pub mod Views

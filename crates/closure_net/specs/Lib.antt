@@ -6,3 +6,5 @@ pub mod Mine
 pub mod Printed
 pub mod Reached
 pub mod Searches
+pub mod Places
+pub mod Carrying

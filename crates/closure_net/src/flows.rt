@@ -3,6 +3,7 @@
 ghost use Rattle.std.specs.Prelude.{◌≡◌, ◌↔◌, IsTrue, map};
 ghost use Rattle.closure_net.specs.Network.{FlowFits, flow_view};
 
+use crate::carrying::Carried;
 use crate::networks::Net;
 use ordered_group::OrderedGroup;
 use std::marker::Model;
@@ -11,7 +12,7 @@ use std::marker::Model;
 #[derive(Drop)]
 pub struct Flow<G: OrderedGroup> {
     source: Vec<G>,
-    rest: Vec<G>,
+    rest: Carried<G>,
     sink: Vec<G>,
 }
 
@@ -21,13 +22,13 @@ impl<G: OrderedGroup> Model for Flow<G> {
 
     ghost Value = { FlowView };
 
-    ghost view = { λ f. flow_view (map G.parts_of f.source.items) (map G.parts_of f.rest.items) (map G.parts_of f.sink.items) };
+    ghost view = { λ f. flow_view (map G.parts_of f.source.items) f.rest (map G.parts_of f.sink.items) };
 }
 
 impl<G: OrderedGroup> Flow<G> {
     /// The flow with these amounts.
-    pub fn new(source: Vec<G>, rest: Vec<G>, sink: Vec<G>) -> Flow<G>
-        ensures { result ≡ flow_view (map G.parts_of source.items) (map G.parts_of rest.items) (map G.parts_of sink.items) }
+    pub fn new(source: Vec<G>, rest: Carried<G>, sink: Vec<G>) -> Flow<G>
+        ensures { result ≡ flow_view (map G.parts_of source.items) rest (map G.parts_of sink.items) }
     {
         Flow { source, rest, sink }
     }
@@ -40,8 +41,8 @@ impl<G: OrderedGroup> Flow<G> {
     }
 
     /// What each pair carries.
-    pub fn rest(&self) -> &[G]
-        ensures { map G.parts_of result.now ≡ self.now.rest }
+    pub fn rest(&self) -> &Carried<G>
+        ensures { result.now ≡ self.now.rest }
     {
         &self.rest
     }

@@ -8,6 +8,7 @@
 //! closed set is the best pit, there is at most one, and it grows where worths rise.
 #![tactic(auto)]
 
+mod carrying;
 mod flows;
 pub mod laws;
 mod networks;
@@ -19,6 +20,7 @@ mod searches;
 mod tests;
 mod worths;
 
+pub use carrying::Carried;
 pub use flows::Flow;
 pub use networks::{Net, NetFault};
 pub use pits::Pit;

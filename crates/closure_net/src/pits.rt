@@ -1,7 +1,8 @@
 //! Pits.
 
-ghost use Rattle.std.specs.Prelude.{◌≡◌, ◌↔◌, ℕ, ◌<◌, IsTrue, List, length, slice_index, MatchOption};
+ghost use Rattle.std.specs.Prelude.{◌≡◌, ◌↔◌, ℕ, ◌<◌, ◌≤◌, ◌-◌, ◌^◌, false, IsTrue, List, length, slice_index, MatchOption};
 ghost use Rattle.closure_net.specs.Network.{IsAscending, holds_of};
+ghost use Rattle.closure_net.specs.Places.{StandsFrom, StandsBelow};
 
 use std::marker::Model;
 
@@ -17,6 +18,38 @@ impl Model for Pit {
     ghost view = { λ p. p.blocks.items };
 
     ghost invariant = { λ p. IsAscending p.blocks.items };
+}
+
+// From which place on b can stand: behind the place before it, where a block below b stands there.
+fn lowest_place(blocks: &[u32], place: usize, b: u32) -> usize
+    requires { IsAscending blocks.now }
+    ensures inside { result ≤ length blocks.now }
+    ensures lowest { StandsFrom blocks.now b result }
+{
+    if 0 < place && place <= blocks.len() && blocks[place - 1] < b {
+        place
+    } else {
+        0
+    }
+}
+
+// Up to which place b can stand, where it stands nowhere before another: each block is at least by one above the one
+// before it, so that b stands no farther from there than it differs from the block there.
+fn highest_place(blocks: &[u32], from: usize, b: u32) -> usize
+    requires ascending { IsAscending blocks.now }
+    requires inside { from ≤ length blocks.now }
+    ensures inside { (from ≤ result) × (result ≤ length blocks.now) }
+    ensures highest { StandsBelow blocks.now b from result }
+{
+    if from == blocks.len() || b < blocks[from] {
+        return from;
+    }
+    let far = (b - blocks[from]) as usize;
+    if far < blocks.len() - from {
+        from + far + 1
+    } else {
+        blocks.len()
+    }
 }
 
 // Whether each block is above the one before it.
@@ -86,5 +119,35 @@ impl Pit {
         ensures { result ≡ holds_of self.now b }
     {
         self.blocks.binary_search(&b).is_ok()
+    }
+
+    // The place of b, or `None` where b isn't in the pit, looked for around a place.
+    fn place_near(&self, place: usize, b: u32) -> Option<usize>
+        ensures { MatchOption result
+            (holds_of self.now b ≡ false)
+            (λ i. (i < length self.now) × (i < 2 ^ 64 - 1) × (slice_index self.now i ≡ b)) }
+    {
+        let from = lowest_place(&self.blocks, place, b);
+        let to = highest_place(&self.blocks, from, b);
+        match self.blocks[from..to].binary_search(&b) {
+            Ok(i) => Some(from + i),
+            Err(_) => None,
+        }
+    }
+
+    /// Whether b is in the pit, looked for around a place, which is moved behind that of b where it is.
+    ///
+    /// The place may be any number, and the nearer it is to that of b, the sooner the answer: blocks that follow one
+    /// another in the pit are found in constant time each.
+    pub fn holds_near(&self, place: &mut usize, b: u32) -> bool
+        ensures { result ≡ holds_of self.now b }
+    {
+        match self.place_near(*place, b) {
+            Some(i) => {
+                *place = i + 1;
+                true
+            }
+            None => false,
+        }
     }
 }

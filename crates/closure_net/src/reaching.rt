@@ -28,7 +28,7 @@ fn carries<G: OrderedGroup>(flow: &Flow<G>, k: u32) -> bool
     requires known { k < length flow.now.rest }
     ensures { IsTrue result ↔ Carries flow.now.rest k }
 {
-    flow.rest()[k as usize].is_positive()
+    flow.rest().at(k).is_positive()
 }
 
 // Finds each block to which the source could still give something.

@@ -1,6 +1,6 @@
 ghost use Rattle.std.specs.Prelude.{◌≤◌, ◌^◌};
 
-use crate::{Flow, Net, NetFault, Pit, pit_of};
+use crate::{Carried, Flow, Net, NetFault, Pit, pit_of};
 use ordered_group::WorthSize;
 use prec_file::Rests;
 use std::alloc::Global;
@@ -33,7 +33,7 @@ fn reached(
     sink: &[WorthSize],
 ) -> Result<Pit, Fail> {
     let source = Vec::from_slice(alloc, source)?;
-    let rest = Vec::from_slice(alloc, rest)?;
+    let rest = Carried::from_list(Vec::from_slice(alloc, rest)?);
     let sink = Vec::from_slice(alloc, sink)?;
     let flow = Flow::new(source, rest, sink);
     assert!(rt; flow.fits(net));

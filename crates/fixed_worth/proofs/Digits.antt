@@ -78,3 +78,16 @@ short_value xs ys h j =
     let l : length (xs ++ ys) ≤ 36 = simp length-append (j) in
     let b : 10 ^ length (xs ++ ys) ≤ 10 ^ 36 = pow-le-pow_right {n = 10} (lit< tt) l in
     omega (arith, a, b)
+
+-- with its next digit, what is read of at most nineteen digits stays below the nineteenth power of ten
+pub next_below : (v i : ℕ) (bs : List ℕ) → i < length bs → v * 10 ^ length (drop i bs) + value_of (drop i bs) ≡ value_of bs
+    → list_all is_digit bs ≡ true → length bs ≤ 19 → v * 10 + (get_or bs i 0 - 48) < 10 ^ 19
+next_below v i bs h e t few =
+    let d = get_or bs i 0 - 48 in
+    let k = length (drop (i + 1) bs) in
+    let r = value_of (drop (i + 1) bs) in
+    let f : value_of bs ≡ (v * 10 + d) * 10 ^ k + r = sym e ∙ value_step v i bs h in
+    let a = value_below bs t in
+    let b : 10 ^ length bs ≤ 10 ^ 19 = pow-le-pow_right {n = 10} (lit< tt) few in
+    let w : value_of bs < 10 ^ 19 = omega (arith, a, b) in
+    below_from (10 ^ 19) (v * 10 + d) k r (subst (λ (x : ℕ). x < 10 ^ 19) f w)

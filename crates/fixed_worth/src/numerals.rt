@@ -1,6 +1,6 @@
 //! Whole numbers as they are written: digits, with or without a sign.
 
-ghost use Rattle.std.specs.Prelude.{◌≡◌, ◌+◌, ◌-◌, ◌*◌, ◌<◌, ◌≤◌, ◌^◌, SomeIff, IsTrue, pos, neg_ℤ};
+ghost use Rattle.std.specs.Prelude.{◌≡◌, ◌+◌, ◌-◌, ◌*◌, ◌<◌, ◌≤◌, ◌^◌, SomeIff, IsTrue, length, pos, neg_ℤ};
 ghost use Rattle.std.specs.List.{list_all};
 ghost use Rattle.fixed_worth.specs.Numeral.{is_digit, value_of, digits_of, below, whole_of, is_minus, unsigned_of, signed_of, begins_above_zero, is_plain, plain_of};
 
@@ -37,8 +37,32 @@ pub(crate) fn with_digit(value: u128, digit: u8) -> Option<u128>
     }
 }
 
+// The value of digits that are few enough to fit, as nearly all numbers of a file are: no step need test for overflow.
+fn short_value(text: &[u8]) -> u64
+    requires digits { IsTrue (list_all is_digit text.now) }
+    requires few { length text.now ≤ 19 }
+    ensures { result ≡ value_of text.now }
+{
+    let mut all: u64 = 0;
+    for b in text {
+        all = all * 10 + u64::from(*b - b'0');
+    }
+    all
+}
+
 // The value of digits, where it fits.
 pub(crate) fn value(text: &[u8]) -> Option<u128>
+    requires { IsTrue (list_all is_digit text.now) }
+    ensures { SomeIff result (value_of text.now < 2 ^ 128) (value_of text.now) }
+{
+    if text.len() <= 19 {
+        return Some(u128::from(short_value(text)));
+    }
+    long_value(text)
+}
+
+// The same, for any number of digits.
+fn long_value(text: &[u8]) -> Option<u128>
     requires { IsTrue (list_all is_digit text.now) }
     ensures { SomeIff result (value_of text.now < 2 ^ 128) (value_of text.now) }
 {

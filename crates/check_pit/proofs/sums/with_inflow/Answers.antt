@@ -1,20 +1,13 @@
-use Rattle.std.proofs.Common.{◌≡◌, length, arith, map, get_or}
+use Rattle.std.proofs.Common.{◌≡◌, length, arith, sym, get_or}
 use Rattle.ordered_group.specs.Sums.{amount_at}
 use Rattle.prec_file.specs.Rests.{to_at}
-use Rattle.ordered_group.proofs.Lists.{at_map}
 use Rattle.check_pit.proofs.Over.{number_below, all_in, all_fit, one_leaves, sum_more, fits_more}
 use Rattle.check_pit.proofs.sums.with_inflow.Goals as goal
 
-pub offset_bounds-rest-k : goal.offset_bounds-rest-k
-offset_bounds-rest-k g c =
+pub at-requires-after_bounds : goal.at-requires-after_bounds
+at-requires-after_bounds g c =
     let parts = g.G.OrderedGroup.parts_of in
-    let below = number_below (parts c.args.start) (to_at c.args.rests.now.pairs) (amount_at (map parts c.args.rest.now)) c.args.b (length c.args.rests.now.pairs) c.below-numbers.result.now c.below-numbers.ensures c.loop-k.k-index (omega arith) in
-    omega (arith, below, c.requires.lengths)
-
-pub bounds-rest-k : goal.bounds-rest-k
-bounds-rest-k g c =
-    let parts = g.G.OrderedGroup.parts_of in
-    let below = number_below (parts c.args.start) (to_at c.args.rests.now.pairs) (amount_at (map parts c.args.rest.now)) c.args.b (length c.args.rests.now.pairs) c.below-numbers.result.now c.below-numbers.ensures c.loop-k.k-index (omega arith) in
+    let below = number_below (parts c.args.start) (to_at c.args.rests.now.pairs) (amount_at c.args.rest.now) c.args.b (length c.args.rests.now.pairs) c.below-numbers.result.now c.below-numbers.ensures c.loop-k.k-index (omega arith) in
     omega (arith, below, c.requires.lengths)
 
 pub returns-in-None : goal.returns-in-None
@@ -22,18 +15,18 @@ returns-in-None g c =
     let parts = g.G.OrderedGroup.parts_of in
     let ks = c.below-numbers.result.now in
     let k = get_or ks c.loop-k.k-index 0 in
-    let below = number_below (parts c.args.start) (to_at c.args.rests.now.pairs) (amount_at (map parts c.args.rest.now)) c.args.b (length c.args.rests.now.pairs) ks c.below-numbers.ensures c.loop-k.k-index (omega arith) in
-    let q = at_map parts c.args.rest.now k c.index-rest-k.result (omega (arith, below, c.requires.lengths)) c.index-rest-k.is in
-    one_leaves (parts c.args.start) (to_at c.args.rests.now.pairs) (amount_at (map parts c.args.rest.now)) c.args.b (length c.args.rests.now.pairs) ks c.below-numbers.ensures c.loop-k.k-index _ _ (omega arith) c.loop-k.invariant.so_far q c.in-None.ensures
+    let below = number_below (parts c.args.start) (to_at c.args.rests.now.pairs) (amount_at c.args.rest.now) c.args.b (length c.args.rests.now.pairs) ks c.below-numbers.ensures c.loop-k.k-index (omega arith) in
+    let q = sym c.at.ensures in
+    one_leaves (parts c.args.start) (to_at c.args.rests.now.pairs) (amount_at c.args.rest.now) c.args.b (length c.args.rests.now.pairs) ks c.below-numbers.ensures c.loop-k.k-index _ _ (omega arith) c.loop-k.invariant.so_far q c.in-None.ensures
 
 pub loop-k-preserved : goal.loop-k-preserved
 loop-k-preserved g c =
     let parts = g.G.OrderedGroup.parts_of in
     let ks = c.below-numbers.result.now in
     let k = get_or ks c.loop-k.k-index 0 in
-    let f = amount_at (map parts c.args.rest.now) in
+    let f = amount_at c.args.rest.now in
     let below = number_below (parts c.args.start) (to_at c.args.rests.now.pairs) f c.args.b (length c.args.rests.now.pairs) ks c.below-numbers.ensures c.loop-k.k-index (omega arith) in
-    let q = at_map parts c.args.rest.now k c.index-rest-k.result (omega (arith, below, c.requires.lengths)) c.index-rest-k.is in
+    let q = sym c.at.ensures in
     record {
       so_far = sum_more (parts c.args.start) f ks c.loop-k.k-index _ _ _ c.loop-k.invariant.so_far q c.in-Some.ensures.1;
       fits = fits_more (parts c.args.start) f ks c.loop-k.k-index _ _ c.loop-k.invariant.so_far q c.in-Some.ensures.0 c.loop-k.invariant.fits;
@@ -45,7 +38,7 @@ returns g c =
     let ks = c.below-numbers.result.now in
     let end = to_at c.args.rests.now.pairs in
     let m = length c.args.rests.now.pairs in
-    let f = amount_at (map parts c.args.rest.now) in
+    let f = amount_at c.args.rest.now in
     let all : c.loop-k.k-index ≡ length ks = omega arith in (
       all_in (parts c.args.start) end f c.args.b m ks c.below-numbers.ensures c.loop-k.k-index _ all c.loop-k.invariant.so_far,
       all_fit (parts c.args.start) end f c.args.b m ks c.below-numbers.ensures c.loop-k.k-index all c.loop-k.invariant.fits,

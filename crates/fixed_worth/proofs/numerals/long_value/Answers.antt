@@ -1,7 +1,7 @@
 use Rattle.std.proofs.Common.{◌≡◌, arith}
 use Rattle.fixed_worth.specs.Numeral.{value_of}
 use Rattle.fixed_worth.proofs.Digits.{overflows, carried, finished}
-use Rattle.fixed_worth.proofs.numerals.value.Goals as goal
+use Rattle.fixed_worth.proofs.numerals.long_value.Goals as goal
 
 pub returns-in-None : goal.returns-in-None
 returns-in-None c = overflows c.loop-b.all c.loop-b.b-index (value_of c.args.text.now) c.args.text.now c.loop-b-test.true c.loop-b.invariant.whole c.in-None.ensures

@@ -1,6 +1,6 @@
 use Rattle.std.proofs.Common.{◌≡◌, ◌+◌, ◌*◌, ◌^◌, ◌<◌, length, drop}
 use Rattle.fixed_worth.specs.Numeral.{value_of}
-use Rattle.fixed_worth.proofs.numerals.value.Given as goal
+use Rattle.fixed_worth.proofs.numerals.long_value.Given as goal
 
 -- what is read so far stands before what is left
 abbrev pub invariant-loop-b : goal.invariant-loop-b
