@@ -79,15 +79,26 @@ short_value xs ys h j =
     let b : 10 ^ length (xs ++ ys) ≤ 10 ^ 36 = pow-le-pow_right {n = 10} (lit< tt) l in
     omega (arith, a, b)
 
--- with its next digit, what is read of at most nineteen digits stays below the nineteenth power of ten
-pub next_below : (v i : ℕ) (bs : List ℕ) → i < length bs → v * 10 ^ length (drop i bs) + value_of (drop i bs) ≡ value_of bs
-    → list_all is_digit bs ≡ true → length bs ≤ 19 → v * 10 + (get_or bs i 0 - 48) < 10 ^ 19
-next_below v i bs h e t few =
-    let d = get_or bs i 0 - 48 in
-    let k = length (drop (i + 1) bs) in
-    let r = value_of (drop (i + 1) bs) in
-    let f : value_of bs ≡ (v * 10 + d) * 10 ^ k + r = sym e ∙ value_step v i bs h in
-    let a = value_below bs t in
-    let b : 10 ^ length bs ≤ 10 ^ 19 = pow-le-pow_right {n = 10} (lit< tt) few in
-    let w : value_of bs < 10 ^ 19 = omega (arith, a, b) in
-    below_from (10 ^ 19) (v * 10 + d) k r (subst (λ (x : ℕ). x < 10 ^ 19) f w)
+next_product : (v d p : ℕ) → d ≤ 9 → v < p → v * 10 + d < 10 * p
+next_product v d p h j = omega arith
+
+and_both : (s t : Bool) → s ≡ true → t ≡ true → (s && t) ≡ true
+and_both true true e f = refl
+and_both true false e f = f
+and_both false t e f = e
+
+-- one more digit makes a number less than the next power of ten
+pub next_below : (v i b : ℕ) → v < 10 ^ i → is_digit b ≡ true → v * 10 + (b - 48) < 10 ^ (i + 1)
+next_below v i b h t =
+    let d : b - 48 ≤ 9 = grind (arith, nat_tests) in
+    let e : 10 ^ (i + 1) ≡ 10 * 10 ^ i = ap (λ n. 10 ^ n) (add-one i) ∙ pow-succ' 10 i in
+    rw e (next_product v (b - 48) (10 ^ i) d h)
+
+-- and so does each power on the way to the nineteenth fit
+pub power_fits : (i : ℕ) → i ≤ 19 → 10 ^ i ≤ 10 ^ 19
+power_fits i h = pow-le-pow_right {n = 10} (lit< tt) h
+
+-- all of a list passes where each place does
+pub all_digits : (bs : List ℕ) → ((k : ℕ) → k < length bs → is_digit (get_or bs k 0) ≡ true) → list_all is_digit bs ≡ true
+all_digits [] h = refl
+all_digits (b ∷ bs) h = and_both (is_digit b) (list_all is_digit bs) (h 0 (omega arith)) (all_digits bs (λ k l. h (suc k) (omega arith)))

@@ -1,4 +1,5 @@
 pub mod Cuts
+pub mod Searched
 pub mod Digits
 pub mod FieldLaws
 pub mod Fractions

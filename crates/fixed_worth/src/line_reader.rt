@@ -4,6 +4,7 @@ ghost use Rattle.std.specs.Prelude.{◌≡◌, ◌+◌, ◌<◌, ◌≤◌, ◌^
 ghost use Rattle.std.specs.List.{position_or_len};
 ghost use Rattle.fixed_worth.specs.Text.{lines_of, Left, BeginsTooLong};
 
+use memchr::memchr;
 use std::marker::Model;
 
 /// Why a text is not cut further.
@@ -33,7 +34,7 @@ impl<'a> Model for Lines<'a> {
 fn first_line_feed(text: &[u8]) -> Option<usize>
     ensures { result ≡ position (λ b. b == 10) text.now }
 {
-    text.iter().position(|b| *b == b'\n')
+    memchr(b'\n', text)
 }
 
 // How many bytes stand before the first line feed.

@@ -37,17 +37,20 @@ pub(crate) fn with_digit(value: u128, digit: u8) -> Option<u128>
     }
 }
 
-// The value of digits that are few enough to fit, as nearly all numbers of a file are: no step need test for overflow.
-fn short_value(text: &[u8]) -> u64
-    requires digits { IsTrue (list_all is_digit text.now) }
-    requires few { length text.now ≤ 19 }
-    ensures { result ≡ value_of text.now }
+// The value of a text of digits that is too short for a sum to overflow, as nearly all numbers of a file are: each byte
+// is looked at once.
+fn short_value(text: &[u8]) -> Option<u64>
+    requires { length text.now ≤ 19 }
+    ensures { SomeIff result (IsTrue (list_all is_digit text.now)) (value_of text.now) }
 {
     let mut all: u64 = 0;
     for b in text {
+        if !is_digit_byte(*b) {
+            return None;
+        }
         all = all * 10 + u64::from(*b - b'0');
     }
-    all
+    Some(all)
 }
 
 // The value of digits, where it fits.
@@ -56,9 +59,13 @@ pub(crate) fn value(text: &[u8]) -> Option<u128>
     ensures { SomeIff result (value_of text.now < 2 ^ 128) (value_of text.now) }
 {
     if text.len() <= 19 {
-        return Some(u128::from(short_value(text)));
+        match short_value(text) {
+            Some(all) => Some(u128::from(all)),
+            None => unreachable!(),
+        }
+    } else {
+        long_value(text)
     }
-    long_value(text)
 }
 
 // The same, for any number of digits.
@@ -80,13 +87,23 @@ fn long_value(text: &[u8]) -> Option<u128>
 pub(crate) fn number_below(text: &[u8], limit: u128) -> Result<u128, NumberFault>
     ensures { result ≡ below limit (digits_of text.now) }
 {
-    if text.is_empty() || !are_digits(text) {
+    if text.is_empty() {
+        return Err(NumberFault::NotANumber);
+    }
+    if text.len() <= 19 {
+        return match short_value(text) {
+            Some(n) if u128::from(n) < limit => Ok(u128::from(n)),
+            Some(_) => Err(NumberFault::TooLarge),
+            None => Err(NumberFault::NotANumber),
+        };
+    }
+    if !are_digits(text) {
         return Err(NumberFault::NotANumber);
     }
     if text.len() > 39 {
         return Err(NumberFault::TooLong);
     }
-    match value(text) {
+    match long_value(text) {
         Some(n) if n < limit => Ok(n),
         _ => Err(NumberFault::TooLarge),
     }
