@@ -31,9 +31,9 @@ none_placed xs ps n e =
     let inside : (i : ℕ) → i < length (map (amount_of_place xs) (replicate n 0)) → i < n = λ i l. omega (arith, size) in
     ap (map (amount_of_place xs)) e
     ∙ ext_get_or zero_amount _ _ (size ∙ sym (length-replicate n zero_amount)) (λ i l.
-        get_or-map (amount_of_place xs) (replicate n 0) i 0 zero_amount (let m = length-replicate {A = ℕ} n 0 in omega (arith, m, inside i l))
-        ∙ ap (amount_of_place xs) (get_or-replicate n i 0 0 (inside i l))
-        ∙ sym (get_or-replicate n i zero_amount zero_amount (inside i l)))
+    get_or-map (amount_of_place xs) (replicate n 0) i 0 zero_amount (let m = length-replicate {A = ℕ} n 0 in omega (arith, m, inside i l))
+    ∙ ap (amount_of_place xs) (get_or-replicate n i 0 0 (inside i l))
+    ∙ sym (get_or-replicate n i zero_amount zero_amount (inside i l)))
 
 -- the same of what is kept, where it is of a few pairs and where it is of all
 pub few_set : {Kept : Type 0} (items : Kept → List ℕ) (o : Option Kept) (v : Kept) (xs ys zs : List Amount) (x : Amount) (k n : ℕ)

@@ -79,6 +79,45 @@ fn no_block_is_reached(rt: HostRuntime) -> Result<(), Fail> {
     Ok(())
 }
 
+// Any place gives the same answer.
+#[test]
+fn blocks_are_found_from_any_place(rt: HostRuntime) -> Result<(), Fail> {
+    let alloc = rt.alloc();
+    let pit = Pit::new(Vec::from_slice(alloc, &[1, 2, 5, 9])?).ok_or("pit")?;
+    for start in 0..7 {
+        for b in 0..12 {
+            let mut place = start;
+            assert_eq!(rt;
+                pit.holds_near(&mut place, b),
+                b == 1 || b == 2 || b == 5 || b == 9
+            );
+        }
+    }
+    let mut place = 0;
+    assert!(rt; pit.holds_near(&mut place, 5));
+    assert_eq!(rt; place, 3);
+    Ok(())
+}
+
+#[test]
+fn few_pairs_carry_something(rt: HostRuntime) -> Result<(), Fail> {
+    let alloc = rt.alloc();
+    let mut carried: Carried<WorthSize> = Carried::nothing(alloc, 3)?;
+    carried.set(1, amount(5, -1))?;
+    carried.set(2, amount(7, -2))?;
+    carried.set(1, amount(6, -1))?;
+    assert_eq!(rt; carried.len(), 3);
+    assert_eq!(rt; carried.at(0), amount(0, 0));
+    assert_eq!(rt; carried.at(1), amount(6, -1));
+    assert_eq!(rt; carried.at(2), amount(7, -2));
+    let mut all = Carried::from_list(Vec::from_slice(alloc, &[amount(1, 0), amount(2, 0)])?);
+    all.set(0, amount(3, 0))?;
+    assert_eq!(rt; all.len(), 2);
+    assert_eq!(rt; all.at(0), amount(3, 0));
+    assert_eq!(rt; all.at(1), amount(2, 0));
+    Ok(())
+}
+
 #[test]
 fn a_net_tells_its_parts(rt: HostRuntime) -> Result<(), Fail> {
     let net = two_on_waste(rt.alloc(), &[6, 5, -10])?;
