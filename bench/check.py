@@ -3,9 +3,11 @@
 
     PEERS=FOLDER bench/check.py              the check of a certificate: CPU seconds and peak memory
     PEERS=FOLDER bench/check.py --readers    the reading of a model alone, in MB/s
+    PEERS=FOLDER bench/check.py --prec       the reading of a .prec file alone, in MB/s
+    PEERS=FOLDER bench/check.py --blocks     the reading of a .blocks file alone, in MB/s
 
-PEERS is a folder with the peer programs and models: bin/checker, data/MODEL.prec, data/MODEL.upit and
-out/MODEL.pff.p128.cert (bench/README.md says how they are made). Both programs run on one core, in turns, and the
+PEERS is a folder with the peer programs and models: bin/checker, bin/genread, bin/blocks_reader, data/MODEL.prec,
+data/MODEL.upit and out/MODEL.pff.p128.cert (bench/README.md says how they are made). Both programs run on one core, in turns, and the
 best of the rounds counts. This is a measurement and no test: it holds no time against a limit.
 """
 import argparse
@@ -138,9 +140,65 @@ def readers(peers, models, count, core):
            "ratio"], rows)
 
 
+def prec(peers, models, count, core):
+    """Reading and indexing of .prec files alone: the values are those of no block, and the certificate is cut short."""
+    rows = []
+    for model in models:
+        _, file, _ = files_of(peers, model)
+        blocks, pairs = size_of(file)
+        with tempfile.TemporaryDirectory() as folder:
+            prefix = os.path.join(folder, model)
+            os.symlink(file, f"{prefix}.prec")
+            Path(f"{prefix}.upit").write_text(f"NBLOCKS: {blocks}\nOBJECTIVE_FUNCTION:\n")
+            cert = os.path.join(folder, "truncated.cert")
+            Path(cert).write_bytes(b"PITCERT 1\n")
+            ours, theirs = rounds([[str(PIT), "check", "--prec", f"{prefix}.prec", "--upit", f"{prefix}.upit", cert],
+                                   [str(peers / "bin" / "genread"), prefix]], count, core)
+        if any(r.status != 3 or "certificate" not in r.output for r in ours):
+            sys.exit(f"bench: {model}: pit didn't come to the certificate: {ours[-1].output}")
+        if any(r.status != 0 or f" m={pairs} " not in r.output for r in theirs):
+            sys.exit(f"bench: {model}: the peer reads other pairs: {theirs[-1].output}")
+        size = os.path.getsize(file) / 1e6
+        (cpu, peak), (their_cpu, their_peak) = best(ours), best(theirs)
+        rows.append([model, f"{pairs:,}", f"{size:.1f}", f"{cpu:.3f}", f"{their_cpu:.3f}", f"{size / cpu:.0f}",
+                     f"{size / their_cpu:.0f}", f"{cpu / their_cpu:.1f}", f"{peak:.1f}", f"{peak / size:.1f}"])
+    table(["model", "pairs", "MB read", "pit s", "peer s", "pit MB/s", "peer MB/s", "ratio", "pit peak MB", "times the file"],
+          rows)
+
+
+def write_blocks(file, n, mistake):
+    """A .blocks file of n blocks with three columns; its last line, where there is a mistake, has no place."""
+    with open(file, "w") as out:
+        for b in range(n):
+            out.write(f"{b} {b % 200} {b // 200 % 200} {b // 40000} {b % 97}.{b % 10} {b * 7 % 1000} {b % 3000}.25\n")
+        if mistake:
+            out.write("the end\n")
+
+
+def blocks(peers, models, count, core):
+    """Reading of .blocks files alone: a fault of the last line keeps `pit slopes` from going on to the slopes."""
+    rows = []
+    for n in [100_000, 1_000_000]:
+        with tempfile.TemporaryDirectory() as folder:
+            file = os.path.join(folder, "model.blocks")
+            write_blocks(file, n, True)
+            ours, theirs = rounds([[str(PIT), "slopes", "--blocks", file, "--pattern", "five"],
+                                   [str(peers / "bin" / "blocks_reader"), file]], count, core)
+            size = os.path.getsize(file) / 1e6
+        wanted = f"Text({n + 1})"
+        if any(r.status != 3 or wanted not in r.output for r in ours + theirs):
+            sys.exit(f"bench: the programs don't name {wanted}:\n{ours[-1].output}\n{theirs[-1].output}")
+        (cpu, peak), (their_cpu, their_peak) = best(ours), best(theirs)
+        rows.append([f"{n:,}", f"{size:.1f}", f"{cpu:.3f}", f"{their_cpu:.3f}", f"{size / cpu:.0f}",
+                     f"{size / their_cpu:.0f}", f"{cpu / their_cpu:.1f}", f"{peak:.1f}", f"{peak / size:.1f}"])
+    table(["blocks", "MB read", "pit s", "peer s", "pit MB/s", "peer MB/s", "ratio", "pit peak MB", "times the file"], rows)
+
+
 def main():
     words = argparse.ArgumentParser(description=__doc__, formatter_class=argparse.RawDescriptionHelpFormatter)
     words.add_argument("--readers", action="store_true", help="read the model alone: the certificate is cut short")
+    words.add_argument("--prec", action="store_true", help="read and index .prec files alone")
+    words.add_argument("--blocks", action="store_true", help="read .blocks files alone, which are made for it")
     words.add_argument("--models", nargs="+", default=["marvin", "mclim"], metavar="MODEL")
     words.add_argument("--rounds", type=int, default=3, metavar="N")
     words.add_argument("--core", type=int, default=0, metavar="N")
@@ -148,16 +206,22 @@ def main():
     if "PEERS" not in os.environ:
         sys.exit("bench: PEERS must name a folder with the peer programs and models; see bench/README.md")
     peers = Path(os.environ["PEERS"]).resolve()
-    needed = [PIT, peers / "bin" / "checker"]
-    for model in given.models:
+    measure, peer = check, "checker"
+    if given.readers:
+        measure = readers
+    elif given.prec:
+        measure, peer = prec, "genread"
+    elif given.blocks:
+        measure, peer = blocks, "blocks_reader"
+    needed = [PIT, peers / "bin" / peer]
+    for model in given.models if measure != blocks else []:
         needed += [Path(file) for file in files_of(peers, model)[1:]]
-        if not given.readers:
+        if measure == check:
             needed.append(peers / "out" / f"{model}.pff.p128.cert")
     for file in needed:
         if not file.exists():
             sys.exit(f"bench: {file} is missing; see bench/README.md")
     adopt_orphans()
-    measure = readers if given.readers else check
     measure(peers, given.models, given.rounds, given.core)
 
 

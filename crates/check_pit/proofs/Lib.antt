@@ -18,3 +18,4 @@ pub mod ValueLines
 pub mod Verdicts
 pub mod Wants
 pub mod Whole
+pub mod Tightness

@@ -12,3 +12,4 @@ pub mod Pieces
 pub mod PrintedFaults
 pub mod ReadBack
 pub mod Written
+pub mod Tightness

@@ -1,9 +1,15 @@
 //! Laws, each the contract of a function that does nothing.
 
 ghost use Rattle.check_pit.specs.Duality.{WeakDuality};
+ghost use Rattle.check_pit.specs.Tightness.{RefusedForSizeOnly};
 
 /// A closed set that sums to what the source could still give by some flow is a greatest closed set,
 /// and the flow is a greatest one.
 pub fn tight_closed_set_is_greatest()
     ensures { WeakDuality }
+{}
+
+/// A closed pit of the net's blocks that is tight by a flow is accepted, or refused as `TooLarge`.
+pub fn tight_closed_pit_is_refused_for_size_only()
+    ensures { RefusedForSizeOnly }
 {}

@@ -14,7 +14,12 @@ use ordered_group::{OrderedGroup, positive_part, same};
 use prec_file::Rests;
 
 // The start and all that the pairs bring into b, added in the order of the pairs.
-pub(crate) fn with_inflow<G: OrderedGroup>(start: G, rests: &Rests, rest: &Carried<G>, b: u32) -> Option<G>
+pub(crate) fn with_inflow<G: OrderedGroup>(
+    start: G,
+    rests: &Rests,
+    rest: &Carried<G>,
+    b: u32,
+) -> Option<G>
     requires lengths { length rest.now ≡ length rests.now.pairs }
     requires known { b < rests.now.blocks }
     ensures { let f = amount_at rest.now in let ps = rests.now.pairs in let m = length ps in MatchOption result

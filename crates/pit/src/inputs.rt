@@ -1,11 +1,11 @@
 //! Reading the inputs of an engine, each whole and with its own fault.
 
 ghost use Rattle.std.specs.Prelude.{◌≡◌, ◌+◌, ◌-◌, ◌^◌, ◌<◌, ◌≤◌, ◌↔◌, ℕ, ◌⊎◌, length, IfSome, MatchResult, IsErrOf};
-ghost use Rattle.pit.specs.Inputs.{ReadsUpit, ReadsPrec, UpitReadFails, PrecReadFails, TextReadFails};
+ghost use Rattle.pit.specs.Inputs.{ReadsUpit, ListsPrec, ReadsPrec, UpitReadFails, PrecReadFails, TextReadFails};
 
 use crate::engine_faults::{CertificateProblem, EngineFault, Problem};
 use fixed_worth::{CountedRead, InputFault, read_whole};
-use prec_file::{PrecFault, Rests, read_prec};
+use prec_file::{ListedPairs, PrecFault, Rests, read_listed};
 use std::alloc::Global;
 use upit_file::{Upit, UpitFault, declared_blocks, read_upit};
 
@@ -44,11 +44,15 @@ fn upit_of(alloc: Global, text: &[u8]) -> Result<Upit, EngineFault>
     }
 }
 
-/// What rests on what among n blocks.
-pub fn rests_from<R: CountedRead>(alloc: Global, from: &mut R, n: u32) -> Result<Rests, EngineFault>
+// The pairs that a text lists. Its bytes are given back here, before the pairs take memory of their own.
+fn listed_from<R: CountedRead>(
+    alloc: Global,
+    from: &mut R,
+    n: u32,
+) -> Result<ListedPairs, EngineFault>
     requires blocks { n ≤ 2 ^ 24 }
     requires room { R.failed from.old < 2 ^ 64 - 1 }
-    ensures read { IfSome (R.remaining from.old) (λ text. MatchResult result (ReadsPrec n text) (PrecReadFails n text)) }
+    ensures read { IfSome (R.remaining from.old) (λ text. MatchResult result (ListsPrec n text) (PrecReadFails n text)) }
     ensures device { IsErrOf result EngineFault.Device ↔ (R.failed from.new ≡ R.failed from.old + 1) }
     ensures kept { ¬ IsErrOf result EngineFault.Device → R.failed from.new ≡ R.failed from.old }
 {
@@ -58,10 +62,28 @@ pub fn rests_from<R: CountedRead>(alloc: Global, from: &mut R, n: u32) -> Result
         Err(InputFault::InputTooLong) => return Err(EngineFault::Prec(Problem::InputTooLong)),
         Err(InputFault::NoMemory) => return Err(EngineFault::Memory),
     };
-    match read_prec(alloc, text.as_slice(), n) {
-        Ok(rests) => Ok(rests),
+    match read_listed(alloc, text.as_slice(), n) {
+        Ok(listed) => Ok(listed),
         Err(PrecFault::NoMemory) => Err(EngineFault::Memory),
         Err(fault) => Err(EngineFault::Prec(Problem::Fault(fault))),
+    }
+}
+
+/// What rests on what among n blocks.
+pub fn rests_from<R: CountedRead>(alloc: Global, from: &mut R, n: u32) -> Result<Rests, EngineFault>
+    requires blocks { n ≤ 2 ^ 24 }
+    requires room { R.failed from.old < 2 ^ 64 - 1 }
+    ensures read { IfSome (R.remaining from.old) (λ text. MatchResult result (ReadsPrec n text) (PrecReadFails n text)) }
+    ensures device { IsErrOf result EngineFault.Device ↔ (R.failed from.new ≡ R.failed from.old + 1) }
+    ensures kept { ¬ IsErrOf result EngineFault.Device → R.failed from.new ≡ R.failed from.old }
+{
+    let listed = match listed_from(alloc, from, n) {
+        Ok(listed) => listed,
+        Err(fault) => return Err(fault),
+    };
+    match listed.settle(alloc) {
+        Ok(rests) => Ok(rests),
+        Err(_) => Err(EngineFault::Memory),
     }
 }
 

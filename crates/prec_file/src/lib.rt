@@ -14,6 +14,7 @@
 
 mod index;
 pub mod laws;
+mod listed_pairs;
 mod pair_order;
 mod prec_fault;
 mod precedence;
@@ -23,9 +24,10 @@ mod rests_fault;
 mod write_fault;
 mod writing;
 
+pub use listed_pairs::ListedPairs;
 pub use prec_fault::PrecFault;
 pub use precedence::Rests;
-pub use reading::read_prec;
+pub use reading::{read_listed, read_prec};
 pub use rests_fault::RestsFault;
 pub use write_fault::PrecWriteFault;
 pub use writing::write_prec;

@@ -2,7 +2,7 @@
 
 ghost use Rattle.std.specs.Prelude.{◌≡◌, ℕ, ◌+◌, ◌^◌, ◌<◌, ◌≤◌, All, IfOk, MatchResult, MatchOption, length, slice_index_or, map, ◌==◌, not};
 ghost use Rattle.std.specs.List.{filter, Contains};
-ghost use Rattle.prec_file.specs.Rests.{RestsView, IsRests, IsIndexed, IsKnown, KnownAt, IsFirstNot, IsRising, ArePairsOf, first_of, above_of, below_of};
+ghost use Rattle.prec_file.specs.Rests.{RestsView, IsRests, IsIndexed, IsKnown, KnownAt, IsFirstNot, IsRising, IsStarts, ArePairsOf, from_at, first_of, above_of, below_of};
 ghost use Rattle.prec_file.specs.Answer.{FaultStands};
 
 use crate::RestsFault;
@@ -34,6 +34,17 @@ impl Model for Rests {
     ghost invariant = { λ r. IsIndexed r.blocks r.pairs.items r.firsts.items r.tops.items r.starts.items r.filled.items };
 }
 
+// At each block up to n, the number of its first pair. The list of the pairs' blocks is given back at the end.
+fn firsts_of(alloc: Global, n: u32, pairs: &[(u32, u32)]) -> Result<Vec<u32>, AllocError>
+    requires blocks { n ≤ 2 ^ 24 }
+    requires few { length pairs.now ≤ 2 ^ 27 }
+    requires known { All (IsKnown n) pairs.now }
+    ensures { IfOk result (λ v. IsStarts (from_at pairs.now) (length pairs.now) n v.items) }
+{
+    let bottoms = bottoms_of(alloc, pairs)?;
+    starts_of(alloc, n, &bottoms)
+}
+
 // The two indexes of pairs in order.
 pub(crate) fn indexed(alloc: Global, n: u32, pairs: Vec<(u32, u32)>) -> Result<Rests, AllocError>
     requires blocks { n ≤ 2 ^ 24 }
@@ -42,8 +53,7 @@ pub(crate) fn indexed(alloc: Global, n: u32, pairs: Vec<(u32, u32)>) -> Result<R
     requires rising { IsRising pairs.items }
     ensures { IfOk result (λ r. (r.blocks ≡ n) × (r.pairs ≡ pairs.items)) }
 {
-    let bottoms = bottoms_of(alloc, &pairs)?;
-    let firsts = starts_of(alloc, n, &bottoms)?;
+    let firsts = firsts_of(alloc, n, &pairs)?;
     let tops = tops_of(alloc, &pairs)?;
     let starts = starts_of(alloc, n, &tops)?;
     let filled = filled_by(alloc, n, &tops, &starts)?;

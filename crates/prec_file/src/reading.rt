@@ -5,9 +5,8 @@ ghost use Rattle.fixed_worth.specs.Text.{fields_of};
 ghost use Rattle.prec_file.specs.Rests.{ArePairsOf, IsKnown};
 ghost use Rattle.prec_file.specs.Records.{record_fault, pairs_in, fault_of, listed, marked, UnlessMemory};
 
-use crate::precedence::settled;
 use crate::records::read_record;
-use crate::{PrecFault, Rests};
+use crate::{ListedPairs, PrecFault, Rests};
 use fixed_worth::Lines;
 use std::alloc::Global;
 
@@ -77,6 +76,23 @@ fn read_pairs(alloc: Global, text: &[u8], n: u32) -> Result<Vec<(u32, u32)>, Pre
     }
 }
 
+/// The pairs that a precedence file lists for n blocks, as it lists them: those of [`read_prec`] before they are put in
+/// order.
+///
+/// # Errors
+/// Those of [`read_prec`].
+pub fn read_listed(alloc: Global, text: &[u8], n: u32) -> Result<ListedPairs, PrecFault>
+    requires { n ≤ 2 ^ 24 }
+    ensures { MatchResult result
+        (λ l. (fault_of n text.now ≡ None) × (l.blocks ≡ n) × (l.pairs ≡ listed text.now))
+        (λ e. UnlessMemory e (fault_of n text.now ≡ Some e)) }
+{
+    match read_pairs(alloc, text, n) {
+        Ok(pairs) => Ok(ListedPairs::of(n, pairs)),
+        Err(fault) => Err(fault),
+    }
+}
+
 /// The pairs that a precedence file lists for n blocks.
 ///
 /// Each line is a record `b k p1 .. pk`: block b rests on its k predecessors. Lines without a field, and those whose
@@ -92,8 +108,8 @@ pub fn read_prec(alloc: Global, text: &[u8], n: u32) -> Result<Rests, PrecFault>
         (λ r. (fault_of n text.now ≡ None) × (r.blocks ≡ n) × ArePairsOf (listed text.now) r.pairs)
         (λ e. UnlessMemory e (fault_of n text.now ≡ Some e)) }
 {
-    match read_pairs(alloc, text, n) {
-        Ok(pairs) => match settled(alloc, n, pairs) {
+    match read_listed(alloc, text, n) {
+        Ok(listed) => match listed.settle(alloc) {
             Ok(rests) => Ok(rests),
             Err(_) => Err(PrecFault::NoMemory),
         },

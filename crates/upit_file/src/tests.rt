@@ -236,6 +236,20 @@ fn a_written_text(rt: HostRuntime) -> Result<(), Fail> {
     Ok(())
 }
 
+// Whatever a text's spelling, what it says is written in one way.
+#[test]
+fn a_read_text_is_written_plainly(rt: HostRuntime) -> Result<(), Fail> {
+    let alloc: Global = rt.alloc();
+    let upit = read_upit(alloc, SAMPLE, 2).ok().ok_or("read")?;
+    let mut out = Counted::new(Vec::new(alloc));
+    assert_eq!(rt; write_upit(&upit, &mut out), Ok(()));
+    assert_eq!(rt;
+        out.into_inner().as_slice(),
+        b"NAME: a b\nTYPE: UPIT\nNBLOCKS: 2\nOBJECTIVE_FUNCTION:\n0 0\n1 -2.5\nEOF\n".as_slice()
+    );
+    Ok(())
+}
+
 #[test]
 fn an_empty_text(rt: HostRuntime) -> Result<(), Fail> {
     let alloc: Global = rt.alloc();

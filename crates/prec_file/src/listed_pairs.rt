@@ -1,0 +1,51 @@
+//! The pairs of a text before they are put in order.
+
+ghost use Rattle.std.specs.Prelude.{◌≡◌, ◌≤◌, ◌^◌, All, length, IfOk};
+ghost use Rattle.prec_file.specs.Rests.{ArePairsOf, IsKnown};
+
+use crate::Rests;
+use crate::precedence::settled;
+use std::alloc::{AllocError, Global};
+use std::marker::Model;
+
+/// The pairs that a text lists for n blocks, as it lists them.
+///
+/// Whoever holds the text can give it back before the pairs are put in order and indexed, which takes memory of its own.
+#[derive(Drop)]
+pub struct ListedPairs {
+    blocks: u32,
+    pairs: Vec<(u32, u32)>,
+}
+
+impl Model for ListedPairs {
+    ghost use Rattle.std.specs.Prelude.{◌≤◌, ◌^◌, All, length};
+    ghost use Rattle.prec_file.specs.Rests.{RestsView, IsKnown};
+
+    ghost Value = { RestsView };
+
+    ghost view = { λ l. record { blocks = l.blocks; pairs = l.pairs.items } };
+
+    ghost invariant = { λ l. (l.blocks ≤ 2 ^ 24) × (length l.pairs.items ≤ 2 ^ 27) × All (IsKnown l.blocks) l.pairs.items };
+}
+
+impl ListedPairs {
+    // The pairs of known blocks.
+    pub(crate) fn of(blocks: u32, pairs: Vec<(u32, u32)>) -> ListedPairs
+        requires few_blocks { blocks ≤ 2 ^ 24 }
+        requires few { length pairs.items ≤ 2 ^ 27 }
+        requires known { All (IsKnown blocks) pairs.items }
+        ensures { result ≡ record { blocks = blocks; pairs = pairs.items } }
+    {
+        ListedPairs { blocks, pairs }
+    }
+
+    /// The pairs, each once and in order, but those of a block with itself.
+    ///
+    /// # Errors
+    /// Where memory is refused.
+    pub fn settle(self, alloc: Global) -> Result<Rests, AllocError>
+        ensures { IfOk result (λ r. (r.blocks ≡ self.blocks) × ArePairsOf self.pairs r.pairs) }
+    {
+        settled(alloc, self.blocks, self.pairs)
+    }
+}
