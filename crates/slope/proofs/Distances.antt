@@ -1,5 +1,5 @@
 -- How far the offsets of a cone's level reach.
-use Rattle.std.proofs.Common.{◌≡◌, ℕ, ◌+◌, ◌*◌, ◌/◌, ◌^◌, ◌<◌, ◌≤◌, ◌⊎◌, inl, inr, ℤ, pos, sym, refl, ap, subst, ◌∙◌, arith, unsigned_abs}
+use Rattle.std.proofs.Common.{◌≡◌, ℕ, ◌+◌, ◌*◌, ◌/◌, ◌^◌, ◌<◌, ◌≤◌, inl, inr, pos, sym, ap, subst, ◌∙◌, arith, unsigned_abs}
 use Rattle.std.proofs.lemmas.Nat.{mul-le, mul-lt}
 use Rattle.std.proofs.lemmas.Bool.{cases_lt}
 use Rattle.std.proofs.Math.Nat.{mul_comm, mul-mul-mul_comm, mul-le-mul_left, div-lt_iff_lt-mul, div-le_of_le-mul}
@@ -27,12 +27,12 @@ reach_small k n r h l s =
 within : (k n r a b : ℕ) → 1 ≤ r → r * r * (a * a + b * b) ≤ k * k * (n * n) → b ≤ k * n / r
 within k n r a b s h = elim (cases_lt (k * n / r) b) [
   | inl far ↦
-    let wide : k * n < b * r = (div-lt_iff_lt-mul {k = r} {x = k * n} {y = b} s).0 far in
-    let squares : (k * n) * (k * n) < (b * r) * (b * r) = mul-lt (k * n) (k * n) (b * r) (b * r) wide wide in
-    let left : k * k * (n * n) ≡ (k * n) * (k * n) = mul-mul-mul_comm k k n n in
-    let right : r * r * (b * b) ≡ (b * r) * (b * r) = mul_comm (r * r) (b * b) ∙ mul-mul-mul_comm b b r r in
-    let part : r * r * (b * b) ≤ r * r * (a * a + b * b) = mul-le-mul_left (r * r) (omega arith) in
-    absurd (omega (arith, squares, left, right, part, h))
+      let wide : k * n < b * r = (div-lt_iff_lt-mul {k = r} {x = k * n} {y = b} s).0 far in
+      let squares : (k * n) * (k * n) < (b * r) * (b * r) = mul-lt (k * n) (k * n) (b * r) (b * r) wide wide in
+      let left : k * k * (n * n) ≡ (k * n) * (k * n) = mul-mul-mul_comm k k n n in
+      let right : r * r * (b * b) ≡ (b * r) * (b * r) = mul_comm (r * r) (b * b) ∙ mul-mul-mul_comm b b r r in
+      let part : r * r * (b * b) ≤ r * r * (a * a + b * b) = mul-le-mul_left (r * r) (omega arith) in
+      absurd (omega (arith, squares, left, right, part, h))
   | inr near ↦ near
 ]
 

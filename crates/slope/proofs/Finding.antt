@@ -1,9 +1,8 @@
 -- Finding blocks by their places.
-use Rattle.std.proofs.Common.{Option, MatchOption, ◌≡◌, ◌≢◌, ℕ, ◌+◌, ◌<◌, ◌≤◌, ◌⊎◌, inl, inr, ℤ, pos, ◌+ℤ◌, ◌-ℤ◌, Bool, true, false, Some, None, sym, refl, ap, subst, ◌∙◌, arith, below_more, List, Contains}
-use Rattle.std.specs.declared.cmp.Ordering.TheVariants.{Less, Equal, Greater}
-use Rattle.std.specs.Ordering.{is_eq, ordering_then, int_cmp, int_eq}
-use Rattle.std.specs.BTreeMap.{BTreeMap, get, Updates, is_at}
-use Rattle.std.proofs.lemmas.Bool.{and_parts, cases_eq, cases_Bool}
+use Rattle.std.proofs.Common.{Option, MatchOption, ◌≡◌, ◌≢◌, ℕ, ◌+◌, ◌<◌, inl, inr, ℤ, ◌+ℤ◌, ◌-ℤ◌, Bool, true, false, Some, None, sym, refl, ap, subst, ◌∙◌, arith, below_more}
+use Rattle.std.specs.Ordering.{is_eq, ordering_then, int_cmp}
+use Rattle.std.specs.BTreeMap.{BTreeMap, get, Updates}
+use Rattle.std.proofs.lemmas.Bool.{and_parts, cases_Bool}
 use Rattle.std.proofs.lemmas.Int.{ints}
 use Rattle.std.proofs.lemmas.Option.{none-some, same_Some}
 use Rattle.blocks_file.specs.declared.coordinates.Place.{Place}
@@ -41,10 +40,10 @@ module _ (m : BlocksView) (b : ℕ) (old new : BTreeMap Place ℕ) (p : Place) (
 
   found : (q : Place) (k : ℕ) (t : Bool) → is_eq (place_cmp p q) ≡ t → get place_cmp new q ≡ Some k → (k < b + 1) × (place_of m k ≡ q)
   found q k true e g =
-    let s = place_same p q e in
-    let v : Some b ≡ Some k = sym (u.1) ∙ ap (get place_cmp new) s ∙ g in
-    let w = same_Some b k v in
-    (omega arith, ap (place_of m) (sym w) ∙ here ∙ s)
+      let s = place_same p q e in
+      let v : Some b ≡ Some k = sym (u.1) ∙ ap (get place_cmp new) s ∙ g in
+      let w = same_Some b k v in
+      (omega arith, ap (place_of m) (sym w) ∙ here ∙ s)
   found q k false e g = let o = h.only q k (sym (u.2 q e) ∙ g) in (let l = o.0 in omega arith, o.1)
 
   -- the index with one block more

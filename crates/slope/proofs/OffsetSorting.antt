@@ -1,5 +1,5 @@
 -- Sorting offsets, and dropping repeats.
-use Rattle.std.proofs.Common.{◌≡◌, ℕ, zero, suc, ◌<◌, ℤ, pos, ◌<ℤ◌, ◌&&◌, Bool, true, false, inl, inr, List, [], ◌∷◌, length, get_or, sym, refl, ap, subst, ◌∙◌, arith, Ordering}
+use Rattle.std.proofs.Common.{◌≡◌, ℕ, zero, suc, ◌<◌, ℤ, ◌<ℤ◌, ◌&&◌, Bool, true, inl, inr, List, [], ◌∷◌, length, get_or, sym, refl, ap, subst, ◌∙◌, arith, Ordering}
 use Rattle.std.specs.declared.cmp.Ordering.TheVariants.{Less, Equal, Greater}
 use Rattle.std.specs.Ordering.{MatchOrdering, is_eq, ordering_then, int_cmp, int_eq, eq_by_cmp}
 use Rattle.std.specs.Cmp.{IsTotalOrder, IsEquivalence}

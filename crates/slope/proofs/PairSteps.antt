@@ -1,5 +1,5 @@
 -- The steps in which slope pairs are gathered.
-use Rattle.std.proofs.Common.{◌≡◌, ◌≢◌, ℕ, zero, ◌+◌, ◌<◌, ◌≤◌, ◌^◌, ◌⊎◌, inl, inr, ℤ, pos, ◌-ℤ◌, ◌<ℤ◌, List, [], ◌∷◌, ◌++◌, length, get_or, take, sym, refl, ap, subst, ◌∙◌, arith, Contains, All}
+use Rattle.std.proofs.Common.{◌≡◌, ◌≢◌, ℕ, ◌+◌, ◌<◌, ◌^◌, ◌⊎◌, inl, inr, ℤ, pos, ◌-ℤ◌, List, [], ◌∷◌, ◌++◌, length, get_or, take, sym, refl, ap, subst, ◌∙◌, arith, Contains}
 use Rattle.std.proofs.lemmas.Int.{ints}
 use Rattle.std.proofs.lemmas.Bool.{cases_lt, cases_order}
 use Rattle.std.proofs.lemmas.List.{take_more, get_or_default, get_or-take, length-take-le}
@@ -7,7 +7,7 @@ use Rattle.std.proofs.Math.Seq.{take-length}
 use Rattle.std.proofs.lemmas.List.Elements.{Contains-append_left, Contains-push, Contains-push_cases, All-contains}
 use Rattle.blocks_file.specs.Denotes.{BlocksView}
 use Rattle.prec_file.specs.Rests.{RestsView, KnownAt, ArePairsOf}
-use Rattle.slope.specs.Lists.{Collects, AreMoreThan}
+use Rattle.slope.specs.Lists.{Collects}
 use Rattle.slope.specs.Offsets.{Offset, IsPattern, IsRising, IsUpward, Before}
 use Rattle.slope.specs.Places.{place_of, AreApartBelow}
 use Rattle.slope.specs.Slopes.{upward, offset_between, IsSlopePair, IsPairBelow, IsPairUpTo, PairFaultStands, PairRefusalStands, AreSlopes, SlopeFaultStands, IndexFaultStands}
@@ -35,23 +35,26 @@ fresh os r i d l (k, m, e) =
 module _ (m : BlocksView) (os : List Offset) (up : Up) (b : ℕ) (ps : List (ℕ × ℕ)) where
   pub block_begun : Collects (IsPairBelow m os up b) ps → Collects (IsPairUpTo m os up b 0) ps
   block_begun c = collected_same _ _ ps c
-    (λ q h. record { slope = h.slope; below = inl h.below })
-    (λ q h. record { slope = h.slope; below = elim h.below [ inl l ↦ l | inr k ↦ let n = k.1 in absurd (nothing n) ] })
+      (λ q h. record { slope = h.slope; below = inl h.below })
+      (λ q h. record { slope = h.slope; below = elim h.below [ inl l ↦ l | inr k ↦ let n = k.1 in absurd (nothing n) ] })
     where
       nothing : {x : Offset} → Contains (take 0 os) x → ⊥
       nothing k = omega (arith, k.1)
 
   pub block_ended : (i : ℕ) → i ≡ length os → Collects (IsPairUpTo m os up b i) ps → Collects (IsPairBelow m os up (b + 1)) ps
   block_ended i e c = collected_same _ _ ps c
-    (λ q h. record { slope = h.slope; below = elim h.below [ inl l ↦ omega (arith, l) | inr k ↦ let f = k.0 in omega (arith, f) ] })
-    (λ q h. record { slope = h.slope; below = elim (cases_lt q.0 b) [
-      | inl l ↦ inl l
-      | inr g ↦
-        let f : q.0 ≡ b = (let l = h.below in omega (arith, l, g)) in
-        let whole : take i os ≡ os = ap (λ j. take j os) e ∙ take-length os in
-        let at : Contains os (offset_between up (place_of m b) (place_of m q.1)) = subst (λ k. Contains os (offset_between up (place_of m k) (place_of m q.1))) f h.slope.offset in
-        inr (f, subst (λ xs. Contains xs (offset_between up (place_of m b) (place_of m q.1))) (sym whole) at)
-    ] })
+      (λ q h. record { slope = h.slope; below = elim h.below [ inl l ↦ omega (arith, l) | inr k ↦ let f = k.0 in omega (arith, f) ] })
+      (λ q h. record {
+        slope = h.slope;
+        below = elim (cases_lt q.0 b) [
+          | inl l ↦ inl l
+          | inr g ↦
+              let f : q.0 ≡ b = (let l = h.below in omega (arith, l, g)) in
+              let whole : take i os ≡ os = ap (λ j. take j os) e ∙ take-length os in
+              let at : Contains os (offset_between up (place_of m b) (place_of m q.1)) = subst (λ k. Contains os (offset_between up (place_of m k) (place_of m q.1))) f h.slope.offset in
+              inr (f, subst (λ xs. Contains xs (offset_between up (place_of m b) (place_of m q.1))) (sym whole) at)
+        ];
+      })
 
 module _ (m : BlocksView) (os : List Offset) (up : Up) (b i : ℕ) (ps : List (ℕ × ℕ)) (d : Offset) (l : i < length os) (c : Collects (IsPairUpTo m os up b i) ps) where
   longer : take (i + 1) os ≡ take i os ++ get_or os i d ∷ []
@@ -65,13 +68,16 @@ module _ (m : BlocksView) (os : List Offset) (up : Up) (b i : ℕ) (ps : List (�
 
   -- no block stands at the offset
   pub offset_passed : ((p : ℕ) → p < m.blocks → offset_between up (place_of m b) (place_of m p) ≢ get_or os i d) → Collects (IsPairUpTo m os up b (i + 1)) ps
-  offset_passed n = collected_same _ _ ps c still (λ q h. record { slope = h.slope; below = elim h.below [
-    | inl f ↦ inl f
-    | inr k ↦ elim (Contains-push_cases (take i os) (get_or os i d) _ (subst (λ xs. Contains xs (offset_between up (place_of m b) (place_of m q.1))) longer k.1)) [
-      | inl f ↦ inr (k.0, f)
-      | inr e ↦ absurd (n q.1 h.slope.top (sym e))
-    ]
-  ] })
+  offset_passed n = collected_same _ _ ps c still (λ q h. record {
+    slope = h.slope;
+    below = elim h.below [
+      | inl f ↦ inl f
+      | inr k ↦ elim (Contains-push_cases (take i os) (get_or os i d) _ (subst (λ xs. Contains xs (offset_between up (place_of m b) (place_of m q.1))) longer k.1)) [
+        | inl f ↦ inr (k.0, f)
+        | inr e ↦ absurd (n q.1 h.slope.top (sym e))
+      ]
+    ];
+  })
 
   module _ (r : IsRising os) (apart : AreApartBelow m m.blocks) (p : ℕ) (known : b < m.blocks) (top : p < m.blocks) (at : offset_between up (place_of m b) (place_of m p) ≡ get_or os i d) where
     not_yet : IsPairUpTo m os up b i (b, p) → ⊥
@@ -95,16 +101,16 @@ module _ (m : BlocksView) (os : List Offset) (up : Up) (b i : ℕ) (ps : List (�
       | inr k ↦ elim (Contains-push_cases (take i os) (get_or os i d) _ (subst (λ xs. Contains xs (offset_between up (place_of m b) (place_of m q.1))) longer k.1)) [
         | inl f ↦ inl (record { slope = h.slope; below = inr (k.0, f) })
         | inr e ↦
-          let u = sym k.0 in
-          let v = one_block q.1 h.slope.top (one_place up (place_of m b) (place_of m p) (place_of m q.1) (at ∙ e)) in
-          inr (λ j. (u j, v j))
+            let u = sym k.0 in
+            let v = one_block q.1 h.slope.top (one_place up (place_of m b) (place_of m p) (place_of m q.1) (at ∙ e)) in
+            inr (λ j. (u j, v j))
       ]
     ]
 
     pub offset_taken : Collects (IsPairUpTo m os up b (i + 1)) (ps ++ (b, p) ∷ [])
     offset_taken = collected_more _ _ ps c (b, p) not_yet
-      (record { slope = slope; below = inr (refl, subst (λ xs. Contains xs (offset_between up (place_of m b) (place_of m p))) (sym longer) (subst (Contains (take i os ++ get_or os i d ∷ [])) (sym at) (Contains-push (take i os) (get_or os i d)))) })
-      still before_or_here
+        (record { slope = slope; below = inr (refl, subst (λ xs. Contains xs (offset_between up (place_of m b) (place_of m p))) (sym longer) (subst (Contains (take i os ++ get_or os i d ∷ [])) (sym at) (Contains-push (take i os) (get_or os i d)))) })
+        still before_or_here
 
     -- why the pair wasn't added
     pub refused : (e : SlopeFault) → PairRefusalStands ps e → PairFaultStands m os up e

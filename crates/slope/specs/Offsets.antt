@@ -1,5 +1,5 @@
 -- Offsets from a block to those that it rests on.
-use Rattle.std.specs.Prelude.{◌≡◌, ℕ, ◌≤◌, ◌*◌, ◌+◌, ℤ, pos, ◌≤ℤ◌, ◌<ℤ◌, ◌⊎◌, List, length, All, AllPairs, Contains, unsigned_abs}
+use Rattle.std.specs.Prelude.{◌≡◌, ◌≤◌, ℤ, pos, ◌≤ℤ◌, ◌<ℤ◌, ◌⊎◌, List, length, All, AllPairs, Contains}
 
 -- Differences along the three axes, where up is positive along the third.
 abbrev pub Offset : Type 0

@@ -198,7 +198,10 @@ fn nine_above_on_a_cube(rt: HostRuntime) -> Result<(), Fail> {
     let cube = model(alloc, CUBE)?;
     let rests = rests_of(alloc, &cube, &Pattern::nine(alloc)?, Up::PlusZ)?;
     assert_eq!(rt; rests.pairs(), 49);
-    assert_eq!(rt; above(&rests, 4), [9, 10, 11, 12, 13, 14, 15, 16, 17].as_slice());
+    assert_eq!(rt;
+        above(&rests, 4),
+        [9, 10, 11, 12, 13, 14, 15, 16, 17].as_slice()
+    );
     assert_eq!(rt; above(&rests, 0), [9, 10, 12, 13].as_slice());
     assert_eq!(rt; above(&rests, 17).len(), 0);
     Ok(())
@@ -263,10 +266,20 @@ fn same_place(rt: HostRuntime) -> Result<(), Fail> {
     let alloc: Global = rt.alloc();
     let five = Pattern::five(alloc)?;
     let two = model(alloc, b"0 1 2 3\n1 1 2 3\n")?;
-    assert!(rt; matches!(rests_of(alloc, &two, &five, Up::PlusZ), Err(SlopeFault::SamePlace(0, 1))));
+    assert!(rt;
+        matches!(
+            rests_of(alloc, &two, &five, Up::PlusZ),
+            Err(SlopeFault::SamePlace(0, 1))
+        )
+    );
     // the second repeat begins earlier, and is met later
     let more = model(alloc, b"0 0 0 0\n1 1 0 0\n2 2 0 0\n3 2 0 0\n4 0 0 0\n")?;
-    assert!(rt; matches!(rests_of(alloc, &more, &five, Up::PlusZ), Err(SlopeFault::SamePlace(2, 3))));
+    assert!(rt;
+        matches!(
+            rests_of(alloc, &more, &five, Up::PlusZ),
+            Err(SlopeFault::SamePlace(2, 3))
+        )
+    );
     Ok(())
 }
 
@@ -277,7 +290,12 @@ fn no_offsets_or_no_blocks(rt: HostRuntime) -> Result<(), Fail> {
     let none = Pattern::custom(alloc, &[])?;
     let free = rests_of(alloc, &cube, &none, Up::PlusZ)?;
     assert_eq!(rt; (free.len(), free.pairs()), (18, 0));
-    let empty = rests_of(alloc, &model(alloc, b"")?, &Pattern::nine(alloc)?, Up::PlusZ)?;
+    let empty = rests_of(
+        alloc,
+        &model(alloc, b"")?,
+        &Pattern::nine(alloc)?,
+        Up::PlusZ,
+    )?;
     assert_eq!(rt; (empty.len(), empty.pairs()), (0, 0));
     Ok(())
 }
@@ -289,13 +307,25 @@ fn printed_faults(rt: HostRuntime) -> Result<(), Fail> {
         format!(in alloc; "{}", PatternFault::NotUpward(1))?.as_str(),
         "NotUpward(1)"
     );
-    assert_eq!(rt; format!(in alloc; "{}", PatternFault::TooMany)?.as_str(), "TooMany");
-    assert_eq!(rt; format!(in alloc; "{}", PatternFault::NoMemory)?.as_str(), "NoMemory");
+    assert_eq!(rt;
+        format!(in alloc; "{}", PatternFault::TooMany)?.as_str(),
+        "TooMany"
+    );
+    assert_eq!(rt;
+        format!(in alloc; "{}", PatternFault::NoMemory)?.as_str(),
+        "NoMemory"
+    );
     assert_eq!(rt;
         format!(in alloc; "{}", SlopeFault::SamePlace(0, 1))?.as_str(),
         "SamePlace(0, 1)"
     );
-    assert_eq!(rt; format!(in alloc; "{}", SlopeFault::TooMany)?.as_str(), "TooMany");
-    assert_eq!(rt; format!(in alloc; "{}", SlopeFault::NoMemory)?.as_str(), "NoMemory");
+    assert_eq!(rt;
+        format!(in alloc; "{}", SlopeFault::TooMany)?.as_str(),
+        "TooMany"
+    );
+    assert_eq!(rt;
+        format!(in alloc; "{}", SlopeFault::NoMemory)?.as_str(),
+        "NoMemory"
+    );
     Ok(())
 }

@@ -1,4 +1,4 @@
-use Rattle.std.proofs.Common.{◌≡◌, arith, rules, ℤ, pos, ◌+◌, ◌≤◌, ◌+ℤ◌, ◌-ℤ◌, refl, subst, sym, SFits, w32, length}
+use Rattle.std.proofs.Common.{◌≡◌, arith, rules, ℤ, pos, ◌+◌, ◌+ℤ◌, ◌-ℤ◌, refl, subst, SFits, w32}
 use Rattle.std.proofs.lemmas.Int.{to_z-of_z, ints}
 use Rattle.slope.specs.Lists.{Collects}
 use Rattle.slope.specs.Cones.{IsBelowRow}

@@ -36,17 +36,17 @@ loop-step-preserved c =
     let Q : List Offset → Type 0 = λ os. Collects (IsBelowPoint c.args.level.run c.args.level.rise (pos c.args.level.number) c.args.x next) os in
     let R : List Offset → Type 0 = λ os. length os ≤ 4096 in
     elim c.if-is_near.branch [
-    | then-is_near+in-Ok w ↦
-      let n = simp to_z-of_z at (c.is_near.ensures.0 w.if-is_near.true) in
-      let small : c.args.level.number ≤ 1000 = c.requires.level.few_levels in
-      let z : to_z w32 c.args.level.number ≡ pos c.args.level.number = omega (arith, ints, small) in
-      let a = simp (to_z-of_z, z) at w.in-Ok.ensures in
-      let t = point_taken _ _ _ c.args.x c.coordinate-y.result _ j next up c.requires.some n in
-      simp to_z-of_z (subst Q (sym a.0 ∙ sym (ap items_of w.offsets-is)) t, subst R (sym (ap items_of w.offsets-is)) a.1)
-    | else-is_near w ↦
-      let m = simp to_z-of_z at (iff_false c.is_near.ensures w.if-is_near.false) in
-      let t = point_passed _ _ _ c.args.x c.coordinate-y.result _ j next up m in
-      simp to_z-of_z (subst Q (sym (ap items_of w.offsets-is)) t, subst R (sym (ap items_of w.offsets-is)) c.loop-step.invariant.1)
+      | then-is_near+in-Ok w ↦
+          let n = simp to_z-of_z at (c.is_near.ensures.0 w.if-is_near.true) in
+          let small : c.args.level.number ≤ 1000 = c.requires.level.few_levels in
+          let z : to_z w32 c.args.level.number ≡ pos c.args.level.number = omega (arith, ints, small) in
+          let a = simp (to_z-of_z, z) at w.in-Ok.ensures in
+          let t = point_taken _ _ _ c.args.x c.coordinate-y.result _ j next up c.requires.some n in
+          simp to_z-of_z (subst Q (sym a.0 ∙ sym (ap items_of w.offsets-is)) t, subst R (sym (ap items_of w.offsets-is)) a.1)
+      | else-is_near w ↦
+          let m = simp to_z-of_z at (iff_false c.is_near.ensures w.if-is_near.false) in
+          let t = point_passed _ _ _ c.args.x c.coordinate-y.result _ j next up m in
+          simp to_z-of_z (subst Q (sym (ap items_of w.offsets-is)) t, subst R (sym (ap items_of w.offsets-is)) c.loop-step.invariant.1)
     ]
 
 pub returns : goal.returns

@@ -1,4 +1,4 @@
-use Rattle.std.proofs.Common.{◌≡◌, ◌≤◌, ◌+◌, arith, pos, ℤ, ℕ, subst}
+use Rattle.std.proofs.Common.{◌≡◌, ◌+◌, arith, pos, ℕ, subst}
 use Rattle.slope.specs.Lists.{Collects}
 use Rattle.slope.specs.Cones.{IsBelowLevel}
 use Rattle.slope.proofs.ConeSteps.{cone_ended, cone_wider}
