@@ -1,0 +1,16 @@
+pub mod Numbers
+pub mod Points
+pub mod Sums
+pub mod PortLists
+pub mod Coming
+pub mod Supply
+pub mod Balance
+pub mod Keeps
+pub mod Balanced
+pub mod Arcs
+pub mod Calm
+pub mod Staying
+pub mod Raising
+pub mod Pushing
+pub mod Walks
+pub mod Law

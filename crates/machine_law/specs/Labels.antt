@@ -1,6 +1,7 @@
 -- What holds of the labels: no arc with capacity is steep, but for backward arcs whose capacity the block can spare.
-use Rattle.std.specs.Prelude.{◌≡◌, ℕ, ◌+◌, ◌<◌, ◌≤◌, ◌⊎◌, ◌==◌, nat_lt, Bool, true, false, not, ◌&&◌, ◌||◌, if◌then◌else◌, Option, Some, None, List, [], ◌∷◌, drop, length}
-use Rattle.ordered_group.specs.Amount.{Amount, zero_amount, plus, minus, AtMost, Below, positive}
+use Rattle.std.specs.Prelude.{◌≡◌, ℕ, ◌+◌, ◌<◌, ◌≤◌, ◌⊎◌, ◌==◌, nat_lt, Bool, true, false, not, ◌&&◌, if◌then◌else◌, Option, Some, None, List, [], drop, length}
+use Rattle.std.specs.List.{list_any}
+use Rattle.ordered_group.specs.Amount.{Amount, zero_amount, minus, AtMost, Below, positive}
 use Rattle.ordered_group.specs.Sums.{total, where_so, amount_at}
 use Rattle.prec_file.specs.Rests.{from_at, to_at}
 use Rattle.closure_net.specs.Network.{NetView}
@@ -13,7 +14,6 @@ use Rattle.machine_law.specs.declared.operations.Operation.{Operation}
 use Rattle.machine_law.specs.declared.operations.Operation.TheVariants.{Idle, Scan, PushDue, TakeDue, GiveDue, RaiseDue}
 use Rattle.machine_law.specs.States.{State}
 use Rattle.machine_law.specs.Residual.{room, end_label, IsPortOf}
-use Rattle.machine_law.specs.Transit.{coming}
 use Rattle.machine_law.specs.Balances.{supply}
 
 -- the sum of the flows of the pairs in which a block rests on b, of those that pass the test
@@ -52,10 +52,9 @@ same_by _ _ i j = false
 abbrev pub same_port : Port → Port → Bool
 same_port p q = same_by p.kind q.kind p.slot q.slot
 
--- whether p is still to be passed
+-- whether p is one of these ports
 abbrev pub has : List Port → Port → Bool
-has [] p = false
-has (q ∷ qs) p = same_port q p || has qs p
+has ps p = list_any (λ q. same_port q p) ps
 
 -- whether a label is below that of the best port
 abbrev pub is_under : Option (Best Amount) → ℕ → Bool
@@ -94,13 +93,13 @@ abbrev pub IsLevelIfAny : NetView → State → ℕ → Option (Best Amount) →
 IsLevelIfAny net s b None = Unit {0}
 IsLevelIfAny net s b (Some best) = IsLevel net s b best
 
--- An operation of b has these ports still to pass. The backward arcs passed below the best port hold no more than comes to b beyond
--- what the operation has; the steep bound holds with the best port at its label as read; and of the open ports that are passed none
--- ends below the best.
+-- An operation of b has these ports still to pass. The backward arcs passed below the best port hold at most what b will have
+-- beyond what the operation has; the steep bound holds with the best port's label as it was read; and of the open ports that are
+-- passed none ends below the best.
 pub record IsWalk (net : NetView) (s : State) (b : ℕ) (have : Amount) (rest : List Port) (best : Option (Best Amount)) : Type 0 where
   pub level : IsLevelIfAny net s b best
-  pub low_most : AtMost (low net s b rest best) (plus (minus (s.excess b) have) (coming net s b))
-  pub high_most : AtMost (high net s b best) (plus (s.excess b) (coming net s b))
+  pub low_most : AtMost (low net s b rest best) (minus (supply net s b) have)
+  pub high_most : AtMost (high net s b best) (supply net s b)
   pub passed : (p : Port) → IsPortOf net b p → IsOpenBy net s b p.kind → has rest p ≡ false → IsAbove best (end_label net s p)
 
 -- what holds of an operation of b: a push is due where the block stands above the best port, and a raise where it doesn't
