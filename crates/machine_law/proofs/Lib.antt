@@ -14,3 +14,6 @@ pub mod Raising
 pub mod Pushing
 pub mod Walks
 pub mod Law
+pub mod Levels
+pub mod Tight
+pub mod Quiet

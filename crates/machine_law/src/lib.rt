@@ -7,6 +7,7 @@
 #![tactic(auto)]
 
 mod events;
+pub mod laws;
 mod operations;
 
 pub use events::{Event, Kind};
