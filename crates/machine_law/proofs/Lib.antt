@@ -17,3 +17,8 @@ pub mod Law
 pub mod Levels
 pub mod Tight
 pub mod Quiet
+pub mod Conserved
+pub mod Runs
+pub mod Rows
+pub mod Naturality
+pub mod WorkedRun

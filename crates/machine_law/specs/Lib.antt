@@ -5,7 +5,9 @@ pub mod Reads
 pub mod Steps
 pub mod Transit
 pub mod Amounts
+pub mod Table
 pub mod Balances
 pub mod Labels
 pub mod Law
 pub mod Quiet
+pub mod Conservation

@@ -1,7 +1,9 @@
 //! The laws of the machine, each the contract of a function that does nothing.
 
+ghost use Rattle.machine_law.specs.Conservation.{RunsConserve};
 ghost use Rattle.machine_law.specs.Law.{StepsKeepLaw, RunsKeepLaw};
 ghost use Rattle.machine_law.specs.Quiet.{QuietSolves};
+ghost use Rattle.machine_law.specs.Table.{StepsAreRows};
 
 /// From a state that keeps the law, a step of any block leads to one that does, over amounts of any
 /// size and so at every group.
@@ -25,4 +27,17 @@ pub fn runs_keep_the_law()
 /// much as any closed set.
 pub fn quiet_flow_is_greatest()
     ensures { QuietSolves }
+{}
+
+/// A step is a row of the table of steps: of the kind that its row asks for, and to the state that the
+/// row leaves.
+pub fn steps_are_rows_of_the_table()
+    ensures { StepsAreRows }
+{}
+
+/// After every run all that the source gave at the opening stands as excess, is carried by a push, or
+/// has arrived at the source or the sink. So no excess and no arrival is more than that, and all of it
+/// has arrived exactly when there is no excess and no operation left.
+pub fn nothing_is_lost()
+    ensures { RunsConserve }
 {}
