@@ -1,0 +1,4 @@
+pub mod Counts
+pub mod Gaps
+pub mod Changes
+pub mod Opens
