@@ -22,3 +22,4 @@ pub mod Runs
 pub mod Rows
 pub mod Naturality
 pub mod WorkedRun
+pub mod Through

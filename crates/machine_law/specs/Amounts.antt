@@ -65,8 +65,8 @@ IsOperation net s b (TakeDue d port) = IsHeld s b d × IsPortOf net b port
 IsOperation net s b (GiveDue d port) = Below zero_amount d × IsPortOf net b port
 IsOperation net s b (RaiseDue have best) = IsDue net s b have best
 
--- No amount is negative, no block has more of the source than is positive of its worth, and none gave the sink more than is
--- negative of it.
+-- No amount is negative, no block has more of the source than is positive of its worth, none gave the sink more than is negative of
+-- it, and what the operations remember still stands.
 pub record HasAmounts (net : NetView) (s : State) : Type 0 where
   pub excess : (b : ℕ) → AtMost zero_amount (s.excess b)
   pub source : (b : ℕ) → AtMost zero_amount (s.source b)

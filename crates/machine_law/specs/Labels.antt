@@ -77,7 +77,7 @@ abbrev pub IsAbove : Option (Best Amount) → ℕ → Type 0
 IsAbove None label = ⊥
 IsAbove (Some best) label = best.label ≤ label
 
--- by the kind of port: a block with this label falls by at most one label over it, unless it is backward
+-- by the kind of port: a block with this label falls by at most one label over it, unless it is backward; the source's label never changes
 abbrev pub IsNear : NetView → PortKind → ℕ → ℕ → Type 0
 IsNear net Sink own label = own ≤ label + 1
 IsNear net Forward own label = own ≤ label + 1
@@ -93,9 +93,9 @@ abbrev pub IsLevelIfAny : NetView → State → ℕ → Option (Best Amount) →
 IsLevelIfAny net s b None = Unit {0}
 IsLevelIfAny net s b (Some best) = IsLevel net s b best
 
--- An operation of b has these ports still to pass. The backward arcs passed below the best port hold at most what b will have
--- beyond what the operation has; the steep bound holds with the best port's label as it was read; and of the open ports that are
--- passed none ends below the best.
+-- An operation of b has these ports still to pass. The backward arcs that are passed and end below the best port hold at most what
+-- b will have beyond what the operation has; the steep bound holds also with the best port at the label that was read; and of the
+-- open ports that are passed none ends below the best one, nor is there any while there is no best one.
 pub record IsWalk (net : NetView) (s : State) (b : ℕ) (have : Amount) (rest : List Port) (best : Option (Best Amount)) : Type 0 where
   pub level : IsLevelIfAny net s b best
   pub low_most : AtMost (low net s b rest best) (minus (supply net s b) have)
@@ -111,8 +111,9 @@ IsLevelled net s b (TakeDue d port) = Unit {0}
 IsLevelled net s b (GiveDue d port) = Unit {0}
 IsLevelled net s b (RaiseDue have best) = IsWalk net s b have [] (Some best) × (s.label b ≤ best.label)
 
--- Forward arcs, and those to the sink and the source that have capacity, fall by at most one label. What b lacks of the source
--- it gave back from above the source. The steep backward arcs of b hold at most what b will have.
+-- Forward arcs, and those to the sink and the source that have capacity, fall by at most one label: the sink stands at 0, the source
+-- at n + 2. A block that has given anything back to the source stands above it. The steep backward arcs of a block hold at most what
+-- the block will have.
 pub record HasLabels (net : NetView) (s : State) : Type 0 where
   pub forward : (k : ℕ) → k < length net.pairs → s.label (from_at net.pairs k) ≤ s.label (to_at net.pairs k) + 1
   pub sink : (b : ℕ) → Below zero_amount (room net s b) → s.label b ≤ 1

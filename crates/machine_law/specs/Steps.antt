@@ -1,4 +1,4 @@
--- The steps of the machine (Hong 2008), and its runs.
+-- The steps of the machine (Hong 2008) as what a block's operation leads to, and runs. `Table` has the same by the kind of step.
 use Rattle.std.specs.Prelude.{◌≡◌, ℕ, ◌+◌, ◌<◌, Option, Some, None, List, [], ◌∷◌, length, slice_get}
 use Rattle.ordered_group.specs.Amount.{Amount, zero_amount, plus, minus, least}
 use Rattle.closure_net.specs.Network.{NetView}
