@@ -1,5 +1,5 @@
 -- What the calls on a state answer.
-use Rattle.std.specs.Prelude.{◌≡◌, ℕ, ◌+◌, ◌-◌, ◌<◌, ◌≤◌, ◌^◌, Option, Some, None, List, length, take, slice_get}
+use Rattle.std.specs.Prelude.{◌≡◌, ℕ, ◌+◌, ◌-◌, ◌<◌, ◌≤◌, ◌^◌, Option, Some, None, List, length, take, slice_get, Result, MatchResult}
 use Rattle.ordered_group.specs.Amount.{Amount, zero_amount, Below, FitsPair}
 use Rattle.ordered_group.specs.Sums.{amount_at}
 use Rattle.closure_net.specs.Network.{NetView}
@@ -16,6 +16,8 @@ use Rattle.machine_law.specs.Steps.{Step, Run, next_kind, advance, push_amount}
 use Rattle.async_step.specs.Views.{StateView, state_of}
 use Rattle.async_step.specs.declared.saw.Saw.{Saw}
 use Rattle.async_step.specs.declared.saw.Saw.TheVariants.{Excess, Capacity, Label, Moved, Raised}
+use Rattle.async_step.specs.declared.refusals.ReplayFault.{ReplayFault}
+use Rattle.async_step.specs.declared.refusals.ReplayFault.TheVariants.{Refused, NoMemory}
 use Rattle.async_step.specs.declared.refusals.StepRefusal.{StepRefusal}
 use Rattle.async_step.specs.declared.refusals.StepRefusal.TheVariants.{NoSuchBlock, OutOfTurn, TooLarge, TooManySteps}
 
@@ -87,10 +89,9 @@ pub record IsStateOf (net : NetView) (v : StateView) : Type 0 where
 
 -- ---- steps and refusals
 
--- the state goes over to another one in one step, which tells this
-pub record Goes (net : NetView) (old : StateView) (after : State) (tells : Saw Amount) (new : StateView) (saw : Saw Amount) : Type 0 where
+-- the state goes over to this one, in one step
+pub record GoesTo (net : NetView) (old : StateView) (after : State) (new : StateView) : Type 0 where
   pub state : state_of new ≡ after
-  pub saw_is : saw ≡ tells
   pub counted : old.steps < 2 ^ 40
   pub fits : Fits net (state_of new)
   pub blocks : length new.operation ≡ length old.operation
@@ -107,6 +108,14 @@ CannotGo net old after TooManySteps = Fits net after × (2 ^ 40 ≤ old.steps)
 pub record Stays (net : NetView) (old : StateView) (after : State) (new : StateView) (refusal : StepRefusal) : Type 0 where
   pub same : new ≡ old
   pub why : CannotGo net old after refusal
+
+-- the state goes over to this one, or stays where it can't
+abbrev pub Leads : {X : Type 0} → NetView → StateView → State → StateView → Result X StepRefusal → Type 0
+Leads net old after new result = MatchResult result (λ x. GoesTo net old after new) (λ e. Stays net old after new e)
+
+-- and it tells what was seen, moved or raised
+abbrev pub LeadsTelling : {N : Type 0} → (N → Amount) → NetView → StateView → State → Saw Amount → StateView → Result (Saw N) StepRefusal → Type 0
+LeadsTelling f net old after tells new result = MatchResult result (λ saw. GoesTo net old after new × (saw_as f saw ≡ tells)) (λ e. Stays net old after new e)
 
 -- one step was made, and this is what it saw, moved or raised
 pub record Stepped (net : NetView) (old : StateView) (event : Event) (new : StateView) (saw : Saw Amount) : Type 0 where
@@ -128,7 +137,7 @@ RefusalStands net s event TooLarge = IsNext net s event × ¬ (Fits net (advance
 RefusalStands net s event TooManySteps = IsNext net s event × Fits net (advance net s event.block) × (2 ^ 40 ≤ s.steps)
 
 -- a refused step: it changes nothing
-pub record Refused (net : NetView) (old : StateView) (event : Event) (new : StateView) (refusal : StepRefusal) : Type 0 where
+pub record IsRefused (net : NetView) (old : StateView) (event : Event) (new : StateView) (refusal : StepRefusal) : Type 0 where
   pub same : new ≡ old
   pub stands : RefusalStands net (state_of old) event refusal
 
@@ -136,3 +145,18 @@ pub record Refused (net : NetView) (old : StateView) (event : Event) (new : Stat
 pub record IsWaiting (s : State) (b : ℕ) : Type 0 where
   pub excess : Below zero_amount (s.excess b)
   pub idle : s.operation b ≡ Idle
+
+-- the event at this place, counted from 1, is refused in the state that the ones before it lead to
+pub record IsRefusedAt (net : NetView) (events : List Event) (place : ℕ) (refusal : StepRefusal) : Type 0 where
+  pub before : ℕ
+  pub counted : place ≡ before + 1
+  pub state : State
+  pub run : Run net (opening net) (take before events) state
+  pub event : Event
+  pub present : slice_get events before ≡ Some event
+  pub stands : RefusalStands net state event refusal
+
+-- why the events can't be made one after the other
+abbrev pub ReplayFaultStands : NetView → List Event → ReplayFault → Type 0
+ReplayFaultStands net events (Refused place refusal) = IsRefusedAt net events place refusal
+ReplayFaultStands net events NoMemory = Unit {0}

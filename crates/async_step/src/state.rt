@@ -6,6 +6,7 @@ ghost use Rattle.ordered_group.specs.Sums.{amount_at};
 ghost use Rattle.closure_net.specs.Network.{NetView, flow_view};
 ghost use Rattle.machine_law.specs.Operations.{operation_as};
 ghost use Rattle.machine_law.specs.States.{opening, IsQuiet};
+ghost use Rattle.machine_law.specs.Quiet.{IsFlowOf};
 ghost use Rattle.async_step.specs.Marks.{IsFirstRound};
 ghost use Rattle.async_step.specs.Views.{StateView, state_of, operation_at, IsSized};
 ghost use Rattle.async_step.specs.Answers.{IsStateOf, IsWaiting};
@@ -165,6 +166,53 @@ impl<G: OrderedGroup> State<G> {
         ensures { result ≡ self.now.steps }
     {
         self.steps
+    }
+
+    /// Whether no block has excess or an operation. In constant time.
+    pub fn quiet(&self) -> bool
+        ensures { (net : NetView) → length net.worths ≡ length self.now.operation → (IsTrue result ↔ IsQuiet net (state_of self.now)) }
+    {
+        self.busy.is_empty()
+    }
+
+    /// The first block at or after one, going round, that has excess and no operation. From a block
+    /// that there isn't, it is the first of all.
+    pub fn waiting(&self, from: u32) -> Option<u32>
+        ensures { MatchOption result
+            ((b : ℕ) → b < length self.now.operation → ¬ (IsWaiting (state_of self.now) b))
+            (λ b. IsFirstRound (IsWaiting (state_of self.now)) (length self.now.operation) from b) }
+    {
+        self.waiting.first_round(from)
+    }
+
+    /// The flow of a quiet state.
+    ///
+    /// # Errors
+    /// The state itself where it isn't quiet.
+    pub fn into_flow(self, _net: &Net<G>) -> Result<Flow<G>, State<G>>
+        requires { IsStateOf _net.now self }
+        ensures { MatchResult result
+            (λ flow. IsQuiet _net.now (state_of self) × IsFlowOf _net.now (state_of self) flow)
+            (λ state. (state ≡ self) × ¬ (IsQuiet _net.now (state_of self))) }
+    {
+        let _sized = self.len();
+        if !self.quiet() {
+            return Err(self);
+        }
+        let State {
+            excess: _,
+            label: _,
+            source,
+            sink,
+            flow,
+            operation: _,
+            at_source: _,
+            at_sink: _,
+            steps: _,
+            waiting: _,
+            busy: _,
+        } = self;
+        Ok(Flow::new(source, flow, sink))
     }
 
     /// Whether no further step is made.
