@@ -11,3 +11,4 @@ pub mod Reach
 pub mod TwoSets
 pub mod BestPits
 pub mod NetSums
+pub mod PortPlaces

@@ -1,4 +1,5 @@
 pub mod Network
+pub mod Ports
 pub mod Closure
 pub mod Flows
 pub mod Faults

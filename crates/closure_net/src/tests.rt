@@ -1,7 +1,7 @@
 ghost use Rattle.std.specs.Prelude.{◌≤◌, ◌^◌};
 
-use crate::{Carried, Flow, Net, NetFault, Pit, pit_of};
-use ordered_group::WorthSize;
+use crate::{Carried, Flow, Net, NetFault, Pit, Port, PortKind, pit_of};
+use ordered_group::{Worth, WorthSize};
 use prec_file::Rests;
 use std::alloc::Global;
 use std::process::Abort;
@@ -163,5 +163,31 @@ fn refused(rt: HostRuntime) -> Result<(), Fail> {
     assert!(rt; !is_pit(alloc, &[0, 2, 2])? && !is_pit(alloc, &[1, 0])?);
     assert!(rt; is_pit(alloc, &[0, 2, 5])?);
     assert!(rt; NetFault::TooLarge.to_string(alloc)?.as_str() == "TooLarge");
+    Ok(())
+}
+
+fn port(kind: PortKind, other: u32, slot: u32) -> Port {
+    Port { kind, other, slot }
+}
+
+// Block 1 is waste below the two blocks 0 and 2, which both rest on it.
+#[test]
+fn a_net_tells_its_ports(rt: HostRuntime) -> Result<(), Fail> {
+    let alloc = rt.alloc();
+    let rests = rests(alloc, 3, &[(0, 1), (2, 1)])?;
+    let net: Net<Worth> = Net::of_worths(alloc, rests, &[4, -1, 4])
+        .ok()
+        .ok_or("worths")?;
+    assert_eq!(rt; net.len(), 3);
+    assert_eq!(rt; net.ports(0), 2);
+    assert_eq!(rt; net.port(0, 0), port(PortKind::Forward, 1, 0));
+    assert_eq!(rt; net.port(0, 1), port(PortKind::Source, 0, 0));
+    assert_eq!(rt; net.ports(1), 3);
+    assert_eq!(rt; net.port(1, 0), port(PortKind::Sink, 1, 0));
+    assert_eq!(rt; net.port(1, 1), port(PortKind::Backward, 0, 0));
+    assert_eq!(rt; net.port(1, 2), port(PortKind::Backward, 2, 1));
+    assert_eq!(rt; net.ports(2), 2);
+    assert_eq!(rt; net.port(2, 0), port(PortKind::Forward, 1, 1));
+    assert_eq!(rt; net.port(2, 1), port(PortKind::Source, 2, 0));
     Ok(())
 }

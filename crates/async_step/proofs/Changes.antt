@@ -1,0 +1,91 @@
+-- A state's lists with one element changed.
+use Rattle.std.proofs.Common.{◌≡◌, ℕ, ◌<◌, ◌+◌, Bool, false, inl, inr, List, [], ◌∷◌, ◌++◌, replicate, length, get_or, set, map, sym, refl, ap, ap₂, subst, ◌∙◌, arith, length-set, get_or-set_same, get_or-set_other}
+use Rattle.std.proofs.lemmas.Bool.{cases_eq}
+use Rattle.std.proofs.lemmas.List.{map-append, replicate-append-replicate}
+use Rattle.ordered_group.specs.Amount.{Amount, zero_amount}
+use Rattle.ordered_group.specs.Sums.{amount_at}
+use Rattle.machine_law.specs.declared.operations.Operation.{Operation}
+use Rattle.machine_law.specs.declared.operations.Operation.TheVariants.{Idle}
+use Rattle.async_step.specs.Marks.{mark_at}
+use Rattle.async_step.specs.Views.{StateView, operation_at, IsSized, IsMarked, IsState, is_waiting, is_busy}
+
+-- the marks with one mark changed
+pub marked_set : (old new : ℕ → Bool) (n : ℕ) (marks : List Bool) (b : ℕ) → IsMarked old n marks → b < n → ((c : ℕ) → (c ≡ b → ⊥) → new c ≡ old c) → IsMarked new n (set marks b (new b))
+marked_set old new n marks b h l other = record {
+  size = length-set marks b (new b) ∙ h.size;
+  at = λ c k. elim (cases_eq c b) [
+    | inl e ↦ subst (λ x. mark_at (set marks b (new b)) x ≡ new x) (sym e) (get_or-set_same marks b (new b) false (omega (arith, h.size)))
+    | inr d ↦ get_or-set_other marks b c (new b) false d ∙ (h.at c k ∙ sym (other c d))
+  ];
+}
+
+module _ (v : StateView) (ready undone : List Bool) (h : IsState v ready undone) (b : ℕ) where
+  pub state_label : (x : ℕ) → IsState (record v { label = set v.label b x }) ready undone
+  state_label x = record {
+    sized = record { few = h.sized.few; excess = h.sized.excess; label = length-set v.label b x ∙ h.sized.label; source = h.sized.source; sink = h.sized.sink };
+    waiting = h.waiting;
+    busy = h.busy;
+  }
+
+  pub state_source : (x : Amount) → IsState (record v { source = set v.source b x }) ready undone
+  state_source x = record {
+    sized = record { few = h.sized.few; excess = h.sized.excess; label = h.sized.label; source = length-set v.source b x ∙ h.sized.source; sink = h.sized.sink };
+    waiting = h.waiting;
+    busy = h.busy;
+  }
+
+  pub state_sink : (x : Amount) → IsState (record v { sink = set v.sink b x }) ready undone
+  state_sink x = record {
+    sized = record { few = h.sized.few; excess = h.sized.excess; label = h.sized.label; source = h.sized.source; sink = length-set v.sink b x ∙ h.sized.sink };
+    waiting = h.waiting;
+    busy = h.busy;
+  }
+
+  pub state_excess : (x : Amount) → b < length v.operation → IsState (record v { excess = set v.excess b x }) (set ready b (is_waiting x (operation_at v.operation b))) (set undone b (is_busy x (operation_at v.operation b)))
+  state_excess x l =
+      let n = length v.operation in
+      let es = set v.excess b x in
+      let here : amount_at es b ≡ x = get_or-set_same v.excess b x zero_amount (omega (arith, h.sized.excess)) in
+      let there : (c : ℕ) → (c ≡ b → ⊥) → amount_at es c ≡ amount_at v.excess c = λ c d. get_or-set_other v.excess b c x zero_amount d in
+      let w : ℕ → Bool = λ c. is_waiting (amount_at es c) (operation_at v.operation c) in
+      let u : ℕ → Bool = λ c. is_busy (amount_at es c) (operation_at v.operation c) in
+      record {
+        sized = record { few = h.sized.few; excess = length-set v.excess b x ∙ h.sized.excess; label = h.sized.label; source = h.sized.source; sink = h.sized.sink };
+        waiting = subst (λ t. IsMarked w n (set ready b t)) (ap (λ y. is_waiting y (operation_at v.operation b)) here) (marked_set _ w n ready b h.waiting l (λ c d. ap (λ y. is_waiting y (operation_at v.operation c)) (there c d)));
+        busy = subst (λ t. IsMarked u n (set undone b t)) (ap (λ y. is_busy y (operation_at v.operation b)) here) (marked_set _ u n undone b h.busy l (λ c d. ap (λ y. is_busy y (operation_at v.operation c)) (there c d)));
+      }
+
+  pub state_operation : (o : Operation Amount) (steps : ℕ) → b < length v.operation → IsState (record v { operation = set v.operation b o; steps = steps }) (set ready b (is_waiting (amount_at v.excess b) o)) (set undone b (is_busy (amount_at v.excess b) o))
+  state_operation o steps l =
+      let n = length v.operation in
+      let os = set v.operation b o in
+      let k : length os ≡ n = length-set v.operation b o in
+      let here : operation_at os b ≡ o = get_or-set_same v.operation b o Idle l in
+      let there : (c : ℕ) → (c ≡ b → ⊥) → operation_at os c ≡ operation_at v.operation c = λ c d. get_or-set_other v.operation b c o Idle d in
+      let w : ℕ → Bool = λ c. is_waiting (amount_at v.excess c) (operation_at os c) in
+      let u : ℕ → Bool = λ c. is_busy (amount_at v.excess c) (operation_at os c) in
+      let marked : IsMarked w n (set ready b (is_waiting (amount_at v.excess b) o)) = subst (λ t. IsMarked w n (set ready b t)) (ap (is_waiting (amount_at v.excess b)) here) (marked_set _ w n ready b h.waiting l (λ c d. ap (is_waiting (amount_at v.excess c)) (there c d))) in
+      let stirred : IsMarked u n (set undone b (is_busy (amount_at v.excess b) o)) = subst (λ t. IsMarked u n (set undone b t)) (ap (is_busy (amount_at v.excess b)) here) (marked_set _ u n undone b h.busy l (λ c d. ap (is_busy (amount_at v.excess c)) (there c d))) in
+      record {
+        sized = record { few = omega (arith, k, h.sized.few); excess = h.sized.excess ∙ sym k; label = h.sized.label ∙ sym k; source = h.sized.source ∙ sym k; sink = h.sized.sink ∙ sym k };
+        waiting = subst (λ m. IsMarked w m (set ready b (is_waiting (amount_at v.excess b) o))) (sym k) marked;
+        busy = subst (λ m. IsMarked u m (set undone b (is_busy (amount_at v.excess b) o))) (sym k) stirred;
+      }
+
+-- the first i marks are as the test has them
+pub record IsMarkedUpTo (test : ℕ → Bool) (n : ℕ) (marks : List Bool) (i : ℕ) : Type 0 where
+  pub size : length marks ≡ n
+  pub at : (k : ℕ) → k < i → mark_at marks k ≡ test k
+
+pub marked_next : (test : ℕ → Bool) (n : ℕ) (marks : List Bool) (i : ℕ) (t : Bool) → IsMarkedUpTo test n marks i → i < n → t ≡ test i → IsMarkedUpTo test n (set marks i t) (i + 1)
+marked_next test n marks i t h l e = record {
+  size = length-set marks i t ∙ h.size;
+  at = λ k r. elim (cases_eq k i) [
+    | inl q ↦ subst (λ x. mark_at (set marks i t) x ≡ test x) (sym q) (get_or-set_same marks i t false (omega (arith, h.size)) ∙ e)
+    | inr d ↦ get_or-set_other marks i k t false d ∙ h.at k (omega (arith, d))
+  ];
+}
+
+-- one more of the same
+pub filled_next : {X Y : Type 0} (f : X → Y) (xs : List X) (x : X) (k : ℕ) (z : Y) → map f xs ≡ replicate k z → f x ≡ z → map f (xs ++ x ∷ []) ≡ replicate (k + 1) z
+filled_next f xs x k z h e = map-append f xs (x ∷ []) ∙ (ap₂ (λ ys y. ys ++ y ∷ []) h e ∙ replicate-append-replicate k 1 z)

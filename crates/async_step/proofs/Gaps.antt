@@ -1,0 +1,126 @@
+-- What counts tell of stretches without a mark, and of the first mark going round.
+use Rattle.std.proofs.Common.{◌≡◌, ◌↔◌, ℕ, zero, suc, ◌+◌, ◌-◌, ◌*◌, ◌/◌, ◌%◌, ◌<◌, ◌≤◌, ◌^◌, nat_le, Bool, true, false, cond, ◌⊎◌, inl, inr, List, length, get_or, replicate, sym, refl, ap, subst, ◌∙◌, arith, Option, Some, None}
+use Rattle.std.specs.Prelude.{MatchOption}
+use Rattle.std.proofs.Math.Nat.{lt-div-mul-add, div-lt_iff_lt-mul}
+use Rattle.std.proofs.lemmas.Nat.{div-add-mod'}
+use Rattle.std.proofs.lemmas.Bool.{cases_lt}
+use Rattle.std.proofs.lemmas.Bool.Decides.{nat_tests}
+use Rattle.std.proofs.lemmas.List.{get_or_default}
+use Rattle.ordered_group.specs.Sets.{count_in}
+use Rattle.async_step.specs.Marks.{mark_at, run_count, IsCounted, IsMarks, NoneWithin, IsFirstWithin, ahead_of, IsFirstRound}
+use Rattle.async_step.proofs.Counts.{run_none}
+
+-- a run that counts none, from its first block on
+pub gap_none : (marks : List Bool) (width : ℕ) (counts : List ℕ) (at x : ℕ) → IsCounted marks width counts → at ≤ length marks → at % width ≡ 0 → x ≡ get_or counts (at / width) x → x ≡ 0 → NoneWithin marks at (at + width)
+gap_none marks width counts at x h l m e z =
+    let k = h.covers at l in
+    let q : at / width * width ≡ at = omega (arith, div-add-mod' at width) in
+    let r : run_count marks (at / width * width) width ≡ 0 = sym (h.at (at / width) k) ∙ (get_or_default counts (at / width) 0 x k ∙ (sym e ∙ z)) in
+    let P : ℕ → Type 0 = λ y. NoneWithin marks y (y + width) in
+    subst P q (run_none marks (at / width * width) width r)
+
+-- where no mark is set, nothing is counted
+none_counted : (e : ℕ → Bool) (n : ℕ) → ((j : ℕ) → j < n → e j ≡ false) → count_in e n ≡ 0
+none_counted e zero h = refl
+none_counted e (suc n) h = rw (h n (omega arith)) (omega (arith, none_counted e n (λ j l. h j (omega arith))))
+
+pub run_empty : (marks : List Bool) (from width : ℕ) → ((b : ℕ) → mark_at marks b ≡ false) → run_count marks from width ≡ 0
+unfolding run_count
+run_empty marks from width h = none_counted (λ j. mark_at marks (from + j)) width (λ j l. h (from + j))
+
+pub all_empty : (marks : List Bool) → NoneWithin marks 0 (length marks) → run_count marks 0 (length marks) ≡ 0
+unfolding run_count
+all_empty marks h = none_counted (λ j. mark_at marks (0 + j)) (length marks) (λ j l. h (0 + j) (omega arith) (omega arith))
+
+pub empty_tells : (marks : List Bool) (count : ℕ) → count ≡ run_count marks 0 (length marks) → (count ≡ 0) ↔ NoneWithin marks 0 (length marks)
+empty_tells marks count e = (λ z b p q. run_none marks 0 (length marks) (sym e ∙ z) b p (omega arith), λ h. e ∙ all_empty marks h)
+
+-- the marks of an empty set
+none_at : (n b : ℕ) → mark_at (replicate n false) b ≡ false
+none_at zero b = refl
+none_at (suc n) zero = refl
+none_at (suc n) (suc b) = none_at n b
+
+length_none : (n : ℕ) → length (replicate n false) ≡ n
+length_none zero = refl
+length_none (suc n) = ap suc (length_none n)
+
+zeros_at : (n i : ℕ) → get_or (replicate {A = ℕ} n 0) i 0 ≡ 0
+zeros_at zero i = refl
+zeros_at (suc n) zero = refl
+zeros_at (suc n) (suc i) = zeros_at n i
+
+length_zeros : (n : ℕ) → length (replicate {A = ℕ} n 0) ≡ n
+length_zeros zero = refl
+length_zeros (suc n) = ap suc (length_zeros n)
+
+counted_none : (n width : ℕ) → 0 < width → IsCounted (replicate n false) width (replicate {A = ℕ} (n / width + 1) 0)
+counted_none n width w = record {
+  covers = λ b l. (
+      let m : b < (n / width + 1) * width = (let p = lt-div-mul-add {a = n} {b = width} w in let q = length_none n in grind arith) in
+      let r = (div-lt_iff_lt-mul {k = width} {x = b} {y = n / width + 1} w).1 m in
+      omega (arith, r, length_zeros (n / width + 1)));
+  at = λ i l. zeros_at (n / width + 1) i ∙ sym (run_empty (replicate n false) (i * width) width (λ b. none_at n b));
+}
+
+pub marks_none : (n : ℕ) (marks : List Bool) (smalls middles larges : List ℕ) → n ≤ 2 ^ 24 → marks ≡ replicate n false → smalls ≡ replicate (n / 64 + 1) 0 → middles ≡ replicate (n / 4096 + 1) 0 → larges ≡ replicate (n / 262144 + 1) 0 → IsMarks marks smalls middles larges 0
+marks_none n marks smalls middles larges h e p q r =
+    rw (e, p, q, r) (record {
+      few = omega (arith, length_none n);
+      small = counted_none n 64 (omega arith);
+      middle = counted_none n 4096 (omega arith);
+      large = counted_none n 262144 (omega arith);
+      held = sym (run_empty (replicate n false) 0 (length (replicate n false)) (λ b. none_at n b));
+    })
+
+-- ---- going round
+ahead_behind : (n from b c : ℕ) → from < n → from ≤ b → b < n → c < n → (from ≤ c → b ≤ c) → ahead_of n from b ≤ ahead_of n from c
+ahead_behind n from b c f p q l h = grind (arith, nat_tests)
+
+ahead_before : (n from b c : ℕ) → from < n → b < from → c < from → b ≤ c → ahead_of n from b ≤ ahead_of n from c
+ahead_before n from b c f p q l = grind (arith, nat_tests)
+
+ahead_all : (n from b c : ℕ) → n ≤ from → b ≤ c → ahead_of n from b ≤ ahead_of n from c
+ahead_all n from b c f p = grind (arith, nat_tests)
+
+not_before : (marks : List Bool) (from b c : ℕ) → NoneWithin marks from b → mark_at marks c ≡ true → from ≤ c → b ≤ c
+not_before marks from b c h t l =
+    elim (cases_lt c b) [
+      | inl k ↦ let f : false ≡ true = sym (h c l k) ∙ t in absurd cc
+      | inr k ↦ k
+    ]
+
+-- from a block that there is
+pub round_behind : (marks : List Bool) (from b : ℕ) → from < length marks → IsFirstWithin marks from (length marks) b → IsFirstRound (λ c. mark_at marks c ≡ true) (length marks) from b
+round_behind marks from b f h = record {
+  inside = h.inside;
+  here = h.here;
+  first = λ c l t. ahead_behind (length marks) from b c f h.behind h.inside l (not_before marks from b c h.first t);
+}
+
+pub round_before : (marks : List Bool) (from b : ℕ) → from < length marks → NoneWithin marks from (length marks) → IsFirstWithin marks 0 from b → IsFirstRound (λ c. mark_at marks c ≡ true) (length marks) from b
+round_before marks from b f n h = record {
+  inside = omega (arith, h.inside);
+  here = h.here;
+  first = λ c l t.
+      elim (cases_lt c from) [
+        | inl k ↦ ahead_before (length marks) from b c f h.inside k (not_before marks 0 b c h.first t (omega arith))
+        | inr k ↦ absurd (let g : false ≡ true = sym (n c k l) ∙ t in cc)
+      ];
+}
+
+-- from one that there isn't
+pub round_all : (marks : List Bool) (from b : ℕ) → length marks ≤ from → IsFirstWithin marks 0 (length marks) b → IsFirstRound (λ c. mark_at marks c ≡ true) (length marks) from b
+round_all marks from b f h = record {
+  inside = h.inside;
+  here = h.here;
+  first = λ c l t. ahead_all (length marks) from b c f (not_before marks 0 b c h.first t (omega arith));
+}
+
+-- none from a block on, and none before it
+pub none_round : (marks : List Bool) (from to : ℕ) → NoneWithin marks from to → NoneWithin marks 0 from → NoneWithin marks 0 to
+none_round marks from to h k b p q =
+    elim (cases_lt b from) [
+      | inl l ↦ k b p l
+      | inr l ↦ h b l q
+    ]

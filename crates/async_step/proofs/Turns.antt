@@ -1,0 +1,77 @@
+-- What a step leads to, by the operation of its block.
+use Rattle.std.proofs.Common.{◌≡◌, ℕ, ◌<◌, Bool, true, false, not, refl, Option, Some, None, List, [], ◌∷◌, ◌++◌, length, Result, Ok, Err, sym, subst, ◌∙◌}
+use Rattle.std.specs.Prelude.{slice_get, MatchResult}
+use Rattle.std.specs.Option.{option_map}
+use Rattle.ordered_group.specs.Amount.{Amount}
+use Rattle.closure_net.specs.Network.{NetView}
+use Rattle.closure_net.specs.Ports.{ports}
+use Rattle.closure_net.specs.declared.ports.Port.{Port}
+use Rattle.machine_law.specs.declared.events.Event.{Event}
+use Rattle.machine_law.specs.declared.operations.Best.{Best}
+use Rattle.machine_law.specs.declared.operations.Operation.{Operation}
+use Rattle.machine_law.specs.declared.operations.Operation.TheVariants.{Scan, PushDue, GiveDue}
+use Rattle.machine_law.specs.States.{State}
+use Rattle.machine_law.specs.Reads.{chosen}
+use Rattle.machine_law.specs.Residual.{end_label, IsPortOf}
+use Rattle.machine_law.specs.Steps.{Step, becomes, weighed, next_kind, advance_by, advance}
+use Rattle.machine_law.specs.Amounts.{HasAmounts, IsOperation}
+use Rattle.machine_law.proofs.Law.{runs_keep_law}
+use Rattle.machine_law.proofs.Runs.{run_more}
+use Rattle.async_step.specs.Views.{StateView, state_of}
+use Rattle.async_step.specs.Answers.{IsStateOf, LeadsTelling, told_of, told_beyond, told, saw_as, Stepped, IsRefused}
+use Rattle.async_step.specs.declared.saw.Saw.{Saw}
+use Rattle.async_step.specs.declared.saw.Saw.TheVariants.{Label}
+use Rattle.async_step.specs.declared.refusals.StepRefusal.{StepRefusal}
+use Rattle.async_step.specs.declared.refusals.StepRefusal.TheVariants.{NoSuchBlock, OutOfTurn, TooLarge, TooManySteps}
+
+-- ---- what a state of a run has
+amounts_of : (net : NetView) (v : StateView) → IsStateOf net v → HasAmounts net (state_of v)
+amounts_of net v over = (runs_keep_law net over.reached.events (state_of v) over.reached.run).amounts
+
+pub scan_inside : (net : NetView) (v : StateView) (b : ℕ) (have : Amount) (place : ℕ) (read : Option Amount) (best : Option (Best Amount)) → IsStateOf net v → Scan have place read best ≡ (state_of v).operation b → place < length (ports net b)
+scan_inside net v b have place read best over e = (subst (IsOperation net (state_of v) b) (sym e) ((amounts_of net v over).operation b)).inside
+
+pub push_port : (net : NetView) (v : StateView) (b : ℕ) (have : Amount) (best : Best Amount) → IsStateOf net v → PushDue have best ≡ (state_of v).operation b → IsPortOf net b best.port
+push_port net v b have best over e = (subst (IsOperation net (state_of v) b) (sym e) ((amounts_of net v over).operation b)).over.port
+
+pub give_port : (net : NetView) (v : StateView) (b : ℕ) (d : Amount) (port : Port) → IsStateOf net v → GiveDue d port ≡ (state_of v).operation b → IsPortOf net b port
+give_port net v b d port over e = (subst (IsOperation net (state_of v) b) (sym e) ((amounts_of net v over).operation b)).1
+
+-- ---- the step that is next
+module _ {N : Type 0} (f : N → Amount) (net : NetView) (v w : StateView) (b : ℕ) (r : Result (Saw N) StepRefusal) where
+  pub turn : (o : Operation Amount) → o ≡ (state_of v).operation b → LeadsTelling f net v (advance_by net (state_of v) b o) (told_of net (state_of v) b o) w r → LeadsTelling f net v (advance net (state_of v) b) (told net (state_of v) b) w r
+  turn o e h = subst (λ (x : Operation Amount). LeadsTelling f net v (advance_by net (state_of v) b x) (told_of net (state_of v) b x) w r) e h
+
+  pub scan_read : (have : Amount) (place : ℕ) (read : Option N) (best : Option (Best Amount)) (cap : N) (port : Port) → read ≡ Some cap → slice_get (ports net b) place ≡ Some port
+      → LeadsTelling f net v (becomes (state_of v) b (chosen (length (ports net b)) ((state_of v).label b) have place best (f cap) port (end_label net (state_of v) port))) (Label (end_label net (state_of v) port)) w r
+      → LeadsTelling f net v (advance_by net (state_of v) b (Scan have place (option_map f read) best)) (told_of net (state_of v) b (Scan have place (option_map f read) best)) w r
+  scan_read have place read best cap port e p h =
+      subst (λ (x : Option N). LeadsTelling f net v (advance_by net (state_of v) b (Scan have place (option_map f x) best)) (told_of net (state_of v) b (Scan have place (option_map f x) best)) w r) (sym e)
+      (subst (λ (q : Option Port). LeadsTelling f net v (becomes (state_of v) b (weighed net (state_of v) b have place best (f cap) q)) (told_beyond net (state_of v) q) w r) (sym p) h)
+
+-- a step that is made, or refused
+pub stepped : {N : Type 0} (f : N → Amount) (net : NetView) (v w : StateView) (e : Event) (r : Result (Saw N) StepRefusal) → IsStateOf net v → e.block < length net.worths → next_kind net (state_of v) e.block ≡ e.kind
+    → LeadsTelling f net v (advance net (state_of v) e.block) (told net (state_of v) e.block) w r
+    → MatchResult r (λ saw. Stepped net v e w (saw_as f saw)) (λ x. IsRefused net v e w x)
+stepped f net v w e (Ok saw) over l k h =
+    let step : Step net (state_of v) e (state_of w) = record { block = l; kind = k; after = h.0.state } in
+    record {
+      step = step;
+      saw_is = h.1;
+      counted = h.0.counted;
+      state = record {
+        blocks = h.0.blocks ∙ over.blocks;
+        pairs = h.0.pairs ∙ over.pairs;
+        reached = record { events = over.reached.events ++ e ∷ []; run = run_more net _ over.reached.events e (state_of v) (state_of w) over.reached.run step };
+        fits = h.0.fits;
+      };
+    }
+stepped f net v w e (Err NoSuchBlock) over l k h = absurd h.why
+stepped f net v w e (Err (OutOfTurn kind)) over l k h = absurd h.why
+stepped f net v w e (Err TooLarge) over l k h = record { same = h.same; stands = (record { block = l; kind = k }, h.why) }
+stepped f net v w e (Err TooManySteps) over l k h = record { same = h.same; stands = (record { block = l; kind = k }, h.why.0, h.why.1) }
+
+-- what isn't false is true
+pub not_false : (t : Bool) → not t ≡ false → t ≡ true
+not_false true h = refl
+not_false false h = absurd cc

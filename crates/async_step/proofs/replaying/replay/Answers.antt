@@ -1,0 +1,35 @@
+use Rattle.std.proofs.Common.{List, take, get_or, refl, sym, subst}
+use Rattle.std.proofs.lemmas.List.{take_more}
+use Rattle.std.proofs.lemmas.Option.{slice_get-get_or}
+use Rattle.machine_law.specs.declared.events.Event.{Event}
+use Rattle.machine_law.specs.declared.events.Kind.TheVariants.{ReadExcess}
+use Rattle.machine_law.specs.States.{opening}
+use Rattle.machine_law.specs.Steps.{Run}
+use Rattle.machine_law.proofs.Runs.{run_more}
+use Rattle.async_step.specs.Views.{state_of}
+use Rattle.async_step.proofs.replaying.replay.Goals as goal
+
+pub returns-in-Err-step : goal.returns-in-Err-step
+returns-in-Err-step g c =
+    let d : Event = record { block = 0; kind = ReadExcess } in
+    record {
+      before = c.loop-i.i;
+      counted = refl;
+      state = state_of c.loop-i.state;
+      run = c.loop-i.invariant.run;
+      event = get_or c.args.events.now c.loop-i.i d;
+      present = slice_get-get_or c.args.events.now c.loop-i.i d c.loop-i-test.true;
+      stands = c.in-Err-step.ensures.stands;
+    }
+
+pub loop-i-preserved : goal.loop-i-preserved
+loop-i-preserved g c =
+    let d : Event = record { block = 0; kind = ReadExcess } in
+    let es = c.args.events.now in
+    let net = c.args.net.now in
+    let e : Event = get_or es c.loop-i.i d in
+    record {
+      run = subst (λ (xs : List Event). Run net (opening net) xs (state_of c.step.new.self)) (sym (take_more es c.loop-i.i d c.loop-i-test.true))
+          (run_more net (opening net) (take c.loop-i.i es) e (state_of c.loop-i.state) (state_of c.step.new.self) c.loop-i.invariant.run c.in-Ok-step.ensures.step);
+      over = c.in-Ok-step.ensures.state;
+    }

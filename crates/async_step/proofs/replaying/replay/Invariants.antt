@@ -1,0 +1,12 @@
+use Rattle.std.proofs.Common.{take}
+use Rattle.machine_law.specs.States.{opening}
+use Rattle.machine_law.specs.Steps.{Run}
+use Rattle.async_step.specs.Views.{state_of}
+use Rattle.async_step.specs.Answers.{IsStateOf}
+use Rattle.async_step.proofs.replaying.replay.Given as goal
+
+abbrev pub invariant-loop-i : goal.invariant-loop-i
+invariant-loop-i g l = record {
+  run : Run l.fn.net (opening l.fn.net) (take l.i l.events) (state_of l.state);
+  over : IsStateOf l.fn.net l.state;
+}

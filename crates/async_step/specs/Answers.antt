@@ -1,0 +1,162 @@
+-- What the calls on a state answer.
+use Rattle.std.specs.Prelude.{◌≡◌, ℕ, ◌+◌, ◌-◌, ◌<◌, ◌≤◌, ◌^◌, Option, Some, None, List, length, take, slice_get, Result, MatchResult}
+use Rattle.ordered_group.specs.Amount.{Amount, zero_amount, Below, FitsPair}
+use Rattle.ordered_group.specs.Sums.{amount_at}
+use Rattle.closure_net.specs.Network.{NetView}
+use Rattle.closure_net.specs.Ports.{ports}
+use Rattle.closure_net.specs.declared.ports.Port.{Port}
+use Rattle.closure_net.specs.declared.ports.PortKind.{PortKind}
+use Rattle.closure_net.specs.declared.ports.PortKind.TheVariants.{Sink, Forward, Backward, Source}
+use Rattle.machine_law.specs.declared.events.Event.{Event}
+use Rattle.machine_law.specs.declared.operations.Operation.{Operation}
+use Rattle.machine_law.specs.declared.operations.Operation.TheVariants.{Idle, Scan, PushDue, TakeDue, GiveDue, RaiseDue}
+use Rattle.machine_law.specs.States.{State, opening}
+use Rattle.machine_law.specs.Residual.{room, capacity, end_label}
+use Rattle.machine_law.specs.Steps.{Step, Run, next_kind, advance, push_amount}
+use Rattle.async_step.specs.Views.{StateView, state_of}
+use Rattle.async_step.specs.declared.saw.Saw.{Saw}
+use Rattle.async_step.specs.declared.saw.Saw.TheVariants.{Excess, Capacity, Label, Moved, Raised}
+use Rattle.async_step.specs.declared.refusals.ReplayFault.{ReplayFault}
+use Rattle.async_step.specs.declared.refusals.ReplayFault.TheVariants.{Refused, NoMemory}
+use Rattle.async_step.specs.declared.refusals.StepRefusal.{StepRefusal}
+use Rattle.async_step.specs.declared.refusals.StepRefusal.TheVariants.{NoSuchBlock, OutOfTurn, TooLarge, TooManySteps}
+
+-- ---- what a step tells
+
+-- with each amount replaced by what f says of it
+abbrev pub saw_as : {N M : Type 0} → (N → M) → Saw N → Saw M
+saw_as f (Excess amount) = Excess (f amount)
+saw_as f (Capacity amount) = Capacity (f amount)
+saw_as f (Label label) = Label label
+saw_as f (Moved amount) = Moved (f amount)
+saw_as f (Raised label) = Raised label
+
+-- at a port of this kind whose capacity isn't read: its capacity, or the label beyond a forward one
+abbrev pub told_by : NetView → State → ℕ → Port → PortKind → Saw Amount
+told_by net s b port Sink = Capacity (capacity net s b port)
+told_by net s b port Forward = Label (end_label net s port)
+told_by net s b port Backward = Capacity (capacity net s b port)
+told_by net s b port Source = Capacity (capacity net s b port)
+
+-- the same at a place of the list of ports
+abbrev pub told_at : NetView → State → ℕ → Option Port → Saw Amount
+told_at net s b None = Label 0
+told_at net s b (Some port) = told_by net s b port port.kind
+
+-- the label beyond a port whose capacity was read
+abbrev pub told_beyond : NetView → State → Option Port → Saw Amount
+told_beyond net s None = Label 0
+told_beyond net s (Some port) = Label (end_label net s port)
+
+-- by the operation of b
+abbrev pub told_of : NetView → State → ℕ → Operation Amount → Saw Amount
+told_of net s b Idle = Excess (s.excess b)
+told_of net s b (Scan have place None best) = told_at net s b (slice_get (ports net b) place)
+told_of net s b (Scan have place (Some read) best) = told_beyond net s (slice_get (ports net b) place)
+told_of net s b (PushDue have best) = Moved (push_amount have best.port.kind best.capacity)
+told_of net s b (TakeDue amount port) = Moved amount
+told_of net s b (GiveDue amount port) = Moved amount
+told_of net s b (RaiseDue have best) = Raised (best.label + 1)
+
+-- what the step that is next for b saw, moved or raised
+abbrev pub told : NetView → State → ℕ → Saw Amount
+told net s b = told_of net s b (s.operation b)
+
+-- ---- what fits
+
+-- every number of the state fits its type, also what each block may still give the sink
+pub record Fits (net : NetView) (s : State) : Type 0 where
+  pub excess : (b : ℕ) → FitsPair (s.excess b)
+  pub label : (b : ℕ) → s.label b < 2 ^ 64
+  pub source : (b : ℕ) → FitsPair (s.source b)
+  pub sink : (b : ℕ) → FitsPair (s.sink b)
+  pub room : (b : ℕ) → FitsPair (room net s b)
+  pub flow : (k : ℕ) → FitsPair (s.flow k)
+  pub at_source : FitsPair s.at_source
+  pub at_sink : FitsPair s.at_sink
+
+-- a run over the net leads to the state
+pub record IsReached (net : NetView) (s : State) : Type 0 where
+  pub events : List Event
+  pub run : Run net (opening net) events s
+
+-- the state is one of a run over the net, and all its numbers fit
+pub record IsStateOf (net : NetView) (v : StateView) : Type 0 where
+  pub blocks : length v.operation ≡ length net.worths
+  pub pairs : length v.flow ≡ length net.pairs
+  pub reached : IsReached net (state_of v)
+  pub fits : Fits net (state_of v)
+
+-- ---- steps and refusals
+
+-- the state goes over to this one, in one step
+pub record GoesTo (net : NetView) (old : StateView) (after : State) (new : StateView) : Type 0 where
+  pub state : state_of new ≡ after
+  pub counted : old.steps < 2 ^ 40
+  pub fits : Fits net (state_of new)
+  pub blocks : length new.operation ≡ length old.operation
+  pub pairs : length new.flow ≡ length old.flow
+
+-- why it can't
+abbrev pub CannotGo : NetView → StateView → State → StepRefusal → Type 0
+CannotGo net old after NoSuchBlock = ⊥
+CannotGo net old after (OutOfTurn kind) = ⊥
+CannotGo net old after TooLarge = ¬ (Fits net after)
+CannotGo net old after TooManySteps = Fits net after × (2 ^ 40 ≤ old.steps)
+
+-- and it stays
+pub record Stays (net : NetView) (old : StateView) (after : State) (new : StateView) (refusal : StepRefusal) : Type 0 where
+  pub same : new ≡ old
+  pub why : CannotGo net old after refusal
+
+-- the state goes over to this one, or stays where it can't
+abbrev pub Leads : {X : Type 0} → NetView → StateView → State → StateView → Result X StepRefusal → Type 0
+Leads net old after new result = MatchResult result (λ x. GoesTo net old after new) (λ e. Stays net old after new e)
+
+-- and it tells what was seen, moved or raised
+abbrev pub LeadsTelling : {N : Type 0} → (N → Amount) → NetView → StateView → State → Saw Amount → StateView → Result (Saw N) StepRefusal → Type 0
+LeadsTelling f net old after tells new result = MatchResult result (λ saw. GoesTo net old after new × (saw_as f saw ≡ tells)) (λ e. Stays net old after new e)
+
+-- one step was made, and this is what it saw, moved or raised
+pub record Stepped (net : NetView) (old : StateView) (event : Event) (new : StateView) (saw : Saw Amount) : Type 0 where
+  pub step : Step net (state_of old) event (state_of new)
+  pub saw_is : saw ≡ told net (state_of old) event.block
+  pub counted : old.steps < 2 ^ 40
+  pub state : IsStateOf net new
+
+-- the event's step is the one that is next for its block
+pub record IsNext (net : NetView) (s : State) (event : Event) : Type 0 where
+  pub block : event.block < length net.worths
+  pub kind : next_kind net s event.block ≡ event.kind
+
+-- the refusal stands, and none that comes before it
+abbrev pub RefusalStands : NetView → State → Event → StepRefusal → Type 0
+RefusalStands net s event NoSuchBlock = length net.worths ≤ event.block
+RefusalStands net s event (OutOfTurn kind) = (event.block < length net.worths) × (next_kind net s event.block ≡ kind) × ¬ (kind ≡ event.kind)
+RefusalStands net s event TooLarge = IsNext net s event × ¬ (Fits net (advance net s event.block))
+RefusalStands net s event TooManySteps = IsNext net s event × Fits net (advance net s event.block) × (2 ^ 40 ≤ s.steps)
+
+-- a refused step: it changes nothing
+pub record IsRefused (net : NetView) (old : StateView) (event : Event) (new : StateView) (refusal : StepRefusal) : Type 0 where
+  pub same : new ≡ old
+  pub stands : RefusalStands net (state_of old) event refusal
+
+-- block b has excess and no operation
+pub record IsWaiting (s : State) (b : ℕ) : Type 0 where
+  pub excess : Below zero_amount (s.excess b)
+  pub idle : s.operation b ≡ Idle
+
+-- the event at this place, counted from 1, is refused in the state that the ones before it lead to
+pub record IsRefusedAt (net : NetView) (events : List Event) (place : ℕ) (refusal : StepRefusal) : Type 0 where
+  pub before : ℕ
+  pub counted : place ≡ before + 1
+  pub state : State
+  pub run : Run net (opening net) (take before events) state
+  pub event : Event
+  pub present : slice_get events before ≡ Some event
+  pub stands : RefusalStands net state event refusal
+
+-- why the events can't be made one after the other
+abbrev pub ReplayFaultStands : NetView → List Event → ReplayFault → Type 0
+ReplayFaultStands net events (Refused place refusal) = IsRefusedAt net events place refusal
+ReplayFaultStands net events NoMemory = Unit {0}

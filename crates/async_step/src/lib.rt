@@ -1,0 +1,37 @@
+//! The machine that finds a greatest flow of a net in single atomic steps: Hong's lock-free
+//! push-relabel (Hong, A lock-free multi-threaded algorithm for the maximum flow problem, 2008), in
+//! which each step reads or writes one number, so that the steps of different blocks may come in
+//! any order.
+//!
+//! Stands on `machine_law`, which says what a state and a step are and what every step keeps, on
+//! `closure_net` for nets, ports and flows, and on `ordered_group` for amounts. Promises upward: a
+//! `State` shows one state of the machine and no other; `State::open` is the opening state; a step
+//! is exactly one step of the machine and answers what was seen, moved or raised; a refusal is
+//! answered exactly where it stands, the first in order, and changes nothing; `replay` is the run of
+//! its list, or its first refused place; so the laws of `machine_law` hold of every state, at every
+//! group; and a quiet state gives its flow, which by those laws is a greatest one.
+//!
+//! `State::quiet` takes constant time, and `State::waiting` passes over stretches of up to 262,144
+//! blocks at once.
+#![tactic(auto)]
+
+mod changing;
+mod marks;
+mod opening;
+mod operations;
+mod pushing;
+mod reading;
+mod refusals;
+mod replaying;
+mod saw;
+mod state;
+mod stepping;
+#[cfg(test)]
+mod tests;
+mod tests_of_amounts;
+
+pub use machine_law::{Best, Event, Kind, Operation};
+pub use refusals::{ReplayFault, StepRefusal};
+pub use replaying::replay;
+pub use saw::Saw;
+pub use state::State;

@@ -1,0 +1,281 @@
+//! The steps of a push and of a raise.
+
+ghost use Rattle.std.specs.Prelude.{◌≡◌, ◌+◌, ◌<◌, length};
+ghost use Rattle.ordered_group.specs.Amount.{plus};
+ghost use Rattle.closure_net.specs.declared.ports.PortKind.TheVariants.{Sink, Forward, Backward, Source};
+ghost use Rattle.machine_law.specs.declared.operations.Operation.TheVariants.{Idle};
+ghost use Rattle.machine_law.specs.Operations.{best_as};
+ghost use Rattle.machine_law.specs.Residual.{IsPortOf};
+ghost use Rattle.machine_law.specs.States.{put};
+ghost use Rattle.machine_law.specs.Steps.{becomes, pushed, pushed_by, taken, given, given_by, raised, push_amount};
+ghost use Rattle.async_step.specs.Views.{state_of};
+ghost use Rattle.async_step.specs.Answers.{IsStateOf, Leads, LeadsTelling};
+ghost use Rattle.async_step.specs.declared.saw.Saw.TheVariants.{Moved, Raised};
+
+use crate::operations::push_amount;
+use crate::refusals::StepRefusal;
+use crate::saw::Saw;
+use crate::state::State;
+use closure_net::{Net, Port, PortKind};
+use machine_law::{Best, Operation};
+use ordered_group::OrderedGroup;
+
+impl<G: OrderedGroup> State<G> {
+    // Over the port to the sink.
+    fn move_to_sink(
+        &mut self,
+        net: &Net<G>,
+        block: u32,
+        amount: G,
+        port: Port,
+    ) -> Result<(), StepRefusal>
+        requires over { IsStateOf net.now self.old }
+        requires block { block < length net.now.worths }
+        ensures { let s = state_of self.old in Leads net.now self.old (pushed_by s block (G.parts_of amount) port Sink) self.new result }
+    {
+        match self.sink(block).try_add(amount) {
+            Some(more) => match net.negative(block).try_sub(more) {
+                Some(_room) => {
+                    self.become_with_sink(net, block, Operation::TakeDue { amount, port }, more)
+                }
+                None => Err(StepRefusal::TooLarge),
+            },
+            None => Err(StepRefusal::TooLarge),
+        }
+    }
+
+    // Over a forward port: the flow of its pair rises.
+    fn move_forward(
+        &mut self,
+        net: &Net<G>,
+        block: u32,
+        amount: G,
+        port: Port,
+    ) -> Result<(), StepRefusal>
+        requires over { IsStateOf net.now self.old }
+        requires block { block < length net.now.worths }
+        requires slot { port.slot < length net.now.pairs }
+        ensures { let s = state_of self.old in Leads net.now self.old (pushed_by s block (G.parts_of amount) port Forward) self.new result }
+    {
+        match self.flow(port.slot).try_add(amount) {
+            Some(more) => self.become_with_flow(
+                net,
+                block,
+                Operation::TakeDue { amount, port },
+                port.slot,
+                more,
+            ),
+            None => Err(StepRefusal::TooLarge),
+        }
+    }
+
+    // Over a backward port: the flow of its pair falls.
+    fn move_back(
+        &mut self,
+        net: &Net<G>,
+        block: u32,
+        amount: G,
+        port: Port,
+    ) -> Result<(), StepRefusal>
+        requires over { IsStateOf net.now self.old }
+        requires block { block < length net.now.worths }
+        requires slot { port.slot < length net.now.pairs }
+        ensures { let s = state_of self.old in Leads net.now self.old (pushed_by s block (G.parts_of amount) port Backward) self.new result }
+    {
+        match self.flow(port.slot).try_sub(amount) {
+            Some(less) => self.become_with_flow(
+                net,
+                block,
+                Operation::TakeDue { amount, port },
+                port.slot,
+                less,
+            ),
+            None => Err(StepRefusal::TooLarge),
+        }
+    }
+
+    // Back to the source.
+    fn move_to_source(
+        &mut self,
+        net: &Net<G>,
+        block: u32,
+        amount: G,
+        port: Port,
+    ) -> Result<(), StepRefusal>
+        requires over { IsStateOf net.now self.old }
+        requires block { block < length net.now.worths }
+        ensures { let s = state_of self.old in Leads net.now self.old (pushed_by s block (G.parts_of amount) port Source) self.new result }
+    {
+        match self.source(block).try_sub(amount) {
+            Some(less) => self.become_with_source(
+                net,
+                block,
+                Operation::TakeDue { amount, port },
+                less,
+            ),
+            None => Err(StepRefusal::TooLarge),
+        }
+    }
+
+    // The capacity step of a push of an amount over a port.
+    fn push(&mut self, net: &Net<G>, block: u32, amount: G, port: Port) -> Result<(), StepRefusal>
+        requires over { IsStateOf net.now self.old }
+        requires block { block < length net.now.worths }
+        requires port { IsPortOf net.now block port }
+        ensures { let s = state_of self.old in Leads net.now self.old (pushed s block (G.parts_of amount) port) self.new result }
+    {
+        match port.kind {
+            PortKind::Sink => self.move_to_sink(net, block, amount, port),
+            PortKind::Forward => self.move_forward(net, block, amount, port),
+            PortKind::Backward => self.move_back(net, block, amount, port),
+            PortKind::Source => self.move_to_source(net, block, amount, port),
+        }
+    }
+
+    /// The capacity step of a push that is due.
+    pub(crate) fn move_capacity(
+        &mut self,
+        net: &Net<G>,
+        block: u32,
+        have: G,
+        best: Best<G>,
+    ) -> Result<Saw<G>, StepRefusal>
+        requires over { IsStateOf net.now self.old }
+        requires block { block < length net.now.worths }
+        requires port { IsPortOf net.now block best.port }
+        ensures { let s = state_of self.old in let d = push_amount (G.parts_of have) best.port.kind (G.parts_of best.capacity) in LeadsTelling G.parts_of net.now self.old
+            (pushed s block d best.port) (Moved d) self.new result }
+    {
+        let amount = push_amount(have, best.port, best.capacity);
+        match self.push(net, block, amount, best.port) {
+            Ok(()) => Ok(Saw::Moved(amount)),
+            Err(refusal) => Err(refusal),
+        }
+    }
+
+    /// A push takes its amount from its own block's excess.
+    pub(crate) fn take_excess(
+        &mut self,
+        net: &Net<G>,
+        block: u32,
+        amount: G,
+        port: Port,
+    ) -> Result<Saw<G>, StepRefusal>
+        requires over { IsStateOf net.now self.old }
+        requires block { block < length net.now.worths }
+        ensures { let s = state_of self.old in LeadsTelling G.parts_of net.now self.old
+            (taken s block (G.parts_of amount) port) (Moved (G.parts_of amount)) self.new result }
+    {
+        match self.excess(block).try_sub(amount) {
+            Some(less) => {
+                let next = Operation::GiveDue { amount, port };
+                match self.become_with_excess(net, block, next, block, less) {
+                    Ok(()) => Ok(Saw::Moved(amount)),
+                    Err(refusal) => Err(refusal),
+                }
+            }
+            None => Err(StepRefusal::TooLarge),
+        }
+    }
+
+    // At the sink.
+    fn arrive_at_sink(&mut self, net: &Net<G>, block: u32, amount: G) -> Result<(), StepRefusal>
+        requires over { IsStateOf net.now self.old }
+        requires block { block < length net.now.worths }
+        ensures { let s = state_of self.old in Leads net.now self.old (record (becomes s block Idle) { at_sink = plus s.at_sink (G.parts_of amount) }) self.new result }
+    {
+        match self.at_sink().try_add(amount) {
+            Some(more) => self.become_with_at_sink(net, block, Operation::Idle, more),
+            None => Err(StepRefusal::TooLarge),
+        }
+    }
+
+    // At the source.
+    fn arrive_at_source(&mut self, net: &Net<G>, block: u32, amount: G) -> Result<(), StepRefusal>
+        requires over { IsStateOf net.now self.old }
+        requires block { block < length net.now.worths }
+        ensures { let s = state_of self.old in Leads net.now self.old (record (becomes s block Idle) { at_source = plus s.at_source (G.parts_of amount) }) self.new result }
+    {
+        match self.at_source().try_add(amount) {
+            Some(more) => self.become_with_at_source(net, block, Operation::Idle, more),
+            None => Err(StepRefusal::TooLarge),
+        }
+    }
+
+    // At another block.
+    fn arrive_at_block(
+        &mut self,
+        net: &Net<G>,
+        block: u32,
+        amount: G,
+        other: u32,
+    ) -> Result<(), StepRefusal>
+        requires over { IsStateOf net.now self.old }
+        requires block { block < length net.now.worths }
+        requires other { other < length net.now.worths }
+        ensures { let s = state_of self.old in Leads net.now self.old (record (becomes s block Idle) { excess = put s.excess other (plus (s.excess other) (G.parts_of amount)) }) self.new result }
+    {
+        match self.excess(other).try_add(amount) {
+            Some(more) => self.become_with_excess(net, block, Operation::Idle, other, more),
+            None => Err(StepRefusal::TooLarge),
+        }
+    }
+
+    // The last step of a push of an amount over a port.
+    fn give(&mut self, net: &Net<G>, block: u32, amount: G, port: Port) -> Result<(), StepRefusal>
+        requires over { IsStateOf net.now self.old }
+        requires block { block < length net.now.worths }
+        requires port { IsPortOf net.now block port }
+        ensures { let s = state_of self.old in Leads net.now self.old (given s block (G.parts_of amount) port) self.new result }
+    {
+        let rests = net.rests();
+        let _few = rests.len();
+        match port.kind {
+            PortKind::Sink => self.arrive_at_sink(net, block, amount),
+            PortKind::Forward => self.arrive_at_block(net, block, amount, port.other),
+            PortKind::Backward => self.arrive_at_block(net, block, amount, port.other),
+            PortKind::Source => self.arrive_at_source(net, block, amount),
+        }
+    }
+
+    /// A push gives its amount to the other end.
+    pub(crate) fn give_excess(
+        &mut self,
+        net: &Net<G>,
+        block: u32,
+        amount: G,
+        port: Port,
+    ) -> Result<Saw<G>, StepRefusal>
+        requires over { IsStateOf net.now self.old }
+        requires block { block < length net.now.worths }
+        requires port { IsPortOf net.now block port }
+        ensures { let s = state_of self.old in LeadsTelling G.parts_of net.now self.old
+            (given s block (G.parts_of amount) port) (Moved (G.parts_of amount)) self.new result }
+    {
+        match self.give(net, block, amount, port) {
+            Ok(()) => Ok(Saw::Moved(amount)),
+            Err(refusal) => Err(refusal),
+        }
+    }
+
+    /// A block raises its label above the best port's.
+    pub(crate) fn raise_label(
+        &mut self,
+        net: &Net<G>,
+        block: u32,
+        best: Best<G>,
+    ) -> Result<Saw<G>, StepRefusal>
+        requires over { IsStateOf net.now self.old }
+        requires block { block < length net.now.worths }
+        ensures { let s = state_of self.old in LeadsTelling G.parts_of net.now self.old
+            (raised s block (best_as G.parts_of best)) (Raised (best.label + 1)) self.new result }
+    {
+        match best.label.checked_add(1) {
+            Some(label) => match self.become_with_label(net, block, Operation::Idle, label) {
+                Ok(()) => Ok(Saw::Raised(label)),
+                Err(refusal) => Err(refusal),
+            },
+            None => Err(StepRefusal::TooLarge),
+        }
+    }
+}

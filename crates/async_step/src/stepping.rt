@@ -1,0 +1,84 @@
+//! One step, of any kind.
+
+ghost use Rattle.std.specs.Prelude.{◌≡◌, ◌<◌, length, MatchResult};
+ghost use Rattle.machine_law.specs.Steps.{next_kind, advance};
+ghost use Rattle.async_step.specs.Views.{state_of};
+ghost use Rattle.async_step.specs.Answers.{IsStateOf, LeadsTelling, Stepped, IsRefused, saw_as, told};
+
+use crate::operations::{push_kind, read_kind};
+use crate::refusals::StepRefusal;
+use crate::saw::Saw;
+use crate::state::State;
+use closure_net::{Net, PortKind};
+use machine_law::{Best, Event, Kind, Operation};
+use ordered_group::OrderedGroup;
+
+impl<G: OrderedGroup> State<G> {
+    /// The kind of the step that is next for block b.
+    pub fn next_kind(&self, net: &Net<G>, b: u32) -> Kind
+        requires over { IsStateOf net.now self.now }
+        requires block { b < length net.now.worths }
+        ensures { result ≡ next_kind net.now (state_of self.now) b }
+    {
+        match self.operation(b) {
+            Operation::Idle => Kind::ReadExcess,
+            Operation::Scan {
+                have: _,
+                place,
+                read,
+                best: _,
+            } => match read {
+                Some(_capacity) => Kind::ReadLabel,
+                None => read_kind(net.port(b, place)),
+            },
+            Operation::PushDue { have: _, best } => push_kind(best.port),
+            Operation::TakeDue { amount: _, port: _ } => Kind::TakeExcess,
+            Operation::GiveDue { amount: _, port: _ } => Kind::GiveExcess,
+            Operation::RaiseDue { have: _, best: _ } => Kind::RaiseLabel,
+        }
+    }
+
+    // The step that is next for a block, whatever its kind.
+    fn advance(&mut self, net: &Net<G>, block: u32) -> Result<Saw<G>, StepRefusal>
+        requires over { IsStateOf net.now self.old }
+        requires block { block < length net.now.worths }
+        ensures { let s = state_of self.old in LeadsTelling G.parts_of net.now self.old
+            (advance net.now s block) (told net.now s block) self.new result }
+    {
+        match self.operation(block) {
+            Operation::Idle => self.read_excess(net, block),
+            Operation::Scan {
+                have,
+                place,
+                read,
+                best,
+            } => self.scan(net, block, have, place, read, best),
+            Operation::PushDue { have, best } => self.move_capacity(net, block, have, best),
+            Operation::TakeDue { amount, port } => self.take_excess(net, block, amount, port),
+            Operation::GiveDue { amount, port } => self.give_excess(net, block, amount, port),
+            Operation::RaiseDue { have: _, best } => self.raise_label(net, block, best),
+        }
+    }
+
+    /// Makes one step, and answers what it saw, moved or raised. A refused step changes nothing.
+    ///
+    /// # Errors
+    /// The first of these that stands: `NoSuchBlock` for a block that the net hasn't; `OutOfTurn`
+    /// where the block's next step is of another kind, with that kind; `TooLarge` where a number of
+    /// the state after the step would leave its type; `TooManySteps` where 2^40 steps were made.
+    pub fn step(&mut self, net: &Net<G>, event: Event) -> Result<Saw<G>, StepRefusal>
+        requires { IsStateOf net.now self.old }
+        ensures { MatchResult result
+            (λ saw. Stepped net.now self.old event self.new (saw_as G.parts_of saw))
+            (λ e. IsRefused net.now self.old event self.new e) }
+    {
+        if event.block >= self.len() {
+            return Err(StepRefusal::NoSuchBlock);
+        }
+        let next = self.next_kind(net, event.block);
+        if next != event.kind {
+            return Err(StepRefusal::OutOfTurn(next));
+        }
+        self.advance(net, event.block)
+    }
+}

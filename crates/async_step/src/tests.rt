@@ -1,0 +1,438 @@
+//! Runs whose steps and states are known from elsewhere.
+
+ghost use Rattle.std.specs.Prelude.{◌≤◌, ◌^◌};
+
+use crate::{ReplayFault, Saw, State, StepRefusal, replay};
+use closure_net::Net;
+use machine_law::{Event, Kind};
+use ordered_group::{Worth, WorthSize};
+use prec_file::Rests;
+use std::alloc::Global;
+use std::process::Abort;
+use std::test::Fail;
+
+const RE: Kind = Kind::ReadExcess;
+
+const RC: Kind = Kind::ReadCapacity;
+
+const RL: Kind = Kind::ReadLabel;
+
+const TC: Kind = Kind::TakeCapacity;
+
+const GC: Kind = Kind::GiveCapacity;
+
+const TE: Kind = Kind::TakeExcess;
+
+const GE: Kind = Kind::GiveExcess;
+
+const RA: Kind = Kind::RaiseLabel;
+
+// Steps of one block, and the state after them in whole values.
+struct Row {
+    block: u32,
+    kinds: &'static [Kind],
+    labels: [u64; 3],
+    excess: [i128; 3],
+    flow: [i128; 2],
+    source: [i128; 3],
+    sink: i128,
+}
+
+const ROWS: [Row; 23] = [
+    Row {
+        block: 0,
+        kinds: &[RE, RL, RC, RL, RA],
+        labels: [1, 0, 0],
+        excess: [4, 0, 4],
+        flow: [0, 0],
+        source: [4, 0, 4],
+        sink: 0,
+    },
+    Row {
+        block: 0,
+        kinds: &[RE, RL, RC, RL],
+        labels: [1, 0, 0],
+        excess: [4, 0, 4],
+        flow: [0, 0],
+        source: [4, 0, 4],
+        sink: 0,
+    },
+    Row {
+        block: 2,
+        kinds: &[RE, RL, RC, RL, RA],
+        labels: [1, 0, 1],
+        excess: [4, 0, 4],
+        flow: [0, 0],
+        source: [4, 0, 4],
+        sink: 0,
+    },
+    Row {
+        block: 2,
+        kinds: &[RE, RL, RC, RL, GC, TE, GE],
+        labels: [1, 0, 1],
+        excess: [4, 4, 0],
+        flow: [0, 4],
+        source: [4, 0, 4],
+        sink: 0,
+    },
+    Row {
+        block: 1,
+        kinds: &[RE, RC, RL, RC, RC, RL, RA],
+        labels: [1, 1, 1],
+        excess: [4, 4, 0],
+        flow: [0, 4],
+        source: [4, 0, 4],
+        sink: 0,
+    },
+    Row {
+        block: 1,
+        kinds: &[RE, RC, RL, RC, RC, RL, TC, TE, GE],
+        labels: [1, 1, 1],
+        excess: [4, 3, 0],
+        flow: [0, 4],
+        source: [4, 0, 4],
+        sink: 1,
+    },
+    Row {
+        block: 1,
+        kinds: &[RE, RC, RC, RC, RL, RA],
+        labels: [1, 2, 1],
+        excess: [4, 3, 0],
+        flow: [0, 4],
+        source: [4, 0, 4],
+        sink: 1,
+    },
+    Row {
+        block: 1,
+        kinds: &[RE, RC, RC, RC, RL, TC, TE, GE],
+        labels: [1, 2, 1],
+        excess: [4, 0, 3],
+        flow: [0, 1],
+        source: [4, 0, 4],
+        sink: 1,
+    },
+    Row {
+        block: 2,
+        kinds: &[RE, RL, RC, RL, RA],
+        labels: [1, 2, 3],
+        excess: [4, 0, 3],
+        flow: [0, 1],
+        source: [4, 0, 4],
+        sink: 1,
+    },
+    Row {
+        block: 2,
+        kinds: &[RE, RL, RC, RL, GC, TE, GE],
+        labels: [1, 2, 3],
+        excess: [4, 3, 0],
+        flow: [0, 4],
+        source: [4, 0, 4],
+        sink: 1,
+    },
+    Row {
+        block: 1,
+        kinds: &[RE, RC, RC, RC, RL, RA],
+        labels: [1, 4, 3],
+        excess: [4, 3, 0],
+        flow: [0, 4],
+        source: [4, 0, 4],
+        sink: 1,
+    },
+    Row {
+        block: 0,
+        kinds: &[GC],
+        labels: [1, 4, 3],
+        excess: [4, 3, 0],
+        flow: [4, 4],
+        source: [4, 0, 4],
+        sink: 1,
+    },
+    Row {
+        block: 0,
+        kinds: &[TE, GE],
+        labels: [1, 4, 3],
+        excess: [0, 7, 0],
+        flow: [4, 4],
+        source: [4, 0, 4],
+        sink: 1,
+    },
+    Row {
+        block: 1,
+        kinds: &[RE, RC, RC, RL, RC, RL, TC, TE, GE],
+        labels: [1, 4, 3],
+        excess: [4, 3, 0],
+        flow: [0, 4],
+        source: [4, 0, 4],
+        sink: 1,
+    },
+    Row {
+        block: 0,
+        kinds: &[RE, RL, RC, RL, RA],
+        labels: [5, 4, 3],
+        excess: [4, 3, 0],
+        flow: [0, 4],
+        source: [4, 0, 4],
+        sink: 1,
+    },
+    Row {
+        block: 0,
+        kinds: &[RE, RL, RC, RL, GC, TE, GE],
+        labels: [5, 4, 3],
+        excess: [0, 7, 0],
+        flow: [4, 4],
+        source: [4, 0, 4],
+        sink: 1,
+    },
+    Row {
+        block: 1,
+        kinds: &[RE, RC, RC, RL, RC, RL, TC, TE, GE],
+        labels: [5, 4, 3],
+        excess: [0, 3, 4],
+        flow: [4, 0],
+        source: [4, 0, 4],
+        sink: 1,
+    },
+    Row {
+        block: 1,
+        kinds: &[RE, RC, RC, RL, RC, RA],
+        labels: [5, 6, 3],
+        excess: [0, 3, 4],
+        flow: [4, 0],
+        source: [4, 0, 4],
+        sink: 1,
+    },
+    Row {
+        block: 1,
+        kinds: &[RE, RC, RC, RL, RC, TC, TE, GE],
+        labels: [5, 6, 3],
+        excess: [3, 0, 4],
+        flow: [1, 0],
+        source: [4, 0, 4],
+        sink: 1,
+    },
+    Row {
+        block: 0,
+        kinds: &[RE, RL, RC, RL, RA],
+        labels: [6, 6, 3],
+        excess: [3, 0, 4],
+        flow: [1, 0],
+        source: [4, 0, 4],
+        sink: 1,
+    },
+    Row {
+        block: 0,
+        kinds: &[RE, RL, RC, RL, TC, TE, GE],
+        labels: [6, 6, 3],
+        excess: [0, 0, 4],
+        flow: [1, 0],
+        source: [1, 0, 4],
+        sink: 1,
+    },
+    Row {
+        block: 2,
+        kinds: &[RE, RL, RC, RL, RA],
+        labels: [6, 6, 6],
+        excess: [0, 0, 4],
+        flow: [1, 0],
+        source: [1, 0, 4],
+        sink: 1,
+    },
+    Row {
+        block: 2,
+        kinds: &[RE, RL, RC, RL, TC, TE, GE],
+        labels: [6, 6, 6],
+        excess: [0, 0, 0],
+        flow: [1, 0],
+        source: [1, 0, 0],
+        sink: 1,
+    },
+];
+
+fn worth(value: i128) -> Worth {
+    Worth {
+        nanos: value.wrapping_mul(1_000_000_000),
+    }
+}
+
+fn rests(alloc: Global, n: u32, pairs: &[(u32, u32)]) -> Result<Rests, Fail>
+    requires { n ≤ 2 ^ 24 }
+{
+    Ok(Rests::from_pairs(alloc, n, pairs).ok().ok_or("pairs")?)
+}
+
+// Two blocks of worth 4 that rest on one of worth -1.
+fn two_on_waste(alloc: Global) -> Result<Net<Worth>, Fail> {
+    let rests = rests(alloc, 3, &[(0, 1), (2, 1)])?;
+    let nanos = [4_000_000_000, -1_000_000_000, 4_000_000_000];
+    Ok(Net::of_worths(alloc, rests, &nanos).ok().ok_or("worths")?)
+}
+
+fn push_steps(events: &mut Vec<Event>, block: u32, kinds: &[Kind]) -> Result<(), Fail> {
+    for kind in kinds {
+        events.push(Event { block, kind: *kind })?;
+    }
+    Ok(())
+}
+
+fn run_of_rows(alloc: Global) -> Result<Vec<Event>, Fail> {
+    let mut events = Vec::new(alloc);
+    for row in &ROWS {
+        push_steps(&mut events, row.block, row.kinds)?;
+    }
+    Ok(events)
+}
+
+fn is_state(rt: &impl Abort, state: &State<Worth>, row: &Row) {
+    for b in 0..3u32 {
+        let i = b as usize;
+        assert_eq!(rt; state.label(b), row.labels[i]);
+        assert_eq!(rt; state.excess(b), worth(row.excess[i]));
+        assert_eq!(rt; state.source(b), worth(row.source[i]));
+    }
+    assert_eq!(rt; state.flow(0), worth(row.flow[0]));
+    assert_eq!(rt; state.flow(1), worth(row.flow[1]));
+    assert_eq!(rt; state.sink(1), worth(row.sink));
+}
+
+#[test]
+fn every_row_of_the_run(rt: HostRuntime) -> Result<(), Fail> {
+    let alloc = rt.alloc();
+    let net = two_on_waste(alloc)?;
+    let mut state = State::open(alloc, &net)?;
+    for row in &ROWS {
+        for kind in row.kinds {
+            let event = Event {
+                block: row.block,
+                kind: *kind,
+            };
+            assert_eq!(rt; state.next_kind(&net, row.block), *kind);
+            assert!(rt; !state.quiet());
+            let saw = state.step(&net, event).ok().ok_or("step")?;
+            match state.count() {
+                69 => assert_eq!(rt; saw, Saw::Raised(4)),
+                70 => assert_eq!(rt; saw, Saw::Moved(worth(4))),
+                _ => {}
+            }
+        }
+        is_state(&rt, &state, row);
+    }
+    assert_eq!(rt; state.count(), 140);
+    assert!(rt; state.quiet());
+    Ok(())
+}
+
+#[test]
+fn the_run_ends_in_a_flow(rt: HostRuntime) -> Result<(), Fail> {
+    let alloc = rt.alloc();
+    let net = two_on_waste(alloc)?;
+    let events = run_of_rows(alloc)?;
+    assert_eq!(rt; events.len(), 140);
+    let state = replay(alloc, &net, &events).ok().ok_or("replay")?;
+    assert!(rt; state.quiet());
+    let flow = state.into_flow(&net).ok().ok_or("quiet")?;
+    assert!(rt; flow.source() == [worth(1), worth(0), worth(0)].as_slice());
+    assert!(rt; flow.rest() == [worth(1), worth(0)].as_slice());
+    assert!(rt; flow.sink() == [worth(0), worth(1), worth(0)].as_slice());
+    Ok(())
+}
+
+#[test]
+fn a_step_out_of_turn(rt: HostRuntime) -> Result<(), Fail> {
+    let alloc = rt.alloc();
+    let net = two_on_waste(alloc)?;
+    let mut events = Vec::new(alloc);
+    push_steps(
+        &mut events,
+        0,
+        &[RE, RL, RC, RL, RA, RE, RL, RC, RL, GC, GE],
+    )?;
+    let fault = replay(alloc, &net, &events).err();
+    assert_eq!(rt;
+        fault,
+        Some(ReplayFault::Refused(11, StepRefusal::OutOfTurn(TE)))
+    );
+    Ok(())
+}
+
+#[test]
+fn a_sum_too_large(rt: HostRuntime) -> Result<(), Fail> {
+    let alloc = rt.alloc();
+    let rests = rests(alloc, 2, &[(0, 1)])?;
+    let worths = [
+        WorthSize {
+            nanos: 5,
+            size: i128::MAX,
+        },
+        WorthSize {
+            nanos: -4,
+            size: i128::MAX,
+        },
+    ];
+    let worths = Vec::from_slice(alloc, &worths)?;
+    let net = Net::build(rests, worths).ok().ok_or("net")?;
+    let mut events = Vec::new(alloc);
+    push_steps(
+        &mut events,
+        0,
+        &[RE, RL, RC, RL, RA, RE, RL, RC, RL, GC, TE, GE],
+    )?;
+    push_steps(
+        &mut events,
+        1,
+        &[RE, RC, RL, RC, RL, RA, RE, RC, RL, RC, RL, TC],
+    )?;
+    let mut state = replay(alloc, &net, &events).ok().ok_or("replay")?;
+    assert_eq!(rt; state.count(), 24);
+    let event = Event { block: 1, kind: TE };
+    assert_eq!(rt; state.step(&net, event), Err(StepRefusal::TooLarge));
+    assert_eq!(rt; state.step(&net, event), Err(StepRefusal::TooLarge));
+    assert_eq!(rt; state.count(), 24);
+    events.push(event)?;
+    let fault = replay(alloc, &net, &events).err();
+    assert_eq!(rt;
+        fault,
+        Some(ReplayFault::Refused(25, StepRefusal::TooLarge))
+    );
+    Ok(())
+}
+
+#[test]
+fn no_such_block(rt: HostRuntime) -> Result<(), Fail> {
+    let alloc = rt.alloc();
+    let net = two_on_waste(alloc)?;
+    let mut state = State::open(alloc, &net)?;
+    let event = Event { block: 3, kind: RE };
+    assert_eq!(rt; state.step(&net, event), Err(StepRefusal::NoSuchBlock));
+    assert_eq!(rt; state.count(), 0);
+    Ok(())
+}
+
+#[test]
+fn waiting_goes_round(rt: HostRuntime) -> Result<(), Fail> {
+    let alloc = rt.alloc();
+    let net = two_on_waste(alloc)?;
+    let mut state = State::open(alloc, &net)?;
+    assert_eq!(rt; state.waiting(0), Some(0));
+    assert_eq!(rt; state.waiting(1), Some(2));
+    let event = Event { block: 2, kind: RE };
+    assert_eq!(rt; state.step(&net, event), Ok(Saw::Excess(worth(4))));
+    assert_eq!(rt; state.waiting(1), Some(0));
+    let event = Event { block: 0, kind: RE };
+    assert_eq!(rt; state.step(&net, event), Ok(Saw::Excess(worth(4))));
+    assert_eq!(rt; state.waiting(1), None);
+    assert!(rt; !state.quiet());
+    Ok(())
+}
+
+#[test]
+fn a_state_that_is_not_quiet(rt: HostRuntime) -> Result<(), Fail> {
+    let alloc = rt.alloc();
+    let net = two_on_waste(alloc)?;
+    let mut state = State::open(alloc, &net)?;
+    let event = Event { block: 0, kind: RE };
+    assert_eq!(rt; state.step(&net, event), Ok(Saw::Excess(worth(4))));
+    let state = state.into_flow(&net).err().ok_or("a flow")?;
+    assert_eq!(rt; state.count(), 1);
+    assert_eq!(rt; state.next_kind(&net, 0), RL);
+    Ok(())
+}

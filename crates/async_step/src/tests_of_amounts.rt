@@ -1,0 +1,55 @@
+//! Tests of amounts and operations.
+
+ghost use Rattle.std.specs.Prelude.{◌≡◌};
+ghost use Rattle.ordered_group.specs.Amount.{FitsPair};
+ghost use Rattle.machine_law.specs.Reads.{is_positive};
+ghost use Rattle.machine_law.specs.Operations.{operation_as};
+ghost use Rattle.async_step.specs.Views.{is_idle, is_zero, is_waiting, is_busy};
+
+use machine_law::Operation;
+use ordered_group::OrderedGroup;
+
+/// Whether the amount is above zero.
+pub fn is_positive<G: OrderedGroup>(amount: G) -> bool
+    ensures { result ≡ is_positive (G.parts_of amount) }
+{
+    G::zero().cmp(&amount).is_lt()
+}
+
+/// Whether the amount is zero.
+pub fn is_zero<G: OrderedGroup>(amount: G) -> bool
+    ensures { result ≡ is_zero (G.parts_of amount) }
+{
+    amount.cmp(&G::zero()).is_eq()
+}
+
+/// Whether there is no operation.
+pub fn is_idle<N: Copy>(operation: Operation<N>) -> bool
+    ensures { result ≡ is_idle operation }
+{
+    match operation {
+        Operation::Idle => true,
+        _ => false,
+    }
+}
+
+/// Whether a block with this excess and operation is ready to begin an operation.
+pub fn is_waiting<G: OrderedGroup>(excess: G, operation: Operation<G>) -> bool
+    ensures { result ≡ is_waiting (G.parts_of excess) (operation_as G.parts_of operation) }
+{
+    is_idle(operation) && is_positive(excess)
+}
+
+/// Whether a block with this excess and operation isn't done for now.
+pub fn is_busy<G: OrderedGroup>(excess: G, operation: Operation<G>) -> bool
+    ensures { result ≡ is_busy (G.parts_of excess) (operation_as G.parts_of operation) }
+{
+    !is_idle(operation) || !is_zero(excess)
+}
+
+/// The numbers of a value fit their type.
+pub fn value_fits<G: OrderedGroup>(amount: G)
+    ensures { FitsPair (G.parts_of amount) }
+{
+    let _numbers = amount.parts();
+}

@@ -1,0 +1,70 @@
+-- The ports of a block, by the two indexes of its pairs.
+use Rattle.std.proofs.Common.{◌≡◌, ℕ, ◌+◌, ◌<◌, ◌≤◌, ◌==◌, List, length, get_or, sym, ap, subst, ◌∙◌, arith, Some}
+use Rattle.std.specs.Prelude.{slice_get}
+use Rattle.std.proofs.lemmas.List.{get_or-map, length-map}
+use Rattle.std.proofs.lemmas.Option.{slice_get-get_or}
+use Rattle.prec_file.specs.Rests.{from_at, to_at, numbers, above_of, below_of, first_of, IsRising}
+use Rattle.prec_file.proofs.Passing.{passing_at, passing_most}
+use Rattle.prec_file.proofs.Order.{own_at}
+use Rattle.closure_net.specs.declared.ports.Port.{Port}
+use Rattle.closure_net.specs.declared.ports.PortKind.TheVariants.{Forward, Backward}
+use Rattle.closure_net.specs.Ports.{forward_port, backward_port, forwards, backwards}
+
+-- the ports of these pairs to the blocks that b rests on, and to those that rest on b
+abbrev pub fore : List (ℕ × ℕ) → ℕ → List Port
+fore ps b = forwards (from_at ps) (to_at ps) (length ps) b
+
+abbrev pub back : List (ℕ × ℕ) → ℕ → List Port
+back ps b = backwards (from_at ps) (to_at ps) (length ps) b
+
+-- as many as the index has blocks, or numbers
+pub length_fore : (ps : List (ℕ × ℕ)) (b : ℕ) (ts : List ℕ) → ts ≡ above_of ps b → length (fore ps b) ≡ length ts
+length_fore ps b ts e =
+    let ks = numbers (from_at ps) b (length ps) in
+    length-map ks (forward_port (to_at ps)) ∙ sym (ap length e ∙ length-map ks (to_at ps))
+
+pub length_back : (ps : List (ℕ × ℕ)) (b : ℕ) (ks : List ℕ) → ks ≡ below_of ps b → length (back ps b) ≡ length ks
+length_back ps b ks e = length-map (below_of ps b) (backward_port (from_at ps)) ∙ sym (ap length e)
+
+-- and no more than there are pairs
+pub fore_most : (ps : List (ℕ × ℕ)) (b : ℕ) → length (fore ps b) ≤ length ps
+fore_most ps b = omega (arith, length-map (numbers (from_at ps) b (length ps)) (forward_port (to_at ps)), passing_most (λ k. from_at ps k == b) (length ps))
+
+pub back_most : (ps : List (ℕ × ℕ)) (b : ℕ) → length (back ps b) ≤ length ps
+back_most ps b = omega (arith, length-map (numbers (to_at ps) b (length ps)) (backward_port (from_at ps)), passing_most (λ k. to_at ps k == b) (length ps))
+
+-- where the i-th pair of b stands
+pub fore_slot : (ps : List (ℕ × ℕ)) → IsRising ps → (b i : ℕ) → i < length (fore ps b) → first_of ps b + i < length ps
+fore_slot ps r b i l =
+    let ks = numbers (from_at ps) b (length ps) in
+    let inside : i < length ks = omega (arith, length-map ks (forward_port (to_at ps))) in
+    let p = passing_at (λ k. from_at ps k == b) (length ps) i inside in
+    omega (arith, own_at ps r b i inside, p.below)
+
+pub fore_is : (ps : List (ℕ × ℕ)) → IsRising ps → (b i top first : ℕ) (ts : List ℕ) → ts ≡ above_of ps b → i < length (fore ps b) → top ≡ get_or ts i 0 → first ≡ first_of ps b
+    → (let p : Port = record { kind = Forward; other = top; slot = first + i } in slice_get (fore ps b) i ≡ Some p)
+fore_is ps r b i top first ts e l q f =
+    let ks = numbers (from_at ps) b (length ps) in
+    let d : Port = record { kind = Forward; other = top; slot = first + i } in
+    let inside : i < length ks = omega (arith, length-map ks (forward_port (to_at ps))) in
+    let own = own_at ps r b i inside in
+    let s : first + i ≡ get_or ks i 0 = ap (λ x. x + i) f ∙ sym own in
+    let t : top ≡ to_at ps (get_or ks i 0) = q ∙ ap (λ xs. get_or xs i 0) e ∙ get_or-map (to_at ps) ks i 0 0 inside in
+    let same : d ≡ forward_port (to_at ps) (get_or ks i 0) = λ j. record { kind = Forward; other = t j; slot = s j } in
+    slice_get-get_or (fore ps b) i d l ∙ ap Some (sym (same ∙ sym (get_or-map (forward_port (to_at ps)) ks i 0 d inside)))
+
+pub back_is : (ps : List (ℕ × ℕ)) (b i k other : ℕ) (ks : List ℕ) → ks ≡ below_of ps b → i < length (back ps b) → k ≡ get_or ks i 0 → other ≡ from_at ps k
+    → (let p : Port = record { kind = Backward; other = other; slot = k } in slice_get (back ps b) i ≡ Some p)
+back_is ps b i k other ks e l q f =
+    let ns = below_of ps b in
+    let d : Port = record { kind = Backward; other = other; slot = k } in
+    let inside : i < length ns = omega (arith, length-map ns (backward_port (from_at ps))) in
+    let s : k ≡ get_or ns i 0 = q ∙ ap (λ xs. get_or xs i 0) e in
+    let t : other ≡ from_at ps (get_or ns i 0) = f ∙ ap (from_at ps) s in
+    let same : d ≡ backward_port (from_at ps) (get_or ns i 0) = λ j. record { kind = Backward; other = t j; slot = s j } in
+    slice_get-get_or (back ps b) i d l ∙ ap Some (sym (same ∙ sym (get_or-map (backward_port (from_at ps)) ns i 0 d inside)))
+
+pub number_below : (ps : List (ℕ × ℕ)) (b i : ℕ) (ks : List ℕ) → ks ≡ below_of ps b → i < length ks → get_or ks i 0 < length ps
+number_below ps b i ks e l =
+    let P : List ℕ → Type 0 = λ xs. (i < length xs) → get_or xs i 0 < length ps in
+    subst P (sym e) (λ r. (passing_at (λ j. to_at ps j == b) (length ps) i r).below) l

@@ -1,0 +1,169 @@
+-- Each step keeps the balances.
+use Rattle.std.proofs.Common.{◌≡◌, ℕ, ◌<◌, ◌==◌, length, refl, arith}
+use Rattle.std.proofs.lemmas.Int.{ints}
+use Rattle.ordered_group.specs.Amount.{Amount, plus, minus}
+use Rattle.ordered_group.specs.Sums.{where_so}
+use Rattle.ordered_group.proofs.Totals.{where_so-plus, where_so-minus}
+use Rattle.closure_net.specs.Network.{NetView}
+use Rattle.closure_net.specs.declared.ports.Port.{Port}
+use Rattle.closure_net.specs.declared.ports.PortKind.{PortKind}
+use Rattle.closure_net.specs.declared.ports.PortKind.TheVariants.{Sink, Forward, Backward, Source}
+use Rattle.machine_law.specs.declared.operations.Best.{Best}
+use Rattle.machine_law.specs.declared.operations.Operation.{Operation}
+use Rattle.machine_law.specs.declared.operations.Operation.TheVariants.{Idle, PushDue, TakeDue, GiveDue, RaiseDue}
+use Rattle.machine_law.specs.States.{State, put}
+use Rattle.machine_law.specs.Residual.{IsEnd, IsPortOf}
+use Rattle.machine_law.specs.Steps.{becomes, pushed, pushed_by, taken, given, given_by, raised}
+use Rattle.machine_law.specs.Transit.{sum_on_way, lands_by, into_sink, into_source, coming_to_sink, coming_to_source, given_back, drained}
+use Rattle.machine_law.specs.Balances.{balance, supply, IsBalanced}
+use Rattle.machine_law.proofs.Numbers.{Same, same, equal}
+use Rattle.machine_law.proofs.Points.{where-put}
+use Rattle.machine_law.proofs.Sums.{inflow-plus, outflow-plus, inflow-minus, outflow-minus, sum_on_way-put, given_back-more, drained-more}
+use Rattle.machine_law.proofs.PortLists.{port_with}
+use Rattle.machine_law.proofs.Supply.{IsAtRest, way_rest, supply_rest, supply_pushed, supply_taken, supply_given}
+
+module _ (net : NetView) (s : State) (b : ℕ) (l : b < length net.worths) (k : IsBalanced net s) where
+  -- ---- reads and raises
+  pub balanced_rest : (old new : Operation Amount) → s.operation b ≡ old → IsAtRest old → IsAtRest new → IsBalanced net (becomes s b new)
+  balanced_rest old new e r n = record {
+    blocks = λ x. let h = same (k.blocks x) in let v = supply_rest net s b l x old new e r n in equal (record { w = omega (arith, ints, h, v); c = omega (arith, ints, h, v) });
+    at_source = let h = same k.at_source in let v = way_rest net s b l old new into_source e r n in equal (record { w = omega (arith, ints, h, v); c = omega (arith, ints, h, v) });
+    at_sink = let h = same k.at_sink in let v = way_rest net s b l old new into_sink e r n in equal (record { w = omega (arith, ints, h, v); c = omega (arith, ints, h, v) });
+  }
+
+  pub balanced_raised : (have : Amount) (best : Best Amount) → s.operation b ≡ RaiseDue have best → IsBalanced net (raised s b best)
+  balanced_raised have best e = let r = balanced_rest (RaiseDue have best) Idle e tt tt in record { blocks = r.blocks; at_source = r.at_source; at_sink = r.at_sink }
+
+  -- ---- the capacity step
+  balance_pushed : (d : Amount) (kind : PortKind) (other slot x : ℕ) → IsEnd net b kind other slot → Same (balance net (pushed_by s b d (port_with kind other slot) kind) x) (minus (plus (balance net s x) (lands_by kind other x d)) (where_so (b == x) d))
+  balance_pushed d Sink other slot x q =
+      let i = where-put (λ a. a) s.sink b (s.sink b) (plus (s.sink b) d) x refl in
+      let m = same (where_so-plus (b == x) (s.sink b) d) in
+      record { w = omega (arith, ints, i, m); c = omega (arith, ints, i, m) }
+  balance_pushed d Forward other slot x q =
+      let i = inflow-plus net s.flow slot other d x q.0 q.2 in
+      let o = outflow-plus net s.flow slot b d x q.0 q.1 in
+      record { w = omega (arith, ints, i, o); c = omega (arith, ints, i, o) }
+  balance_pushed d Backward other slot x q =
+      let i = inflow-minus net s.flow slot b d x q.0 q.1 in
+      let o = outflow-minus net s.flow slot other d x q.0 q.2 in
+      record { w = omega (arith, ints, i, o); c = omega (arith, ints, i, o) }
+  balance_pushed d Source other slot x q =
+      let i = where-put (λ a. a) s.source b (s.source b) (minus (s.source b) d) x refl in
+      let m = same (where_so-minus (b == x) (s.source b) d) in
+      record { w = omega (arith, ints, i, m); c = omega (arith, ints, i, m) }
+
+  way_pushed : (f : Port → Amount → Amount) (have : Amount) (best : Best Amount) (d : Amount) (p : Port) → s.operation b ≡ PushDue have best → Same (sum_on_way net f (put s.operation b (TakeDue d p))) (plus (sum_on_way net f s.operation) (f p d))
+  way_pushed f have best d p e =
+      let c = sum_on_way-put net f s.operation b (PushDue have best) (TakeDue d p) l e in
+      record { w = omega (arith, ints, c); c = omega (arith, ints, c) }
+
+  -- what the source has got back, and what the sink has got
+  source_pushed : (have : Amount) (best : Best Amount) (d : Amount) (kind : PortKind) (other slot : ℕ) → s.operation b ≡ PushDue have best → (let t : State = pushed_by s b d (port_with kind other slot) kind in Same (given_back net t.source) (plus t.at_source (coming_to_source net t)))
+  source_pushed have best d Sink other slot e =
+      let h = same k.at_source in
+      let v = way_pushed into_source have best d (port_with Sink other slot) e in
+      record { w = omega (arith, ints, h, v); c = omega (arith, ints, h, v) }
+  source_pushed have best d Forward other slot e =
+      let h = same k.at_source in
+      let v = way_pushed into_source have best d (port_with Forward other slot) e in
+      record { w = omega (arith, ints, h, v); c = omega (arith, ints, h, v) }
+  source_pushed have best d Backward other slot e =
+      let h = same k.at_source in
+      let v = way_pushed into_source have best d (port_with Backward other slot) e in
+      record { w = omega (arith, ints, h, v); c = omega (arith, ints, h, v) }
+  source_pushed have best d Source other slot e =
+      let h = same k.at_source in
+      let v = way_pushed into_source have best d (port_with Source other slot) e in
+      let g = given_back-more net s.source b d l in
+      record { w = omega (arith, ints, h, v, g); c = omega (arith, ints, h, v, g) }
+
+  sink_pushed : (have : Amount) (best : Best Amount) (d : Amount) (kind : PortKind) (other slot : ℕ) → s.operation b ≡ PushDue have best → (let t : State = pushed_by s b d (port_with kind other slot) kind in Same (drained net t.sink) (plus t.at_sink (coming_to_sink net t)))
+  sink_pushed have best d Sink other slot e =
+      let h = same k.at_sink in
+      let v = way_pushed into_sink have best d (port_with Sink other slot) e in
+      let g = drained-more net s.sink b d l in
+      record { w = omega (arith, ints, h, v, g); c = omega (arith, ints, h, v, g) }
+  sink_pushed have best d Forward other slot e =
+      let h = same k.at_sink in
+      let v = way_pushed into_sink have best d (port_with Forward other slot) e in
+      record { w = omega (arith, ints, h, v); c = omega (arith, ints, h, v) }
+  sink_pushed have best d Backward other slot e =
+      let h = same k.at_sink in
+      let v = way_pushed into_sink have best d (port_with Backward other slot) e in
+      record { w = omega (arith, ints, h, v); c = omega (arith, ints, h, v) }
+  sink_pushed have best d Source other slot e =
+      let h = same k.at_sink in
+      let v = way_pushed into_sink have best d (port_with Source other slot) e in
+      record { w = omega (arith, ints, h, v); c = omega (arith, ints, h, v) }
+
+  balanced_pushed_by : (have : Amount) (best : Best Amount) (d : Amount) (kind : PortKind) (other slot : ℕ) → s.operation b ≡ PushDue have best → IsEnd net b kind other slot → IsBalanced net (pushed_by s b d (port_with kind other slot) kind)
+  balanced_pushed_by have best d kind other slot e q = record {
+    blocks = λ x.
+        let h = same (k.blocks x) in
+        let v = supply_pushed net s b l x have best d (port_with kind other slot) kind e in
+        let c = balance_pushed d kind other slot x q in
+        equal (record { w = omega (arith, ints, h, v, c); c = omega (arith, ints, h, v, c) });
+    at_source = equal (source_pushed have best d kind other slot e);
+    at_sink = equal (sink_pushed have best d kind other slot e);
+  }
+
+  pub balanced_pushed : (have : Amount) (best : Best Amount) (d : Amount) (p : Port) → s.operation b ≡ PushDue have best → IsPortOf net b p → IsBalanced net (pushed s b d p)
+  balanced_pushed have best d p e q = balanced_pushed_by have best d p.kind p.other p.slot e q
+
+  -- ---- the excess steps
+  way_taken : (f : Port → Amount → Amount) (d : Amount) (p : Port) → s.operation b ≡ TakeDue d p → Same (sum_on_way net f (put s.operation b (GiveDue d p))) (sum_on_way net f s.operation)
+  way_taken f d p e =
+      let c = sum_on_way-put net f s.operation b (TakeDue d p) (GiveDue d p) l e in
+      record { w = omega (arith, ints, c); c = omega (arith, ints, c) }
+
+  pub balanced_taken : (d : Amount) (p : Port) → s.operation b ≡ TakeDue d p → IsBalanced net (taken s b d p)
+  balanced_taken d p e = record {
+    blocks = λ x. let h = same (k.blocks x) in let v = supply_taken net s b l x d p e in equal (record { w = omega (arith, ints, h, v); c = omega (arith, ints, h, v) });
+    at_source = let h = same k.at_source in let v = way_taken into_source d p e in equal (record { w = omega (arith, ints, h, v); c = omega (arith, ints, h, v) });
+    at_sink = let h = same k.at_sink in let v = way_taken into_sink d p e in equal (record { w = omega (arith, ints, h, v); c = omega (arith, ints, h, v) });
+  }
+
+  way_given : (f : Port → Amount → Amount) (d : Amount) (p : Port) → s.operation b ≡ GiveDue d p → Same (plus (sum_on_way net f (put s.operation b Idle)) (f p d)) (sum_on_way net f s.operation)
+  way_given f d p e =
+      let c = sum_on_way-put net f s.operation b (GiveDue d p) Idle l e in
+      record { w = omega (arith, ints, c); c = omega (arith, ints, c) }
+
+  balanced_given_by : (d : Amount) (kind : PortKind) (other slot : ℕ) → s.operation b ≡ GiveDue d (port_with kind other slot) → ((x : ℕ) → balance net (given_by s b d (port_with kind other slot) kind) x ≡ supply net (given_by s b d (port_with kind other slot) kind) x) → IsBalanced net (given_by s b d (port_with kind other slot) kind)
+  balanced_given_by d Sink other slot e blocks =
+      let h = same k.at_source in
+      let i = same k.at_sink in
+      let u = way_given into_source d (port_with Sink other slot) e in
+      let v = way_given into_sink d (port_with Sink other slot) e in
+      record { blocks = blocks; at_source = equal (record { w = omega (arith, ints, h, u); c = omega (arith, ints, h, u) }); at_sink = equal (record { w = omega (arith, ints, i, v); c = omega (arith, ints, i, v) }) }
+  balanced_given_by d Forward other slot e blocks =
+      let h = same k.at_source in
+      let i = same k.at_sink in
+      let u = way_given into_source d (port_with Forward other slot) e in
+      let v = way_given into_sink d (port_with Forward other slot) e in
+      record { blocks = blocks; at_source = equal (record { w = omega (arith, ints, h, u); c = omega (arith, ints, h, u) }); at_sink = equal (record { w = omega (arith, ints, i, v); c = omega (arith, ints, i, v) }) }
+  balanced_given_by d Backward other slot e blocks =
+      let h = same k.at_source in
+      let i = same k.at_sink in
+      let u = way_given into_source d (port_with Backward other slot) e in
+      let v = way_given into_sink d (port_with Backward other slot) e in
+      record { blocks = blocks; at_source = equal (record { w = omega (arith, ints, h, u); c = omega (arith, ints, h, u) }); at_sink = equal (record { w = omega (arith, ints, i, v); c = omega (arith, ints, i, v) }) }
+  balanced_given_by d Source other slot e blocks =
+      let h = same k.at_source in
+      let i = same k.at_sink in
+      let u = way_given into_source d (port_with Source other slot) e in
+      let v = way_given into_sink d (port_with Source other slot) e in
+      record { blocks = blocks; at_source = equal (record { w = omega (arith, ints, h, u); c = omega (arith, ints, h, u) }); at_sink = equal (record { w = omega (arith, ints, i, v); c = omega (arith, ints, i, v) }) }
+
+  balance_given : (d : Amount) (p : Port) (kind : PortKind) (x : ℕ) → balance net (given_by s b d p kind) x ≡ balance net s x
+  balance_given d p Sink x = refl
+  balance_given d p Forward x = refl
+  balance_given d p Backward x = refl
+  balance_given d p Source x = refl
+
+  pub balanced_given : (d : Amount) (p : Port) → s.operation b ≡ GiveDue d p → IsBalanced net (given s b d p)
+  balanced_given d p e = balanced_given_by d p.kind p.other p.slot e (λ x.
+      let h = same (k.blocks x) in
+      let i = same (balance_given d p p.kind x) in
+      let v = supply_given net s b l x d p e in
+      equal (record { w = omega (arith, ints, h, i, v); c = omega (arith, ints, h, i, v) }))

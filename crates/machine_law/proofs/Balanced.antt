@@ -1,0 +1,112 @@
+-- The balances hold at the opening, and each step keeps them.
+use Rattle.std.proofs.Common.{◌≡◌, ℕ, ◌+◌, ◌<◌, ◌==◌, Bool, Option, Some, None, cond, nat_lt, length, refl, arith}
+use Rattle.std.specs.Prelude.{slice_get}
+use Rattle.std.proofs.lemmas.Int.{ints}
+use Rattle.std.proofs.lemmas.Bool.{cond_both}
+use Rattle.ordered_group.specs.Amount.{Amount, zero_amount, positive}
+use Rattle.ordered_group.specs.Sums.{amount_at}
+use Rattle.ordered_group.proofs.Totals.{total-none, total-zero, where_so-zero}
+use Rattle.prec_file.specs.Rests.{from_at, to_at}
+use Rattle.closure_net.specs.Network.{NetView}
+use Rattle.closure_net.specs.Ports.{ports}
+use Rattle.closure_net.specs.declared.ports.Port.{Port}
+use Rattle.closure_net.specs.declared.ports.PortKind.{PortKind}
+use Rattle.closure_net.specs.declared.ports.PortKind.TheVariants.{Sink, Forward, Backward, Source}
+use Rattle.machine_law.specs.declared.operations.Best.{Best}
+use Rattle.machine_law.specs.declared.operations.Operation.{Operation}
+use Rattle.machine_law.specs.declared.operations.Operation.TheVariants.{Idle, Scan, PushDue, TakeDue, GiveDue, RaiseDue}
+use Rattle.machine_law.specs.States.{State, opening}
+use Rattle.machine_law.specs.Residual.{capacity, end_label}
+use Rattle.machine_law.specs.Reads.{is_positive, begun, better, ended, passed, seen, chosen}
+use Rattle.machine_law.specs.Steps.{looked, looked_by, weighed, push_amount, advance, advance_by}
+use Rattle.machine_law.specs.Transit.{sum_on_way, lands, into_sink, into_source, inflow, outflow, given_back, drained}
+use Rattle.machine_law.specs.Amounts.{HasAmounts, IsOperation}
+use Rattle.machine_law.specs.Balances.{IsBalanced}
+use Rattle.machine_law.proofs.Numbers.{same, equal}
+use Rattle.machine_law.proofs.Supply.{IsAtRest}
+use Rattle.machine_law.proofs.Balance.{balanced_rest, balanced_raised, balanced_pushed, balanced_taken, balanced_given}
+
+-- ---- a read leaves an operation that has pushed nothing
+pub rest_cond : (t : Bool) (x y : Operation Amount) → IsAtRest x → IsAtRest y → IsAtRest (cond t x y)
+rest_cond t x y h k = cond_both t x y IsAtRest (λ _. h) (λ _. k)
+
+rest_ended : (label : ℕ) (have : Amount) (best : Option (Best Amount)) → IsAtRest (ended label have best)
+rest_ended label have None = tt
+rest_ended label have (Some best) = rest_cond (nat_lt best.label label) (PushDue have best) (RaiseDue have best) tt tt
+
+rest_passed : (count label : ℕ) (have : Amount) (place : ℕ) (best : Option (Best Amount)) → IsAtRest (passed count label have place best)
+rest_passed count label have place best = rest_cond (nat_lt (place + 1) count) (Scan have (place + 1) None best) (ended label have best) tt (rest_ended label have best)
+
+pub rest_begun : (excess : Amount) → IsAtRest (begun excess)
+rest_begun excess = rest_cond (is_positive excess) (Scan excess 0 None None) Idle tt tt
+
+rest_seen : (count label : ℕ) (have : Amount) (place : ℕ) (best : Option (Best Amount)) (read : Amount) → IsAtRest (seen count label have place best read)
+rest_seen count label have place best read = rest_cond (is_positive read) (Scan have place (Some read) best) (passed count label have place best) tt (rest_passed count label have place best)
+
+rest_chosen : (count label : ℕ) (have : Amount) (place : ℕ) (best : Option (Best Amount)) (read : Amount) (p : Port) (beyond : ℕ) → IsAtRest (chosen count label have place best read p beyond)
+rest_chosen count label have place best read p beyond = rest_passed count label have place (Some (better best (record { port = p; capacity = read; label = beyond })))
+
+module _ (net : NetView) (s : State) (b : ℕ) where
+  rest_looked_by : (have : Amount) (place : ℕ) (best : Option (Best Amount)) (p : Port) (kind : PortKind) → IsAtRest (looked_by net s b have place best p kind)
+  rest_looked_by have place best p Sink = rest_seen (length (ports net b)) (s.label b) have place best (capacity net s b p)
+  rest_looked_by have place best p Forward = rest_chosen (length (ports net b)) (s.label b) have place best zero_amount p (end_label net s p)
+  rest_looked_by have place best p Backward = rest_seen (length (ports net b)) (s.label b) have place best (capacity net s b p)
+  rest_looked_by have place best p Source = rest_seen (length (ports net b)) (s.label b) have place best (capacity net s b p)
+
+  pub rest_looked : (have : Amount) (place : ℕ) (best : Option (Best Amount)) (q : Option Port) → IsAtRest (looked net s b have place best q)
+  rest_looked have place best None = tt
+  rest_looked have place best (Some p) = rest_looked_by have place best p p.kind
+
+  pub rest_weighed : (have : Amount) (place : ℕ) (best : Option (Best Amount)) (read : Amount) (q : Option Port) → IsAtRest (weighed net s b have place best read q)
+  rest_weighed have place best read None = tt
+  rest_weighed have place best read (Some p) = rest_chosen (length (ports net b)) (s.label b) have place best read p (end_label net s p)
+
+  -- ---- each step
+  balanced_advance_by : (o : Operation Amount) → b < length net.worths → s.operation b ≡ o → IsOperation net s b o → IsBalanced net s → IsBalanced net (advance_by net s b o)
+  balanced_advance_by Idle l e h k = balanced_rest net s b l k Idle (begun (s.excess b)) e tt (rest_begun (s.excess b))
+  balanced_advance_by (Scan have place None best) l e h k =
+      let q = slice_get (ports net b) place in
+      balanced_rest net s b l k (Scan have place None best) (looked net s b have place best q) e tt (rest_looked have place best q)
+  balanced_advance_by (Scan have place (Some read) best) l e h k =
+      let q = slice_get (ports net b) place in
+      balanced_rest net s b l k (Scan have place (Some read) best) (weighed net s b have place best read q) e tt (rest_weighed have place best read q)
+  balanced_advance_by (PushDue have best) l e h k = balanced_pushed net s b l k have best (push_amount have best.port.kind best.capacity) best.port e h.over.port
+  balanced_advance_by (TakeDue d p) l e h k = balanced_taken net s b l k d p e
+  balanced_advance_by (GiveDue d p) l e h k = balanced_given net s b l k d p e
+  balanced_advance_by (RaiseDue have best) l e h k = balanced_raised net s b l k have best e
+
+  pub balanced_advance : b < length net.worths → HasAmounts net s → IsBalanced net s → IsBalanced net (advance net s b)
+  balanced_advance l k h = balanced_advance_by (s.operation b) l refl (k.operation b) h
+
+-- ---- the opening
+module _ (net : NetView) where
+  no_inflow : (b : ℕ) → inflow net (λ k. zero_amount) b ≡ zero_amount
+  unfolding inflow
+  no_inflow b = total-none _ (length net.pairs) (λ k l. where_so-zero (to_at net.pairs k == b))
+
+  no_outflow : (b : ℕ) → outflow net (λ k. zero_amount) b ≡ zero_amount
+  unfolding outflow
+  no_outflow b = total-none _ (length net.pairs) (λ k l. where_so-zero (from_at net.pairs k == b))
+
+  nothing_on_way : (f : Port → Amount → Amount) → sum_on_way net f (λ b. Idle) ≡ zero_amount
+  unfolding sum_on_way
+  nothing_on_way f = total-zero (length net.worths)
+
+  nothing_given_back : given_back net (λ b. positive (amount_at net.worths b)) ≡ zero_amount
+  unfolding given_back
+  nothing_given_back = total-none _ (length net.worths) (λ b l. equal (record { w = omega (arith, ints); c = omega (arith, ints) }))
+
+  nothing_drained : drained net (λ b. zero_amount) ≡ zero_amount
+  unfolding drained
+  nothing_drained = total-zero (length net.worths)
+
+  pub balanced_opening : IsBalanced net (opening net)
+  balanced_opening = record {
+    blocks = λ b.
+        let i = same (no_inflow b) in
+        let o = same (no_outflow b) in
+        let c = same (nothing_on_way (lands b)) in
+        equal (record { w = omega (arith, ints, i, o, c); c = omega (arith, ints, i, o, c) });
+    at_source = let g = same nothing_given_back in let c = same (nothing_on_way into_source) in equal (record { w = omega (arith, ints, g, c); c = omega (arith, ints, g, c) });
+    at_sink = let g = same nothing_drained in let c = same (nothing_on_way into_sink) in equal (record { w = omega (arith, ints, g, c); c = omega (arith, ints, g, c) });
+  }

@@ -1,0 +1,70 @@
+-- What is coming to a block isn't negative, and a block with excess has ports.
+use Rattle.std.proofs.Common.{◌≡◌, ℕ, ◌<◌, ◌==◌, inl, inr, length, refl, arith}
+use Rattle.std.proofs.lemmas.Int.{ints}
+use Rattle.std.proofs.lemmas.Bool.{cases_eq, cases_lt, ne_eqb}
+use Rattle.ordered_group.specs.Amount.{Amount, zero_amount, AtMost, Below}
+use Rattle.ordered_group.specs.Sums.{where_so}
+use Rattle.ordered_group.proofs.Order.{AtMost-refl, Below-most}
+use Rattle.ordered_group.proofs.Signs.{sign_or}
+use Rattle.ordered_group.proofs.Totals.{total_nonneg, total-none, where_nonneg, where_not}
+use Rattle.prec_file.specs.Rests.{from_at, to_at}
+use Rattle.closure_net.specs.Network.{NetView}
+use Rattle.closure_net.specs.Ports.{ports, source_port, backward_port}
+use Rattle.closure_net.specs.declared.ports.PortKind.{PortKind}
+use Rattle.closure_net.specs.declared.ports.PortKind.TheVariants.{Sink, Forward, Backward, Source}
+use Rattle.machine_law.specs.declared.operations.Operation.{Operation}
+use Rattle.machine_law.specs.declared.operations.Operation.TheVariants.{Idle, Scan, PushDue, TakeDue, GiveDue, RaiseDue}
+use Rattle.machine_law.specs.States.{State}
+use Rattle.machine_law.specs.Transit.{owed, on_way, sum_on_way, lands, lands_by, coming, inflow, outflow}
+use Rattle.machine_law.specs.Amounts.{HasAmounts, IsOperation}
+use Rattle.machine_law.specs.Balances.{IsBalanced}
+use Rattle.machine_law.proofs.Numbers.{same, Below-absurd}
+use Rattle.machine_law.proofs.PortLists.{has_backward, has_open, has_some}
+
+lands_nonneg : (kind : PortKind) (other x : ℕ) (d : Amount) → AtMost zero_amount d → AtMost zero_amount (lands_by kind other x d)
+lands_nonneg Sink other x d h = AtMost-refl zero_amount
+lands_nonneg Forward other x d h = where_nonneg (other == x) d h
+lands_nonneg Backward other x d h = where_nonneg (other == x) d h
+lands_nonneg Source other x d h = AtMost-refl zero_amount
+
+on_way_nonneg : (net : NetView) (s : State) (b x : ℕ) (o : Operation Amount) → IsOperation net s b o → AtMost zero_amount (on_way (lands x) o)
+on_way_nonneg net s b x Idle h = AtMost-refl zero_amount
+on_way_nonneg net s b x (Scan have place read best) h = AtMost-refl zero_amount
+on_way_nonneg net s b x (PushDue have best) h = AtMost-refl zero_amount
+on_way_nonneg net s b x (TakeDue d p) h = lands_nonneg p.kind p.other x d (Below-most zero_amount d h.0.some)
+on_way_nonneg net s b x (GiveDue d p) h = lands_nonneg p.kind p.other x d (Below-most zero_amount d h.0)
+on_way_nonneg net s b x (RaiseDue have best) h = AtMost-refl zero_amount
+
+pub coming_nonneg : (net : NetView) (s : State) (x : ℕ) → HasAmounts net s → AtMost zero_amount (coming net s x)
+unfolding sum_on_way
+coming_nonneg net s x k = total_nonneg (λ b. on_way (lands x) (s.operation b)) (length net.worths) (λ b _. on_way_nonneg net s b x (s.operation b) (k.operation b))
+
+-- where no pair ends at b, nothing comes in over pairs
+inflow_zero : (net : NetView) (s : State) (b : ℕ) → length (ports net b) ≡ 0 → inflow net s.flow b ≡ zero_amount
+unfolding inflow
+inflow_zero net s b e = total-none (λ k. where_so (to_at net.pairs k == b) (s.flow k)) (length net.pairs) (λ k l.
+    elim (cases_eq (to_at net.pairs k) b) [
+      | inl at ↦ absurd (let n = has_some (ports net b) (backward_port (from_at net.pairs) k) (has_backward net b k l at) in omega (arith, e, n))
+      | inr ne ↦ where_not (to_at net.pairs k == b) (s.flow k) (ne_eqb (to_at net.pairs k) b ne)
+    ])
+
+outflow_nonneg : (net : NetView) (s : State) (b : ℕ) → HasAmounts net s → AtMost zero_amount (outflow net s.flow b)
+unfolding outflow
+outflow_nonneg net s b k = total_nonneg (λ i. where_so (from_at net.pairs i == b) (s.flow i)) (length net.pairs) (λ i _. where_nonneg (from_at net.pairs i == b) (s.flow i) (k.flow i))
+
+-- an idle block with excess has a port
+pub has_port : (net : NetView) (s : State) (b : ℕ) → owed (s.operation b) ≡ zero_amount → HasAmounts net s → IsBalanced net s → Below zero_amount (s.excess b) → 0 < length (ports net b)
+has_port net s b e k h full = elim (cases_lt 0 (length (ports net b))) [
+  | inl l ↦ l
+  | inr z ↦ elim (sign_or (s.source b)) [
+    | inl m ↦
+        let none = same (inflow_zero net s b (omega (arith, z))) in
+        let owes = same e in
+        let bal = same (h.blocks b) in
+        let c = coming_nonneg net s b k in
+        let u = outflow_nonneg net s b k in
+        let t = k.sink b in
+        Below-absurd full (record { worths = omega (arith, ints, none, owes, bal, c, u, t, m); counts = λ i. omega (arith, ints, none, owes, bal, c, u, t, m, i) })
+    | inr o ↦ has_some (ports net b) (source_port b) (has_open net s b (source_port b) k (refl, refl) o)
+  ]
+]

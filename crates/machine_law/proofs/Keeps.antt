@@ -1,0 +1,302 @@
+-- Each step keeps what holds of the amounts.
+use Rattle.std.proofs.Common.{◌≡◌, ℕ, ◌+◌, ◌<◌, Option, Some, None, nat_lt, length, refl, ap, sym, ◌∙◌, subst, arith}
+use Rattle.std.specs.Prelude.{slice_get}
+use Rattle.std.proofs.lemmas.Int.{ints}
+use Rattle.std.proofs.lemmas.Bool.{cond_both, ltb-true}
+use Rattle.std.proofs.lemmas.Option.{slice_get_within}
+use Rattle.ordered_group.specs.Amount.{Amount, zero_amount, plus, minus, AtMost, Below, positive, negative}
+use Rattle.ordered_group.specs.Sums.{amount_at}
+use Rattle.ordered_group.proofs.Order.{AtMost-refl, AtMost-trans, Below-most, least-left, least-right}
+use Rattle.ordered_group.proofs.Signs.{NonNeg-plus, AtMost-plus, NonNeg-positive, NonNeg-negative, NonNeg-zero}
+use Rattle.prec_file.specs.Rests.{to_at}
+use Rattle.closure_net.specs.Network.{NetView}
+use Rattle.closure_net.specs.Ports.{ports}
+use Rattle.closure_net.specs.declared.ports.Port.{Port}
+use Rattle.closure_net.specs.declared.ports.PortKind.{PortKind}
+use Rattle.closure_net.specs.declared.ports.PortKind.TheVariants.{Sink, Forward, Backward, Source}
+use Rattle.machine_law.specs.declared.operations.Best.{Best}
+use Rattle.machine_law.specs.declared.operations.Operation.{Operation}
+use Rattle.machine_law.specs.declared.operations.Operation.TheVariants.{Idle, Scan, PushDue, TakeDue, GiveDue, RaiseDue}
+use Rattle.machine_law.specs.States.{State, put, opening}
+use Rattle.machine_law.specs.Residual.{room, capacity, capacity_by, end_label, IsEnd, IsPortOf}
+use Rattle.machine_law.specs.Reads.{is_positive, begun, better, ended, passed, seen, chosen}
+use Rattle.machine_law.specs.Steps.{becomes, looked, looked_by, weighed, push_amount, pushed, pushed_by, taken, given_by, raised, advance, advance_by}
+use Rattle.machine_law.specs.Transit.{owed}
+use Rattle.machine_law.specs.Amounts.{HasAmounts, IsWithin, IsWithinBy, IsBest, IsBestIfAny, IsRead, IsHeld, IsDue, IsOperation}
+use Rattle.machine_law.specs.Balances.{IsBalanced}
+use Rattle.machine_law.proofs.Numbers.{shifted, joined, Below-least, positive-yes}
+use Rattle.machine_law.proofs.Points.{put-other, put-each}
+use Rattle.machine_law.proofs.PortLists.{port_with, port-at}
+use Rattle.machine_law.proofs.Coming.{has_port}
+
+-- ---- what a step of another block leaves to x: all that its operation may rely on
+pub record IsMore (net : NetView) (s t : State) (x : ℕ) : Type 0 where
+  pub excess : AtMost (s.excess x) (t.excess x)
+  pub sink : t.sink x ≡ s.sink x
+  pub source : t.source x ≡ s.source x
+  pub flow : (k : ℕ) → to_at net.pairs k ≡ x → AtMost (s.flow k) (t.flow k)
+
+module _ (net : NetView) (s t : State) (x : ℕ) (m : IsMore net s t x) where
+  held_more : (d : Amount) → IsHeld s x d → IsHeld t x d
+  held_more d h = record { some = h.some; held = AtMost-trans d (s.excess x) (t.excess x) h.held m.excess }
+
+  within_by_more : (kind : PortKind) (other slot : ℕ) (a : Amount) → IsEnd net x kind other slot → IsWithinBy net s x kind slot a → IsWithinBy net t x kind slot a
+  within_by_more Sink other slot a q h = (h.0, rw m.sink h.1)
+  within_by_more Forward other slot a q h = tt
+  within_by_more Backward other slot a q h = (h.0, AtMost-trans a (s.flow slot) (t.flow slot) h.1 (m.flow slot q.1))
+  within_by_more Source other slot a q h = (h.0, rw m.source h.1)
+
+  within_more : (p : Port) (a : Amount) → IsPortOf net x p → IsWithin net s x p a → IsWithin net t x p a
+  within_more p a q h = within_by_more p.kind p.other p.slot a q h
+
+  best_more : (best : Best Amount) → IsBest net s x best → IsBest net t x best
+  best_more best h = record { port = h.port; within = within_more best.port best.capacity h.port h.within }
+
+  any_more : (best : Option (Best Amount)) → IsBestIfAny net s x best → IsBestIfAny net t x best
+  any_more None h = tt
+  any_more (Some best) h = best_more best h
+
+  read_more : (read : Option Amount) (p : Option Port) → ((q : Port) → p ≡ Some q → IsPortOf net x q) → IsRead net s x read p → IsRead net t x read p
+  read_more None p is h = tt
+  read_more (Some a) None is h = h
+  read_more (Some a) (Some q) is h = within_more q a (is q refl) h
+
+  due_more : (have : Amount) (best : Best Amount) → IsDue net s x have best → IsDue net t x have best
+  due_more have best h = record { held = held_more have h.held; over = best_more best h.over }
+
+  pub operation_more : (o : Operation Amount) → IsOperation net s x o → IsOperation net t x o
+  operation_more Idle h = tt
+  operation_more (Scan have place read best) h = record {
+    inside = h.inside;
+    held = held_more have h.held;
+    passed = any_more best h.passed;
+    present = read_more read (slice_get (ports net x) place) (port-at net x place) h.present;
+  }
+  operation_more (PushDue have best) h = due_more have best h
+  operation_more (TakeDue d p) h = (held_more d h.0, h.1)
+  operation_more (GiveDue d p) h = h
+  operation_more (RaiseDue have best) h = due_more have best h
+
+-- ---- the amount of a push
+pub push_most : (have : Amount) (kind : PortKind) (read : Amount) → AtMost (push_amount have kind read) have
+push_most have Sink read = least-left have read
+push_most have Forward read = AtMost-refl have
+push_most have Backward read = least-left have read
+push_most have Source read = least-left have read
+
+pub push_some : (net : NetView) (s : State) (b : ℕ) (have : Amount) (kind : PortKind) (slot : ℕ) (read : Amount) → Below zero_amount have → IsWithinBy net s b kind slot read → Below zero_amount (push_amount have kind read)
+push_some net s b have Sink slot read h w = Below-least have read h w.0
+push_some net s b have Forward slot read h w = h
+push_some net s b have Backward slot read h w = Below-least have read h w.0
+push_some net s b have Source slot read h w = Below-least have read h w.0
+
+held_push : (net : NetView) (s : State) (b : ℕ) (have : Amount) (kind : PortKind) (slot : ℕ) (read : Amount) → IsHeld s b have → IsWithinBy net s b kind slot read → IsHeld s b (push_amount have kind read)
+held_push net s b have kind slot read h w = record { some = push_some net s b have kind slot read h.some w; held = AtMost-trans (push_amount have kind read) have (s.excess b) (push_most have kind read) h.held }
+
+module _ (net : NetView) (s : State) (b : ℕ) (k : HasAmounts net s) where
+  -- ---- the capacity step
+  amounts_pushed_by : (have : Amount) (kind : PortKind) (other slot : ℕ) (read : Amount) → IsHeld s b have → IsEnd net b kind other slot → IsWithinBy net s b kind slot read → HasAmounts net (pushed_by s b (push_amount have kind read) (port_with kind other slot) kind)
+  amounts_pushed_by have Sink other slot read h q w =
+      let d = push_amount have Sink read in
+      let hd = held_push net s b have Sink slot read h w in
+      let p = port_with Sink other slot in
+      let t = pushed_by s b d p Sink in
+      let new = NonNeg-plus (s.sink b) d (k.sink b) (Below-most zero_amount d hd.some) in
+      let most : AtMost (plus (s.sink b) d) (negative (amount_at net.worths b)) = joined (least-right have read) w.1 (record { w = omega (arith, ints); c = omega (arith, ints) }) in
+      record {
+        excess = k.excess;
+        source = k.source;
+        source_most = k.source_most;
+        sink = put-each (λ _ a. AtMost zero_amount a) s.sink b (plus (s.sink b) d) new (λ i ne. k.sink i);
+        sink_most = put-each (λ i a. AtMost a (negative (amount_at net.worths i))) s.sink b (plus (s.sink b) d) most (λ i ne. k.sink_most i);
+        flow = k.flow;
+        at_source = k.at_source;
+        at_sink = k.at_sink;
+        operation = put-each (λ i o. IsOperation net t i o) s.operation b (TakeDue d p) (record { some = hd.some; held = hd.held }, q) (λ i ne. operation_more net s t i (record { excess = AtMost-refl (s.excess i); sink = put-other s.sink b (plus (s.sink b) d) i ne; source = refl; flow = λ j e. AtMost-refl (s.flow j) }) (s.operation i) (k.operation i));
+      }
+  amounts_pushed_by have Forward other slot read h q w =
+      let d = push_amount have Forward read in
+      let hd = held_push net s b have Forward slot read h w in
+      let p = port_with Forward other slot in
+      let t = pushed_by s b d p Forward in
+      let dn = Below-most zero_amount d hd.some in
+      let new = NonNeg-plus (s.flow slot) d (k.flow slot) dn in
+      record {
+        excess = k.excess;
+        source = k.source;
+        source_most = k.source_most;
+        sink = k.sink;
+        sink_most = k.sink_most;
+        flow = put-each (λ _ a. AtMost zero_amount a) s.flow slot (plus (s.flow slot) d) new (λ i ne. k.flow i);
+        at_source = k.at_source;
+        at_sink = k.at_sink;
+        operation = put-each (λ i o. IsOperation net t i o) s.operation b (TakeDue d p) (record { some = hd.some; held = hd.held }, q) (λ i ne. operation_more net s t i (record { excess = AtMost-refl (s.excess i); sink = refl; source = refl; flow = λ j e. put-each (λ n a. AtMost (s.flow n) a) s.flow slot (plus (s.flow slot) d) (AtMost-plus (s.flow slot) d dn) (λ n _. AtMost-refl (s.flow n)) j }) (s.operation i) (k.operation i));
+      }
+  amounts_pushed_by have Backward other slot read h q w =
+      let d = push_amount have Backward read in
+      let hd = held_push net s b have Backward slot read h w in
+      let p = port_with Backward other slot in
+      let t = pushed_by s b d p Backward in
+      let new : AtMost zero_amount (minus (s.flow slot) d) = joined (least-right have read) w.1 (record { w = omega (arith, ints); c = omega (arith, ints) }) in
+      record {
+        excess = k.excess;
+        source = k.source;
+        source_most = k.source_most;
+        sink = k.sink;
+        sink_most = k.sink_most;
+        flow = put-each (λ _ a. AtMost zero_amount a) s.flow slot (minus (s.flow slot) d) new (λ i ne. k.flow i);
+        at_source = k.at_source;
+        at_sink = k.at_sink;
+        operation = put-each (λ i o. IsOperation net t i o) s.operation b (TakeDue d p) (record { some = hd.some; held = hd.held }, q) (λ i ne. operation_more net s t i (record { excess = AtMost-refl (s.excess i); sink = refl; source = refl; flow = λ j e. put-each (λ n a. to_at net.pairs n ≡ i → AtMost (s.flow n) a) s.flow slot (minus (s.flow slot) d) (λ at. absurd (ne (sym at ∙ q.1))) (λ n _ _. AtMost-refl (s.flow n)) j e }) (s.operation i) (k.operation i));
+      }
+  amounts_pushed_by have Source other slot read h q w =
+      let d = push_amount have Source read in
+      let hd = held_push net s b have Source slot read h w in
+      let p = port_with Source other slot in
+      let t = pushed_by s b d p Source in
+      let new : AtMost zero_amount (minus (s.source b) d) = joined (least-right have read) w.1 (record { w = omega (arith, ints); c = omega (arith, ints) }) in
+      let less : AtMost (minus (s.source b) d) (positive (amount_at net.worths b)) = joined (k.source_most b) (Below-most zero_amount d hd.some) (record { w = omega (arith, ints); c = omega (arith, ints) }) in
+      record {
+        excess = k.excess;
+        source = put-each (λ _ a. AtMost zero_amount a) s.source b (minus (s.source b) d) new (λ i ne. k.source i);
+        source_most = put-each (λ i a. AtMost a (positive (amount_at net.worths i))) s.source b (minus (s.source b) d) less (λ i ne. k.source_most i);
+        sink = k.sink;
+        sink_most = k.sink_most;
+        flow = k.flow;
+        at_source = k.at_source;
+        at_sink = k.at_sink;
+        operation = put-each (λ i o. IsOperation net t i o) s.operation b (TakeDue d p) (record { some = hd.some; held = hd.held }, q) (λ i ne. operation_more net s t i (record { excess = AtMost-refl (s.excess i); sink = refl; source = put-other s.source b (minus (s.source b) d) i ne; flow = λ j e. AtMost-refl (s.flow j) }) (s.operation i) (k.operation i));
+      }
+
+  amounts_pushed : (have : Amount) (p : Port) (read : Amount) → IsHeld s b have → IsPortOf net b p → IsWithin net s b p read → HasAmounts net (pushed s b (push_amount have p.kind read) p)
+  amounts_pushed have p read h q w = amounts_pushed_by have p.kind p.other p.slot read h q w
+
+  -- ---- the excess steps
+  amounts_taken : (d : Amount) (p : Port) → IsHeld s b d → IsPortOf net b p → HasAmounts net (taken s b d p)
+  amounts_taken d p h q =
+      let t = taken s b d p in
+      record {
+        excess = put-each (λ _ a. AtMost zero_amount a) s.excess b (minus (s.excess b) d) (shifted h.held (record { w = omega (arith, ints); c = omega (arith, ints) })) (λ i ne. k.excess i);
+        source = k.source;
+        source_most = k.source_most;
+        sink = k.sink;
+        sink_most = k.sink_most;
+        flow = k.flow;
+        at_source = k.at_source;
+        at_sink = k.at_sink;
+        operation = put-each (λ i o. IsOperation net t i o) s.operation b (GiveDue d p) (h.some, q) (λ i ne. operation_more net s t i (record { excess = subst (AtMost (s.excess i)) (sym (put-other s.excess b (minus (s.excess b) d) i ne)) (AtMost-refl (s.excess i)); sink = refl; source = refl; flow = λ j e. AtMost-refl (s.flow j) }) (s.operation i) (k.operation i));
+      }
+
+  -- a state that leaves every block what it may rely on, with no amount below zero
+  amounts_left : (t : State) (o : Operation Amount) → ((x : ℕ) → IsMore net s t x) → t.source ≡ s.source → t.sink ≡ s.sink → t.flow ≡ s.flow → t.operation ≡ put s.operation b o → AtMost zero_amount t.at_source → AtMost zero_amount t.at_sink → IsOperation net s b o → HasAmounts net t
+  amounts_left t o m es ek ef eo at_source at_sink is = record {
+    excess = λ x. AtMost-trans zero_amount (s.excess x) (t.excess x) (k.excess x) (m x).excess;
+    source = rw es k.source;
+    source_most = rw es k.source_most;
+    sink = rw ek k.sink;
+    sink_most = rw ek k.sink_most;
+    flow = rw ef k.flow;
+    at_source = at_source;
+    at_sink = at_sink;
+    operation = subst (λ (u : ℕ → Operation Amount). (x : ℕ) → IsOperation net t x (u x)) (sym eo) (put-each (λ i u. IsOperation net t i u) s.operation b o (operation_more net s t b (m b) o is) (λ i ne. operation_more net s t i (m i) (s.operation i) (k.operation i)));
+  }
+
+  nothing_less : (x : ℕ) → IsMore net s s x
+  nothing_less x = record { excess = AtMost-refl (s.excess x); sink = refl; source = refl; flow = λ j _. AtMost-refl (s.flow j) }
+
+  more_excess : (other x : ℕ) (d : Amount) → AtMost zero_amount d → AtMost (s.excess x) (put s.excess other (plus (s.excess other) d) x)
+  more_excess other x d h = put-each (λ n a. AtMost (s.excess n) a) s.excess other (plus (s.excess other) d) (AtMost-plus (s.excess other) d h) (λ n _. AtMost-refl (s.excess n)) x
+
+  amounts_given_by : (d : Amount) (p : Port) (kind : PortKind) → AtMost zero_amount d → HasAmounts net (given_by s b d p kind)
+  amounts_given_by d p Sink h = amounts_left (given_by s b d p Sink) Idle (λ x. record { excess = (nothing_less x).excess; sink = refl; source = refl; flow = (nothing_less x).flow }) refl refl refl refl k.at_source (NonNeg-plus s.at_sink d k.at_sink h) tt
+  amounts_given_by d p Forward h = amounts_left (given_by s b d p Forward) Idle (λ x. record { excess = more_excess p.other x d h; sink = refl; source = refl; flow = (nothing_less x).flow }) refl refl refl refl k.at_source k.at_sink tt
+  amounts_given_by d p Backward h = amounts_left (given_by s b d p Backward) Idle (λ x. record { excess = more_excess p.other x d h; sink = refl; source = refl; flow = (nothing_less x).flow }) refl refl refl refl k.at_source k.at_sink tt
+  amounts_given_by d p Source h = amounts_left (given_by s b d p Source) Idle (λ x. record { excess = (nothing_less x).excess; sink = refl; source = refl; flow = (nothing_less x).flow }) refl refl refl refl (NonNeg-plus s.at_source d k.at_source h) k.at_sink tt
+
+  -- ---- reads and raises
+  amounts_becomes : (o : Operation Amount) → IsOperation net s b o → HasAmounts net (becomes s b o)
+  amounts_becomes o is = amounts_left (becomes s b o) o (λ x. record { excess = (nothing_less x).excess; sink = refl; source = refl; flow = (nothing_less x).flow }) refl refl refl refl k.at_source k.at_sink is
+
+  amounts_raised : (best : Best Amount) → HasAmounts net (raised s b best)
+  amounts_raised best = amounts_left (raised s b best) Idle (λ x. record { excess = (nothing_less x).excess; sink = refl; source = refl; flow = (nothing_less x).flow }) refl refl refl refl k.at_source k.at_sink tt
+
+  -- ---- what an operation may rely on after a read
+  op_begun : (Below zero_amount (s.excess b) → 0 < length (ports net b)) → IsOperation net s b (begun (s.excess b))
+  op_begun ported = cond_both (is_positive (s.excess b)) (Scan (s.excess b) 0 None None) Idle (IsOperation net s b)
+      (λ e. let y = positive-yes (s.excess b) e in record { inside = ported y; held = record { some = y; held = AtMost-refl (s.excess b) }; passed = tt; present = tt })
+      (λ e. tt)
+
+  op_ended : (label : ℕ) (have : Amount) (best : Option (Best Amount)) → IsHeld s b have → IsBestIfAny net s b best → IsOperation net s b (ended label have best)
+  op_ended label have None h i = tt
+  op_ended label have (Some best) h i = cond_both (nat_lt best.label label) (PushDue have best) (RaiseDue have best) (IsOperation net s b) (λ e. record { held = h; over = i }) (λ e. record { held = h; over = i })
+
+  op_passed : (have : Amount) (place : ℕ) (best : Option (Best Amount)) → IsHeld s b have → IsBestIfAny net s b best → IsOperation net s b (passed (length (ports net b)) (s.label b) have place best)
+  op_passed have place best h i = cond_both (nat_lt (place + 1) (length (ports net b))) (Scan have (place + 1) None best) (ended (s.label b) have best) (IsOperation net s b)
+      (λ e. record { inside = ltb-true (place + 1) (length (ports net b)) e; held = h; passed = i; present = tt })
+      (λ e. op_ended (s.label b) have best h i)
+
+  any_better : (best : Option (Best Amount)) (new : Best Amount) → IsBestIfAny net s b best → IsBest net s b new → IsBest net s b (better best new)
+  any_better None new i n = n
+  any_better (Some best) new i n = cond_both (nat_lt new.label best.label) new best (IsBest net s b) (λ e. n) (λ e. i)
+
+  op_chosen : (have : Amount) (place : ℕ) (best : Option (Best Amount)) (read : Amount) (p : Port) → IsHeld s b have → IsBestIfAny net s b best → IsPortOf net b p → IsWithin net s b p read → IsOperation net s b (chosen (length (ports net b)) (s.label b) have place best read p (end_label net s p))
+  op_chosen have place best read p h i q w =
+      let new : Best Amount = record { port = p; capacity = read; label = end_label net s p } in
+      op_passed have place (Some (better best new)) h (any_better best new i (record { port = q; within = w }))
+
+  -- a capacity that is just read
+  within_now : (kind : PortKind) (slot : ℕ) → Below zero_amount (capacity_by net s b kind slot) → IsWithinBy net s b kind slot (capacity_by net s b kind slot)
+  within_now Sink slot y = (y, AtMost-refl (room net s b))
+  within_now Forward slot y = tt
+  within_now Backward slot y = (y, AtMost-refl (s.flow slot))
+  within_now Source slot y = (y, AtMost-refl (s.source b))
+
+  op_seen : (have : Amount) (place : ℕ) (best : Option (Best Amount)) (p : Port) → slice_get (ports net b) place ≡ Some p → IsHeld s b have → IsBestIfAny net s b best → IsOperation net s b (seen (length (ports net b)) (s.label b) have place best (capacity net s b p))
+  op_seen have place best p e h i =
+      cond_both (is_positive (capacity net s b p)) (Scan have place (Some (capacity net s b p)) best) (passed (length (ports net b)) (s.label b) have place best) (IsOperation net s b)
+      (λ y. record { inside = slice_get_within (ports net b) place p e; held = h; passed = i; present = rw e (within_now p.kind p.slot (positive-yes (capacity net s b p) y)) })
+      (λ _. op_passed have place best h i)
+
+  op_looked_by : (have : Amount) (place : ℕ) (best : Option (Best Amount)) (kind : PortKind) (other slot : ℕ) → slice_get (ports net b) place ≡ Some (port_with kind other slot) → IsHeld s b have → IsBestIfAny net s b best → IsOperation net s b (looked_by net s b have place best (port_with kind other slot) kind)
+  op_looked_by have place best Sink other slot e h i = op_seen have place best (port_with Sink other slot) e h i
+  op_looked_by have place best Forward other slot e h i = op_chosen have place best zero_amount (port_with Forward other slot) h i (port-at net b place (port_with Forward other slot) e) tt
+  op_looked_by have place best Backward other slot e h i = op_seen have place best (port_with Backward other slot) e h i
+  op_looked_by have place best Source other slot e h i = op_seen have place best (port_with Source other slot) e h i
+
+  op_looked : (have : Amount) (place : ℕ) (best : Option (Best Amount)) (q : Option Port) → slice_get (ports net b) place ≡ q → IsHeld s b have → IsBestIfAny net s b best → IsOperation net s b (looked net s b have place best q)
+  op_looked have place best None e h i = tt
+  op_looked have place best (Some p) e h i = op_looked_by have place best p.kind p.other p.slot e h i
+
+  op_weighed : (have : Amount) (place : ℕ) (best : Option (Best Amount)) (read : Amount) (q : Option Port) → slice_get (ports net b) place ≡ q → IsHeld s b have → IsBestIfAny net s b best → IsRead net s b (Some read) q → IsOperation net s b (weighed net s b have place best read q)
+  op_weighed have place best read None e h i r = tt
+  op_weighed have place best read (Some p) e h i r = op_chosen have place best read p h i (port-at net b place p e) r
+
+  -- ---- each step
+  amounts_advance_by : (o : Operation Amount) → s.operation b ≡ o → IsBalanced net s → IsOperation net s b o → HasAmounts net (advance_by net s b o)
+  amounts_advance_by Idle e l h = amounts_becomes (begun (s.excess b)) (op_begun (has_port net s b (ap owed e) k l))
+  amounts_advance_by (Scan have place None best) e l h =
+      let q = slice_get (ports net b) place in
+      amounts_becomes (looked net s b have place best q) (op_looked have place best q refl h.held h.passed)
+  amounts_advance_by (Scan have place (Some read) best) e l h =
+      let q = slice_get (ports net b) place in
+      amounts_becomes (weighed net s b have place best read q) (op_weighed have place best read q refl h.held h.passed h.present)
+  amounts_advance_by (PushDue have best) e l h = amounts_pushed have best.port best.capacity h.held h.over.port h.over.within
+  amounts_advance_by (TakeDue d p) e l h = amounts_taken d p h.0 h.1
+  amounts_advance_by (GiveDue d p) e l h = amounts_given_by d p p.kind (Below-most zero_amount d h.0)
+  amounts_advance_by (RaiseDue have best) e l h = amounts_raised best
+
+  pub amounts_advance : IsBalanced net s → HasAmounts net (advance net s b)
+  amounts_advance l = amounts_advance_by (s.operation b) refl l (k.operation b)
+
+pub amounts_opening : (net : NetView) → HasAmounts net (opening net)
+amounts_opening net = record {
+  excess = λ b. NonNeg-positive (amount_at net.worths b);
+  source = λ b. NonNeg-positive (amount_at net.worths b);
+  source_most = λ b. AtMost-refl (positive (amount_at net.worths b));
+  sink = λ b. NonNeg-zero;
+  sink_most = λ b. NonNeg-negative (amount_at net.worths b);
+  flow = λ k. NonNeg-zero;
+  at_source = NonNeg-zero;
+  at_sink = NonNeg-zero;
+  operation = λ b. tt;
+}

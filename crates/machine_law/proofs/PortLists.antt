@@ -1,0 +1,137 @@
+-- Each port in a block's list is a port of the block, and each of its ports that has capacity stands in the list.
+use Rattle.std.proofs.Common.{◌≡◌, ℕ, ◌<◌, ◌==◌, Bool, true, false, cond, inl, inr, Some, List, [], ◌∷◌, ◌++◌, All, length, get_or, map, refl, ap, sym, ◌∙◌, subst, arith}
+use Rattle.std.specs.Prelude.{slice_get}
+use Rattle.std.proofs.lemmas.Int.{ints}
+use Rattle.std.proofs.lemmas.Bool.{cond_both, eq-eqb, eqb-true, or_left, or_right, true≢false}
+use Rattle.std.proofs.lemmas.List.{get_or-map, length-map}
+use Rattle.std.proofs.lemmas.List.Elements.{All-append, All-nil, All-cons}
+use Rattle.std.proofs.lemmas.List.Folds.{list_any-append, list_any_at}
+use Rattle.std.proofs.lemmas.Option.{get_or_from_slice_get, slice_get_within}
+use Rattle.ordered_group.specs.Amount.{Amount, zero_amount, minus, Below, positive, negative}
+use Rattle.ordered_group.specs.Sums.{amount_at}
+use Rattle.ordered_group.proofs.Order.{larger_is, AtMost-same}
+use Rattle.prec_file.specs.Rests.{from_at, to_at, numbers}
+use Rattle.prec_file.proofs.Passing.{passing_after, passing_here, passing_at}
+use Rattle.closure_net.specs.Network.{NetView}
+use Rattle.closure_net.specs.Ports.{is_below, ports, port_list, forwards, backwards, forward_port, backward_port, sink_port, source_port}
+use Rattle.closure_net.specs.declared.ports.Port.{Port}
+use Rattle.closure_net.specs.declared.ports.PortKind.{PortKind}
+use Rattle.closure_net.specs.declared.ports.PortKind.TheVariants.{Sink, Forward, Backward, Source}
+use Rattle.machine_law.specs.States.{State}
+use Rattle.machine_law.specs.Residual.{IsEnd, IsPortOf}
+use Rattle.machine_law.specs.Amounts.{HasAmounts}
+use Rattle.machine_law.specs.Labels.{same_port, has, IsOpenBy}
+use Rattle.machine_law.proofs.Numbers.{same, shifted, Below-more, Below-absurd, is_below-from}
+
+-- the port with these parts
+abbrev pub port_with : PortKind → ℕ → ℕ → Port
+port_with kind other slot = record { kind = kind; other = other; slot = slot }
+
+-- ---- each port in the list
+All-if : {X : Type 0} (P : X → Type 0) (t : Bool) (x : X) → P x → All P (cond t (x ∷ []) [])
+All-if P t x h = cond_both t (x ∷ []) [] (All P) (λ e. All-cons P x [] h (All-nil P)) (λ e. All-nil P)
+
+All-pairs : (P : Port → Type 0) (end : ℕ → ℕ) (f : ℕ → Port) (b m : ℕ) → ((k : ℕ) → k < m → end k ≡ b → P (f k)) → All P (map f (numbers end b m))
+All-pairs P end f b m h i d l =
+    let ks = numbers end b m in
+    let inside : i < length ks = omega (arith, length-map ks f, l) in
+    let p = passing_at (λ k. end k == b) m i inside in
+    subst P (sym (get_or-map f ks i 0 d inside)) (h (get_or ks i 0) p.below (eqb-true (end (get_or ks i 0)) b p.passes))
+
+all_ports : (net : NetView) (b : ℕ) → All (IsPortOf net b) (ports net b)
+unfolding port_list
+all_ports net b =
+    let P = IsPortOf net b in
+    let w = amount_at net.worths b in
+    let m = length net.pairs in
+    let from = from_at net.pairs in
+    let to = to_at net.pairs in
+    let z = cond (is_below zero_amount w) (source_port b ∷ []) [] in
+    All-append P (cond (is_below w zero_amount) (sink_port b ∷ []) []) (forwards from to m b ++ (backwards from to m b ++ z)) (All-if P (is_below w zero_amount) (sink_port b) (refl, refl))
+    (All-append P (forwards from to m b) (backwards from to m b ++ z) (All-pairs P from (forward_port to) b m (λ k l e. (l, e, refl)))
+    (All-append P (backwards from to m b) z (All-pairs P to (backward_port from) b m (λ k l e. (l, e, refl))) (All-if P (is_below zero_amount w) (source_port b) (refl, refl))))
+
+pub port-at : (net : NetView) (b place : ℕ) (p : Port) → slice_get (ports net b) place ≡ Some p → IsPortOf net b p
+port-at net b place p e = subst (IsPortOf net b) (get_or_from_slice_get (ports net b) place p p e) (all_ports net b place p (slice_get_within (ports net b) place p e))
+
+-- ---- each open port
+in_left : (xs ys : List Port) (p : Port) → has xs p ≡ true → has (xs ++ ys) p ≡ true
+in_left xs ys p h = list_any-append (λ q. same_port q p) xs ys ∙ or_left (has xs p) (has ys p) h
+
+in_right : (xs ys : List Port) (p : Port) → has ys p ≡ true → has (xs ++ ys) p ≡ true
+in_right xs ys p h = list_any-append (λ q. same_port q p) xs ys ∙ or_right (has xs p) (has ys p) h
+
+has_if : (t : Bool) (x p : Port) → t ≡ true → same_port x p ≡ true → has (cond t (x ∷ []) []) p ≡ true
+has_if t x p e h = rw e (or_left (same_port x p) false h)
+
+has_pair : (end : ℕ → ℕ) (f : ℕ → Port) (b m k : ℕ) (p : Port) → k < m → end k ≡ b → same_port (f k) p ≡ true → has (map f (numbers end b m)) p ≡ true
+has_pair end f b m k p l e h =
+    let ks = numbers end b m in
+    let t = eq-eqb (end k) b e in
+    let j = length (numbers end b k) in
+    let inside = passing_after (λ i. end i == b) k m l t in
+    let at = get_or-map f ks j 0 p inside ∙ ap f (passing_here (λ i. end i == b) k m l t) in
+    list_any_at (λ q. same_port q p) (map f ks) j p (omega (arith, length-map ks f, inside)) (ap (λ q. same_port q p) at ∙ h)
+
+pub has_backward : (net : NetView) (b k : ℕ) → k < length net.pairs → to_at net.pairs k ≡ b → has (ports net b) (backward_port (from_at net.pairs) k) ≡ true
+unfolding port_list
+has_backward net b k l e =
+    let w = amount_at net.worths b in
+    let m = length net.pairs in
+    let from = from_at net.pairs in
+    let to = to_at net.pairs in
+    let z = cond (is_below zero_amount w) (source_port b ∷ []) [] in
+    let p = backward_port from k in
+    in_right (cond (is_below w zero_amount) (sink_port b ∷ []) []) (forwards from to m b ++ (backwards from to m b ++ z)) p
+    (in_right (forwards from to m b) (backwards from to m b ++ z) p
+    (in_left (backwards from to m b) z p (has_pair to (backward_port from) b m k p l e (eq-eqb k k refl))))
+
+-- a worth whose parts are above zero
+positive_above : (w : Amount) → Below zero_amount (positive w) → Below zero_amount w
+positive_above w h = elim (larger_is w zero_amount) [ inl e ↦ Below-absurd h (AtMost-same _ _ e.0) | inr e ↦ Below-more h (AtMost-same _ _ e.0) ]
+
+negative_above : (w : Amount) → Below zero_amount (negative w) → Below w zero_amount
+negative_above w h = elim (larger_is (minus zero_amount w) zero_amount) [
+  | inl e ↦ Below-absurd h (AtMost-same _ _ e.0)
+  | inr e ↦ let s = same e.0 in record { worths = omega (arith, ints, h, s); counts = λ i. omega (arith, ints, h, s, i) }
+]
+
+has_by : (net : NetView) (s : State) (b : ℕ) (kind : PortKind) (other slot : ℕ) → HasAmounts net s → IsEnd net b kind other slot → IsOpenBy net s b kind → has (ports net b) (port_with kind other slot) ≡ true
+unfolding port_list
+has_by net s b Sink other slot k q o =
+    let w = amount_at net.worths b in
+    let m = length net.pairs in
+    let from = from_at net.pairs in
+    let to = to_at net.pairs in
+    let z = cond (is_below zero_amount w) (source_port b ∷ []) [] in
+    let full = Below-more o (shifted (k.sink b) (record { w = omega (arith, ints); c = omega (arith, ints) })) in
+    in_left (cond (is_below w zero_amount) (sink_port b ∷ []) []) (forwards from to m b ++ (backwards from to m b ++ z)) (port_with Sink other slot)
+    (has_if (is_below w zero_amount) (sink_port b) (port_with Sink other slot) (is_below-from w zero_amount (negative_above w full)) refl)
+has_by net s b Forward other slot k q o =
+    let w = amount_at net.worths b in
+    let m = length net.pairs in
+    let from = from_at net.pairs in
+    let to = to_at net.pairs in
+    let z = cond (is_below zero_amount w) (source_port b ∷ []) [] in
+    in_right (cond (is_below w zero_amount) (sink_port b ∷ []) []) (forwards from to m b ++ (backwards from to m b ++ z)) (port_with Forward other slot)
+    (in_left (forwards from to m b) (backwards from to m b ++ z) (port_with Forward other slot)
+    (has_pair from (forward_port to) b m slot (port_with Forward other slot) q.0 q.1 (eq-eqb slot slot refl)))
+has_by net s b Backward other slot k q o = absurd o
+has_by net s b Source other slot k q o =
+    let w = amount_at net.worths b in
+    let m = length net.pairs in
+    let from = from_at net.pairs in
+    let to = to_at net.pairs in
+    let z = cond (is_below zero_amount w) (source_port b ∷ []) [] in
+    let p = port_with Source other slot in
+    in_right (cond (is_below w zero_amount) (sink_port b ∷ []) []) (forwards from to m b ++ (backwards from to m b ++ z)) p
+    (in_right (forwards from to m b) (backwards from to m b ++ z) p
+    (in_right (backwards from to m b) z p (has_if (is_below zero_amount w) (source_port b) p (is_below-from zero_amount w (positive_above w (Below-more o (k.source_most b)))) refl)))
+
+pub has_open : (net : NetView) (s : State) (b : ℕ) (p : Port) → HasAmounts net s → IsPortOf net b p → IsOpenBy net s b p.kind → has (ports net b) p ≡ true
+has_open net s b p k q o = has_by net s b p.kind p.other p.slot k q o
+
+-- a list that has a port isn't empty
+pub has_some : (xs : List Port) (p : Port) → has xs p ≡ true → 0 < length xs
+has_some [] p h = absurd (true≢false (sym h))
+has_some (x ∷ xs) p h = omega arith

@@ -1,0 +1,65 @@
+-- Runs step by step: a step leads to one state only and adds one to their number, and a run goes on by one step, or by another run.
+use Rattle.std.proofs.Common.{◌≡◌, ℕ, ◌+◌, ◌<◌, Some, None, List, [], ◌∷◌, ◌++◌, length, refl, ap, sym, ◌∙◌, subst, arith}
+use Rattle.ordered_group.specs.Amount.{Amount}
+use Rattle.closure_net.specs.Network.{NetView}
+use Rattle.closure_net.specs.declared.ports.Port.{Port}
+use Rattle.closure_net.specs.declared.ports.PortKind.{PortKind}
+use Rattle.closure_net.specs.declared.ports.PortKind.TheVariants.{Sink, Forward, Backward, Source}
+use Rattle.machine_law.specs.declared.operations.Operation.{Operation}
+use Rattle.machine_law.specs.declared.operations.Operation.TheVariants.{Idle, Scan, PushDue, TakeDue, GiveDue, RaiseDue}
+use Rattle.machine_law.specs.declared.events.Event.{Event}
+use Rattle.machine_law.specs.States.{State}
+use Rattle.machine_law.specs.Steps.{next_kind, push_amount, pushed_by, given_by, advance, advance_by, Step, Run}
+
+-- the step that is next for b
+pub step_next : (net : NetView) (s : State) (b : ℕ) → b < length net.worths → Step net s (record { block = b; kind = next_kind net s b }) (advance net s b)
+step_next net s b l = record { block = l; kind = refl; after = refl }
+
+-- a step leads to one state only
+pub step_unique : (net : NetView) (s : State) (e : Event) (t u : State) → Step net s e t → Step net s e u → t ≡ u
+step_unique net s e t u h k = h.after ∙ sym k.after
+
+-- and so does a run
+pub run_unique : (net : NetView) (s : State) (es : List Event) (t u : State) → Run net s es t → Run net s es u → t ≡ u
+run_unique net s [] t u h k = h ∙ sym k
+run_unique net s (e ∷ es) t u h k = run_unique net h.0 es t u h.2 (subst (λ (v : State). Run net v es u) (step_unique net s e k.0 h.0 k.1 h.1) k.2)
+
+-- ---- each step counts once
+steps_pushed : (s : State) (b : ℕ) (d : Amount) (p : Port) (kind : PortKind) → (pushed_by s b d p kind).steps ≡ s.steps + 1
+steps_pushed s b d p Sink = refl
+steps_pushed s b d p Forward = refl
+steps_pushed s b d p Backward = refl
+steps_pushed s b d p Source = refl
+
+steps_given : (s : State) (b : ℕ) (d : Amount) (p : Port) (kind : PortKind) → (given_by s b d p kind).steps ≡ s.steps + 1
+steps_given s b d p Sink = refl
+steps_given s b d p Forward = refl
+steps_given s b d p Backward = refl
+steps_given s b d p Source = refl
+
+steps_by : (net : NetView) (s : State) (b : ℕ) (o : Operation Amount) → (advance_by net s b o).steps ≡ s.steps + 1
+steps_by net s b Idle = refl
+steps_by net s b (Scan have place None best) = refl
+steps_by net s b (Scan have place (Some read) best) = refl
+steps_by net s b (PushDue have best) = steps_pushed s b (push_amount have best.port.kind best.capacity) best.port best.port.kind
+steps_by net s b (TakeDue d p) = refl
+steps_by net s b (GiveDue d p) = steps_given s b d p p.kind
+steps_by net s b (RaiseDue have best) = refl
+
+pub step_counts : (net : NetView) (s : State) (e : Event) (t : State) → Step net s e t → t.steps ≡ s.steps + 1
+step_counts net s e t h = ap (λ (u : State). u.steps) h.after ∙ steps_by net s e.block (s.operation e.block)
+
+-- so a run makes as many as it lists
+pub run_counts : (net : NetView) (s : State) (es : List Event) (t : State) → Run net s es t → t.steps ≡ s.steps + length es
+run_counts net s [] t h = let e = ap (λ (u : State). u.steps) h in omega (arith, e)
+run_counts net s (e ∷ es) t h = let c = step_counts net s e h.0 h.1 in let r = run_counts net h.0 es t h.2 in omega (arith, c, r)
+
+-- ---- longer runs
+-- a run goes on by another
+pub run_append : (net : NetView) (s : State) (es fs : List Event) (t u : State) → Run net s es t → Run net t fs u → Run net s (es ++ fs) u
+run_append net s [] fs t u h k = subst (λ (v : State). Run net v fs u) h k
+run_append net s (e ∷ es) fs t u h k = (h.0, h.1, run_append net h.0 es fs t u h.2 k)
+
+-- and by one step
+pub run_more : (net : NetView) (s : State) (es : List Event) (e : Event) (t u : State) → Run net s es t → Step net t e u → Run net s (es ++ e ∷ []) u
+run_more net s es e t u h k = run_append net s es (e ∷ []) t u h (u, k, refl)

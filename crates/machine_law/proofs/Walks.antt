@@ -1,0 +1,178 @@
+-- What an operation remembers of labels, over its reads: how far it has looked.
+use Rattle.std.proofs.Common.{◌≡◌, ℕ, ◌≤◌, ◌+◌, ◌==◌, inl, inr, Bool, true, false, not, nat_lt, ◌&&◌, cond, Option, Some, None, List, ◌∷◌, refl, ap, sym, ◌∙◌, subst, subst₂, arith}
+use Rattle.std.proofs.lemmas.Int.{ints}
+use Rattle.std.proofs.lemmas.Bool.{and_parts, and_from, cases_Bool, cond_both, eqb-true, ltb-true, ltb-false, lt-ltb, or_from, not-true, not_from_false, true≢false}
+use Rattle.ordered_group.specs.Amount.{Amount, zero_amount, minus, AtMost, Below}
+use Rattle.ordered_group.proofs.Order.{AtMost-refl, AtMost-trans}
+use Rattle.prec_file.specs.Rests.{from_at, to_at}
+use Rattle.closure_net.specs.Network.{NetView}
+use Rattle.closure_net.specs.Ports.{ports, backward_port}
+use Rattle.closure_net.specs.declared.ports.Port.{Port}
+use Rattle.closure_net.specs.declared.ports.PortKind.{PortKind}
+use Rattle.closure_net.specs.declared.ports.PortKind.TheVariants.{Sink, Forward, Backward, Source}
+use Rattle.machine_law.specs.declared.operations.Best.{Best}
+use Rattle.machine_law.specs.States.{State}
+use Rattle.machine_law.specs.Residual.{room, capacity, capacity_by, end_label, label_beyond, IsEnd, IsPortOf}
+use Rattle.machine_law.specs.Reads.{is_positive, better}
+use Rattle.machine_law.specs.Transit.{owed}
+use Rattle.machine_law.specs.Amounts.{HasAmounts}
+use Rattle.machine_law.specs.Balances.{supply}
+use Rattle.machine_law.specs.Labels.{arcs, steep, high, label_by, same_by, same_port, has, is_under, IsOpenBy, IsAbove, IsNear, IsLevel, IsLevelIfAny, IsWalk, HasLabels}
+use Rattle.machine_law.proofs.Numbers.{same, shifted, positive-no, Below-absurd}
+use Rattle.machine_law.proofs.Arcs.{arcs-most, arcs-most_or, arcs-none}
+use Rattle.machine_law.proofs.PortLists.{has_backward, has_open}
+use Rattle.machine_law.proofs.Coming.{coming_nonneg}
+
+-- not forward
+abbrev pub IsLimited : PortKind → Type 0
+IsLimited Sink = Unit {0}
+IsLimited Forward = ⊥
+IsLimited Backward = Unit {0}
+IsLimited Source = Unit {0}
+
+-- by the kind of port: it has capacity, or is backward
+abbrev pub IsReady : NetView → State → ℕ → PortKind → Type 0
+IsReady net s b Sink = Below zero_amount (room net s b)
+IsReady net s b Forward = Unit {0}
+IsReady net s b Backward = Unit {0}
+IsReady net s b Source = Below zero_amount (s.source b)
+
+-- ---- two ports of one block that are the same
+module _ (net : NetView) (s : State) (b : ℕ) where
+  -- over a backward port without capacity the pair carries nothing
+  shut_arc : (kind : PortKind) (slot j : ℕ) → AtMost (capacity_by net s b kind slot) zero_amount → same_by kind Backward slot j ≡ true → AtMost (s.flow j) zero_amount
+  shut_arc Backward slot j z e = subst (λ (i : ℕ). AtMost (s.flow i) zero_amount) (eqb-true slot j e) z
+  shut_arc _ slot j z e = absurd (true≢false (sym e))
+
+  -- a port without capacity isn't open
+  shut_port : (p q : PortKind) (i j : ℕ) → IsLimited p → AtMost (capacity_by net s b p i) zero_amount → same_by p q i j ≡ true → IsOpenBy net s b q → ⊥
+  shut_port Sink Sink i j c z e o = Below-absurd o z
+  shut_port Forward Forward i j c z e o = c
+  shut_port Backward Backward i j c z e o = o
+  shut_port Source Source i j c z e o = Below-absurd o z
+  shut_port _ _ i j c z e o = true≢false (sym e)
+
+  -- they have the same other end
+  same_end : (p q : PortKind) (o u i j : ℕ) → IsEnd net b p o i → IsEnd net b q u j → same_by p q i j ≡ true → label_beyond net p (s.label o) ≡ label_beyond net q (s.label u)
+  same_end Sink Sink o u i j x y e = refl
+  same_end Forward Forward o u i j x y e = ap s.label (sym x.2 ∙ (ap (to_at net.pairs) (eqb-true i j e) ∙ y.2))
+  same_end Backward Backward o u i j x y e = ap s.label (sym x.2 ∙ (ap (from_at net.pairs) (eqb-true i j e) ∙ y.2))
+  same_end Source Source o u i j x y e = refl
+  same_end _ _ o u i j x y e = absurd (true≢false (sym e))
+
+  same_end_of : (p q : Port) → IsPortOf net b p → IsPortOf net b q → same_port p q ≡ true → end_label net s p ≡ end_label net s q
+  same_end_of p q x y e = same_end p.kind q.kind p.other q.other p.slot q.slot x y e
+
+-- ---- the best port, with one more
+better-most : (best : Option (Best Amount)) (new : Best Amount) → (better best new).label ≤ new.label
+better-most None new = omega arith
+better-most (Some best) new = cond_both (nat_lt new.label best.label) new best (λ x. x.label ≤ new.label) (λ e. omega arith) (λ e. ltb-false new.label best.label e)
+
+under_better : (best : Option (Best Amount)) (new : Best Amount) (n : ℕ) → is_under (Some (better best new)) n ≡ true → is_under best n ≡ true
+under_better None new n e = refl
+under_better (Some best) new n e = elim (cases_Bool (nat_lt new.label best.label)) [
+  | inl y ↦
+      let h = ltb-true new.label best.label y in
+      let u = subst (λ (r : Bool). nat_lt n (cond r new best).label ≡ true) y e in
+      let v = ltb-true n new.label u in
+      lt-ltb n best.label (omega (arith, h, v))
+  | inr z ↦ subst (λ (r : Bool). nat_lt n (cond r new best).label ≡ true) z e
+]
+
+above_better : (best : Option (Best Amount)) (new : Best Amount) (n : ℕ) → IsAbove best n → (better best new).label ≤ n
+above_better None new n h = absurd h
+above_better (Some best) new n h = cond_both (nat_lt new.label best.label) new best (λ x. x.label ≤ n) (λ e. let u = ltb-true new.label best.label e in omega (arith, h, u)) (λ e. h)
+
+module _ (net : NetView) (s : State) (b : ℕ) (k : HasAmounts net s) (h : HasLabels net s) where
+  -- at a new best port the arcs count by their present labels
+  seen_new : (kind : PortKind) (other slot j : ℕ) → IsEnd net b kind other slot → label_by kind slot (label_beyond net kind (s.label other)) j (s.label (from_at net.pairs j)) ≡ s.label (from_at net.pairs j)
+  seen_new Sink other slot j q = refl
+  seen_new Forward other slot j q = refl
+  seen_new Backward other slot j q = cond_both (slot == j) (s.label other) (s.label (from_at net.pairs j)) (λ x. x ≡ s.label (from_at net.pairs j)) (λ e. ap s.label (sym q.2 ∙ ap (from_at net.pairs) (eqb-true slot j e))) (λ e. refl)
+  seen_new Source other slot j q = refl
+
+  near_new : (kind : PortKind) (other slot : ℕ) → IsEnd net b kind other slot → IsReady net s b kind → IsNear net kind (s.label b) (label_beyond net kind (s.label other))
+  near_new Sink other slot q r = h.sink b r
+  near_new Forward other slot q r = subst₂ (λ (x y : ℕ). s.label x ≤ s.label y + 1) q.1 q.2 (h.forward slot q.0)
+  near_new Backward other slot q r = tt
+  near_new Source other slot q r = let u = h.source b r in (omega (arith, u), omega arith)
+
+  level_better : (best : Option (Best Amount)) (new : Best Amount) → IsLevelIfAny net s b best → IsLevel net s b new → IsLevel net s b (better best new)
+  level_better None new i n = n
+  level_better (Some best) new i n = cond_both (nat_lt new.label best.label) new best (IsLevel net s b) (λ e. n) (λ e. i)
+
+  high_better : (best : Option (Best Amount)) (new : Best Amount) → AtMost (high net s b best) (supply net s b) → AtMost (high net s b (Some new)) (supply net s b) → AtMost (high net s b (Some (better best new))) (supply net s b)
+  high_better None new i n = n
+  high_better (Some best) new i n = cond_both (nat_lt new.label best.label) new best (λ x. AtMost (high net s b (Some x)) (supply net s b)) (λ e. n) (λ e. i)
+
+  -- ---- an operation begins
+  pub walk_begun : owed (s.operation b) ≡ zero_amount → IsWalk net s b (s.excess b) (ports net b) None
+  walk_begun e = record {
+    level = tt;
+    low_most =
+        let f : ℕ → Bool = λ j. not (has (ports net b) (backward_port (from_at net.pairs) j)) && true in
+        let z = same (arcs-none net f s.flow b (λ j l at q.
+        let p = and_parts (not (has (ports net b) (backward_port (from_at net.pairs) j))) true q in
+        true≢false (sym (has_backward net b j l at) ∙ not-true (has (ports net b) (backward_port (from_at net.pairs) j)) p.0))) in
+        let o = same e in
+        shifted (coming_nonneg net s b k) (record { w = omega (arith, ints, z, o); c = omega (arith, ints, z, o) });
+    high_most = h.steep_most b;
+    passed = λ p q o n. true≢false (sym (has_open net s b p k q o) ∙ n);
+  }
+
+  -- ---- a port is passed that has no capacity
+  pub walk_pass : (have : Amount) (p : Port) (ps : List Port) (best : Option (Best Amount)) → IsLimited p.kind → is_positive (capacity net s b p) ≡ false → IsWalk net s b have (p ∷ ps) best → IsWalk net s b have ps best
+  walk_pass have p ps best c y w =
+      let z : AtMost (capacity_by net s b p.kind p.slot) zero_amount = positive-no (capacity net s b p) y in
+      record {
+        level = w.level;
+        low_most =
+            let back : ℕ → Port = backward_port (from_at net.pairs) in
+            let f : ℕ → Bool = λ j. not (has ps (back j)) && is_under best (s.label (from_at net.pairs j)) in
+            let g : ℕ → Bool = λ j. not (has (p ∷ ps) (back j)) && is_under best (s.label (from_at net.pairs j)) in
+            AtMost-trans (arcs net f s.flow b) (arcs net g s.flow b) (minus (supply net s b) have)
+            (arcs-most_or net f g s.flow b (λ j _ _ e.
+            let q = and_parts (not (has ps (back j))) (is_under best (s.label (from_at net.pairs j))) e in
+            elim (cases_Bool (same_port p (back j))) [
+              | inl t ↦ inr (shut_arc net s b p.kind p.slot j z t)
+              | inr n ↦ inl (and_from (not (has (p ∷ ps) (back j))) (is_under best (s.label (from_at net.pairs j))) (not_from_false (has (p ∷ ps) (back j)) (or_from (same_port p (back j)) (has ps (back j)) n (not-true (has ps (back j)) q.0))) q.1)
+            ]) k.flow)
+            w.low_most;
+        high_most = w.high_most;
+        passed = λ q iq oq n. elim (cases_Bool (same_port p q)) [
+          | inl t ↦ absurd (shut_port net s b p.kind q.kind p.slot q.slot c z t oq)
+          | inr m ↦ w.passed q iq oq (or_from (same_port p q) (has ps q) m n)
+        ];
+      }
+
+  -- ---- a port is passed whose label is read
+  pub walk_choose : (have read : Amount) (p : Port) (ps : List Port) (best : Option (Best Amount)) → IsPortOf net b p → IsReady net s b p.kind → IsWalk net s b have (p ∷ ps) best → IsWalk net s b have ps (Some (better best (record { port = p; capacity = read; label = end_label net s p })))
+  walk_choose have read p ps best ip r w =
+      let new : Best Amount = record { port = p; capacity = read; label = end_label net s p } in
+      let most = better-most best new in
+      let back : ℕ → Port = backward_port (from_at net.pairs) in
+      record {
+        level = level_better best new w.level (record { recorded = omega arith; near = near_new p.kind p.other p.slot ip r });
+        low_most =
+            let f : ℕ → Bool = λ j. not (has ps (back j)) && is_under (Some (better best new)) (s.label (from_at net.pairs j)) in
+            let g : ℕ → Bool = λ j. not (has (p ∷ ps) (back j)) && is_under best (s.label (from_at net.pairs j)) in
+            AtMost-trans (arcs net f s.flow b) (arcs net g s.flow b) (minus (supply net s b) have)
+            (arcs-most net f g s.flow s.flow b (λ j l at z.
+            let q = and_parts (not (has ps (back j))) (is_under (Some (better best new)) (s.label (from_at net.pairs j))) z in
+            elim (cases_Bool (same_port p (back j))) [
+              | inl y ↦
+                  let u = same_end_of net s b p (back j) ip (l, at, refl) y in
+                  let v = ltb-true (s.label (from_at net.pairs j)) (better best new).label q.1 in
+                  absurd (omega (arith, u, v, most))
+              | inr n ↦ and_from (not (has (p ∷ ps) (back j))) (is_under best (s.label (from_at net.pairs j))) (not_from_false (has (p ∷ ps) (back j)) (or_from (same_port p (back j)) (has ps (back j)) n (not-true (has ps (back j)) q.0))) (under_better best new (s.label (from_at net.pairs j)) q.1)
+            ]) (λ j. AtMost-refl (s.flow j)) k.flow)
+            w.low_most;
+        high_most = high_better best new w.high_most
+            (AtMost-trans (high net s b (Some new)) (steep net s b) (supply net s b)
+            (arcs-most net (λ j. nat_lt (label_by p.kind p.slot (end_label net s p) j (s.label (from_at net.pairs j)) + 1) (s.label b)) (λ j. nat_lt (s.label (from_at net.pairs j) + 1) (s.label b)) s.flow s.flow b (λ j _ _ z. rw (seen_new p.kind p.other p.slot j ip) at z) (λ j. AtMost-refl (s.flow j)) k.flow)
+            (h.steep_most b));
+        passed = λ q iq oq n. elim (cases_Bool (same_port p q)) [
+          | inl y ↦ let u = same_end_of net s b p q ip iq y in omega (arith, u, most)
+          | inr m ↦ above_better best new (end_label net s q) (w.passed q iq oq (or_from (same_port p q) (has ps q) m n))
+        ];
+      }

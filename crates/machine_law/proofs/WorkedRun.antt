@@ -1,0 +1,96 @@
+-- The machine of the definitions on a run worked by hand: blocks of worth 4, -1 and 4, of which the first and the last rest on
+-- the middle one. 140 steps, in which a push waits while others pass it, end quiet. The file stands by its last line: what is
+-- seen after each row of the run is what the row says.
+use Rattle.std.proofs.Common.{◌≡◌, ℕ, ℤ, pos, negsuc, true, false, ◌==◌, ◌&&◌, nat_lt, Option, Some, None, List, [], ◌∷◌, map, length, refl}
+use Rattle.ordered_group.specs.Amount.{Amount}
+use Rattle.closure_net.specs.Network.{NetView}
+use Rattle.closure_net.specs.Ports.{port_list}
+use Rattle.machine_law.specs.declared.events.Event.{Event}
+use Rattle.machine_law.specs.declared.events.Kind.{Kind}
+use Rattle.machine_law.specs.declared.events.Kind.TheVariants.{ReadExcess, ReadCapacity, ReadLabel, TakeCapacity, GiveCapacity, TakeExcess, GiveExcess, RaiseLabel}
+use Rattle.machine_law.specs.States.{State, put, opening}
+use Rattle.machine_law.specs.Steps.{next_kind, advance}
+use Rattle.machine_law.specs.Transit.{owed, coming, sum_on_way}
+use Rattle.machine_law.specs.Labels.{arcs, steep}
+
+abbrev number : Kind → ℕ
+number ReadExcess = 0
+number ReadCapacity = 1
+number ReadLabel = 2
+number TakeCapacity = 3
+number GiveCapacity = 4
+number TakeExcess = 5
+number GiveExcess = 6
+number RaiseLabel = 7
+
+abbrev whole : ℤ → Amount
+whole z = record { w = z; c = pos 0 }
+
+abbrev net : NetView
+net = record { pairs = (0, 1) ∷ (2, 1) ∷ []; worths = whole (pos 4) ∷ whole (negsuc 0) ∷ whole (pos 4) ∷ [] }
+
+-- the state after these steps, if each is the one that is next
+abbrev follow : State → List Event → Option State
+follow s [] = Some s
+follow s (e ∷ es) = elim (number (next_kind net s e.block) == number e.kind && nat_lt e.block (length net.worths)) [ true ↦ follow (advance net s e.block) es | false ↦ None ]
+
+-- steps of one block, and what is seen after them
+record Row : Type 0 where
+  block : ℕ
+  kinds : List Kind
+  see : State → List ℤ
+  says : List ℤ
+
+abbrev row : ℕ → List Kind → (State → List ℤ) → List ℤ → Row
+row b ks see says = record { block = b; kinds = ks; see = see; says = says }
+
+abbrev label : ℕ → State → List ℤ
+label b s = pos (s.label b) ∷ []
+
+-- the flow of a pair, and the excess of a block
+abbrev flow : ℕ → ℕ → State → List ℤ
+flow k b s = (s.flow k).w ∷ (s.excess b).w ∷ []
+
+-- labels, excesses, flows, source amounts, the sink amount of block 1, what comes to it, what block 0 owes, what is steep at 1
+abbrev half_way : State → List ℤ
+half_way s = pos (s.label 0) ∷ pos (s.label 1) ∷ pos (s.label 2) ∷ (s.excess 0).w ∷ (s.excess 1).w ∷ (s.excess 2).w ∷ (s.flow 0).w ∷ (s.flow 1).w ∷ (s.source 0).w ∷ (s.source 1).w ∷ (s.source 2).w ∷ (s.sink 1).w ∷ (coming net s 1).w ∷ (owed (s.operation 1)).w ∷ (owed (s.operation 0)).w ∷ (steep net s 1).w ∷ pos s.steps ∷ []
+
+-- excesses, and the amounts of the flow
+abbrev at_the_end : State → List ℤ
+at_the_end s = (s.source 2).w ∷ (s.excess 0).w ∷ (s.excess 1).w ∷ (s.excess 2).w ∷ (s.flow 0).w ∷ (s.flow 1).w ∷ (s.source 0).w ∷ (s.sink 1).w ∷ pos s.steps ∷ []
+
+abbrev rows : List Row
+rows =
+    row 0 (ReadExcess ∷ ReadLabel ∷ ReadCapacity ∷ ReadLabel ∷ RaiseLabel ∷ []) (label 0) (pos 1 ∷ [])
+    ∷ row 0 (ReadExcess ∷ ReadLabel ∷ ReadCapacity ∷ ReadLabel ∷ []) (label 0) (pos 1 ∷ [])
+    ∷ row 2 (ReadExcess ∷ ReadLabel ∷ ReadCapacity ∷ ReadLabel ∷ RaiseLabel ∷ []) (label 2) (pos 1 ∷ [])
+    ∷ row 2 (ReadExcess ∷ ReadLabel ∷ ReadCapacity ∷ ReadLabel ∷ GiveCapacity ∷ TakeExcess ∷ GiveExcess ∷ []) (flow 1 1) (pos 4 ∷ pos 4 ∷ [])
+    ∷ row 1 (ReadExcess ∷ ReadCapacity ∷ ReadLabel ∷ ReadCapacity ∷ ReadCapacity ∷ ReadLabel ∷ RaiseLabel ∷ []) (label 1) (pos 1 ∷ [])
+    ∷ row 1 (ReadExcess ∷ ReadCapacity ∷ ReadLabel ∷ ReadCapacity ∷ ReadCapacity ∷ ReadLabel ∷ TakeCapacity ∷ TakeExcess ∷ GiveExcess ∷ []) (λ s. (s.sink 1).w ∷ (s.excess 1).w ∷ []) (pos 1 ∷ pos 3 ∷ [])
+    ∷ row 1 (ReadExcess ∷ ReadCapacity ∷ ReadCapacity ∷ ReadCapacity ∷ ReadLabel ∷ RaiseLabel ∷ []) (label 1) (pos 2 ∷ [])
+    ∷ row 1 (ReadExcess ∷ ReadCapacity ∷ ReadCapacity ∷ ReadCapacity ∷ ReadLabel ∷ TakeCapacity ∷ TakeExcess ∷ GiveExcess ∷ []) (flow 1 2) (pos 1 ∷ pos 3 ∷ [])
+    ∷ row 2 (ReadExcess ∷ ReadLabel ∷ ReadCapacity ∷ ReadLabel ∷ RaiseLabel ∷ []) (label 2) (pos 3 ∷ [])
+    ∷ row 2 (ReadExcess ∷ ReadLabel ∷ ReadCapacity ∷ ReadLabel ∷ GiveCapacity ∷ TakeExcess ∷ GiveExcess ∷ []) (flow 1 1) (pos 4 ∷ pos 3 ∷ [])
+    ∷ row 1 (ReadExcess ∷ ReadCapacity ∷ ReadCapacity ∷ ReadCapacity ∷ ReadLabel ∷ RaiseLabel ∷ []) (label 1) (pos 4 ∷ [])
+    ∷ row 0 (GiveCapacity ∷ []) half_way (pos 1 ∷ pos 4 ∷ pos 3 ∷ pos 4 ∷ pos 3 ∷ pos 0 ∷ pos 4 ∷ pos 4 ∷ pos 4 ∷ pos 0 ∷ pos 4 ∷ pos 1 ∷ pos 4 ∷ pos 0 ∷ pos 4 ∷ pos 4 ∷ pos 70 ∷ [])
+    ∷ row 0 (TakeExcess ∷ GiveExcess ∷ []) (λ s. (s.excess 0).w ∷ (s.excess 1).w ∷ []) (pos 0 ∷ pos 7 ∷ [])
+    ∷ row 1 (ReadExcess ∷ ReadCapacity ∷ ReadCapacity ∷ ReadLabel ∷ ReadCapacity ∷ ReadLabel ∷ TakeCapacity ∷ TakeExcess ∷ GiveExcess ∷ []) (flow 0 0) (pos 0 ∷ pos 4 ∷ [])
+    ∷ row 0 (ReadExcess ∷ ReadLabel ∷ ReadCapacity ∷ ReadLabel ∷ RaiseLabel ∷ []) (label 0) (pos 5 ∷ [])
+    ∷ row 0 (ReadExcess ∷ ReadLabel ∷ ReadCapacity ∷ ReadLabel ∷ GiveCapacity ∷ TakeExcess ∷ GiveExcess ∷ []) (flow 0 1) (pos 4 ∷ pos 7 ∷ [])
+    ∷ row 1 (ReadExcess ∷ ReadCapacity ∷ ReadCapacity ∷ ReadLabel ∷ ReadCapacity ∷ ReadLabel ∷ TakeCapacity ∷ TakeExcess ∷ GiveExcess ∷ []) (flow 1 2) (pos 0 ∷ pos 4 ∷ [])
+    ∷ row 1 (ReadExcess ∷ ReadCapacity ∷ ReadCapacity ∷ ReadLabel ∷ ReadCapacity ∷ RaiseLabel ∷ []) (label 1) (pos 6 ∷ [])
+    ∷ row 1 (ReadExcess ∷ ReadCapacity ∷ ReadCapacity ∷ ReadLabel ∷ ReadCapacity ∷ TakeCapacity ∷ TakeExcess ∷ GiveExcess ∷ []) (flow 0 0) (pos 1 ∷ pos 3 ∷ [])
+    ∷ row 0 (ReadExcess ∷ ReadLabel ∷ ReadCapacity ∷ ReadLabel ∷ RaiseLabel ∷ []) (label 0) (pos 6 ∷ [])
+    ∷ row 0 (ReadExcess ∷ ReadLabel ∷ ReadCapacity ∷ ReadLabel ∷ TakeCapacity ∷ TakeExcess ∷ GiveExcess ∷ []) (λ s. (s.source 0).w ∷ []) (pos 1 ∷ [])
+    ∷ row 2 (ReadExcess ∷ ReadLabel ∷ ReadCapacity ∷ ReadLabel ∷ RaiseLabel ∷ []) (label 2) (pos 6 ∷ [])
+    ∷ row 2 (ReadExcess ∷ ReadLabel ∷ ReadCapacity ∷ ReadLabel ∷ TakeCapacity ∷ TakeExcess ∷ GiveExcess ∷ []) at_the_end (pos 0 ∷ pos 0 ∷ pos 0 ∷ pos 0 ∷ pos 1 ∷ pos 0 ∷ pos 1 ∷ pos 1 ∷ pos 140 ∷ [])
+    ∷ []
+
+abbrev watch : Option State → List Row → List (List ℤ)
+watch o [] = []
+watch None (r ∷ rs) = []
+watch (Some s) (r ∷ rs) = elim (follow s (map (λ k. record { block = r.block; kind = k }) r.kinds)) [ None ↦ [] | Some t ↦ r.see t ∷ watch (Some t) rs ]
+
+as_worked_by_hand : watch (Some (opening net)) rows ≡ map (λ r. r.says) rows
+unfolding put arcs sum_on_way port_list
+as_worked_by_hand = refl

@@ -1,0 +1,13 @@
+pub mod States
+pub mod Operations
+pub mod Residual
+pub mod Reads
+pub mod Steps
+pub mod Transit
+pub mod Amounts
+pub mod Table
+pub mod Balances
+pub mod Labels
+pub mod Law
+pub mod Quiet
+pub mod Conservation

@@ -1,0 +1,39 @@
+-- What a block does next, by what it read.
+use Rattle.std.specs.Prelude.{ℕ, ◌+◌, nat_lt, Bool, if◌then◌else◌, Option, Some, None}
+use Rattle.ordered_group.specs.Amount.{Amount, zero_amount}
+use Rattle.closure_net.specs.Ports.{is_below}
+use Rattle.closure_net.specs.declared.ports.Port.{Port}
+use Rattle.machine_law.specs.declared.operations.Best.{Best}
+use Rattle.machine_law.specs.declared.operations.Operation.{Operation}
+use Rattle.machine_law.specs.declared.operations.Operation.TheVariants.{Idle, Scan, PushDue, RaiseDue}
+
+-- x is greater than zero
+abbrev pub is_positive : Amount → Bool
+is_positive x = is_below zero_amount x
+
+-- after its excess is read: where it is positive, the block looks at its ports from the first on
+abbrev pub begun : Amount → Operation Amount
+begun excess = if is_positive excess then Scan excess 0 None None else Idle
+
+-- The best port, with one more: that with the lesser label, and the earlier one where the labels are equal.
+abbrev pub better : {N : Type 0} → Option (Best N) → Best N → Best N
+better None new = new
+better (Some best) new = if nat_lt new.label best.label then new else best
+
+-- After the last port is passed: a push is due where the block stands above the best port, and otherwise a raise. Where no
+-- port was best, the operation ends.
+abbrev pub ended : {N : Type 0} → ℕ → N → Option (Best N) → Operation N
+ended label have None = Idle
+ended label have (Some best) = if nat_lt best.label label then PushDue have best else RaiseDue have best
+
+-- after the port at this place of so many is passed, where the block has this label
+abbrev pub passed : {N : Type 0} → ℕ → ℕ → N → ℕ → Option (Best N) → Operation N
+passed count label have place best = if nat_lt (place + 1) count then Scan have (place + 1) None best else ended label have best
+
+-- after the capacity of the port at this place is read: where it is zero, the port is passed
+abbrev pub seen : ℕ → ℕ → Amount → ℕ → Option (Best Amount) → Amount → Operation Amount
+seen count label have place best capacity = if is_positive capacity then Scan have place (Some capacity) best else passed count label have place best
+
+-- after the label beyond the port at this place is read: the port may become the best one, and it is passed
+abbrev pub chosen : {N : Type 0} → ℕ → ℕ → N → ℕ → Option (Best N) → N → Port → ℕ → Operation N
+chosen count label have place best capacity port beyond = passed count label have place (Some (better best (record { port = port; capacity = capacity; label = beyond })))

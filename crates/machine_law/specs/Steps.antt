@@ -1,0 +1,144 @@
+-- The steps of the machine (Hong 2008) as what a block's operation leads to, and runs. `Table` has the same by the kind of step.
+use Rattle.std.specs.Prelude.{◌≡◌, ℕ, ◌+◌, ◌<◌, Option, Some, None, List, [], ◌∷◌, length, slice_get}
+use Rattle.ordered_group.specs.Amount.{Amount, zero_amount, plus, minus, least}
+use Rattle.closure_net.specs.Network.{NetView}
+use Rattle.closure_net.specs.Ports.{ports}
+use Rattle.closure_net.specs.declared.ports.Port.{Port}
+use Rattle.closure_net.specs.declared.ports.PortKind.{PortKind}
+use Rattle.closure_net.specs.declared.ports.PortKind.TheVariants.{Sink, Forward, Backward, Source}
+use Rattle.machine_law.specs.declared.events.Event.{Event}
+use Rattle.machine_law.specs.declared.events.Kind.{Kind}
+use Rattle.machine_law.specs.declared.events.Kind.TheVariants.{ReadExcess, ReadCapacity, ReadLabel, TakeCapacity, GiveCapacity, TakeExcess, GiveExcess, RaiseLabel}
+use Rattle.machine_law.specs.declared.operations.Best.{Best}
+use Rattle.machine_law.specs.declared.operations.Operation.{Operation}
+use Rattle.machine_law.specs.declared.operations.Operation.TheVariants.{Idle, Scan, PushDue, TakeDue, GiveDue, RaiseDue}
+use Rattle.machine_law.specs.States.{State, put}
+use Rattle.machine_law.specs.Residual.{capacity, end_label}
+use Rattle.machine_law.specs.Reads.{begun, seen, chosen}
+
+-- ---- which kind of step is next
+
+-- at a port whose capacity isn't read: its capacity, but for a forward port, which is unlimited
+abbrev pub read_kind : PortKind → Kind
+read_kind Sink = ReadCapacity
+read_kind Forward = ReadLabel
+read_kind Backward = ReadCapacity
+read_kind Source = ReadCapacity
+
+-- the same at a place of the list of ports
+abbrev pub read_kind_at : Option Port → Kind
+read_kind_at None = ReadLabel
+read_kind_at (Some port) = read_kind port.kind
+
+-- where a push over a port is due
+abbrev pub push_kind : PortKind → Kind
+push_kind Sink = TakeCapacity
+push_kind Forward = GiveCapacity
+push_kind Backward = TakeCapacity
+push_kind Source = TakeCapacity
+
+-- the kind that is next for b, which has this operation
+abbrev pub next_of : NetView → ℕ → Operation Amount → Kind
+next_of net b Idle = ReadExcess
+next_of net b (Scan have place None best) = read_kind_at (slice_get (ports net b) place)
+next_of net b (Scan have place (Some read) best) = ReadLabel
+next_of net b (PushDue have best) = push_kind best.port.kind
+next_of net b (TakeDue amount port) = TakeExcess
+next_of net b (GiveDue amount port) = GiveExcess
+next_of net b (RaiseDue have best) = RaiseLabel
+
+-- the kind of step that is next for b
+abbrev pub next_kind : NetView → State → ℕ → Kind
+next_kind net s b = next_of net b (s.operation b)
+
+-- ---- what a step leaves
+
+-- every step gives the block an operation, and adds one to the number of steps
+abbrev pub becomes : State → ℕ → Operation Amount → State
+becomes s b operation = record s { operation = put s.operation b operation; steps = s.steps + 1 }
+
+-- the operation after a read at a port whose capacity isn't read: of its capacity, or of the label beyond a forward one
+abbrev pub looked_by : NetView → State → ℕ → Amount → ℕ → Option (Best Amount) → Port → PortKind → Operation Amount
+looked_by net s b have place best port Sink = seen (length (ports net b)) (s.label b) have place best (capacity net s b port)
+looked_by net s b have place best port Forward = chosen (length (ports net b)) (s.label b) have place best zero_amount port (end_label net s port)
+looked_by net s b have place best port Backward = seen (length (ports net b)) (s.label b) have place best (capacity net s b port)
+looked_by net s b have place best port Source = seen (length (ports net b)) (s.label b) have place best (capacity net s b port)
+
+-- the same at a place of the list of ports
+abbrev pub looked : NetView → State → ℕ → Amount → ℕ → Option (Best Amount) → Option Port → Operation Amount
+looked net s b have place best None = Idle
+looked net s b have place best (Some port) = looked_by net s b have place best port port.kind
+
+-- the operation after a read of the label beyond a port whose capacity was read
+abbrev pub weighed : NetView → State → ℕ → Amount → ℕ → Option (Best Amount) → Amount → Option Port → Operation Amount
+weighed net s b have place best read None = Idle
+weighed net s b have place best read (Some port) = chosen (length (ports net b)) (s.label b) have place best read port (end_label net s port)
+
+-- the amount of a push over a port of this kind: what there is, at most the capacity that was read
+abbrev pub push_amount : Amount → PortKind → Amount → Amount
+push_amount have Sink read = least have read
+push_amount have Forward read = have
+push_amount have Backward read = least have read
+push_amount have Source read = least have read
+
+-- the capacity step of a push of d over a port of this kind
+abbrev pub pushed_by : State → ℕ → Amount → Port → PortKind → State
+pushed_by s b d port Sink = record (becomes s b (TakeDue d port)) { sink = put s.sink b (plus (s.sink b) d) }
+pushed_by s b d port Forward = record (becomes s b (TakeDue d port)) { flow = put s.flow port.slot (plus (s.flow port.slot) d) }
+pushed_by s b d port Backward = record (becomes s b (TakeDue d port)) { flow = put s.flow port.slot (minus (s.flow port.slot) d) }
+pushed_by s b d port Source = record (becomes s b (TakeDue d port)) { source = put s.source b (minus (s.source b) d) }
+
+abbrev pub pushed : State → ℕ → Amount → Port → State
+pushed s b d port = pushed_by s b d port port.kind
+
+-- d is taken out of the excess of b
+abbrev pub taken : State → ℕ → Amount → Port → State
+taken s b d port = record (becomes s b (GiveDue d port)) { excess = put s.excess b (minus (s.excess b) d) }
+
+-- d arrives over a port of this kind
+abbrev pub given_by : State → ℕ → Amount → Port → PortKind → State
+given_by s b d port Sink = record (becomes s b Idle) { at_sink = plus s.at_sink d }
+given_by s b d port Forward = record (becomes s b Idle) { excess = put s.excess port.other (plus (s.excess port.other) d) }
+given_by s b d port Backward = record (becomes s b Idle) { excess = put s.excess port.other (plus (s.excess port.other) d) }
+given_by s b d port Source = record (becomes s b Idle) { at_source = plus s.at_source d }
+
+abbrev pub given : State → ℕ → Amount → Port → State
+given s b d port = given_by s b d port port.kind
+
+-- b rises to one above the label that was read at the best port
+abbrev pub raised : State → ℕ → Best Amount → State
+raised s b best = record (becomes s b Idle) { label = put s.label b (best.label + 1) }
+
+-- the state after the step that is next for b, which has this operation
+abbrev pub advance_by : NetView → State → ℕ → Operation Amount → State
+-- ReadExcess
+advance_by net s b Idle = becomes s b (begun (s.excess b))
+-- ReadCapacity, or ReadLabel beyond a forward port
+advance_by net s b (Scan have place None best) = becomes s b (looked net s b have place best (slice_get (ports net b) place))
+-- ReadLabel
+advance_by net s b (Scan have place (Some read) best) = becomes s b (weighed net s b have place best read (slice_get (ports net b) place))
+-- TakeCapacity or GiveCapacity
+advance_by net s b (PushDue have best) = pushed s b (push_amount have best.port.kind best.capacity) best.port
+-- TakeExcess
+advance_by net s b (TakeDue d port) = taken s b d port
+-- GiveExcess
+advance_by net s b (GiveDue d port) = given s b d port
+-- RaiseLabel
+advance_by net s b (RaiseDue have best) = raised s b best
+
+-- the state after the step that is next for b
+abbrev pub advance : NetView → State → ℕ → State
+advance net s b = advance_by net s b (s.operation b)
+
+-- ---- steps and runs
+
+-- a step from s to t
+pub record Step (net : NetView) (s : State) (e : Event) (t : State) : Type 0 where
+  pub block : e.block < length net.worths
+  pub kind : next_kind net s e.block ≡ e.kind
+  pub after : t ≡ advance net s e.block
+
+-- a list of steps, one after the other, of any blocks in any order
+abbrev pub Run : NetView → State → List Event → State → Type 0
+Run net s [] t = t ≡ s
+Run net s (e ∷ es) t = (u : State) × Step net s e u × Run net u es t

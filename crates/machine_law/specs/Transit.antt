@@ -1,0 +1,89 @@
+-- What is on its way between blocks: it is stored nowhere, but is a sum over the operations.
+use Rattle.std.specs.Prelude.{ℕ, ◌==◌, length}
+use Rattle.ordered_group.specs.Amount.{Amount, zero_amount, minus, positive}
+use Rattle.ordered_group.specs.Sums.{total, where_so, at_end, amount_at}
+use Rattle.prec_file.specs.Rests.{from_at, to_at}
+use Rattle.closure_net.specs.Network.{NetView}
+use Rattle.closure_net.specs.declared.ports.Port.{Port}
+use Rattle.closure_net.specs.declared.ports.PortKind.{PortKind}
+use Rattle.closure_net.specs.declared.ports.PortKind.TheVariants.{Sink, Forward, Backward, Source}
+use Rattle.machine_law.specs.declared.operations.Operation.{Operation}
+use Rattle.machine_law.specs.declared.operations.Operation.TheVariants.{Idle, Scan, PushDue, TakeDue, GiveDue, RaiseDue}
+use Rattle.machine_law.specs.States.{State}
+
+-- what a block's own push has yet to take out of its excess
+abbrev pub owed : Operation Amount → Amount
+owed Idle = zero_amount
+owed (Scan have place read best) = zero_amount
+owed (PushDue have best) = zero_amount
+owed (TakeDue d port) = d
+owed (GiveDue d port) = zero_amount
+owed (RaiseDue have best) = zero_amount
+
+-- what counts of a push that has made its capacity step and has not arrived, where f says what counts of an amount over a port
+abbrev pub on_way : (Port → Amount → Amount) → Operation Amount → Amount
+on_way f Idle = zero_amount
+on_way f (Scan have place read best) = zero_amount
+on_way f (PushDue have best) = zero_amount
+on_way f (TakeDue d port) = f port d
+on_way f (GiveDue d port) = f port d
+on_way f (RaiseDue have best) = zero_amount
+
+-- the same, over the operations of all blocks
+unfoldable pub sum_on_way : NetView → (Port → Amount → Amount) → (ℕ → Operation Amount) → Amount
+sum_on_way net f operation = total (λ b. on_way f (operation b)) (length net.worths)
+
+-- by the kind of port, what of d goes into block x, to the sink, and to the source
+abbrev pub lands_by : PortKind → ℕ → ℕ → Amount → Amount
+lands_by Sink other x d = zero_amount
+lands_by Forward other x d = where_so (other == x) d
+lands_by Backward other x d = where_so (other == x) d
+lands_by Source other x d = zero_amount
+
+abbrev pub into_sink_by : PortKind → Amount → Amount
+into_sink_by Sink d = d
+into_sink_by Forward d = zero_amount
+into_sink_by Backward d = zero_amount
+into_sink_by Source d = zero_amount
+
+abbrev pub into_source_by : PortKind → Amount → Amount
+into_source_by Sink d = zero_amount
+into_source_by Forward d = zero_amount
+into_source_by Backward d = zero_amount
+into_source_by Source d = d
+
+-- the same of a port
+abbrev pub lands : ℕ → Port → Amount → Amount
+lands x port d = lands_by port.kind port.other x d
+
+abbrev pub into_sink : Port → Amount → Amount
+into_sink port d = into_sink_by port.kind d
+
+abbrev pub into_source : Port → Amount → Amount
+into_source port d = into_source_by port.kind d
+
+-- the amounts of all pushes into x that have made their capacity step and have not arrived
+abbrev pub coming : NetView → State → ℕ → Amount
+coming net s x = sum_on_way net (lands x) s.operation
+
+-- those of the pushes to the sink, and back to the source
+abbrev pub coming_to_sink : NetView → State → Amount
+coming_to_sink net s = sum_on_way net into_sink s.operation
+
+abbrev pub coming_to_source : NetView → State → Amount
+coming_to_source net s = sum_on_way net into_source s.operation
+
+-- what comes into block b over pairs, and what goes out of it
+unfoldable pub inflow : NetView → (ℕ → Amount) → ℕ → Amount
+inflow net flow b = at_end (to_at net.pairs) flow (length net.pairs) b
+
+unfoldable pub outflow : NetView → (ℕ → Amount) → ℕ → Amount
+outflow net flow b = at_end (from_at net.pairs) flow (length net.pairs) b
+
+-- what all blocks gave back to the source
+unfoldable pub given_back : NetView → (ℕ → Amount) → Amount
+given_back net source = total (λ b. minus (positive (amount_at net.worths b)) (source b)) (length net.worths)
+
+-- what all blocks gave the sink
+unfoldable pub drained : NetView → (ℕ → Amount) → Amount
+drained net sink = total sink (length net.worths)

@@ -1,0 +1,31 @@
+//! The steps of a run.
+
+/// The kinds of step. Each reads or writes one number that several blocks may share.
+#[derive(Clone, Copy, Debug, PartialEq, Eq)]
+pub enum Kind {
+    /// A block without an operation reads its excess, and begins one where that is positive.
+    ReadExcess,
+    /// The capacity of the present port is read.
+    ReadCapacity,
+    /// The label at the other end of the present port is read.
+    ReadLabel,
+    /// A push lowers the capacity that it uses.
+    TakeCapacity,
+    /// A push to a block that is rested on raises the flow of the pair.
+    GiveCapacity,
+    /// A push takes its amount out of the block's excess.
+    TakeExcess,
+    /// A push gives its amount to the block at the other end, the sink or the source.
+    GiveExcess,
+    /// The block's label is raised.
+    RaiseLabel,
+}
+
+/// A step of a run: the block that makes it, and its kind.
+#[derive(Clone, Copy, Debug, PartialEq, Eq)]
+pub struct Event {
+    /// The block.
+    pub block: u32,
+    /// The kind of step.
+    pub kind: Kind,
+}

@@ -1,0 +1,20 @@
+//! Hong's asynchronous push-relabel machine (Hong, A lock-free multi-threaded algorithm for the maximum
+//! flow problem, 2008) in single atomic steps, as definitions and laws: what a state of it is, which step
+//! is next for a block and what it leaves, and what holds after every interleaving of steps.
+//!
+//! In the definitions `Table` has the steps as a table, `Steps` the same as a function of a block's
+//! operation, which code can follow, and `Reads` what a block does next by what it read. `Amounts`,
+//! `Balances` and `Labels` have what holds after every step.
+//!
+//! Stands on `ordered_group`, `prec_file` and `closure_net`. Promises upward: the types of an operation
+//! and of an event; definitions of one state over functions, so that vectors as well as words shared
+//! by threads can show it; and in `laws` that each step keeps what holds, that nothing is lost, and that
+//! a run which ends quiet leaves a greatest flow, over amounts of any size and in any order of steps.
+#![tactic(auto)]
+
+mod events;
+pub mod laws;
+mod operations;
+
+pub use events::{Event, Kind};
+pub use operations::{Best, Operation};
