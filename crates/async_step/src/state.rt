@@ -14,7 +14,7 @@ ghost use Rattle.async_step.specs.Answers.{IsStateOf, IsWaiting};
 use crate::marks::Marks;
 use crate::opening::{busy_marks, idle_operations, positives, waiting_marks, zeros};
 use crate::tests_of_amounts::{is_busy, is_waiting};
-use closure_net::{Flow, Net};
+use closure_net::{Carried, Flow, Net};
 use machine_law::Operation;
 use ordered_group::OrderedGroup;
 use std::alloc::{AllocError, Global};
@@ -212,7 +212,7 @@ impl<G: OrderedGroup> State<G> {
             waiting: _,
             busy: _,
         } = self;
-        Ok(Flow::new(source, flow, sink))
+        Ok(Flow::new(source, Carried::from_list(flow), sink))
     }
 
     /// Whether no further step is made.

@@ -15,6 +15,6 @@ returns g c =
       (c.quiet.ensures c.args._net.now (sym c.requires.blocks)).0 c.if-not-quiet.false,
       flow_of c.args._net.now c.args.self c.new.result c.requires c.len-sized.ensures.sized
           (ap (λ (x : FlowView). x.source) e ∙ ap (λ (w : StateView). w.source) k)
-          (ap (λ (x : FlowView). x.rest) e ∙ ap (λ (w : StateView). w.flow) k)
+          (ap (λ (x : FlowView). x.rest) e ∙ c.from_list.ensures ∙ ap (λ (w : StateView). w.flow) k)
           (ap (λ (x : FlowView). x.sink) e ∙ ap (λ (w : StateView). w.sink) k),
     )
