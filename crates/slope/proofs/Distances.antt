@@ -1,0 +1,58 @@
+-- How far the offsets of a cone's level reach.
+use Rattle.std.proofs.Common.{◌≡◌, ℕ, ◌+◌, ◌*◌, ◌/◌, ◌^◌, ◌<◌, ◌≤◌, ◌⊎◌, inl, inr, ℤ, pos, sym, refl, ap, subst, ◌∙◌, arith, unsigned_abs}
+use Rattle.std.proofs.lemmas.Nat.{mul-le, mul-lt}
+use Rattle.std.proofs.lemmas.Bool.{cases_lt}
+use Rattle.std.proofs.Math.Nat.{mul_comm, mul-mul-mul_comm, mul-le-mul_left, div-lt_iff_lt-mul, div-le_of_le-mul}
+use Rattle.slope.specs.Offsets.{Offset}
+use Rattle.slope.specs.Patterns.{IsNear, square}
+use Rattle.slope.specs.Cones.{IsLevel}
+
+-- what the test of a distance computes has 64 bits
+pub distance_fits : (r a b : ℕ) → r ≤ 1000 → a ≤ 1000000 → b ≤ 1000000 → r * r * (a * a + b * b) < 2 ^ 64
+distance_fits r a b h k l =
+    let rr : r * r ≤ 1000000 = mul-le r r 1000 1000 h h in
+    let aa : a * a ≤ 1000000000000 = mul-le a a 1000000 1000000 k k in
+    let bb : b * b ≤ 1000000000000 = mul-le b b 1000000 1000000 l l in
+    let all : r * r * (a * a + b * b) ≤ 2000000000000000000 = mul-le (r * r) (a * a + b * b) 1000000 2000000000000 rr (omega arith) in
+    omega arith
+
+pub reach_small : (k n r : ℕ) → k ≤ 1000 → n ≤ 1000 → 1 ≤ r → k * n / r ≤ 1000000
+reach_small k n r h l s =
+    let kn : k * n ≤ 1000000 = mul-le k n 1000 1000 h l in
+    let up : 1 * 1000000 ≤ r * 1000000 = mul-le 1 1000000 r 1000000 s (omega arith) in
+    let most : k * n ≤ r * 1000000 = omega arith in
+    div-le_of_le-mul r most
+
+-- a side of a right triangle is at most its longest side
+within : (k n r a b : ℕ) → 1 ≤ r → r * r * (a * a + b * b) ≤ k * k * (n * n) → b ≤ k * n / r
+within k n r a b s h = elim (cases_lt (k * n / r) b) [
+  | inl far ↦
+    let wide : k * n < b * r = (div-lt_iff_lt-mul {k = r} {x = k * n} {y = b} s).0 far in
+    let squares : (k * n) * (k * n) < (b * r) * (b * r) = mul-lt (k * n) (k * n) (b * r) (b * r) wide wide in
+    let left : k * k * (n * n) ≡ (k * n) * (k * n) = mul-mul-mul_comm k k n n in
+    let right : r * r * (b * b) ≡ (b * r) * (b * r) = mul_comm (r * r) (b * b) ∙ mul-mul-mul_comm b b r r in
+    let part : r * r * (b * b) ≤ r * r * (a * a + b * b) = mul-le-mul_left (r * r) (omega arith) in
+    absurd (omega (arith, squares, left, right, part, h))
+  | inr near ↦ near
+]
+
+level_square : (o : Offset) (k : ℕ) → o.2 ≡ pos k → square o.2 ≡ k * k
+level_square o k e = ap square e
+
+pub near_second : (k reach run rise : ℕ) (o : Offset) → IsLevel k reach run rise → IsNear run rise o → o.2 ≡ pos k → unsigned_abs o.1 ≤ reach
+near_second k reach run rise o l h e =
+    let P : ℕ → Type 0 = λ x. rise * rise * (square o.0 + square o.1) ≤ x * (run * run) in
+    let Q : ℕ → Type 0 = λ x. unsigned_abs o.1 ≤ x in
+    subst Q (sym l.furthest) (within k run rise (unsigned_abs o.0) (unsigned_abs o.1) l.some_rise (subst P (level_square o k e) h))
+
+pub near_first : (k reach run rise : ℕ) (o : Offset) → IsLevel k reach run rise → IsNear run rise o → o.2 ≡ pos k → unsigned_abs o.0 ≤ reach
+near_first k reach run rise o l h e =
+    let P : ℕ → Type 0 = λ x. rise * rise * (square o.0 + square o.1) ≤ x * (run * run) in
+    let Q : ℕ → Type 0 = λ x. unsigned_abs o.0 ≤ x in
+    let turned : rise * rise * (square o.1 + square o.0) ≤ k * k * (run * run) =
+    let R : ℕ → Type 0 = λ x. rise * rise * x ≤ k * k * (run * run) in
+    subst R (omega arith) (subst P (level_square o k e) h) in
+    subst Q (sym l.furthest) (within k run rise (unsigned_abs o.1) (unsigned_abs o.0) l.some_rise turned)
+
+pub level_reach : (k reach run rise : ℕ) → IsLevel k reach run rise → reach ≤ 1000000
+level_reach k reach run rise l = let P : ℕ → Type 0 = λ x. x ≤ 1000000 in subst P (sym l.furthest) (reach_small k run rise l.few_levels l.small_run l.some_rise)

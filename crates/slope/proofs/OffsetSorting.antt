@@ -1,0 +1,74 @@
+-- Sorting offsets, and dropping repeats.
+use Rattle.std.proofs.Common.{◌≡◌, ℕ, zero, suc, ◌<◌, ℤ, pos, ◌<ℤ◌, ◌&&◌, Bool, true, false, inl, inr, List, [], ◌∷◌, length, get_or, sym, refl, ap, subst, ◌∙◌, arith, Ordering}
+use Rattle.std.specs.declared.cmp.Ordering.TheVariants.{Less, Equal, Greater}
+use Rattle.std.specs.Ordering.{MatchOrdering, is_eq, ordering_then, int_cmp, int_eq, eq_by_cmp}
+use Rattle.std.specs.Cmp.{IsTotalOrder, IsEquivalence}
+use Rattle.std.specs.List.Sorted.{IsStrictlySortedBy}
+use Rattle.std.proofs.lemmas.Cmp.{int_ranked, then_total, on_total, int_cmp_total, eq_by_cmp_equiv}
+use Rattle.std.proofs.lemmas.Bool.{and_parts}
+use Rattle.std.proofs.lemmas.List.Elements.{All-from_recursion}
+use Rattle.slope.specs.Offsets.{Offset, IsRising, Before}
+
+abbrev pub offset_cmp : Offset → Offset → Ordering
+offset_cmp x y = ordering_then (ordering_then (int_cmp x.0 y.0) (int_cmp x.1 y.1)) (int_cmp x.2 y.2)
+
+abbrev pub offset_eq : Offset → Offset → Bool
+offset_eq x y = (int_eq x.0 y.0 && int_eq x.1 y.1) && int_eq x.2 y.2
+
+pub offsets_total : IsTotalOrder offset_cmp
+offsets_total = then_total (then_total (on_total (λ (o : Offset). o.0) int_cmp_total) (on_total (λ (o : Offset). o.1) int_cmp_total)) (on_total (λ (o : Offset). o.2) int_cmp_total)
+
+pub then_tie : (o p : Ordering) → (is_eq o && is_eq p) ≡ is_eq (ordering_then o p)
+then_tie Less p = refl
+then_tie Equal p = refl
+then_tie Greater p = refl
+
+pub offset_ties : (x y : Offset) → offset_eq x y ≡ eq_by_cmp offset_cmp x y
+offset_ties x y =
+    ap (λ t. t && int_eq x.2 y.2) (then_tie (int_cmp x.0 y.0) (int_cmp x.1 y.1))
+    ∙ then_tie (ordering_then (int_cmp x.0 y.0) (int_cmp x.1 y.1)) (int_cmp x.2 y.2)
+
+tied : (x y : ℤ) (o : Ordering) → MatchOrdering o (x <ℤ y) (x ≡ y) (y <ℤ x) → is_eq o ≡ true → x ≡ y
+tied x y Less h e = absurd cc
+tied x y Equal h e = h
+tied x y Greater h e = absurd cc
+
+pub same_number : (x y : ℤ) → int_eq x y ≡ true → x ≡ y
+same_number x y e = tied x y (int_cmp x y) (int_ranked x y _ refl) e
+
+pub offset_same : (x y : Offset) → offset_eq x y ≡ true → x ≡ y
+offset_same x y h =
+    let p = and_parts _ _ h in
+    let q = and_parts _ _ p.0 in
+    let a = same_number x.0 y.0 q.0 in
+    let b = same_number x.1 y.1 q.1 in
+    let d = same_number x.2 y.2 p.1 in
+    λ i. (a i, b i, d i)
+
+pub offsets_alike : IsEquivalence offset_eq
+offsets_alike =
+    let e : eq_by_cmp offset_cmp ≡ offset_eq = λ i x y. (sym (offset_ties x y)) i in
+    let P : (Offset → Offset → Bool) → Type 0 = λ f. IsEquivalence f in
+    subst P e (eq_by_cmp_equiv offsets_total)
+
+less_before : (x y : Offset) (o p q : Ordering) → MatchOrdering o (x.0 <ℤ y.0) (x.0 ≡ y.0) (y.0 <ℤ x.0) → MatchOrdering p (x.1 <ℤ y.1) (x.1 ≡ y.1) (y.1 <ℤ x.1) → MatchOrdering q (x.2 <ℤ y.2) (x.2 ≡ y.2) (y.2 <ℤ x.2) → ordering_then (ordering_then o p) q ≡ Less → Before x y
+less_before x y Less p q h k l e = inl h
+less_before x y Equal Less q h k l e = inr (h, inl k)
+less_before x y Equal Equal Less h k l e = inr (h, inr (k, l))
+less_before x y Equal Equal Equal h k l e = absurd cc
+less_before x y Equal Equal Greater h k l e = absurd cc
+less_before x y Equal Greater q h k l e = absurd cc
+less_before x y Greater p q h k l e = absurd cc
+
+before : (x y : Offset) → offset_cmp x y ≡ Less → Before x y
+before x y e = less_before x y (int_cmp x.0 y.0) (int_cmp x.1 y.1) (int_cmp x.2 y.2) (int_ranked x.0 y.0 _ refl) (int_ranked x.1 y.1 _ refl) (int_ranked x.2 y.2 _ refl) e
+
+rises : (os : List Offset) → IsStrictlySortedBy offset_cmp os → (i j : ℕ) (d : Offset) → i < j → j < length os → Before (get_or os i d) (get_or os j d)
+unfolding IsStrictlySortedBy
+rises [] s i j d h l = absurd (omega arith)
+rises (o ∷ os) s i zero d h l = absurd (omega arith)
+rises (o ∷ os) s zero (suc j) d h l = before o (get_or os j d) (All-from_recursion (λ y. offset_cmp o y ≡ Less) os s.0 j d (omega arith))
+rises (o ∷ os) s (suc i) (suc j) d h l = rises os s.1 i j d (omega arith) (omega arith)
+
+pub rising_from_sorted : (os : List Offset) → IsStrictlySortedBy offset_cmp os → IsRising os
+rising_from_sorted os s = record { rises = rises os s }

@@ -1,0 +1,158 @@
+-- The steps in which slope pairs are gathered.
+use Rattle.std.proofs.Common.{◌≡◌, ◌≢◌, ℕ, zero, ◌+◌, ◌<◌, ◌≤◌, ◌^◌, ◌⊎◌, inl, inr, ℤ, pos, ◌-ℤ◌, ◌<ℤ◌, List, [], ◌∷◌, ◌++◌, length, get_or, take, sym, refl, ap, subst, ◌∙◌, arith, Contains, All}
+use Rattle.std.proofs.lemmas.Int.{ints}
+use Rattle.std.proofs.lemmas.Bool.{cases_lt, cases_order}
+use Rattle.std.proofs.lemmas.List.{take_more, get_or_default, get_or-take, length-take-le}
+use Rattle.std.proofs.Math.Seq.{take-length}
+use Rattle.std.proofs.lemmas.List.Elements.{Contains-append_left, Contains-push, Contains-push_cases, All-contains}
+use Rattle.blocks_file.specs.Denotes.{BlocksView}
+use Rattle.prec_file.specs.Rests.{RestsView, KnownAt, ArePairsOf}
+use Rattle.slope.specs.Lists.{Collects, AreMoreThan}
+use Rattle.slope.specs.Offsets.{Offset, IsPattern, IsRising, IsUpward, Before}
+use Rattle.slope.specs.Places.{place_of, AreApartBelow}
+use Rattle.slope.specs.Slopes.{upward, offset_between, IsSlopePair, IsPairBelow, IsPairUpTo, PairFaultStands, PairRefusalStands, AreSlopes, SlopeFaultStands, IndexFaultStands}
+use Rattle.slope.specs.declared.up.Up.{Up}
+use Rattle.slope.specs.declared.up.Up.TheVariants.{PlusZ, MinusZ}
+use Rattle.slope.specs.declared.slope_fault.SlopeFault.{SlopeFault}
+use Rattle.slope.specs.declared.slope_fault.SlopeFault.TheVariants.{SamePlace, TooMany, NoMemory}
+use Rattle.slope.proofs.Gathering.{collected_same, collected_more, too_many}
+use Rattle.slope.proofs.Finding.{one_place}
+
+not_itself : (x : Offset) → Before x x → ⊥
+not_itself x (inl h) = omega (arith, ints, h)
+not_itself x (inr (e, inl h)) = omega (arith, ints, h)
+not_itself x (inr (e, inr (f, h))) = omega (arith, ints, h)
+
+-- an offset is none of those in front of it
+fresh : (os : List Offset) → IsRising os → (i : ℕ) (d : Offset) → i < length os → Contains (take i os) (get_or os i d) → ⊥
+fresh os r i d l (k, m, e) =
+    let x = get_or os i d in
+    let size = length-take-le i os (omega arith) in
+    let below : k < i = omega arith in
+    let same : get_or os k d ≡ x = get_or_default os k d x (omega arith) ∙ sym (get_or-take i os k x below) ∙ e in
+    not_itself x (subst (λ y. Before y x) same (r.rises k i d below l))
+
+module _ (m : BlocksView) (os : List Offset) (up : Up) (b : ℕ) (ps : List (ℕ × ℕ)) where
+  pub block_begun : Collects (IsPairBelow m os up b) ps → Collects (IsPairUpTo m os up b 0) ps
+  block_begun c = collected_same _ _ ps c
+    (λ q h. record { slope = h.slope; below = inl h.below })
+    (λ q h. record { slope = h.slope; below = elim h.below [ inl l ↦ l | inr k ↦ let n = k.1 in absurd (nothing n) ] })
+    where
+      nothing : {x : Offset} → Contains (take 0 os) x → ⊥
+      nothing k = omega (arith, k.1)
+
+  pub block_ended : (i : ℕ) → i ≡ length os → Collects (IsPairUpTo m os up b i) ps → Collects (IsPairBelow m os up (b + 1)) ps
+  block_ended i e c = collected_same _ _ ps c
+    (λ q h. record { slope = h.slope; below = elim h.below [ inl l ↦ omega (arith, l) | inr k ↦ let f = k.0 in omega (arith, f) ] })
+    (λ q h. record { slope = h.slope; below = elim (cases_lt q.0 b) [
+      | inl l ↦ inl l
+      | inr g ↦
+        let f : q.0 ≡ b = (let l = h.below in omega (arith, l, g)) in
+        let whole : take i os ≡ os = ap (λ j. take j os) e ∙ take-length os in
+        let at : Contains os (offset_between up (place_of m b) (place_of m q.1)) = subst (λ k. Contains os (offset_between up (place_of m k) (place_of m q.1))) f h.slope.offset in
+        inr (f, subst (λ xs. Contains xs (offset_between up (place_of m b) (place_of m q.1))) (sym whole) at)
+    ] })
+
+module _ (m : BlocksView) (os : List Offset) (up : Up) (b i : ℕ) (ps : List (ℕ × ℕ)) (d : Offset) (l : i < length os) (c : Collects (IsPairUpTo m os up b i) ps) where
+  longer : take (i + 1) os ≡ take i os ++ get_or os i d ∷ []
+  longer = take_more os i d l
+
+  kept : (x : Offset) → Contains (take i os) x → Contains (take (i + 1) os) x
+  kept x k = subst (λ xs. Contains xs x) (sym longer) (Contains-append_left (take i os) (get_or os i d ∷ []) x k)
+
+  still : (q : ℕ × ℕ) → IsPairUpTo m os up b i q → IsPairUpTo m os up b (i + 1) q
+  still q h = record { slope = h.slope; below = elim h.below [ inl f ↦ inl f | inr k ↦ inr (k.0, kept _ k.1) ] }
+
+  -- no block stands at the offset
+  pub offset_passed : ((p : ℕ) → p < m.blocks → offset_between up (place_of m b) (place_of m p) ≢ get_or os i d) → Collects (IsPairUpTo m os up b (i + 1)) ps
+  offset_passed n = collected_same _ _ ps c still (λ q h. record { slope = h.slope; below = elim h.below [
+    | inl f ↦ inl f
+    | inr k ↦ elim (Contains-push_cases (take i os) (get_or os i d) _ (subst (λ xs. Contains xs (offset_between up (place_of m b) (place_of m q.1))) longer k.1)) [
+      | inl f ↦ inr (k.0, f)
+      | inr e ↦ absurd (n q.1 h.slope.top (sym e))
+    ]
+  ] })
+
+  module _ (r : IsRising os) (apart : AreApartBelow m m.blocks) (p : ℕ) (known : b < m.blocks) (top : p < m.blocks) (at : offset_between up (place_of m b) (place_of m p) ≡ get_or os i d) where
+    not_yet : IsPairUpTo m os up b i (b, p) → ⊥
+    not_yet h = elim (h.below) [
+      | inl f ↦ omega (arith, f)
+      | inr k ↦ fresh os r i d l (subst (Contains (take i os)) at k.1)
+    ]
+
+    slope : IsSlopePair m os up (b, p)
+    slope = record { bottom = known; top = top; offset = subst (Contains os) (sym at) (i, l, get_or_default os i _ d l) }
+
+    one_block : (q : ℕ) → q < m.blocks → place_of m p ≡ place_of m q → p ≡ q
+    one_block q k e = elim (cases_order p q) [
+      | inl same ↦ same
+      | inr w ↦ elim w [ inl below ↦ absurd (apart p q below k e) | inr above ↦ absurd (apart q p above top (sym e)) ]
+    ]
+
+    before_or_here : (q : ℕ × ℕ) → IsPairUpTo m os up b (i + 1) q → IsPairUpTo m os up b i q ⊎ ((b, p) ≡ q)
+    before_or_here q h = elim h.below [
+      | inl f ↦ inl (record { slope = h.slope; below = inl f })
+      | inr k ↦ elim (Contains-push_cases (take i os) (get_or os i d) _ (subst (λ xs. Contains xs (offset_between up (place_of m b) (place_of m q.1))) longer k.1)) [
+        | inl f ↦ inl (record { slope = h.slope; below = inr (k.0, f) })
+        | inr e ↦
+          let u = sym k.0 in
+          let v = one_block q.1 h.slope.top (one_place up (place_of m b) (place_of m p) (place_of m q.1) (at ∙ e)) in
+          inr (λ j. (u j, v j))
+      ]
+    ]
+
+    pub offset_taken : Collects (IsPairUpTo m os up b (i + 1)) (ps ++ (b, p) ∷ [])
+    offset_taken = collected_more _ _ ps c (b, p) not_yet
+      (record { slope = slope; below = inr (refl, subst (λ xs. Contains xs (offset_between up (place_of m b) (place_of m p))) (sym longer) (subst (Contains (take i os ++ get_or os i d ∷ [])) (sym at) (Contains-push (take i os) (get_or os i d)))) })
+      still before_or_here
+
+    -- why the pair wasn't added
+    pub refused : (e : SlopeFault) → PairRefusalStands ps e → PairFaultStands m os up e
+    refused (SamePlace x y) h = h
+    refused TooMany h = too_many _ _ ps c (2 ^ 27) (b, p) not_yet slope (λ q f. f.slope) h
+    refused NoMemory h = tt
+
+pub pairs_ended : (m : BlocksView) (os : List Offset) (up : Up) (ps : List (ℕ × ℕ)) → Collects (IsPairBelow m os up m.blocks) ps → Collects (IsSlopePair m os up) ps
+pairs_ended m os up ps c = collected_same _ _ ps c (λ q h. h.slope) (λ q h. record { slope = h; below = h.bottom })
+
+pub none_below : (m : BlocksView) (os : List Offset) (up : Up) (q : ℕ × ℕ) → IsPairBelow m os up 0 q → ⊥
+none_below m os up q h = let l = h.below in omega (arith, l)
+
+level_height : (up : Up) (x : ℤ) → upward up (x -ℤ x) ≡ pos 0
+level_height PlusZ x = omega (arith, ints)
+level_height MinusZ x = omega (arith, ints)
+
+-- no block rests on itself
+pub no_loop : (m : BlocksView) (os : List Offset) (up : Up) → IsPattern os → (q : ℕ × ℕ) → IsSlopePair m os up q → q.0 ≡ q.1 → ⊥
+no_loop m os up pattern q h e =
+    let from = place_of m q.0 in
+    let at : Contains os (offset_between up from from) = subst (λ k. Contains os (offset_between up from (place_of m k))) (sym e) h.offset in
+    let high = All-contains IsUpward os _ pattern.upward at in
+    let flat = level_height up from.z in
+    omega (arith, ints, high, flat)
+
+-- the pairs that are gathered are of known blocks
+pub known_at : (m : BlocksView) (os : List Offset) (up : Up) (ps : List (ℕ × ℕ)) → Collects (IsSlopePair m os up) ps → (k : ℕ) → k < length ps → KnownAt m.blocks ps k
+known_at m os up ps c k l = let h = c.only (get_or ps k (0, 0)) (k, l, get_or_default ps k _ _ l) in (h.bottom, h.top)
+
+-- the pairs of a list of slope pairs are the slope pairs
+pub slopes_are : (m : BlocksView) (os : List Offset) (up : Up) (ps : List (ℕ × ℕ)) (rests : RestsView) → IsPattern os → AreApartBelow m m.blocks → Collects (IsSlopePair m os up) ps → rests.blocks ≡ m.blocks → ArePairsOf ps rests.pairs → AreSlopes m os up rests
+slopes_are m os up ps rests pattern apart c e h = record {
+  apart = apart;
+  blocks = e;
+  rising = h.rising;
+  held = λ q s. h.held q (c.held q s) (no_loop m os up pattern q s);
+  only = λ q k. c.only q ((h.only q k).0);
+}
+
+-- the fault of the pairs is the fault of the slopes, where the places are apart
+pub slope_fault : (m : BlocksView) (os : List Offset) (up : Up) (e : SlopeFault) → AreApartBelow m m.blocks → PairFaultStands m os up e → SlopeFaultStands m os up e
+slope_fault m os up (SamePlace b c) apart h = absurd h
+slope_fault m os up TooMany apart h = (apart, h)
+slope_fault m os up NoMemory apart h = tt
+
+-- so is the fault of the places
+pub place_fault : (m : BlocksView) (os : List Offset) (up : Up) (e : SlopeFault) → IndexFaultStands m e → SlopeFaultStands m os up e
+place_fault m os up (SamePlace b c) h = h
+place_fault m os up TooMany h = absurd h
+place_fault m os up NoMemory h = tt

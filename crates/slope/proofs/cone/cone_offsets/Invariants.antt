@@ -1,0 +1,7 @@
+use Rattle.std.proofs.Common.{◌≤◌, pos, length}
+use Rattle.slope.specs.Lists.{Collects}
+use Rattle.slope.specs.Cones.{IsBelowLevel}
+use Rattle.slope.proofs.cone.cone_offsets.Given as goal
+
+abbrev pub invariant-loop-number : goal.invariant-loop-number
+invariant-loop-number l = Collects (IsBelowLevel l.run l.rise (pos l.number)) l.offsets.items × (length l.offsets.items ≤ 4096)

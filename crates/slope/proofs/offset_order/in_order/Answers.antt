@@ -1,0 +1,17 @@
+use Rattle.std.proofs.lemmas.List.Filters.{dedup_is}
+use Rattle.std.proofs.lemmas.List.Kept.{Contains-dedup, Contains-from_dedup, IsStrictlySortedBy-dedup}
+use Rattle.std.proofs.lemmas.List.Sorted.{Contains-permutation, IsPermutation-sym}
+use Rattle.std.proofs.Common.{rules}
+use Rattle.slope.proofs.OffsetSorting.{offset_eq, offsets_total, offset_ties, offsets_alike, offset_same, rising_from_sorted}
+use Rattle.slope.proofs.offset_order.in_order.Goals as goal
+
+pub returns : goal.returns
+returns c =
+    let is = dedup_is offset_eq _ _ c.dedup.ensures.filtered in
+    let moved = c.sort_unstable.ensures.permutation in
+    record {
+      rising = rw is (rising_from_sorted _ (IsStrictlySortedBy-dedup offsets_total offset_ties _ c.sort_unstable.ensures.sorted));
+      held = λ o h. rw is (Contains-dedup offsets_alike offset_same _ o (Contains-permutation _ _ o moved h));
+      only = λ o h. Contains-permutation _ _ o (IsPermutation-sym _ _ moved) (Contains-from_dedup offset_eq _ o (rw is at h));
+      fewer = search rules;
+    }

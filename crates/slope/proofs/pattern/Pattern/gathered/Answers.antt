@@ -1,0 +1,23 @@
+use Rattle.std.proofs.Common.{◌≤◌, length, ap, arith, subst, sym, List, Contains, All}
+use Rattle.std.proofs.lemmas.List.Elements.{All-contains, All-contains_itself, All-weaker}
+use Rattle.slope.specs.Offsets.{Offset, IsUpward}
+use Rattle.slope.proofs.pattern.Pattern.gathered.Goals as goal
+
+pub invariant_of-result : goal.invariant_of-result
+invariant_of-result c =
+    let e = c.in_ok-from_slice.ensures.items in
+    let os = c.in_order-offsets.result.items in
+    record {
+      rising = c.in_order-offsets.ensures.rising;
+      upward = All-weaker (Contains os) IsUpward (λ o k. All-contains IsUpward c.args.listed.now o c.requires.upward (subst (λ (xs : List Offset). Contains xs o) e (c.in_order-offsets.ensures.only o k))) os (All-contains_itself os);
+      few = omega (arith, ap length e, c.in_order-offsets.ensures.fewer, c.requires.few);
+    }
+
+pub returns : goal.returns
+returns c =
+    let e = c.in_ok-from_slice.ensures.items in
+    record {
+      rising = c.in_order-offsets.ensures.rising;
+      held = λ o k. c.in_order-offsets.ensures.held o (subst (λ (xs : List Offset). Contains xs o) (sym e) k);
+      only = λ o k. subst (λ (xs : List Offset). Contains xs o) e (c.in_order-offsets.ensures.only o k);
+    }

@@ -1,0 +1,31 @@
+//! Slopes: which blocks must be dug before which, from where the blocks are.
+//!
+//! A pit's wall may not be steeper than the rock bears. A pattern says so for blocks: it lists the offsets from a block
+//! to those that must be dug before it. `rests_of` looks up, for each block of a model and each offset, the block that
+//! stands there.
+//!
+//! It stands on `blocks_file` for places and on `prec_file` for the pairs that it makes.
+//!
+//! Above it, callers may count on this: a pattern holds exactly the offsets of its definition, each once and in order;
+//! the pairs are exactly those of all pairs of blocks whose places differ by an offset, over whole numbers without
+//! bound; each fault is answered exactly where it stands. The time is that of a lookup for each block and each offset.
+#![tactic(auto)]
+
+mod cone;
+mod offset_order;
+mod offset_places;
+mod pattern;
+mod pattern_fault;
+mod place_index;
+mod resting;
+mod slope_fault;
+mod up;
+
+pub use pattern::Pattern;
+pub use pattern_fault::PatternFault;
+pub use resting::rests_of;
+pub use slope_fault::SlopeFault;
+pub use up::Up;
+
+#[cfg(test)]
+mod tests;

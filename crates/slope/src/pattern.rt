@@ -1,0 +1,142 @@
+//! Patterns of offsets.
+
+ghost use Rattle.std.specs.Prelude.{◌≡◌, ◌<◌, ◌≤◌, All, IfOk, List, MatchOption, MatchResult, Contains, length};
+ghost use Rattle.prec_file.specs.Rests.{IsFirstNot};
+ghost use Rattle.slope.specs.Offsets.{Offset, IsUpward, IsPattern, AreOffsets};
+ghost use Rattle.slope.specs.Patterns.{five_offsets, nine_offsets, IsInCone, UpwardAt, ListFaultStands, ConeFaultStands};
+
+use crate::PatternFault;
+use crate::cone::cone_offsets;
+use crate::offset_order::in_order;
+use std::alloc::{AllocError, Global};
+use std::marker::Model;
+
+/// The offsets from a block to those that it rests on: at most 4,096, each once and in order.
+///
+/// An offset has a number for each axis, and its third number, at least 1, counts levels upward.
+#[derive(Drop)]
+pub struct Pattern {
+    offsets: Vec<(i32, i32, i32)>,
+}
+
+impl Model for Pattern {
+    ghost Value = { List Offset };
+
+    ghost view = { λ p. p.offsets.items };
+
+    ghost invariant = { λ p. IsPattern p.offsets.items };
+}
+
+const MOST_OFFSETS: usize = 4_096;
+
+// The first offset that doesn't lead up.
+fn first_not_upward(listed: &[(i32, i32, i32)]) -> Option<usize>
+    ensures { MatchOption result (All IsUpward listed.now) (λ i. IsFirstNot (UpwardAt listed.now) (length listed.now) i) }
+{
+    for (i, offset) in listed.iter().enumerate() {
+        if offset.2 < 1 {
+            return Some(i);
+        }
+    }
+    None
+}
+
+impl Pattern {
+    // The pattern of few offsets that lead up.
+    fn gathered(alloc: Global, listed: &[(i32, i32, i32)]) -> Result<Pattern, AllocError>
+        requires upward { All IsUpward listed.now }
+        requires few { length listed.now ≤ 4096 }
+        ensures { IfOk result (AreOffsets (Contains listed.now)) }
+    {
+        let offsets = in_order(Vec::from_slice(alloc, listed)?);
+        Ok(Pattern { offsets })
+    }
+
+    /// The block above and the four that share a side with it, which is called 1:5.
+    ///
+    /// # Errors
+    /// `NoMemory`.
+    pub fn five(alloc: Global) -> Result<Pattern, PatternFault>
+        ensures { MatchResult result (AreOffsets (Contains five_offsets)) (λ e. e ≡ PatternFault.NoMemory) }
+    {
+        let listed = [(0, 0, 1), (1, 0, 1), (-1, 0, 1), (0, 1, 1), (0, -1, 1)];
+        match Pattern::gathered(alloc, &listed) {
+            Ok(pattern) => Ok(pattern),
+            Err(_) => Err(PatternFault::NoMemory),
+        }
+    }
+
+    /// The square of nine blocks above, which is called 1:9.
+    ///
+    /// # Errors
+    /// `NoMemory`.
+    pub fn nine(alloc: Global) -> Result<Pattern, PatternFault>
+        ensures { MatchResult result (AreOffsets (Contains nine_offsets)) (λ e. e ≡ PatternFault.NoMemory) }
+    {
+        let listed = [
+            (-1, -1, 1),
+            (-1, 0, 1),
+            (-1, 1, 1),
+            (0, -1, 1),
+            (0, 0, 1),
+            (0, 1, 1),
+            (1, -1, 1),
+            (1, 0, 1),
+            (1, 1, 1),
+        ];
+        match Pattern::gathered(alloc, &listed) {
+            Ok(pattern) => Ok(pattern),
+            Err(_) => Err(PatternFault::NoMemory),
+        }
+    }
+
+    /// A cone that opens upward by `run` for each `rise`: on each of so many levels above, the blocks whose distance
+    /// along the first two axes is at most level * run / rise.
+    ///
+    /// # Errors
+    /// `TooMany` for more than 4,096 offsets, and `NoMemory`.
+    pub fn cone(alloc: Global, levels: u32, run: u32, rise: u32) -> Result<Pattern, PatternFault>
+        requires levels { (1 ≤ levels) × (levels ≤ 1000) }
+        requires run { (1 ≤ run) × (run ≤ 1000) }
+        requires rise { (1 ≤ rise) × (rise ≤ 1000) }
+        ensures { MatchResult result (AreOffsets (IsInCone levels run rise)) (ConeFaultStands levels run rise) }
+    {
+        match cone_offsets(alloc, levels, run, rise) {
+            Ok(listed) => Ok(Pattern {
+                offsets: in_order(listed),
+            }),
+            Err(fault) => Err(fault),
+        }
+    }
+
+    /// The offsets of a list, which may be empty; repeats are dropped.
+    ///
+    /// # Errors
+    /// In this order: `NotUpward` with the place of the first offset whose third number isn't at least 1, `TooMany` for
+    /// more than 4,096 listed offsets, and `NoMemory`.
+    pub fn custom(alloc: Global, listed: &[(i32, i32, i32)]) -> Result<Pattern, PatternFault>
+        ensures { MatchResult result
+            (λ p. All IsUpward listed.now × (length listed.now ≤ 4096) × AreOffsets (Contains listed.now) p)
+            (ListFaultStands listed.now) }
+    {
+        match first_not_upward(listed) {
+            Some(place) => return Err(PatternFault::NotUpward(place)),
+            None => {}
+        }
+        if listed.len() > MOST_OFFSETS {
+            return Err(PatternFault::TooMany);
+        }
+        match Pattern::gathered(alloc, listed) {
+            Ok(pattern) => Ok(pattern),
+            Err(_) => Err(PatternFault::NoMemory),
+        }
+    }
+
+    /// The offsets, in order.
+    pub fn offsets(&self) -> &[(i32, i32, i32)]
+        ensures is { result.now ≡ self.now }
+        ensures all { IsPattern self.now }
+    {
+        &self.offsets
+    }
+}
