@@ -8,3 +8,4 @@ pub mod Engines
 pub mod Statuses
 pub mod Verdicts
 pub mod Judging
+pub mod Slopes

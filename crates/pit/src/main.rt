@@ -12,6 +12,9 @@ mod fault_lines;
 mod inputs;
 mod judgements;
 mod judging;
+mod pattern_choice;
+mod slope_pairs;
+mod slopes;
 mod stored_run;
 #[cfg(test)]
 mod tests;
