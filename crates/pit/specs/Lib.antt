@@ -9,3 +9,4 @@ pub mod Statuses
 pub mod Verdicts
 pub mod Judging
 pub mod Slopes
+pub mod PatternWords
