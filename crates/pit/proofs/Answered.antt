@@ -28,6 +28,8 @@ at_fault u p c old new (engine.Upit q) k = k
 at_fault u p c old new (engine.Prec q) k = k
 at_fault u p c old new (engine.Model q) k = k
 at_fault u p c old new (engine.Certificate q) k = k
+at_fault u p c old new (engine.Blocks q) k = k
+at_fault u p c old new (engine.Slope q) k = k
 at_fault u p c old new engine.Memory k = k
 at_fault u p c old new engine.Device k = inl k
 
@@ -52,6 +54,8 @@ text_stands u p c values rests (engine.Model q) a h = absurd h
 text_stands u p c values rests (engine.Certificate problem.InputTooLong) a h = (rests.blocks, a.mine, h)
 text_stands u p c values rests (engine.Certificate problem.WrongPrice) a h = absurd h
 text_stands u p c values rests (engine.Certificate (problem.Fault f)) a h = absurd h
+text_stands u p c values rests (engine.Blocks q) a h = absurd h
+text_stands u p c values rests (engine.Slope q) a h = absurd h
 text_stands u p c values rests engine.Memory a h = tt
 text_stands u p c values rests engine.Device a h = tt
 
@@ -88,6 +92,8 @@ line_failed u p c old new j (engine.Upit q) h k = absurd k
 line_failed u p c old new j (engine.Prec q) h k = absurd k
 line_failed u p c old new j (engine.Model q) h k = absurd k
 line_failed u p c old new j (engine.Certificate q) h k = absurd k
+line_failed u p c old new j (engine.Blocks q) h k = absurd k
+line_failed u p c old new j (engine.Slope q) h k = absurd k
 line_failed u p c old new j engine.Memory h k = (tt, k)
 line_failed u p c old new j engine.Device h k = (tt, inr (j, h, k))
 

@@ -21,6 +21,8 @@ complete_at u p c old new (Err (engine.Model f)) h read s = tt
 complete_at u p c old new (Err (engine.Certificate certificate.InputTooLong)) h read s = tt
 complete_at u p c old new (Err (engine.Certificate certificate.WrongPrice)) h read s = price_read u p c h.0.0 read h.0.2
 complete_at u p c old new (Err (engine.Certificate (certificate.Fault f))) h read s = elim h.0.2 [ inl a ↦ header_read u p c h.0.0 f read h.0.1 a | inr b ↦ body_read u p c h.0.0 f read h.0.1 b ]
+complete_at u p c old new (Err (engine.Blocks q)) h read s = absurd h.0
+complete_at u p c old new (Err (engine.Slope q)) h read s = absurd h.0
 complete_at u p c old new (Err engine.Memory) h read s = tt
 complete_at u p c old new (Err engine.Device) h read s = tt
 

@@ -5,3 +5,4 @@ pub mod Answered
 pub mod Alone
 pub mod Unread
 pub mod Complete
+pub mod Pieces

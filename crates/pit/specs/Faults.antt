@@ -91,5 +91,7 @@ Fails values precedence text (engine.Upit p) = UpitFails values p
 Fails values precedence text (engine.Prec p) = (n : ℕ) × ValuesRead values n × PrecFails n precedence p
 Fails values precedence text (engine.Model fault) = (n : ℕ) × DenoteMine values precedence n × (group : Group) × IsHeader text n group × ModelFails values n group fault
 Fails values precedence text (engine.Certificate p) = (n : ℕ) × DenoteMine values precedence n × CertificateFails values precedence text n p
+Fails values precedence text (engine.Blocks p) = ⊥
+Fails values precedence text (engine.Slope p) = ⊥
 Fails values precedence text engine.Memory = Unit {0}
 Fails values precedence text engine.Device = Unit {0}

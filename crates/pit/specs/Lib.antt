@@ -8,3 +8,5 @@ pub mod Engines
 pub mod Statuses
 pub mod Verdicts
 pub mod Judging
+pub mod Slopes
+pub mod PatternWords

@@ -6,6 +6,8 @@ use Rattle.ordered_group.specs.declared.groups.Group.TheVariants.{Worth, Pair}
 use Rattle.closure_net.specs.Printed.{net_fault_text}
 use Rattle.upit_file.specs.Faults.{upit_fault_text}
 use Rattle.prec_file.specs.Printed.{prec_fault_text}
+use Rattle.blocks_file.specs.Printed.{blocks_fault_text}
+use Rattle.slope.specs.Printed.{pattern_fault_text, slope_fault_text}
 use Rattle.check_pit.specs.FaultText.{fault_text}
 use Rattle.check_pit.specs.PrintedFaults.{pit_fault_text}
 use Rattle.pit.specs.declared.judgements.Judgement.{Judgement}
@@ -14,6 +16,8 @@ use Rattle.pit.specs.declared.engine_faults.Problem.{Problem}
 use Rattle.pit.specs.declared.engine_faults.Problem.TheVariants as problem
 use Rattle.pit.specs.declared.engine_faults.CertificateProblem.{CertificateProblem}
 use Rattle.pit.specs.declared.engine_faults.CertificateProblem.TheVariants as certificate
+use Rattle.pit.specs.declared.engine_faults.SlopeProblem.{SlopeProblem}
+use Rattle.pit.specs.declared.engine_faults.SlopeProblem.TheVariants as of
 use Rattle.pit.specs.declared.engine_faults.EngineFault.{EngineFault}
 use Rattle.pit.specs.declared.engine_faults.EngineFault.TheVariants as engine
 
@@ -36,10 +40,16 @@ certificate_text certificate.InputTooLong = codes "InputTooLong"
 certificate_text certificate.WrongPrice = codes "WrongPrice"
 certificate_text (certificate.Fault fault) = fault_text fault
 
+abbrev pub slope_text : SlopeProblem → List ℕ
+slope_text (of.Pattern fault) = pattern_fault_text fault
+slope_text (of.Pairs fault) = slope_fault_text fault
+
 -- what the fault is of, and the fault
 abbrev pub fault_words : EngineFault → List ℕ
+fault_words (engine.Blocks p) = codes "blocks " ++ problem_text blocks_fault_text p
 fault_words (engine.Upit p) = codes "upit " ++ problem_text upit_fault_text p
 fault_words (engine.Prec p) = codes "prec " ++ problem_text prec_fault_text p
+fault_words (engine.Slope p) = codes "slope " ++ slope_text p
 fault_words (engine.Model fault) = codes "model " ++ net_fault_text fault
 fault_words (engine.Certificate p) = codes "certificate " ++ certificate_text p
 fault_words engine.Memory = codes "memory"

@@ -15,6 +15,11 @@ const CHECK_ABOUT: &str = "Checks a certificate: does its flow prove that its pi
 const CHECK_DETAILS: &str =
     "Checks a certificate: does its flow prove that its pit is the best?\n\nPrints ACCEPTED, the number of blocks and the worth, or REFUSED and the reason. What is accepted is proved: the pit holds every block that a block of it rests on, and no such pit is worth more.";
 
+const SLOPES_ABOUT: &str = "Writes which blocks must be dug before which, by a slope pattern";
+
+const SLOPES_DETAILS: &str =
+    "Writes which blocks must be dug before which, by a slope pattern.\n\nPrints a .prec file: for each block a line with its number, how many blocks it rests on, and those. A block with nothing above it has the line `b 0`.\n\nPatterns:\n  five              the block above and the four that share a side with it (1:5)\n  nine              the square of nine blocks above (1:9)\n  cone:LEVELS:RUN:RISE  on each of so many levels above, the blocks within level * RUN / RISE blocks of the axis; each number is from 1 to 1000";
+
 /// The files of a check.
 #[derive(Clone, Copy)]
 pub struct CheckFiles<'a> {
@@ -23,10 +28,19 @@ pub struct CheckFiles<'a> {
     pub certificate: &'a str,
 }
 
+/// The words of a slope request: the file of blocks, the pattern's name and, where it was given, the direction's.
+#[derive(Clone, Copy)]
+pub struct SlopesWords<'a> {
+    pub blocks: &'a str,
+    pub pattern: &'a str,
+    pub up: Option<&'a str>,
+}
+
 /// What the words ask for.
 #[derive(Clone, Copy)]
 pub enum Request<'a> {
     Check(CheckFiles<'a>),
+    Slopes(SlopesWords<'a>),
 }
 
 /// Reads the words, of which the first is the program's name. The error prints itself.
@@ -34,17 +48,20 @@ pub fn request_of<'a>(alloc: Global, words: &'a [String]) -> Result<Request<'a>,
     let matches = pit_command(alloc)?.try_get_matches_from(words)?;
     match matches.subcommand() {
         Some(("check", words)) => Ok(Request::Check(check_files(words))),
+        Some(("slopes", words)) => Ok(Request::Slopes(slopes_words(words))),
         _ => Err(pit_command(alloc)?.error(ErrorKind::MissingSubcommand, "a command is missing")?),
     }
 }
 
 fn pit_command<'a>(alloc: Global) -> Result<Command<'a>, AllocError> {
     let check = check_command(alloc)?;
+    let slopes = slopes_command(alloc)?;
     Command::new(alloc, "pit")
         .about(ABOUT)
         .after_help(STATUSES)
         .subcommand_required(true)
-        .subcommand(check)
+        .subcommand(check)?
+        .subcommand(slopes)
 }
 
 fn check_command<'a>(alloc: Global) -> Result<Command<'a>, AllocError> {
@@ -60,6 +77,39 @@ fn check_command<'a>(alloc: Global) -> Result<Command<'a>, AllocError> {
             "CERT",
             "The pit and its flow: a PITCERT text",
         ))
+}
+
+fn slopes_command<'a>(alloc: Global) -> Result<Command<'a>, AllocError> {
+    Command::new(alloc, "slopes")
+        .about(SLOPES_ABOUT)
+        .long_about(SLOPES_DETAILS)
+        .after_help(STATUSES)
+        .arg(file_option(
+            alloc,
+            "blocks",
+            "Where the blocks are: MineLib's .blocks",
+        ))?
+        .arg(named_option(
+            alloc,
+            "pattern",
+            "PATTERN",
+            "Which blocks above a block must go first: five, nine or cone:LEVELS:RUN:RISE",
+        ).required(true))?
+        .arg(named_option(
+            alloc,
+            "up",
+            "WAY",
+            "Which way is up: plus, where a greater z is higher (the default), or minus",
+        ))
+}
+
+// An option that names one of a few things.
+fn named_option<'a>(alloc: Global, name: &'a str, shown: &'a str, help: &'a str) -> Arg<'a> {
+    Arg::new(alloc, name)
+        .long(name)
+        .value_name(shown)
+        .action(ArgAction::Set)
+        .help(help)
 }
 
 // An option that must be given and names a file.
@@ -86,6 +136,14 @@ fn check_files<'a>(words: &ArgMatches<'a>) -> CheckFiles<'a> {
         prec: text_of(words, "prec"),
         upit: text_of(words, "upit"),
         certificate: text_of(words, "certificate"),
+    }
+}
+
+fn slopes_words<'a>(words: &ArgMatches<'a>) -> SlopesWords<'a> {
+    SlopesWords {
+        blocks: text_of(words, "blocks"),
+        pattern: text_of(words, "pattern"),
+        up: words.get_str("up"),
     }
 }
 

@@ -1,8 +1,10 @@
 //! Why an engine could not answer.
 
+use blocks_file::BlocksFault;
 use check_pit::CertFault;
 use closure_net::NetFault;
 use prec_file::PrecFault;
+use slope::{PatternFault, SlopeFault};
 use std::fmt;
 use thiserror::Error;
 use upit_file::UpitFault;
@@ -46,15 +48,39 @@ impl fmt::Display for CertificateProblem {
     }
 }
 
+/// Why a pattern gives no pairs.
+#[derive(Clone, Copy, Debug, PartialEq, Eq)]
+pub enum SlopeProblem {
+    /// There is no such pattern.
+    Pattern(PatternFault),
+    /// The offsets of the pattern give no pairs of these blocks.
+    Pairs(SlopeFault),
+}
+
+impl fmt::Display for SlopeProblem {
+    fn fmt<W: fmt::Write>(&self, f: &mut fmt::Formatter<W>) -> fmt::Result {
+        match self {
+            SlopeProblem::Pattern(fault) => write!(f, "{fault}"),
+            SlopeProblem::Pairs(fault) => write!(f, "{fault}"),
+        }
+    }
+}
+
 /// Why an engine could not answer: what is wrong, and with which of its inputs.
 #[derive(Clone, Copy, Debug, PartialEq, Eq, Error)]
 pub enum EngineFault {
+    /// The blocks and their places.
+    #[error("blocks {0}")]
+    Blocks(Problem<BlocksFault>),
     /// The values of the blocks.
     #[error("upit {0}")]
     Upit(Problem<UpitFault>),
     /// The precedence.
     #[error("prec {0}")]
     Prec(Problem<PrecFault>),
+    /// The pattern, or the pairs that it gives.
+    #[error("slope {0}")]
+    Slope(SlopeProblem),
     /// The worths don't fit the numbers that the network needs.
     #[error("model {0}")]
     Model(NetFault),

@@ -2,19 +2,24 @@
 
 ghost use Rattle.std.specs.Prelude.{◌≡◌, ◌+◌, ◌-◌, ◌^◌, ◌<◌, ◌≤◌, ◌++◌, ℕ, List, length, OnOk, OnErr};
 ghost use Rattle.std.specs.Io.KnownBytes.{Appends};
+ghost use Rattle.std.specs.Prelude.{decimal, codes};
 ghost use Rattle.fixed_worth.specs.Device.{ReceivedPrefix};
+ghost use Rattle.blocks_file.specs.Printed.{blocks_fault_text};
+ghost use Rattle.slope.specs.Printed.{pattern_fault_text, slope_fault_text};
 ghost use Rattle.upit_file.specs.Faults.{upit_fault_text, at_line};
 ghost use Rattle.prec_file.specs.Printed.{prec_fault_text};
 ghost use Rattle.closure_net.specs.Printed.{net_fault_text};
-ghost use Rattle.pit.specs.OutputLines.{fault_line, fault_words, problem_text, certificate_text};
+ghost use Rattle.pit.specs.OutputLines.{fault_line, fault_words, problem_text, slope_text, certificate_text};
 ghost use Rattle.pit.specs.Statuses.{status_of};
 
-use crate::engine_faults::{CertificateProblem, EngineFault, Problem};
+use crate::engine_faults::{CertificateProblem, EngineFault, Problem, SlopeProblem};
 use crate::judgements::Verdict;
+use blocks_file::BlocksFault;
 use check_pit::CertFault;
 use closure_net::NetFault;
 use fixed_worth::{CountedWrite, ShortLine, WriteFault, write_text};
 use prec_file::PrecFault;
+use slope::{PatternFault, SlopeFault};
 use upit_file::UpitFault;
 
 /// The exit status of an engine's answer: 0 done, 1 no, 3 a fault of an input, 4 memory or a device.
@@ -53,6 +58,10 @@ fn push_words(line: &mut ShortLine, fault: &EngineFault)
     ensures length { length line.new ≤ length line.old + 100 }
 {
     match fault {
+        EngineFault::Blocks(problem) => {
+            line.push(b"blocks ");
+            push_blocks(line, problem);
+        }
         EngineFault::Upit(problem) => {
             line.push(b"upit ");
             push_upit(line, problem);
@@ -60,6 +69,10 @@ fn push_words(line: &mut ShortLine, fault: &EngineFault)
         EngineFault::Prec(problem) => {
             line.push(b"prec ");
             push_prec(line, problem);
+        }
+        EngineFault::Slope(problem) => {
+            line.push(b"slope ");
+            push_slope(line, problem);
         }
         EngineFault::Model(fault) => {
             line.push(b"model ");
@@ -84,6 +97,71 @@ fn push_at(line: &mut ShortLine, name: &[u8], number: u64)
     line.push(name);
     line.push(b"(");
     line.push_number(u128::from(number));
+    line.push(b")");
+}
+
+fn push_blocks(line: &mut ShortLine, problem: &Problem<BlocksFault>)
+    requires { length line.old ≤ 64 }
+    ensures text { line.new ≡ line.old ++ problem_text blocks_fault_text problem.now }
+    ensures length { length line.new ≤ length line.old + 60 }
+{
+    match problem {
+        Problem::InputTooLong => line.push(b"InputTooLong"),
+        Problem::Fault(BlocksFault::Text(n)) => push_at(line, b"Text", *n),
+        Problem::Fault(BlocksFault::Number(n)) => push_at(line, b"Number", *n),
+        Problem::Fault(BlocksFault::NoColumn(n)) => push_at(line, b"NoColumn", *n),
+        Problem::Fault(BlocksFault::UnknownBlock(n)) => push_at(line, b"UnknownBlock", *n),
+        Problem::Fault(BlocksFault::Repeated(n)) => push_at(line, b"Repeated", *n),
+        Problem::Fault(BlocksFault::TooMany(n)) => push_at(line, b"TooMany", *n),
+        Problem::Fault(BlocksFault::NoMemory) => line.push(b"NoMemory"),
+    }
+}
+
+fn push_slope(line: &mut ShortLine, problem: &SlopeProblem)
+    requires { length line.old ≤ 64 }
+    ensures text { line.new ≡ line.old ++ slope_text problem.now }
+    ensures length { length line.new ≤ length line.old + 94 }
+{
+    match problem {
+        SlopeProblem::Pattern(fault) => push_pattern(line, fault),
+        SlopeProblem::Pairs(fault) => push_pairs(line, fault),
+    }
+}
+
+fn push_pattern(line: &mut ShortLine, fault: &PatternFault)
+    requires { length line.old ≤ 64 }
+    ensures text { line.new ≡ line.old ++ pattern_fault_text fault.now }
+    ensures length { length line.new ≤ length line.old + 60 }
+{
+    match fault {
+        PatternFault::NotUpward(place) => push_at(line, b"NotUpward", *place as u64),
+        PatternFault::TooMany => line.push(b"TooMany"),
+        PatternFault::NoMemory => line.push(b"NoMemory"),
+    }
+}
+
+fn push_pairs(line: &mut ShortLine, fault: &SlopeFault)
+    requires { length line.old ≤ 64 }
+    ensures text { line.new ≡ line.old ++ slope_fault_text fault.now }
+    ensures length { length line.new ≤ length line.old + 94 }
+{
+    match fault {
+        SlopeFault::SamePlace(first, second) => push_same_place(line, *first, *second),
+        SlopeFault::TooMany => line.push(b"TooMany"),
+        SlopeFault::NoMemory => line.push(b"NoMemory"),
+    }
+}
+
+// Two blocks in parentheses.
+fn push_same_place(line: &mut ShortLine, first: u32, second: u32)
+    requires { length line.old ≤ 64 }
+    ensures text { line.new ≡ line.old ++ slope_fault_text (SlopeFault.SamePlace first second) }
+    ensures length { length line.new ≤ length line.old + 94 }
+{
+    line.push(b"SamePlace(");
+    line.push_number(u128::from(first));
+    line.push(b", ");
+    line.push_number(u128::from(second));
     line.push(b")");
 }
 

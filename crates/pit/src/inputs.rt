@@ -1,9 +1,11 @@
 //! Reading the inputs of an engine, each whole and with its own fault.
 
 ghost use Rattle.std.specs.Prelude.{◌≡◌, ◌+◌, ◌-◌, ◌^◌, ◌<◌, ◌≤◌, ◌↔◌, ℕ, ◌⊎◌, length, IfSome, MatchResult, IsErrOf};
+ghost use Rattle.pit.specs.Slopes.{ReadsBlocks, BlocksReadFails};
 ghost use Rattle.pit.specs.Inputs.{ReadsUpit, ListsPrec, ReadsPrec, UpitReadFails, PrecReadFails, TextReadFails};
 
 use crate::engine_faults::{CertificateProblem, EngineFault, Problem};
+use blocks_file::{BlockModel, BlocksFault, read_blocks};
 use fixed_worth::{CountedRead, InputFault, read_whole};
 use prec_file::{ListedPairs, PrecFault, Rests, read_listed};
 use std::alloc::Global;
@@ -11,6 +13,26 @@ use upit_file::{Upit, UpitFault, declared_blocks, read_upit};
 
 // The most bytes of an input.
 const LONGEST: u64 = 1 << 32;
+
+/// The blocks of a text and their places, without columns.
+pub fn blocks_from<R: CountedRead>(alloc: Global, from: &mut R) -> Result<BlockModel, EngineFault>
+    requires { R.failed from.old < 2 ^ 64 - 1 }
+    ensures read { IfSome (R.remaining from.old) (λ text. MatchResult result (ReadsBlocks text) (BlocksReadFails text)) }
+    ensures device { IsErrOf result EngineFault.Device ↔ (R.failed from.new ≡ R.failed from.old + 1) }
+    ensures kept { ¬ IsErrOf result EngineFault.Device → R.failed from.new ≡ R.failed from.old }
+{
+    let text = match read_whole(alloc, from, LONGEST) {
+        Ok(text) => text,
+        Err(InputFault::Device) => return Err(EngineFault::Device),
+        Err(InputFault::InputTooLong) => return Err(EngineFault::Blocks(Problem::InputTooLong)),
+        Err(InputFault::NoMemory) => return Err(EngineFault::Memory),
+    };
+    match read_blocks(alloc, text.as_slice(), &[]) {
+        Ok(model) => Ok(model),
+        Err(BlocksFault::NoMemory) => Err(EngineFault::Memory),
+        Err(fault) => Err(EngineFault::Blocks(Problem::Fault(fault))),
+    }
+}
 
 /// The values of the blocks, as many as the text declares.
 pub fn upit_from<R: CountedRead>(alloc: Global, from: &mut R) -> Result<Upit, EngineFault>

@@ -5,6 +5,8 @@
 //! and to standard output, and gives the exit status.
 #![tactic(auto)]
 
+ghost use Rattle.pit.specs.Slopes.{IsChoice};
+
 mod checks;
 mod command_line;
 mod engine_faults;
@@ -12,6 +14,10 @@ mod fault_lines;
 mod inputs;
 mod judgements;
 mod judging;
+mod pattern_choice;
+mod pattern_words;
+mod slope_pairs;
+mod slopes;
 mod stored_run;
 #[cfg(test)]
 mod tests;
@@ -19,11 +25,15 @@ mod verdict_lines;
 
 use checks::check_engine;
 use clap::error::ErrorKind;
-use command_line::{CheckFiles, Request, request_of};
+use command_line::{CheckFiles, Request, SlopesWords, request_of};
 use engine_faults::EngineFault;
 use fault_lines::{status, write_fault};
 use fixed_worth::Counted;
 use judgements::Verdict;
+use pattern_choice::PatternChoice;
+use pattern_words::{pattern_named, up_named};
+use slope::Up;
+use slopes::slopes_engine;
 use std::fs::File;
 use std::process::ExitCode;
 use std::rt::{Env, Files};
@@ -61,7 +71,7 @@ fn run<R: Files + Print + Eprint + Env + AllocGlobal>(rt: &R) -> Result<u8, Engi
         return Ok(status(&Ok(stored_check(rt.alloc(), &mut out)?)));
     }
     match request_of(rt.alloc(), words.as_slice()) {
-        Ok(Request::Check(files)) => Ok(status(&Ok(check_files(rt, files)?))),
+        Ok(request) => answer(rt, request),
         Err(error) => {
             if error.kind() == ErrorKind::OutOfMemory {
                 return Err(EngineFault::Memory);
@@ -74,7 +84,29 @@ fn run<R: Files + Print + Eprint + Env + AllocGlobal>(rt: &R) -> Result<u8, Engi
     }
 }
 
-// The words can't be read at all.
+// Does what was asked for, and gives the exit status.
+fn answer<R: Files + Print + Eprint + AllocGlobal>(
+    rt: &R,
+    request: Request<'_>,
+) -> Result<u8, EngineFault> {
+    match request {
+        Request::Check(files) => Ok(status(&Ok(check_files(rt, files)?))),
+        Request::Slopes(words) => match (pattern_named(words.pattern.as_bytes()), way_up(words)) {
+            (Some(pattern), Some(up)) => Ok(status(&Ok(slopes_file(rt, words.blocks, pattern, up)?))),
+            _ => usage(rt),
+        },
+    }
+}
+
+// Which way is up: a greater z, where no word says.
+fn way_up(words: SlopesWords<'_>) -> Option<Up> {
+    match words.up {
+        Some(word) => up_named(word.as_bytes()),
+        None => Some(Up::PlusZ),
+    }
+}
+
+// The words can't be read at all, or a pattern's or a direction's name is none.
 fn usage<R: Eprint>(rt: &R) -> Result<u8, EngineFault> {
     match rt.eprintln("fault: usage") {
         Ok(()) => Ok(USAGE),
@@ -92,6 +124,20 @@ fn check_files<R: Files + Print + AllocGlobal>(
     let mut certificate = Counted::new(opened(rt, files.certificate)?);
     let mut out = Counted::new(io::writer(rt));
     check_engine(rt.alloc(), &mut upit, &mut prec, &mut certificate, &mut out)
+}
+
+// Writes what each block of a file rests on by a pattern.
+fn slopes_file<R: Files + Print + AllocGlobal>(
+    rt: &R,
+    blocks: &str,
+    pattern: PatternChoice,
+    up: Up,
+) -> Result<Verdict, EngineFault>
+    requires { IsChoice pattern }
+{
+    let mut blocks = Counted::new(opened(rt, blocks)?);
+    let mut out = Counted::new(io::writer(rt));
+    slopes_engine(rt.alloc(), &mut blocks, pattern, up, &mut out)
 }
 
 fn opened<R: Files>(rt: &R, path: &str) -> Result<R::File, EngineFault> {

@@ -4,3 +4,4 @@ pub mod Distances
 pub mod ConeSteps
 pub mod Finding
 pub mod PairSteps
+pub mod Narrow

@@ -12,6 +12,7 @@
 #![tactic(auto)]
 
 mod cone;
+pub mod laws;
 mod offset_order;
 mod offset_places;
 mod pattern;
