@@ -18,6 +18,8 @@ mod pattern_choice;
 mod pattern_words;
 mod slope_pairs;
 mod slopes;
+#[cfg(test)]
+mod slopes_tests;
 mod stored_run;
 #[cfg(test)]
 mod tests;
