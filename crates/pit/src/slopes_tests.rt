@@ -75,62 +75,80 @@ const FIVE_MINUS: &[u8] = b"0 0
 17 3 5 7 8
 ";
 
+// Two blocks at one place.
+const TWINS: &[u8] = b"0 0 0 0
+1 0 0 0
+";
+
 const WIDE_CONE: PatternChoice = PatternChoice::Cone {
     levels: 1_000,
     run: 1_000,
     rise: 1,
 };
 
-// Whether the engine answers this and writes these bytes.
-fn gives(
+// What the engine answers, and what it writes.
+fn answer(
     alloc: Global,
     blocks: &[u8],
     pattern: PatternChoice,
     up: Up,
-    answer: Result<Verdict, EngineFault>,
-    written: &[u8],
-) -> bool
+) -> (Result<Verdict, EngineFault>, Vec<u8>)
     requires { IsChoice pattern }
 {
     let mut out = Counted::new(Vec::new(alloc));
     let given = slopes_engine(alloc, &mut Counted::new(blocks), pattern, up, &mut out);
-    given == answer && out.into_inner().as_slice() == written
+    (given, out.into_inner())
+}
+
+// Whether it writes this precedence.
+fn writes(alloc: Global, blocks: &[u8], pattern: PatternChoice, up: Up, text: &[u8]) -> bool
+    requires { IsChoice pattern }
+{
+    let (given, written) = answer(alloc, blocks, pattern, up);
+    given == Ok(Verdict::Done) && written.as_slice() == text
+}
+
+// Whether it answers this fault, and writes nothing.
+fn fails(alloc: Global, blocks: &[u8], pattern: PatternChoice, fault: EngineFault) -> bool
+    requires { IsChoice pattern }
+{
+    let (given, written) = answer(alloc, blocks, pattern, Up::PlusZ);
+    given == Err(fault) && written.is_empty()
 }
 
 #[test]
 fn a_cube_by_nine(rt: HostRuntime) {
-    assert!(rt; gives(rt.alloc(), CUBE, PatternChoice::Nine, Up::PlusZ, Ok(Verdict::Done), NINE));
+    assert!(rt; writes(rt.alloc(), CUBE, PatternChoice::Nine, Up::PlusZ, NINE));
 }
 
 #[test]
 fn a_cube_by_five_where_a_smaller_z_is_higher(rt: HostRuntime) {
-    let done = Ok(Verdict::Done);
-    assert!(rt; gives(rt.alloc(), CUBE, PatternChoice::Five, Up::MinusZ, done, FIVE_MINUS));
+    let five = PatternChoice::Five;
+    assert!(rt; writes(rt.alloc(), CUBE, five, Up::MinusZ, FIVE_MINUS));
     let cone = PatternChoice::Cone {
         levels: 1,
         run: 1,
         rise: 1,
     };
-    assert!(rt; gives(rt.alloc(), CUBE, cone, Up::MinusZ, done, FIVE_MINUS));
+    assert!(rt; writes(rt.alloc(), CUBE, cone, Up::MinusZ, FIVE_MINUS));
 }
 
 #[test]
 fn each_fault_writes_nothing(rt: HostRuntime) {
     let wide = EngineFault::Slope(SlopeProblem::Pattern(PatternFault::TooMany));
-    assert!(rt; gives(rt.alloc(), CUBE, WIDE_CONE, Up::PlusZ, Err(wide), b""));
+    assert!(rt; fails(rt.alloc(), CUBE, WIDE_CONE, wide));
     let same = EngineFault::Slope(SlopeProblem::Pairs(SlopeFault::SamePlace(0, 1)));
-    let twins = b"0 0 0 0\n1 0 0 0\n";
-    assert!(rt; gives(rt.alloc(), twins, PatternChoice::Five, Up::PlusZ, Err(same), b""));
+    assert!(rt; fails(rt.alloc(), TWINS, PatternChoice::Five, same));
     let short = EngineFault::Blocks(Problem::Fault(BlocksFault::Text(1)));
-    assert!(rt; gives(rt.alloc(), b"0 0 0\n", PatternChoice::Five, Up::PlusZ, Err(short), b""));
+    assert!(rt; fails(rt.alloc(), b"0 0 0\n", PatternChoice::Five, short));
 }
 
 #[test]
-fn a_fault_of_the_blocks_comes_before_the_pattern(rt: HostRuntime) {
+fn the_blocks_come_before_the_pattern_and_that_before_the_places(rt: HostRuntime) {
     let short = EngineFault::Blocks(Problem::Fault(BlocksFault::Text(1)));
-    assert!(rt; gives(rt.alloc(), b"x\n", WIDE_CONE, Up::PlusZ, Err(short), b""));
+    assert!(rt; fails(rt.alloc(), b"x\n", WIDE_CONE, short));
     let wide = EngineFault::Slope(SlopeProblem::Pattern(PatternFault::TooMany));
-    assert!(rt; gives(rt.alloc(), b"0 0 0 0\n1 0 0 0\n", WIDE_CONE, Up::PlusZ, Err(wide), b""));
+    assert!(rt; fails(rt.alloc(), TWINS, WIDE_CONE, wide));
 }
 
 #[test]
