@@ -84,17 +84,14 @@ fn slopes_command<'a>(alloc: Global) -> Result<Command<'a>, AllocError> {
         .about(SLOPES_ABOUT)
         .long_about(SLOPES_DETAILS)
         .after_help(STATUSES)
-        .arg(file_option(
-            alloc,
-            "blocks",
-            "Where the blocks are: MineLib's .blocks",
-        ))?
+        .arg(file_option(alloc, "blocks", "Where the blocks are: MineLib's .blocks"))?
         .arg(named_option(
             alloc,
             "pattern",
             "PATTERN",
             "Which blocks above a block must go first: five, nine or cone:LEVELS:RUN:RISE",
-        ).required(true))?
+        )
+        .required(true))?
         .arg(named_option(
             alloc,
             "up",
