@@ -395,18 +395,26 @@ fn make_row(
     Ok(())
 }
 
+fn make_rows(rt: &impl Abort, state: &mut State<Worth>, net: &Net<Worth>) -> Result<(), Fail>
+    requires { IsStateOf net.now state.old }
+    ensures { IsStateOf net.now state.new }
+{
+    for row in &ROWS {
+        let kinds: &[Kind] = row.kinds;
+        make_row(rt, state, net, row.block, kinds)?;
+        let after = row.after;
+        is_state(rt, state, &after);
+        is_flow(rt, state, net, &after);
+    }
+    Ok(())
+}
+
 #[test]
 fn every_row_of_the_run(rt: HostRuntime) -> Result<(), Fail> {
     let alloc = rt.alloc();
     let net = two_on_waste(alloc)?;
     let mut state = State::open(alloc, &net)?;
-    for row in &ROWS {
-        let kinds: &[Kind] = row.kinds;
-        make_row(&rt, &mut state, &net, row.block, kinds)?;
-        let after = row.after;
-        is_state(&rt, &state, &after);
-        is_flow(&rt, &state, &net, &after);
-    }
+    make_rows(&rt, &mut state, &net)?;
     assert_eq!(rt; state.count(), 140);
     assert!(rt; state.quiet());
     Ok(())
