@@ -71,6 +71,12 @@ stepped f net v w e (Err (OutOfTurn kind)) over l k h = absurd h.why
 stepped f net v w e (Err TooLarge) over l k h = record { same = h.same; stands = (record { block = l; kind = k }, h.why) }
 stepped f net v w e (Err TooManySteps) over l k h = record { same = h.same; stands = (record { block = l; kind = k }, h.why.0, h.why.1) }
 
+-- either way the state is one of a run
+pub still_state : {N : Type 0} (f : N → Amount) (net : NetView) (v w : StateView) (e : Event) (r : Result (Saw N) StepRefusal) → IsStateOf net v
+    → MatchResult r (λ saw. Stepped net v e w (saw_as f saw)) (λ x. IsRefused net v e w x) → IsStateOf net w
+still_state f net v w e (Ok saw) over h = h.state
+still_state f net v w e (Err x) over h = subst (IsStateOf net) (sym h.same) over
+
 -- what isn't false is true
 pub not_false : (t : Bool) → not t ≡ false → t ≡ true
 not_false true h = refl

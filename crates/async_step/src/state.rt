@@ -226,8 +226,9 @@ impl<G: OrderedGroup> State<G> {
         requires { b < length self.old.operation }
         ensures { self.new ≡ record self.old { excess = slice_set self.old.excess b (G.parts_of amount) } }
     {
-        let operation = self.operation[b as usize];
-        self.excess[b as usize] = amount;
+        let at = b as usize;
+        let operation = self.operation[at];
+        self.excess[at] = amount;
         self.waiting.set(b, is_waiting(amount, operation));
         self.busy.set(b, is_busy(amount, operation));
     }
@@ -236,28 +237,32 @@ impl<G: OrderedGroup> State<G> {
         requires { b < length self.old.operation }
         ensures { self.new ≡ record self.old { label = slice_set self.old.label b label } }
     {
-        self.label[b as usize] = label;
+        let at = b as usize;
+        self.label[at] = label;
     }
 
     pub(crate) fn set_source(&mut self, b: u32, amount: G)
         requires { b < length self.old.operation }
         ensures { self.new ≡ record self.old { source = slice_set self.old.source b (G.parts_of amount) } }
     {
-        self.source[b as usize] = amount;
+        let at = b as usize;
+        self.source[at] = amount;
     }
 
     pub(crate) fn set_sink(&mut self, b: u32, amount: G)
         requires { b < length self.old.operation }
         ensures { self.new ≡ record self.old { sink = slice_set self.old.sink b (G.parts_of amount) } }
     {
-        self.sink[b as usize] = amount;
+        let at = b as usize;
+        self.sink[at] = amount;
     }
 
     pub(crate) fn set_flow(&mut self, k: u32, amount: G)
         requires { k < length self.old.flow }
         ensures { self.new ≡ record self.old { flow = slice_set self.old.flow k (G.parts_of amount) } }
     {
-        self.flow[k as usize] = amount;
+        let at = k as usize;
+        self.flow[at] = amount;
     }
 
     pub(crate) fn set_at_source(&mut self, amount: G)
@@ -281,8 +286,9 @@ impl<G: OrderedGroup> State<G> {
           steps = self.old.steps + 1;
         } }
     {
-        let excess = self.excess[b as usize];
-        self.operation[b as usize] = operation;
+        let at = b as usize;
+        let excess = self.excess[at];
+        self.operation[at] = operation;
         self.steps += 1;
         self.waiting.set(b, is_waiting(excess, operation));
         self.busy.set(b, is_busy(excess, operation));

@@ -68,9 +68,10 @@ impl<G: OrderedGroup> State<G> {
     /// the state after the step would leave its type; `TooManySteps` where 2^40 steps were made.
     pub fn step(&mut self, net: &Net<G>, event: Event) -> Result<Saw<G>, StepRefusal>
         requires { IsStateOf net.now self.old }
-        ensures { MatchResult result
+        ensures made { MatchResult result
             (λ saw. Stepped net.now self.old event self.new (saw_as G.parts_of saw))
             (λ e. IsRefused net.now self.old event self.new e) }
+        ensures state { IsStateOf net.now self.new }
     {
         if event.block >= self.len() {
             return Err(StepRefusal::NoSuchBlock);

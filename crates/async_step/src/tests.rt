@@ -1,6 +1,7 @@
 //! Runs whose steps and states are known from elsewhere.
 
 ghost use Rattle.std.specs.Prelude.{◌≤◌, ◌^◌};
+ghost use Rattle.async_step.specs.Answers.{IsStateOf};
 
 use crate::{ReplayFault, Saw, State, StepRefusal, replay};
 use closure_net::Net;
@@ -27,10 +28,9 @@ const GE: Kind = Kind::GiveExcess;
 
 const RA: Kind = Kind::RaiseLabel;
 
-// Steps of one block, and the state after them in whole values.
-struct Row {
-    block: u32,
-    kinds: &'static [Kind],
+// A state in whole values.
+#[derive(Clone, Copy)]
+struct After {
     labels: [u64; 3],
     excess: [i128; 3],
     flow: [i128; 2],
@@ -38,213 +38,266 @@ struct Row {
     sink: i128,
 }
 
+// Steps of one block, and the state after them.
+struct Row {
+    block: u32,
+    kinds: &'static [Kind],
+    after: After,
+}
+
 const ROWS: [Row; 23] = [
     Row {
         block: 0,
         kinds: &[RE, RL, RC, RL, RA],
-        labels: [1, 0, 0],
-        excess: [4, 0, 4],
-        flow: [0, 0],
-        source: [4, 0, 4],
-        sink: 0,
+        after: After {
+            labels: [1, 0, 0],
+            excess: [4, 0, 4],
+            flow: [0, 0],
+            source: [4, 0, 4],
+            sink: 0,
+        },
     },
     Row {
         block: 0,
         kinds: &[RE, RL, RC, RL],
-        labels: [1, 0, 0],
-        excess: [4, 0, 4],
-        flow: [0, 0],
-        source: [4, 0, 4],
-        sink: 0,
+        after: After {
+            labels: [1, 0, 0],
+            excess: [4, 0, 4],
+            flow: [0, 0],
+            source: [4, 0, 4],
+            sink: 0,
+        },
     },
     Row {
         block: 2,
         kinds: &[RE, RL, RC, RL, RA],
-        labels: [1, 0, 1],
-        excess: [4, 0, 4],
-        flow: [0, 0],
-        source: [4, 0, 4],
-        sink: 0,
+        after: After {
+            labels: [1, 0, 1],
+            excess: [4, 0, 4],
+            flow: [0, 0],
+            source: [4, 0, 4],
+            sink: 0,
+        },
     },
     Row {
         block: 2,
         kinds: &[RE, RL, RC, RL, GC, TE, GE],
-        labels: [1, 0, 1],
-        excess: [4, 4, 0],
-        flow: [0, 4],
-        source: [4, 0, 4],
-        sink: 0,
+        after: After {
+            labels: [1, 0, 1],
+            excess: [4, 4, 0],
+            flow: [0, 4],
+            source: [4, 0, 4],
+            sink: 0,
+        },
     },
     Row {
         block: 1,
         kinds: &[RE, RC, RL, RC, RC, RL, RA],
-        labels: [1, 1, 1],
-        excess: [4, 4, 0],
-        flow: [0, 4],
-        source: [4, 0, 4],
-        sink: 0,
+        after: After {
+            labels: [1, 1, 1],
+            excess: [4, 4, 0],
+            flow: [0, 4],
+            source: [4, 0, 4],
+            sink: 0,
+        },
     },
     Row {
         block: 1,
         kinds: &[RE, RC, RL, RC, RC, RL, TC, TE, GE],
-        labels: [1, 1, 1],
-        excess: [4, 3, 0],
-        flow: [0, 4],
-        source: [4, 0, 4],
-        sink: 1,
+        after: After {
+            labels: [1, 1, 1],
+            excess: [4, 3, 0],
+            flow: [0, 4],
+            source: [4, 0, 4],
+            sink: 1,
+        },
     },
     Row {
         block: 1,
         kinds: &[RE, RC, RC, RC, RL, RA],
-        labels: [1, 2, 1],
-        excess: [4, 3, 0],
-        flow: [0, 4],
-        source: [4, 0, 4],
-        sink: 1,
+        after: After {
+            labels: [1, 2, 1],
+            excess: [4, 3, 0],
+            flow: [0, 4],
+            source: [4, 0, 4],
+            sink: 1,
+        },
     },
     Row {
         block: 1,
         kinds: &[RE, RC, RC, RC, RL, TC, TE, GE],
-        labels: [1, 2, 1],
-        excess: [4, 0, 3],
-        flow: [0, 1],
-        source: [4, 0, 4],
-        sink: 1,
+        after: After {
+            labels: [1, 2, 1],
+            excess: [4, 0, 3],
+            flow: [0, 1],
+            source: [4, 0, 4],
+            sink: 1,
+        },
     },
     Row {
         block: 2,
         kinds: &[RE, RL, RC, RL, RA],
-        labels: [1, 2, 3],
-        excess: [4, 0, 3],
-        flow: [0, 1],
-        source: [4, 0, 4],
-        sink: 1,
+        after: After {
+            labels: [1, 2, 3],
+            excess: [4, 0, 3],
+            flow: [0, 1],
+            source: [4, 0, 4],
+            sink: 1,
+        },
     },
     Row {
         block: 2,
         kinds: &[RE, RL, RC, RL, GC, TE, GE],
-        labels: [1, 2, 3],
-        excess: [4, 3, 0],
-        flow: [0, 4],
-        source: [4, 0, 4],
-        sink: 1,
+        after: After {
+            labels: [1, 2, 3],
+            excess: [4, 3, 0],
+            flow: [0, 4],
+            source: [4, 0, 4],
+            sink: 1,
+        },
     },
     Row {
         block: 1,
         kinds: &[RE, RC, RC, RC, RL, RA],
-        labels: [1, 4, 3],
-        excess: [4, 3, 0],
-        flow: [0, 4],
-        source: [4, 0, 4],
-        sink: 1,
+        after: After {
+            labels: [1, 4, 3],
+            excess: [4, 3, 0],
+            flow: [0, 4],
+            source: [4, 0, 4],
+            sink: 1,
+        },
     },
     Row {
         block: 0,
         kinds: &[GC],
-        labels: [1, 4, 3],
-        excess: [4, 3, 0],
-        flow: [4, 4],
-        source: [4, 0, 4],
-        sink: 1,
+        after: After {
+            labels: [1, 4, 3],
+            excess: [4, 3, 0],
+            flow: [4, 4],
+            source: [4, 0, 4],
+            sink: 1,
+        },
     },
     Row {
         block: 0,
         kinds: &[TE, GE],
-        labels: [1, 4, 3],
-        excess: [0, 7, 0],
-        flow: [4, 4],
-        source: [4, 0, 4],
-        sink: 1,
+        after: After {
+            labels: [1, 4, 3],
+            excess: [0, 7, 0],
+            flow: [4, 4],
+            source: [4, 0, 4],
+            sink: 1,
+        },
     },
     Row {
         block: 1,
         kinds: &[RE, RC, RC, RL, RC, RL, TC, TE, GE],
-        labels: [1, 4, 3],
-        excess: [4, 3, 0],
-        flow: [0, 4],
-        source: [4, 0, 4],
-        sink: 1,
+        after: After {
+            labels: [1, 4, 3],
+            excess: [4, 3, 0],
+            flow: [0, 4],
+            source: [4, 0, 4],
+            sink: 1,
+        },
     },
     Row {
         block: 0,
         kinds: &[RE, RL, RC, RL, RA],
-        labels: [5, 4, 3],
-        excess: [4, 3, 0],
-        flow: [0, 4],
-        source: [4, 0, 4],
-        sink: 1,
+        after: After {
+            labels: [5, 4, 3],
+            excess: [4, 3, 0],
+            flow: [0, 4],
+            source: [4, 0, 4],
+            sink: 1,
+        },
     },
     Row {
         block: 0,
         kinds: &[RE, RL, RC, RL, GC, TE, GE],
-        labels: [5, 4, 3],
-        excess: [0, 7, 0],
-        flow: [4, 4],
-        source: [4, 0, 4],
-        sink: 1,
+        after: After {
+            labels: [5, 4, 3],
+            excess: [0, 7, 0],
+            flow: [4, 4],
+            source: [4, 0, 4],
+            sink: 1,
+        },
     },
     Row {
         block: 1,
         kinds: &[RE, RC, RC, RL, RC, RL, TC, TE, GE],
-        labels: [5, 4, 3],
-        excess: [0, 3, 4],
-        flow: [4, 0],
-        source: [4, 0, 4],
-        sink: 1,
+        after: After {
+            labels: [5, 4, 3],
+            excess: [0, 3, 4],
+            flow: [4, 0],
+            source: [4, 0, 4],
+            sink: 1,
+        },
     },
     Row {
         block: 1,
         kinds: &[RE, RC, RC, RL, RC, RA],
-        labels: [5, 6, 3],
-        excess: [0, 3, 4],
-        flow: [4, 0],
-        source: [4, 0, 4],
-        sink: 1,
+        after: After {
+            labels: [5, 6, 3],
+            excess: [0, 3, 4],
+            flow: [4, 0],
+            source: [4, 0, 4],
+            sink: 1,
+        },
     },
     Row {
         block: 1,
         kinds: &[RE, RC, RC, RL, RC, TC, TE, GE],
-        labels: [5, 6, 3],
-        excess: [3, 0, 4],
-        flow: [1, 0],
-        source: [4, 0, 4],
-        sink: 1,
+        after: After {
+            labels: [5, 6, 3],
+            excess: [3, 0, 4],
+            flow: [1, 0],
+            source: [4, 0, 4],
+            sink: 1,
+        },
     },
     Row {
         block: 0,
         kinds: &[RE, RL, RC, RL, RA],
-        labels: [6, 6, 3],
-        excess: [3, 0, 4],
-        flow: [1, 0],
-        source: [4, 0, 4],
-        sink: 1,
+        after: After {
+            labels: [6, 6, 3],
+            excess: [3, 0, 4],
+            flow: [1, 0],
+            source: [4, 0, 4],
+            sink: 1,
+        },
     },
     Row {
         block: 0,
         kinds: &[RE, RL, RC, RL, TC, TE, GE],
-        labels: [6, 6, 3],
-        excess: [0, 0, 4],
-        flow: [1, 0],
-        source: [1, 0, 4],
-        sink: 1,
+        after: After {
+            labels: [6, 6, 3],
+            excess: [0, 0, 4],
+            flow: [1, 0],
+            source: [1, 0, 4],
+            sink: 1,
+        },
     },
     Row {
         block: 2,
         kinds: &[RE, RL, RC, RL, RA],
-        labels: [6, 6, 6],
-        excess: [0, 0, 4],
-        flow: [1, 0],
-        source: [1, 0, 4],
-        sink: 1,
+        after: After {
+            labels: [6, 6, 6],
+            excess: [0, 0, 4],
+            flow: [1, 0],
+            source: [1, 0, 4],
+            sink: 1,
+        },
     },
     Row {
         block: 2,
         kinds: &[RE, RL, RC, RL, TC, TE, GE],
-        labels: [6, 6, 6],
-        excess: [0, 0, 0],
-        flow: [1, 0],
-        source: [1, 0, 0],
-        sink: 1,
+        after: After {
+            labels: [6, 6, 6],
+            excess: [0, 0, 0],
+            flow: [1, 0],
+            source: [1, 0, 0],
+            sink: 1,
+        },
     },
 ];
 
@@ -282,16 +335,78 @@ fn run_of_rows(alloc: Global) -> Result<Vec<Event>, Fail> {
     Ok(events)
 }
 
-fn is_state(rt: &impl Abort, state: &State<Worth>, row: &Row) {
+// The state after a row, in whole values.
+fn is_state(rt: &impl Abort, state: &State<Worth>, row: &After) {
+    assert_eq!(rt; state.len(), 3);
     for b in 0..3u32 {
         let i = b as usize;
         assert_eq!(rt; state.label(b), row.labels[i]);
         assert_eq!(rt; state.excess(b), worth(row.excess[i]));
         assert_eq!(rt; state.source(b), worth(row.source[i]));
     }
+}
+
+// What pairs carry after it, and what block 1 gave the sink.
+fn is_flow(rt: &impl Abort, state: &State<Worth>, net: &Net<Worth>, row: &After)
+    requires { IsStateOf net.now state.now }
+{
+    assert_eq!(rt; net.rests().pairs(), 2);
     assert_eq!(rt; state.flow(0), worth(row.flow[0]));
     assert_eq!(rt; state.flow(1), worth(row.flow[1]));
+    assert_eq!(rt; state.len(), 3);
     assert_eq!(rt; state.sink(1), worth(row.sink));
+}
+
+// Makes a step that is next for its block.
+fn make(
+    rt: &impl Abort,
+    state: &mut State<Worth>,
+    net: &Net<Worth>,
+    event: Event,
+) -> Result<(), Fail>
+    requires { IsStateOf net.now state.old }
+    ensures { IsStateOf net.now state.new }
+{
+    assert!(rt; event.block < net.len());
+    assert_eq!(rt; state.next_kind(net, event.block), event.kind);
+    assert!(rt; !state.quiet());
+    let saw = state.step(net, event)?;
+    match state.count() {
+        69 => assert_eq!(rt; saw, Saw::Raised(4)),
+        70 => assert_eq!(rt; saw, Saw::Moved(worth(4))),
+        _ => {}
+    }
+    Ok(())
+}
+
+fn make_row(
+    rt: &impl Abort,
+    state: &mut State<Worth>,
+    net: &Net<Worth>,
+    block: u32,
+    kinds: &[Kind],
+) -> Result<(), Fail>
+    requires { IsStateOf net.now state.old }
+    ensures { IsStateOf net.now state.new }
+{
+    for kind in kinds {
+        make(rt, state, net, Event { block, kind: *kind })?;
+    }
+    Ok(())
+}
+
+fn make_rows(rt: &impl Abort, state: &mut State<Worth>, net: &Net<Worth>) -> Result<(), Fail>
+    requires { IsStateOf net.now state.old }
+    ensures { IsStateOf net.now state.new }
+{
+    for row in &ROWS {
+        let kinds: &[Kind] = row.kinds;
+        make_row(rt, state, net, row.block, kinds)?;
+        let after = row.after;
+        is_state(rt, state, &after);
+        is_flow(rt, state, net, &after);
+    }
+    Ok(())
 }
 
 #[test]
@@ -299,23 +414,7 @@ fn every_row_of_the_run(rt: HostRuntime) -> Result<(), Fail> {
     let alloc = rt.alloc();
     let net = two_on_waste(alloc)?;
     let mut state = State::open(alloc, &net)?;
-    for row in &ROWS {
-        for kind in row.kinds {
-            let event = Event {
-                block: row.block,
-                kind: *kind,
-            };
-            assert_eq!(rt; state.next_kind(&net, row.block), *kind);
-            assert!(rt; !state.quiet());
-            let saw = state.step(&net, event).ok().ok_or("step")?;
-            match state.count() {
-                69 => assert_eq!(rt; saw, Saw::Raised(4)),
-                70 => assert_eq!(rt; saw, Saw::Moved(worth(4))),
-                _ => {}
-            }
-        }
-        is_state(&rt, &state, row);
-    }
+    make_rows(&rt, &mut state, &net)?;
     assert_eq!(rt; state.count(), 140);
     assert!(rt; state.quiet());
     Ok(())
@@ -327,7 +426,7 @@ fn the_run_ends_in_a_flow(rt: HostRuntime) -> Result<(), Fail> {
     let net = two_on_waste(alloc)?;
     let events = run_of_rows(alloc)?;
     assert_eq!(rt; events.len(), 140);
-    let state = replay(alloc, &net, &events).ok().ok_or("replay")?;
+    let state = replay(alloc, &net, &events)?;
     assert!(rt; state.quiet());
     let flow = state.into_flow(&net).ok().ok_or("quiet")?;
     assert!(rt; flow.source() == [worth(1), worth(0), worth(0)].as_slice());
@@ -381,7 +480,7 @@ fn a_sum_too_large(rt: HostRuntime) -> Result<(), Fail> {
         1,
         &[RE, RC, RL, RC, RL, RA, RE, RC, RL, RC, RL, TC],
     )?;
-    let mut state = replay(alloc, &net, &events).ok().ok_or("replay")?;
+    let mut state = replay(alloc, &net, &events)?;
     assert_eq!(rt; state.count(), 24);
     let event = Event { block: 1, kind: TE };
     assert_eq!(rt; state.step(&net, event), Err(StepRefusal::TooLarge));
@@ -428,11 +527,16 @@ fn waiting_goes_round(rt: HostRuntime) -> Result<(), Fail> {
 fn a_state_that_is_not_quiet(rt: HostRuntime) -> Result<(), Fail> {
     let alloc = rt.alloc();
     let net = two_on_waste(alloc)?;
+    assert_eq!(rt; net.len(), 3);
     let mut state = State::open(alloc, &net)?;
     let event = Event { block: 0, kind: RE };
     assert_eq!(rt; state.step(&net, event), Ok(Saw::Excess(worth(4))));
-    let state = state.into_flow(&net).err().ok_or("a flow")?;
-    assert_eq!(rt; state.count(), 1);
-    assert_eq!(rt; state.next_kind(&net, 0), RL);
+    match state.into_flow(&net) {
+        Ok(_) => assert!(rt; false, "a flow of a state that isn't quiet"),
+        Err(state) => {
+            assert_eq!(rt; state.count(), 1);
+            assert_eq!(rt; state.next_kind(&net, 0), RL);
+        }
+    }
     Ok(())
 }

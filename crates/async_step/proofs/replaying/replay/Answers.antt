@@ -19,7 +19,7 @@ returns-in-Err-step g c =
       run = c.loop-i.invariant.run;
       event = get_or c.args.events.now c.loop-i.i d;
       present = slice_get-get_or c.args.events.now c.loop-i.i d c.loop-i-test.true;
-      stands = c.in-Err-step.ensures.stands;
+      stands = c.in-Err-step.ensures.made.stands;
     }
 
 pub loop-i-preserved : goal.loop-i-preserved
@@ -30,6 +30,6 @@ loop-i-preserved g c =
     let e : Event = get_or es c.loop-i.i d in
     record {
       run = subst (λ (xs : List Event). Run net (opening net) xs (state_of c.step.new.self)) (sym (take_more es c.loop-i.i d c.loop-i-test.true))
-          (run_more net (opening net) (take c.loop-i.i es) e (state_of c.loop-i.state) (state_of c.step.new.self) c.loop-i.invariant.run c.in-Ok-step.ensures.step);
+          (run_more net (opening net) (take c.loop-i.i es) e (state_of c.loop-i.state) (state_of c.step.new.self) c.loop-i.invariant.run c.in-Ok-step.ensures.made.step);
       over = c.in-Ok-step.ensures.state;
     }
