@@ -24,6 +24,8 @@ mod reading;
 mod refusals;
 mod replaying;
 mod running;
+#[cfg(test)]
+mod running_tests;
 mod saw;
 mod state;
 mod stepping;
