@@ -5,3 +5,4 @@ pub mod Opens
 pub mod Becoming
 pub mod Turns
 pub mod Waits
+pub mod Settling

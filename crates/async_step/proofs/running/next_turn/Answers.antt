@@ -1,0 +1,18 @@
+use Rattle.std.proofs.Common.{◌≡◌, ℕ, Option, Some, subst, sym, ◌∙◌}
+use Rattle.std.proofs.lemmas.Option.{none-some}
+use Rattle.async_step.specs.Running.{IsTurnOf}
+use Rattle.async_step.proofs.Settling.{idle_as, turn_passes, turn_ends}
+use Rattle.async_step.proofs.running.next_turn.Goals as goal
+
+pub returns-then-is_idle : goal.returns-then-is_idle
+returns-then-is_idle g c =
+    turn_ends c.args.net.now c.args.state.now c.in-Some.block c.waiting.result
+    (subst (λ (o : Option ℕ). IsTurnOf c.args.net.now c.args.state.now o) c.in-Some.is c.requires)
+    (sym c.operation.ensures ∙ sym (idle_as g.G.OrderedGroup.parts_of c.operation.result (sym c.is_idle.ensures ∙ c.if-is_idle.true)))
+    c.waiting.ensures
+
+pub returns-in-None : goal.returns-in-None
+returns-in-None g c =
+    turn_passes c.args.net.now c.args.state.now 0 c.waiting-in-None.result c.requires.over
+    (λ b l. c.requires.alone.others b l (λ e. none-some b (sym c.in-None.is ∙ e)))
+    c.waiting-in-None.ensures
