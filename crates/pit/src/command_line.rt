@@ -8,7 +8,7 @@ const ABOUT: &str =
     "Finds and checks the ultimate pit of a block model: the set of blocks worth most in which every block has all that it rests on.";
 
 const STATUSES: &str =
-    "Exit status:\n  0  done: the answer is on standard output\n  1  refused: the certificate doesn't prove its pit\n  2  usage: the words of the command line are wrong\n  3  a file is wrong: standard error names the file, the fault and its line\n  4  memory was refused, or a file or the output failed\n\nWithout words pit checks a small example that it carries, and prints the answer.";
+    "Exit status:\n  0  done: the answer is on standard output\n  1  refused: the certificate doesn't prove its pit\n  2  usage: the words of the command line are wrong\n  3  a file is wrong, or a pattern gives nothing for it: standard error names the fault, and its line in the file\n  4  memory was refused, or a file or the output failed\n\nWithout words pit checks a small example that it carries, and prints the answer.";
 
 const CHECK_ABOUT: &str = "Checks a certificate: does its flow prove that its pit is the best?";
 
@@ -18,7 +18,7 @@ const CHECK_DETAILS: &str =
 const SLOPES_ABOUT: &str = "Writes which blocks must be dug before which, by a slope pattern";
 
 const SLOPES_DETAILS: &str =
-    "Writes which blocks must be dug before which, by a slope pattern.\n\nPrints a .prec file: for each block a line with its number, how many blocks it rests on, and those. A block with nothing above it has the line `b 0`.\n\nPatterns:\n  five              the block above and the four that share a side with it (1:5)\n  nine              the square of nine blocks above (1:9)\n  cone:LEVELS:RUN:RISE  on each of so many levels above, the blocks within level * RUN / RISE blocks of the axis; each number is from 1 to 1000";
+    "Writes which blocks must be dug before which, by a slope pattern.\n\nPrints a .prec file: for each block a line with its number, how many blocks it rests on, and those. A block with nothing above it has the line `b 0`.\n\nPatterns:\n  five                  the block above and the four that share a side with it (1:5)\n  nine                  the square of nine blocks above (1:9)\n  cone:LEVELS:RUN:RISE  on each of so many levels above, the blocks within level * RUN / RISE blocks of the axis; each number is from 1 to 1000";
 
 /// The files of a check.
 #[derive(Clone, Copy)]
@@ -84,17 +84,14 @@ fn slopes_command<'a>(alloc: Global) -> Result<Command<'a>, AllocError> {
         .about(SLOPES_ABOUT)
         .long_about(SLOPES_DETAILS)
         .after_help(STATUSES)
-        .arg(file_option(
-            alloc,
-            "blocks",
-            "Where the blocks are: MineLib's .blocks",
-        ))?
+        .arg(file_option(alloc, "blocks", "Where the blocks are: MineLib's .blocks"))?
         .arg(named_option(
             alloc,
             "pattern",
             "PATTERN",
             "Which blocks above a block must go first: five, nine or cone:LEVELS:RUN:RISE",
-        ).required(true))?
+        )
+        .required(true))?
         .arg(named_option(
             alloc,
             "up",

@@ -18,6 +18,8 @@ mod pattern_choice;
 mod pattern_words;
 mod slope_pairs;
 mod slopes;
+#[cfg(test)]
+mod slopes_tests;
 mod stored_run;
 #[cfg(test)]
 mod tests;
@@ -92,7 +94,12 @@ fn answer<R: Files + Print + Eprint + AllocGlobal>(
     match request {
         Request::Check(files) => Ok(status(&Ok(check_files(rt, files)?))),
         Request::Slopes(words) => match (pattern_named(words.pattern.as_bytes()), way_up(words)) {
-            (Some(pattern), Some(up)) => Ok(status(&Ok(slopes_file(rt, words.blocks, pattern, up)?))),
+            (Some(pattern), Some(up)) => Ok(status(&Ok(slopes_file(
+                rt,
+                words.blocks,
+                pattern,
+                up,
+            )?))),
             _ => usage(rt),
         },
     }

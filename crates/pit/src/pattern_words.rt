@@ -72,7 +72,11 @@ fn cone_named(numbers: &[u8]) -> Option<PatternChoice>
     match cut(rise) {
         Some(_) => None,
         None => match (cone_number(levels), cone_number(run), cone_number(rise)) {
-            (Some(levels), Some(run), Some(rise)) => Some(PatternChoice::Cone { levels, run, rise }),
+            (Some(levels), Some(run), Some(rise)) => Some(PatternChoice::Cone {
+                levels,
+                run,
+                rise,
+            }),
             _ => None,
         },
     }

@@ -1,14 +1,16 @@
 // Devices of the tests' own claim nothing of their bytes, so what is answered is asserted as the tests run.
 
 use crate::checks::check_engine;
-use crate::engine_faults::{CertificateProblem, EngineFault, Problem};
+use crate::engine_faults::{CertificateProblem, EngineFault, Problem, SlopeProblem};
 use crate::fault_lines::{status, write_fault};
 use crate::judgements::Verdict;
 use crate::stored_run::stored_check;
+use blocks_file::BlocksFault;
 use check_pit::CertFault;
 use closure_net::NetFault;
 use fixed_worth::{Counted, WriteFault};
 use prec_file::PrecFault;
+use slope::{PatternFault, SlopeFault};
 use std::alloc::Global;
 use std::io;
 use std::io::{Error, ErrorKind, Read, Write};
@@ -88,7 +90,27 @@ fn is_told(alloc: Global, fault: EngineFault, line: &[u8], number: u8) -> bool {
 #[test]
 fn each_fault_has_its_line_and_status(rt: HostRuntime) {
     let long = Problem::InputTooLong;
-    let told: [(EngineFault, &[u8], u8); 8] = [
+    let told: [(EngineFault, &[u8], u8); 12] = [
+        (
+            EngineFault::Blocks(Problem::Fault(BlocksFault::UnknownBlock(2))),
+            b"fault: blocks UnknownBlock(2)\n",
+            3,
+        ),
+        (
+            EngineFault::Slope(SlopeProblem::Pairs(SlopeFault::SamePlace(0, 1))),
+            b"fault: slope SamePlace(0, 1)\n",
+            3,
+        ),
+        (
+            EngineFault::Slope(SlopeProblem::Pairs(SlopeFault::TooMany)),
+            b"fault: slope TooMany\n",
+            3,
+        ),
+        (
+            EngineFault::Slope(SlopeProblem::Pattern(PatternFault::TooMany)),
+            b"fault: slope TooMany\n",
+            3,
+        ),
         (
             EngineFault::Upit(Problem::Fault(UpitFault::NoObjective(0))),
             b"fault: upit NoObjective(0)\n",

@@ -55,7 +55,7 @@ module _ (m : BlocksView) (os : List Offset) (up : Up) (rests : RestsView) (s : 
       let q = pair_of j h in
       let x = get_or_default os p.offset.0 (offset_between up (place_of m b) (place_of m (above i))) (offset_between up (place_of m b) (place_of m (above j))) p.offset.1 in
       let same : offset_between up (place_of m b) (place_of m (above i)) ≡ offset_between up (place_of m b) (place_of m (above j)) =
-          sym p.offset.2 ∙ x ∙ ap (λ k. get_or os k (offset_between up (place_of m b) (place_of m (above j)))) e ∙ q.offset.2 in
+      sym p.offset.2 ∙ x ∙ ap (λ k. get_or os k (offset_between up (place_of m b) (place_of m (above j)))) e ∙ q.offset.2 in
       s.apart (above i) (above j) (above_rises rests.pairs s.rising b i j r h) q.top (one_place up (place_of m b) (place_of m (above i)) (place_of m (above j)) same)
 
   pub above_most : length (above_of rests.pairs b) ≤ length os

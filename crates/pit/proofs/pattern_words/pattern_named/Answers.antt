@@ -1,4 +1,4 @@
-use Rattle.std.proofs.Common.{rules, sym}
+use Rattle.std.proofs.Common.{rules}
 use Rattle.pit.proofs.Pieces.{named}
 use Rattle.pit.proofs.pattern_words.pattern_named.Goals as goal
 
