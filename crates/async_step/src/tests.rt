@@ -431,7 +431,8 @@ fn a_state_that_is_not_quiet(rt: HostRuntime) -> Result<(), Fail> {
     let net = two_on_waste(alloc)?;
     let mut state = State::open(alloc, &net)?;
     let event = Event { block: 0, kind: RE };
-    assert_eq!(rt; state.step(&net, event), Ok(Saw::Excess(worth(4))));
+    let saw = state.step(&net, event).ok().ok_or("step")?;
+    assert_eq!(rt; saw, Saw::Excess(worth(4)));
     let state = state.into_flow(&net).err().ok_or("a flow")?;
     assert_eq!(rt; state.count(), 1);
     assert_eq!(rt; state.next_kind(&net, 0), RL);
