@@ -18,7 +18,7 @@ use Rattle.pit.specs.OutputLines.{judgement_line}
 use Rattle.pit.specs.Verdicts.{verdict_of}
 use Rattle.pit.specs.Engines.{Checks, WritesAtFault, LineFails}
 
-keeps_self : (w : Option (List ℕ)) → Keeps w w
+pub keeps_self : (w : Option (List ℕ)) → Keeps w w
 keeps_self None = tt
 keeps_self (Some xs) = refl
 
@@ -34,7 +34,7 @@ at_fault u p c old new engine.Memory k = k
 at_fault u p c old new engine.Device k = inl k
 
 -- the two texts of the mine were read
-read_both : (u p : List ℕ) (values : upit.UpitView) (rests : RestsView) (n : ℕ) → n ≡ length values.values → ReadsUpit u values → ReadsPrec n p rests → AreRead u p values rests
+pub read_both : (u p : List ℕ) (values : upit.UpitView) (rests : RestsView) (n : ℕ) → n ≡ length values.values → ReadsUpit u values → ReadsPrec n p rests → AreRead u p values rests
 read_both u p values rests n e a b =
     let q : length values.values ≡ rests.blocks = sym e ∙ sym b.1 in
     let F : ℕ → Type 0 = λ k. prec.fault_of k p ≡ None in

@@ -70,7 +70,7 @@ pub record HasRead (name : Group) (block : ℤ → ℕ → Amount) (counts : Boo
   pub read : IsRead counts name (length net.worths) net.pairs certificate blocks price pit flow
 
 module _ (name : Group) (block : ℤ → ℕ → Amount) (counts : Bool) (values precedence certificate : List ℕ) (net : NetView) (pit : List ℕ) (flow : FlowView) (h : HasRead name block counts values precedence certificate net pit flow) where
-  abbrev reads : Reads values precedence certificate
+  abbrev pub reads : Reads values precedence certificate
   reads = record {
     blocks = length net.worths;
     mine = h.mine;
@@ -129,7 +129,7 @@ text_fails name block counts values precedence certificate net (cert.UnknownPair
 text_fails name block counts values precedence certificate net cert.Truncated mine named header is_net of_mine f = (length net.worths, mine, inr (body_fails name block counts values precedence certificate net _ named header is_net of_mine f))
 text_fails name block counts values precedence certificate net cert.NoMemory mine named header is_net of_mine f = tt
 
-worths_fail : (name : Group) (block : ℤ → ℕ → Amount) (counts : Bool) (values : List ℕ) (read : upit.UpitView) (n : ℕ) (worths : List ℤ) (fault : NetFault) → upit.Denotes n values read → IsGroupNamed name block counts → worths ≡ map (λ x. pos 1000 *ℤ x) read.values → WorthsFaultStands block n worths fault → NetFails values n name fault
+pub worths_fail : (name : Group) (block : ℤ → ℕ → Amount) (counts : Bool) (values : List ℕ) (read : upit.UpitView) (n : ℕ) (worths : List ℤ) (fault : NetFault) → upit.Denotes n values read → IsGroupNamed name block counts → worths ≡ map (λ x. pos 1000 *ℤ x) read.values → WorthsFaultStands block n worths fault → NetFails values n name fault
 worths_fail name block counts values read n worths fault d named e f =
     record {
       worths = worths;

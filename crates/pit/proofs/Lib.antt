@@ -6,3 +6,5 @@ pub mod Alone
 pub mod Unread
 pub mod Complete
 pub mod Pieces
+pub mod Lone
+pub mod Solutions

@@ -10,3 +10,5 @@ pub mod Verdicts
 pub mod Judging
 pub mod Slopes
 pub mod PatternWords
+pub mod Solving
+pub mod SolveWords

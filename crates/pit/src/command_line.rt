@@ -1,5 +1,6 @@
 //! The words of the command line, read by `clap`: which command, on which files.
 
+use crate::solve_command::{SolveWords, solve_command, solve_words};
 use clap::error::ErrorKind;
 use clap::{Arg, ArgAction, ArgMatches, Command, Error};
 use std::alloc::{AllocError, Global};
@@ -7,8 +8,9 @@ use std::alloc::{AllocError, Global};
 const ABOUT: &str =
     "Finds and checks the ultimate pit of a block model: the set of blocks worth most in which every block has all that it rests on.";
 
-const STATUSES: &str =
-    "Exit status:\n  0  done: the answer is on standard output\n  1  refused: the certificate doesn't prove its pit\n  2  usage: the words of the command line are wrong\n  3  a file is wrong, or a pattern gives nothing for it: standard error names the fault, and its line in the file\n  4  memory was refused, or a file or the output failed\n\nWithout words pit checks a small example that it carries, and prints the answer.";
+/// The exit statuses, for each command's help.
+pub const STATUSES: &str =
+    "Exit status:\n  0  done: the answer is on standard output\n  1  no: the certificate doesn't prove its pit, or the run gave none\n  2  usage: the words of the command line are wrong\n  3  a file is wrong, or a pattern gives nothing for it: standard error names the fault, and its line in the file\n  4  memory was refused, or a file or the output failed\n\nWithout words pit checks a small example that it carries, and prints the answer.";
 
 const CHECK_ABOUT: &str = "Checks a certificate: does its flow prove that its pit is the best?";
 
@@ -41,6 +43,7 @@ pub struct SlopesWords<'a> {
 pub enum Request<'a> {
     Check(CheckFiles<'a>),
     Slopes(SlopesWords<'a>),
+    Solve(SolveWords<'a>),
 }
 
 /// Reads the words, of which the first is the program's name. The error prints itself.
@@ -49,6 +52,7 @@ pub fn request_of<'a>(alloc: Global, words: &'a [String]) -> Result<Request<'a>,
     match matches.subcommand() {
         Some(("check", words)) => Ok(Request::Check(check_files(words))),
         Some(("slopes", words)) => Ok(Request::Slopes(slopes_words(words))),
+        Some(("solve", words)) => Ok(Request::Solve(solve_words(words))),
         _ => Err(pit_command(alloc)?.error(ErrorKind::MissingSubcommand, "a command is missing")?),
     }
 }
@@ -56,12 +60,14 @@ pub fn request_of<'a>(alloc: Global, words: &'a [String]) -> Result<Request<'a>,
 fn pit_command<'a>(alloc: Global) -> Result<Command<'a>, AllocError> {
     let check = check_command(alloc)?;
     let slopes = slopes_command(alloc)?;
+    let solve = solve_command(alloc)?;
     Command::new(alloc, "pit")
         .about(ABOUT)
         .after_help(STATUSES)
         .subcommand_required(true)
         .subcommand(check)?
-        .subcommand(slopes)
+        .subcommand(slopes)?
+        .subcommand(solve)
 }
 
 fn check_command<'a>(alloc: Global) -> Result<Command<'a>, AllocError> {
@@ -100,8 +106,8 @@ fn slopes_command<'a>(alloc: Global) -> Result<Command<'a>, AllocError> {
         ))
 }
 
-// An option that names one of a few things.
-fn named_option<'a>(alloc: Global, name: &'a str, shown: &'a str, help: &'a str) -> Arg<'a> {
+/// An option that names one of a few things.
+pub fn named_option<'a>(alloc: Global, name: &'a str, shown: &'a str, help: &'a str) -> Arg<'a> {
     Arg::new(alloc, name)
         .long(name)
         .value_name(shown)
@@ -109,8 +115,8 @@ fn named_option<'a>(alloc: Global, name: &'a str, shown: &'a str, help: &'a str)
         .help(help)
 }
 
-// An option that must be given and names a file.
-fn file_option<'a>(alloc: Global, name: &'a str, help: &'a str) -> Arg<'a> {
+/// An option that must be given and names a file.
+pub fn file_option<'a>(alloc: Global, name: &'a str, help: &'a str) -> Arg<'a> {
     Arg::new(alloc, name)
         .long(name)
         .value_name("FILE")
@@ -144,7 +150,7 @@ fn slopes_words<'a>(words: &ArgMatches<'a>) -> SlopesWords<'a> {
     }
 }
 
-// A word that clap made sure of.
-fn text_of<'a>(words: &ArgMatches<'a>, name: &str) -> &'a str {
+/// A word that clap made sure of.
+pub fn text_of<'a>(words: &ArgMatches<'a>, name: &str) -> &'a str {
     words.get_str(name).unwrap_or("")
 }

@@ -131,8 +131,8 @@ fn known_to_fit<G: OrderedGroup>(amount: G)
     let (_worth, _count) = amount.parts();
 }
 
-// The worth of each block in billionths.
-fn nanos_of(alloc: Global, upit: &Upit) -> Result<Vec<i128>, AllocError>
+/// The worth of each block in billionths.
+pub fn nanos_of(alloc: Global, upit: &Upit) -> Result<Vec<i128>, AllocError>
     ensures { IfOk result (λ v. v.items ≡ map (λ x. pos 1000 *ℤ x) upit.now.values) }
 {
     let mut nanos: Vec<i128> = Vec::new(alloc);
@@ -159,7 +159,8 @@ fn certificate_fault(fault: CertFault) -> EngineFault
     }
 }
 
-fn model_fault(fault: NetFault) -> EngineFault
+/// The engine's fault of a net's.
+pub fn model_fault(fault: NetFault) -> EngineFault
     ensures fault { result ≡ of_model fault }
     ensures no_device { result ≢ EngineFault.Device }
 {

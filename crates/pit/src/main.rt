@@ -1,4 +1,4 @@
-//! `pit`: the ultimate pit of a block model, checked.
+//! `pit`: the ultimate pit of a block model, found and checked.
 //!
 //! Stands on every crate of the repository. The engines (`checks`) read bytes and write bytes, and
 //! their contracts say which; this file connects them to the words of the command line, to files
@@ -20,6 +20,12 @@ mod slope_pairs;
 mod slopes;
 #[cfg(test)]
 mod slopes_tests;
+mod solve_command;
+#[cfg(test)]
+mod solve_tests;
+mod solve_words;
+mod solves;
+mod solving;
 mod stored_run;
 #[cfg(test)]
 mod tests;
@@ -32,10 +38,14 @@ use engine_faults::EngineFault;
 use fault_lines::{status, write_fault};
 use fixed_worth::Counted;
 use judgements::Verdict;
+use ordered_group::Group;
 use pattern_choice::PatternChoice;
 use pattern_words::{pattern_named, up_named};
 use slope::Up;
 use slopes::slopes_engine;
+use solve_command::SolveWords;
+use solve_words::{group_named, steps_named};
+use solves::solve_engine;
 use std::fs::File;
 use std::process::ExitCode;
 use std::rt::{Env, Files};
@@ -44,6 +54,9 @@ use stored_run::stored_check;
 
 // The exit status where the words are wrong.
 const USAGE: u8 = 2;
+
+// The most steps of a run, where no word says.
+const USUAL_STEPS: u64 = 1_000_000_000;
 
 fn main(rt: HostRuntime) -> ExitCode {
     let mut errors = Counted::new(rt.stderr());
@@ -93,6 +106,10 @@ fn answer<R: Files + Print + Eprint + AllocGlobal>(
 ) -> Result<u8, EngineFault> {
     match request {
         Request::Check(files) => Ok(status(&Ok(check_files(rt, files)?))),
+        Request::Solve(words) => match (kind_asked(words), steps_asked(words)) {
+            (Some(group), Some(steps)) => Ok(status(&Ok(solve_files(rt, words, group, steps)?))),
+            _ => usage(rt),
+        },
         Request::Slopes(words) => match (pattern_named(words.pattern.as_bytes()), way_up(words)) {
             (Some(pattern), Some(up)) => Ok(status(&Ok(slopes_file(
                 rt,
@@ -102,6 +119,22 @@ fn answer<R: Files + Print + Eprint + AllocGlobal>(
             )?))),
             _ => usage(rt),
         },
+    }
+}
+
+// What amounts count: worth and size, where no word says.
+fn kind_asked(words: SolveWords<'_>) -> Option<Group> {
+    match words.group {
+        Some(word) => group_named(word.as_bytes()),
+        None => Some(Group::Pair),
+    }
+}
+
+// The most steps of the run.
+fn steps_asked(words: SolveWords<'_>) -> Option<u64> {
+    match words.steps {
+        Some(word) => steps_named(word.as_bytes()),
+        None => Some(USUAL_STEPS),
     }
 }
 
@@ -131,6 +164,19 @@ fn check_files<R: Files + Print + AllocGlobal>(
     let mut certificate = Counted::new(opened(rt, files.certificate)?);
     let mut out = Counted::new(io::writer(rt));
     check_engine(rt.alloc(), &mut upit, &mut prec, &mut certificate, &mut out)
+}
+
+// Solves the mine of two files. Both are opened before any is read.
+fn solve_files<R: Files + Print + AllocGlobal>(
+    rt: &R,
+    words: SolveWords<'_>,
+    group: Group,
+    steps: u64,
+) -> Result<Verdict, EngineFault> {
+    let mut prec = Counted::new(opened(rt, words.prec)?);
+    let mut upit = Counted::new(opened(rt, words.upit)?);
+    let mut out = Counted::new(io::writer(rt));
+    solve_engine(rt.alloc(), &mut upit, &mut prec, group, steps, &mut out)
 }
 
 // Writes what each block of a file rests on by a pattern.

@@ -1,0 +1,59 @@
+-- A header that is the wanted one is read so by itself.
+use Rattle.std.proofs.Common.{◌≡◌, ℕ, ◌+◌, ◌^◌, Bool, true, false, cond, eqb, List, Option, Some, None, Result, Ok, Err, refl, sym, ap, ◌∙◌}
+use Rattle.std.specs.Str.{bytes_eq}
+use lib.Chars.{codes}
+use Rattle.ordered_group.specs.declared.groups.Group.{Group}
+use Rattle.ordered_group.specs.declared.groups.Group.TheVariants.{Worth, Pair}
+use Rattle.check_pit.specs.declared.headers.Header.{Header}
+use Rattle.check_pit.specs.declared.headers.Wanted.{Wanted}
+use Rattle.check_pit.specs.declared.headers.Price.{Price}
+use Rattle.check_pit.specs.declared.cert_faults.CertFault.{CertFault}
+use Rattle.check_pit.specs.declared.cert_faults.LineFault.{LineFault}
+use Rattle.check_pit.specs.declared.cert_faults.LineFault.TheVariants.{Text}
+use Rattle.check_pit.specs.Pieces.{Piece, piece_at, read_line, words_of, number_below, unless_fault, in_line, no_line}
+use Rattle.check_pit.specs.Header.{◌>>=◌, header_for, version_in, blocks_in, price_in, group_in, blocks_said, wanted_blocks, wanted_group, is_same_group, or_number, value_behind}
+use Rattle.check_pit.proofs.Going.{text_read}
+use Rattle.check_pit.proofs.Wants.{Joined, joined}
+
+number_alone : (w : Wanted) (k n : ℕ) (t : Bool) → or_number (cond t (Some k) None) ≡ Ok n → or_number (Some k) ≡ Ok n
+number_alone w k n true h = h
+number_alone w k n false h = absurd cc
+
+option_alone : (w : Wanted) (o : Option ℕ) (n : ℕ) → or_number (wanted_blocks (Some w) o) ≡ Ok n → or_number (wanted_blocks None o) ≡ Ok n
+option_alone w (Some k) n h = number_alone w k n (eqb k w.blocks) h
+option_alone w None n h = absurd cc
+
+blocks_alone : (w : Wanted) (o : Option (List ℕ)) (n : ℕ) → blocks_said (Some w) o ≡ Ok n → blocks_said None o ≡ Ok n
+blocks_alone w (Some word) n h = option_alone w (number_below (2 ^ 24 + 1) word) n h
+blocks_alone w None n h = absurd cc
+
+abbrev named : Group → Result Group LineFault
+named b = Ok b
+
+named_alone : (b g : Group) (t : Bool) → cond t (named b) (Err Text) ≡ Ok g → named b ≡ Ok g
+named_alone b g true h = h
+named_alone b g false h = absurd cc
+
+group_alone : (w : Wanted) (t u : Bool) (g : Group) → cond t (wanted_group (Some w) Worth) (cond u (wanted_group (Some w) Pair) (Err Text)) ≡ Ok g → cond t (wanted_group None Worth) (cond u (wanted_group None Pair) (Err Text)) ≡ Ok g
+group_alone w true u g h = named_alone Worth g (is_same_group w.group Worth) h
+group_alone w false true g h = named_alone Pair g (is_same_group w.group Pair) h
+group_alone w false false g h = absurd cc
+
+-- two readings that agree on a piece's text
+line_by : {A : Type 0} (f g : List ℕ → Result A LineFault) (k : ℕ) (p : Piece) (x : A) → (f p.text ≡ Ok x → g p.text ≡ Ok x) → read_line f k p ≡ Ok x → read_line g k p ≡ Ok x
+line_by f g k p x step h =
+    let told = text_read f k p x h in
+    ap (λ r. unless_fault (no_line k p) (in_line k r)) (step told ∙ sym told) ∙ h
+
+all_joined : (a : Result (Unit {0}) CertFault) (b : Result ℕ CertFault) (c : Result Price CertFault) (d : Result Group CertFault) (h : Header) → a ≡ Ok tt → b ≡ Ok h.blocks → c ≡ Ok h.price → d ≡ Ok h.group
+    → (a >>= λ x. b >>= λ blocks. c >>= λ price. d >>= λ group. Ok (record { blocks = blocks; price = price; group = group })) ≡ Ok h
+all_joined a b c d h e f g k = rw (e, f, g, k) refl
+
+pub header_alone : (w : Wanted) (ps : List Piece) (h : Header) → header_for (Some w) ps ≡ Ok h → header_for None ps ≡ Ok h
+header_alone w ps h e =
+    let q = joined (read_line version_in 1 (piece_at ps 0)) (read_line (blocks_in (Some w)) 2 (piece_at ps 1)) (read_line price_in 3 (piece_at ps 2)) (read_line (group_in (Some w)) 4 (piece_at ps 3)) h e in
+    all_joined (read_line version_in 1 (piece_at ps 0)) (read_line (blocks_in None) 2 (piece_at ps 1)) (read_line price_in 3 (piece_at ps 2)) (read_line (group_in None) 4 (piece_at ps 3)) h
+    q.version
+    (line_by (blocks_in (Some w)) (blocks_in None) 2 (piece_at ps 1) h.blocks (blocks_alone w (value_behind (codes "BLOCKS") (words_of (piece_at ps 1).text)) h.blocks) q.blocks)
+    q.price
+    (line_by (group_in (Some w)) (group_in None) 4 (piece_at ps 3) h.group (group_alone w (bytes_eq (piece_at ps 3).text (codes "GROUP WORTH")) (bytes_eq (piece_at ps 3).text (codes "GROUP PAIR")) h.group) q.group)

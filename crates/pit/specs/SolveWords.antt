@@ -1,0 +1,20 @@
+-- The words that name a kind of amount and a number of steps.
+use Rattle.std.specs.Prelude.{ℕ, ◌^◌, ◌&&◌, cond, List, codes, nat_le, Option, Some, None, Result, Ok, Err}
+use Rattle.std.specs.Str.{bytes_eq}
+use Rattle.fixed_worth.specs.declared.numerals.NumberFault.{NumberFault}
+use Rattle.fixed_worth.specs.Numeral.{whole_of}
+use Rattle.ordered_group.specs.declared.groups.Group.{Group}
+use Rattle.ordered_group.specs.declared.groups.Group.TheVariants.{Worth, Pair}
+
+-- the kind of amount that a word names, if it names one
+abbrev pub group_of : List ℕ → Option Group
+group_of word = cond (bytes_eq word (codes "worth")) (Some Worth) (cond (bytes_eq word (codes "pair")) (Some Pair) None)
+
+-- a whole number from 1 to 2^40
+abbrev pub steps_number : Result ℕ NumberFault → Option ℕ
+steps_number (Ok k) = cond (nat_le 1 k && nat_le k (2 ^ 40)) (Some k) None
+steps_number (Err e) = None
+
+-- the number of steps that a word names, if it names one
+abbrev pub steps_of : List ℕ → Option ℕ
+steps_of word = steps_number (whole_of word)

@@ -1,0 +1,39 @@
+//! The words that name a kind of amount and a number of steps.
+
+ghost use Rattle.std.specs.Prelude.{◌≡◌};
+ghost use Rattle.pit.specs.SolveWords.{group_of, steps_of};
+
+use fixed_worth::whole;
+use ordered_group::Group;
+
+// The most steps of a run.
+const MOST_STEPS: u64 = 1 << 40;
+
+/// The kind of amount that a word names: `worth` or `pair`.
+pub fn group_named(word: &[u8]) -> Option<Group>
+    ensures { result ≡ group_of word.now }
+{
+    if word == b"worth".as_slice() {
+        Some(Group::Worth)
+    } else if word == b"pair".as_slice() {
+        Some(Group::Pair)
+    } else {
+        None
+    }
+}
+
+/// The number of steps that a word names: a whole number from 1 to 2^40.
+pub fn steps_named(word: &[u8]) -> Option<u64>
+    ensures { result ≡ steps_of word.now }
+{
+    match whole(word) {
+        Ok(number) => {
+            if 1 <= number && number <= MOST_STEPS {
+                Some(number)
+            } else {
+                None
+            }
+        }
+        Err(_) => None,
+    }
+}
