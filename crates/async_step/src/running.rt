@@ -74,11 +74,7 @@ fn take_turn<G: OrderedGroup>(
 }
 
 // Makes steps in turns until the state is quiet, at most so many.
-fn settle<G: OrderedGroup>(
-    net: &Net<G>,
-    state: &mut State<G>,
-    steps: u64,
-) -> Result<(), RunFault>
+fn settle<G: OrderedGroup>(net: &Net<G>, state: &mut State<G>, steps: u64) -> Result<(), RunFault>
     requires turn { IsTurnOf net.now state.old None }
     requires unmade { state.old.steps ≡ 0 }
     ensures { MatchResult result (λ _. IsAtRest net.now steps state.new) (λ e. RunFaultStands net.now steps e) }

@@ -188,7 +188,10 @@ fn two_on_waste_leave_one_unit(rt: HostRuntime) -> Result<(), Fail> {
 fn one_block_takes_ten_steps(rt: HostRuntime) -> Result<(), Fail> {
     let alloc = rt.alloc();
     let net: Net<WorthSize> = net_of(alloc, 1, &[], &[5_000_000_000])?;
-    assert_eq!(rt; run_in_turns(alloc, &net, 9).err(), Some(RunFault::Unsettled));
+    assert_eq!(rt;
+        run_in_turns(alloc, &net, 9).err(),
+        Some(RunFault::Unsettled)
+    );
     let ran = run_in_turns(alloc, &net, 10).ok().ok_or("run")?;
     assert_eq!(rt; ran.steps, 10);
     assert!(rt; ran.flow.source() == [WorthSize { nanos: 0, size: 0 }].as_slice());
@@ -220,6 +223,9 @@ fn a_step_too_large(rt: HostRuntime) -> Result<(), Fail> {
     ];
     let worths = Vec::from_slice(alloc, &worths)?;
     let net = Net::build(rests, worths).ok().ok_or("net")?;
-    assert_eq!(rt; run_in_turns(alloc, &net, 1_000_000).err(), Some(RunFault::TooLarge));
+    assert_eq!(rt;
+        run_in_turns(alloc, &net, 1_000_000).err(),
+        Some(RunFault::TooLarge)
+    );
     Ok(())
 }

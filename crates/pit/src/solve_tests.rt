@@ -46,7 +46,13 @@ fn a_mine_of_no_blocks(rt: HostRuntime) {
 #[test]
 fn a_block_worth_nothing(rt: HostRuntime) {
     let upit = b"NBLOCKS: 1\nOBJECTIVE_FUNCTION:\n0 0\n";
-    let (answer, text) = solved(rt.alloc(), upit.as_slice(), b"".as_slice(), Group::Pair, 100);
+    let (answer, text) = solved(
+        rt.alloc(),
+        upit.as_slice(),
+        b"".as_slice(),
+        Group::Pair,
+        100,
+    );
     assert!(rt; answer == Ok(Verdict::Done));
     let certificate = b"PITCERT 1\nBLOCKS 1\nPRICE OBJECTIVE\nGROUP PAIR\nEND\n";
     assert!(rt; text.as_slice() == certificate.as_slice());
@@ -101,7 +107,10 @@ fn words_of_a_request(rt: HostRuntime) {
     assert_eq!(rt; group_named(b"worth".as_slice()), Some(Group::Worth));
     assert_eq!(rt; group_named(b"pair".as_slice()), Some(Group::Pair));
     assert_eq!(rt; group_named(b"PAIR".as_slice()), None);
-    assert_eq!(rt; steps_named(b"1099511627776".as_slice()), Some(1_099_511_627_776));
+    assert_eq!(rt;
+        steps_named(b"1099511627776".as_slice()),
+        Some(1_099_511_627_776)
+    );
     assert_eq!(rt; steps_named(b"1099511627777".as_slice()), None);
     assert_eq!(rt; steps_named(b"0".as_slice()), None);
     assert_eq!(rt; steps_named(b"x".as_slice()), None);
