@@ -138,8 +138,8 @@ fn is_best(rt: &impl Abort, set: u32, n: u32, pairs: &[(u32, u32)], nanos: &[i12
 fn small_nets_against_all_closed_sets(rt: HostRuntime) -> Result<(), Fail> {
     let alloc = rt.alloc();
     let mut numbers = Numbers { last: 2026 };
-    for i in 0..72u32 {
-        let n = i / 9 + 1;
+    for i in 0..204u32 {
+        let n = i / 17 + 1;
         let shape = match i % 3 {
             0 => Shape::Chain,
             1 => Shape::Star,
@@ -147,8 +147,14 @@ fn small_nets_against_all_closed_sets(rt: HostRuntime) -> Result<(), Fail> {
         };
         let pairs = pairs_of(alloc, shape, n)?;
         let mut nanos = Vec::new(alloc);
-        for _ in 0..n {
-            nanos.push(((numbers.next() % 21) as i128).wrapping_sub(10))?;
+        for b in 0..n {
+            // every fourth net has a block of no worth for each other one
+            let worth = if i % 4 == 3 && b % 2 == 0 {
+                0
+            } else {
+                ((numbers.next() % 21) as i128).wrapping_sub(10)
+            };
+            nanos.push(worth)?;
         }
         let set = set_by_a_run::<WorthSize>(alloc, n, &pairs, &nanos)?;
         is_best(&rt, set, n, &pairs, &nanos);

@@ -430,8 +430,12 @@ fn the_run_ends_in_a_flow(rt: HostRuntime) -> Result<(), Fail> {
     assert!(rt; state.quiet());
     let flow = state.into_flow(&net).ok().ok_or("quiet")?;
     assert!(rt; flow.source() == [worth(1), worth(0), worth(0)].as_slice());
-    assert_eq!(rt; flow.rest().at(0), worth(1));
-    assert_eq!(rt; flow.rest().at(1), worth(0));
+    let rest = flow.rest();
+    assert_eq!(rt; rest.len(), 2);
+    if rest.len() == 2 {
+        assert_eq!(rt; rest.at(0), worth(1));
+        assert_eq!(rt; rest.at(1), worth(0));
+    }
     assert!(rt; flow.sink() == [worth(0), worth(1), worth(0)].as_slice());
     Ok(())
 }
