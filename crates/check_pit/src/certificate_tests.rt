@@ -1,4 +1,4 @@
-ghost use Rattle.std.specs.Prelude.{◌≤◌, length};
+ghost use Rattle.std.specs.Prelude.{◌≤◌, ◌^◌};
 
 use crate::reading::header;
 use crate::{CertFault, Certificate, Header, Price, read_certificate, write_certificate};
@@ -277,7 +277,7 @@ fn written_as_it_was_read(rt: HostRuntime) -> Result<(), Fail> {
 
 // The text of a certificate that is read over these pairs and written again.
 fn rewritten(alloc: Global, n: u32, pairs: &[(u32, u32)], text: &[u8]) -> Result<Vec<u8>, Fail>
-    requires { length pairs.now ≤ 8 }
+    requires { n ≤ 2 ^ 24 }
 {
     let rests = Rests::from_pairs(alloc, n, pairs).ok().ok_or("rests")?;
     let read: Certificate<WorthSize> = read_certificate(alloc, text, &rests).ok().ok_or("read")?;
