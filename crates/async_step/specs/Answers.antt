@@ -124,6 +124,10 @@ pub record Stepped (net : NetView) (old : StateView) (event : Event) (new : Stat
   pub counted : old.steps < 2 ^ 40
   pub state : IsStateOf net new
 
+-- the event of the step that is next for block b
+abbrev pub next_event : NetView → State → ℕ → Event
+next_event net s b = record { block = b; kind = next_kind net s b }
+
 -- the event's step is the one that is next for its block
 pub record IsNext (net : NetView) (s : State) (event : Event) : Type 0 where
   pub block : event.block < length net.worths

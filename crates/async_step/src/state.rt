@@ -5,6 +5,7 @@ ghost use Rattle.ordered_group.specs.Amount.{zero_amount};
 ghost use Rattle.ordered_group.specs.Sums.{amount_at};
 ghost use Rattle.closure_net.specs.Network.{NetView, flow_view};
 ghost use Rattle.machine_law.specs.Operations.{operation_as};
+ghost use Rattle.machine_law.specs.declared.operations.Operation.TheVariants.{Idle};
 ghost use Rattle.machine_law.specs.States.{opening, IsQuiet};
 ghost use Rattle.machine_law.specs.Quiet.{IsFlowOf};
 ghost use Rattle.async_step.specs.Marks.{IsFirstRound};
@@ -145,6 +146,15 @@ impl<G: OrderedGroup> State<G> {
         ensures { operation_as G.parts_of result ≡ (state_of self.now).operation b }
     {
         self.operation[b as usize]
+    }
+
+    /// Whether block b has an operation.
+    pub fn has_operation(&self, b: u32) -> bool
+        requires { b < length self.now.operation }
+        ensures { IsTrue result ↔ ¬ ((state_of self.now).operation b ≡ Idle) }
+    {
+        let at = b as usize;
+        !matches!(self.operation[at], Operation::Idle)
     }
 
     /// What has arrived back at the source.

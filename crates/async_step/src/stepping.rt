@@ -3,7 +3,7 @@
 ghost use Rattle.std.specs.Prelude.{◌≡◌, ◌<◌, length, MatchResult};
 ghost use Rattle.machine_law.specs.Steps.{next_kind, advance};
 ghost use Rattle.async_step.specs.Views.{state_of};
-ghost use Rattle.async_step.specs.Answers.{IsStateOf, LeadsTelling, Stepped, IsRefused, saw_as, told};
+ghost use Rattle.async_step.specs.Answers.{IsStateOf, LeadsTelling, Stepped, IsRefused, next_event, saw_as, told};
 
 use crate::operations::{push_kind, read_kind};
 use crate::refusals::StepRefusal;
@@ -58,6 +58,23 @@ impl<G: OrderedGroup> State<G> {
             Operation::GiveDue { amount, port } => self.give_excess(net, block, amount, port),
             Operation::RaiseDue { have: _, best } => self.raise_label(net, block, best),
         }
+    }
+
+    /// Makes the step that is next for block b, whatever its kind, and answers what it saw, moved or
+    /// raised. A refused step changes nothing.
+    ///
+    /// # Errors
+    /// The first of these that stands: `TooLarge` where a number of the state after the step would
+    /// leave its type; `TooManySteps` where 2^40 steps were made.
+    pub fn next_step(&mut self, net: &Net<G>, b: u32) -> Result<Saw<G>, StepRefusal>
+        requires over { IsStateOf net.now self.old }
+        requires block { b < length net.now.worths }
+        ensures made { MatchResult result
+            (λ saw. Stepped net.now self.old (next_event net.now (state_of self.old) b) self.new (saw_as G.parts_of saw))
+            (λ e. IsRefused net.now self.old (next_event net.now (state_of self.old) b) self.new e) }
+        ensures state { IsStateOf net.now self.new }
+    {
+        self.advance(net, b)
     }
 
     /// Makes one step, and answers what it saw, moved or raised. A refused step changes nothing.
