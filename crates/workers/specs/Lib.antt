@@ -1,0 +1,4 @@
+pub mod Boards
+pub mod Runs
+pub mod Solving
+pub mod Turns

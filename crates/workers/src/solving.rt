@@ -1,0 +1,166 @@
+//! Whole runs.
+
+ghost use Rattle.std.specs.Prelude.{◌≡◌, ◌↔◌, ◌<◌, ◌≤◌, ◌^◌, MatchResult, IsErrOf};
+ghost use Rattle.workers.specs.Boards.{shown};
+ghost use Rattle.workers.specs.Runs.{Settles};
+ghost use Rattle.workers.specs.Solving.{AreBadWorkers, IsLeft, IsLoss, RunFaultStands, SolveFaultStands};
+
+use crate::boards::Board;
+use crate::finishing::finish;
+use crate::gates::Gate;
+use crate::serving::serve;
+use crate::sharing::{Locked, Shared};
+use crate::turns::End;
+use closure_net::{Flow, Net};
+use ordered_group::OrderedGroup;
+use std::alloc::Global;
+use std::sync::Wait;
+use std::thread;
+use std::thread::Threads;
+
+// The most steps that are counted.
+const MOST_STEPS: u64 = 1 << 40;
+
+// The most workers.
+const MOST_WORKERS: u32 = 64;
+
+/// A run that has settled.
+#[derive(Drop)]
+pub struct Solved<G: OrderedGroup> {
+    /// The flow that it left: a greatest one.
+    pub flow: Flow<G>,
+    /// How many steps it made.
+    pub steps: u64,
+}
+
+/// Why a run gives no flow.
+#[derive(Clone, Copy, Debug, PartialEq, Eq)]
+pub enum SolveFault {
+    /// There are no workers, or more than 64.
+    BadWorkers,
+    /// The run made all its steps, and some block has excess or an operation.
+    Unsettled,
+    /// A number of the state after the next step would leave its type.
+    TooLarge,
+    /// The board that came back from the workers isn't one of this run: its net is another, or it
+    /// made more steps than it may. No run is known to answer this; see `solve`.
+    StrangerNet,
+    /// Memory was refused.
+    NoMemory,
+    /// A worker couldn't be started.
+    NoThread,
+}
+
+// Starts the workers and waits until all that were started have ended. False where one couldn't be
+// started.
+fn serve_all<R: Threads + Wait + Sync, S: Shared, T: Gate>(
+    rt: &R,
+    shared: &S,
+    gate: &T,
+    workers: u32,
+    blocks: u32,
+    steps: u64,
+) -> bool {
+    thread::scope(thread::scope_env(), rt, |scope| {
+        for worker in 0..workers {
+            if scope
+                .spawn(move || serve(rt, shared, gate, worker, blocks, steps))
+                .is_err()
+            {
+                return false;
+            }
+        }
+        true
+    })
+}
+
+/// Makes the steps of the machine by so many workers, each a thread of its own, until no block has
+/// excess or an operation, and answers the flow: a greatest one of the net, in which what the source
+/// reaches is closed, tight and a greatest closed set.
+///
+/// Each worker passes the gate before each of its turns. What is left of the run when all have ended
+/// is made by the calling thread, so a run without an end made all its steps. A limit above 2^40 steps
+/// counts as 2^40. With several workers the order of the steps is that in which they take the lock:
+/// two runs may leave two greatest flows.
+///
+/// # Errors
+/// `BadWorkers` where there are fewer than 1 or more than 64. `NoMemory` where memory for the board was
+/// refused. `NoThread` where a worker couldn't be started, whatever the others did; those have ended.
+/// `StrangerNet` where the board that the workers shared comes back as another: what a thread does under
+/// a lock is beyond a contract, so the board is compared with the net that was handed in. Then
+/// `TooLarge` where a number of the state after the next step would leave its type, and `Unsettled`
+/// where all steps were made.
+pub fn solve<G: OrderedGroup, R: Threads + Wait + Sync, T: Gate>(
+    rt: &R,
+    alloc: Global,
+    net: &Net<G>,
+    workers: u32,
+    steps: u64,
+    gate: &T,
+) -> Result<Solved<G>, SolveFault>
+where
+    Locked<Board<G>>: Shared,
+    ensures answer { MatchResult result
+        (λ solved. Settles net.now steps solved.flow solved.steps)
+        (λ fault. SolveFaultStands net.now workers steps fault) }
+    ensures workers { IsErrOf result SolveFault.BadWorkers ↔ AreBadWorkers workers }
+{
+    if workers < 1 || workers > MOST_WORKERS {
+        return Err(SolveFault::BadWorkers);
+    }
+    let limit = steps.min(MOST_STEPS);
+    match board_after(rt, alloc, net, workers, limit, gate) {
+        Ok(board) => flow_of(board, limit),
+        Err(fault) => Err(fault),
+    }
+}
+
+// The board of a net as so many workers leave it.
+fn board_after<G: OrderedGroup, R: Threads + Wait + Sync, T: Gate>(
+    rt: &R,
+    alloc: Global,
+    net: &Net<G>,
+    workers: u32,
+    limit: u64,
+    gate: &T,
+) -> Result<Board<G>, SolveFault>
+where
+    Locked<Board<G>>: Shared,
+    ensures { MatchResult result (λ board. IsLeft net.now limit board) (λ fault. IsLoss fault) }
+{
+    let shared = match Board::open(alloc, net) {
+        Ok(board) => Locked::new(board),
+        Err(_) => return Err(SolveFault::NoMemory),
+    };
+    if !serve_all(rt, &shared, gate, workers, net.len(), limit) {
+        return Err(SolveFault::NoThread);
+    }
+    let board = shared.into_inner();
+    if board.is_over(net) && board.count() <= limit {
+        Ok(board)
+    } else {
+        Err(SolveFault::StrangerNet)
+    }
+}
+
+// The flow that a run leaves once the turns that are left are made.
+fn flow_of<G: OrderedGroup>(board: Board<G>, limit: u64) -> Result<Solved<G>, SolveFault>
+    requires counted { limit ≤ 2 ^ 40 }
+    requires within { (shown board).steps ≤ limit }
+    ensures { MatchResult result
+        (λ solved. Settles board.net limit solved.flow solved.steps)
+        (λ fault. RunFaultStands board.net limit fault) }
+{
+    let mut board = board;
+    match finish(&mut board, limit) {
+        End::Quiet => {}
+        End::Stuck => return Err(SolveFault::TooLarge),
+        End::Limit => return Err(SolveFault::Unsettled),
+        End::Full => unreachable!("a board has room for all its steps"),
+    }
+    let steps = board.count();
+    match board.settle() {
+        Ok((_, flow)) => Ok(Solved { flow, steps }),
+        Err(_) => unreachable!("a run that ended quiet is quiet"),
+    }
+}

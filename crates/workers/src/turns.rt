@@ -1,0 +1,30 @@
+//! What a turn answers.
+
+/// What a turn did.
+#[derive(Clone, Copy, Debug, PartialEq, Eq)]
+pub enum Turn {
+    /// One step of a block was made.
+    Stepped {
+        /// The block.
+        block: u32,
+        /// Whether its operation goes on.
+        more: bool,
+    },
+    /// No block is ready to begin an operation, and the run isn't at its end.
+    Idle,
+    /// The run is at its end.
+    Ended(End),
+}
+
+/// Why a run ends.
+#[derive(Clone, Copy, Debug, PartialEq, Eq)]
+pub enum End {
+    /// No block has excess or an operation.
+    Quiet,
+    /// A number of the state after a step would leave its type.
+    Stuck,
+    /// As many steps were made as the run may make.
+    Limit,
+    /// There is no room to write down another step. No board of this crate answers it.
+    Full,
+}
