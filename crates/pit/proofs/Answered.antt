@@ -31,6 +31,8 @@ at_fault u p c old new (engine.Certificate q) k = k
 at_fault u p c old new (engine.Blocks q) k = k
 at_fault u p c old new (engine.Slope q) k = k
 at_fault u p c old new engine.Memory k = k
+at_fault u p c old new engine.Thread k = k
+at_fault u p c old new engine.Stranger k = k
 at_fault u p c old new engine.Device k = inl k
 
 -- the two texts of the mine were read
@@ -57,6 +59,8 @@ text_stands u p c values rests (engine.Certificate (problem.Fault f)) a h = absu
 text_stands u p c values rests (engine.Blocks q) a h = absurd h
 text_stands u p c values rests (engine.Slope q) a h = absurd h
 text_stands u p c values rests engine.Memory a h = tt
+text_stands u p c values rests engine.Thread a h = absurd h
+text_stands u p c values rests engine.Stranger a h = absurd h
 text_stands u p c values rests engine.Device a h = tt
 
 -- the certificate could not be read
@@ -95,6 +99,8 @@ line_failed u p c old new j (engine.Certificate q) h k = absurd k
 line_failed u p c old new j (engine.Blocks q) h k = absurd k
 line_failed u p c old new j (engine.Slope q) h k = absurd k
 line_failed u p c old new j engine.Memory h k = (tt, k)
+line_failed u p c old new j engine.Thread h k = absurd k
+line_failed u p c old new j engine.Stranger h k = absurd k
 line_failed u p c old new j engine.Device h k = (tt, inr (j, h, k))
 
 -- it could not be written

@@ -24,6 +24,8 @@ complete_at u p c old new (Err (engine.Certificate (certificate.Fault f))) h rea
 complete_at u p c old new (Err (engine.Blocks q)) h read s = absurd h.0
 complete_at u p c old new (Err (engine.Slope q)) h read s = absurd h.0
 complete_at u p c old new (Err engine.Memory) h read s = tt
+complete_at u p c old new (Err engine.Thread) h read s = absurd h.0
+complete_at u p c old new (Err engine.Stranger) h read s = absurd h.0
 complete_at u p c old new (Err engine.Device) h read s = tt
 
 pub complete : (o r s old new : Option (List ℕ)) (answer : Result Verdict EngineFault) → IfSome o (λ u. IfSome r (λ p. IfSome s (λ c. Checks u p c old new answer))) → IfSome o (λ u. IfSome r (λ p. IfSome s (λ c. SoundIsAccepted u p c answer)))

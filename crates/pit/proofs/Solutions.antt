@@ -14,7 +14,7 @@ use Rattle.closure_net.specs.Mine.{IsNetOf}
 use Rattle.closure_net.specs.Faults.{WorthsFaultStands}
 use Rattle.closure_net.specs.declared.networks.NetFault.{NetFault}
 use Rattle.closure_net.specs.declared.networks.NetFault.TheVariants as net_fault
-use Rattle.async_step.specs.Running.{Settles}
+use Rattle.workers.specs.Runs.{Settles}
 use Rattle.check_pit.specs.Checks.{IsOfNet, IsSound, FaultStands}
 use Rattle.check_pit.specs.Certificate.{Covers}
 use Rattle.check_pit.specs.ReadBack.{IsPrice, IsReadBack}
@@ -139,6 +139,8 @@ module _ (block : ℤ → ℕ → Amount) (counts : Bool) (values precedence : L
   solved old new (Err (engine.Blocks q)) h = absurd h
   solved old new (Err (engine.Slope q)) h = absurd h
   solved old new (Err engine.Memory) h = (tt, h)
+  solved old new (Err engine.Thread) h = (tt, h)
+  solved old new (Err engine.Stranger) h = (tt, h)
   solved old new (Err engine.Device) h = (tt, inr (net, by, h.0, h.1, h.2))
 
 -- there is no net of the mine

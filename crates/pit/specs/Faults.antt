@@ -95,3 +95,5 @@ Fails values precedence text (engine.Blocks p) = ⊥
 Fails values precedence text (engine.Slope p) = ⊥
 Fails values precedence text engine.Memory = Unit {0}
 Fails values precedence text engine.Device = Unit {0}
+Fails values precedence text engine.Thread = ⊥
+Fails values precedence text engine.Stranger = ⊥

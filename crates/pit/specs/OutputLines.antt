@@ -54,6 +54,8 @@ fault_words (engine.Model fault) = codes "model " ++ net_fault_text fault
 fault_words (engine.Certificate p) = codes "certificate " ++ certificate_text p
 fault_words engine.Memory = codes "memory"
 fault_words engine.Device = codes "device"
+fault_words engine.Thread = codes "thread"
+fault_words engine.Stranger = codes "stranger"
 
 -- the line of a fault
 abbrev pub fault_line : EngineFault → List ℕ

@@ -1,4 +1,4 @@
--- The words that name a kind of amount and a number of steps.
+-- The words that name a kind of amount, a number of steps and a number of workers.
 use Rattle.std.specs.Prelude.{ℕ, ◌^◌, ◌&&◌, cond, List, codes, nat_le, Option, Some, None, Result, Ok, Err}
 use Rattle.std.specs.Str.{bytes_eq}
 use Rattle.fixed_worth.specs.declared.numerals.NumberFault.{NumberFault}
@@ -14,6 +14,15 @@ group_of word = cond (bytes_eq word (codes "worth")) (Some Worth) (cond (bytes_e
 abbrev pub steps_number : Result ℕ NumberFault → Option ℕ
 steps_number (Ok k) = cond (nat_le 1 k && nat_le k (2 ^ 40)) (Some k) None
 steps_number (Err e) = None
+
+-- a whole number from 1 to 64
+abbrev pub workers_number : Result ℕ NumberFault → Option ℕ
+workers_number (Ok k) = cond (nat_le 1 k && nat_le k 64) (Some k) None
+workers_number (Err e) = None
+
+-- the number of workers that a word names, if it names one
+abbrev pub workers_of : List ℕ → Option ℕ
+workers_of word = workers_number (whole_of word)
 
 -- the number of steps that a word names, if it names one
 abbrev pub steps_of : List ℕ → Option ℕ

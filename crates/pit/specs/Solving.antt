@@ -6,7 +6,9 @@ use Rattle.ordered_group.specs.declared.groups.Group.{Group}
 use Rattle.closure_net.specs.Network.{NetView, FlowView, IsNet, holds_of}
 use Rattle.closure_net.specs.Reached.{IsReached}
 use Rattle.closure_net.specs.Mine.{IsNetOf}
-use Rattle.async_step.specs.Running.{Settles, IsCutOff, SomeStepLeaves}
+use Rattle.workers.specs.Runs.{Settles, IsCutOff, SomeStepLeaves}
+use Rattle.workers.specs.declared.solving.SolveFault.{SolveFault}
+use Rattle.workers.specs.declared.solving.SolveFault.TheVariants as run
 use Rattle.check_pit.specs.Checks.{IsOfNet, IsSound, FaultStands}
 use Rattle.check_pit.specs.ReadBack.{IsReadBack}
 use Rattle.check_pit.specs.Written.{header_with, text_of}
@@ -19,7 +21,7 @@ use Rattle.pit.specs.declared.judgements.Verdict.TheVariants.{Done, No}
 use Rattle.pit.specs.declared.engine_faults.EngineFault.{EngineFault}
 use Rattle.pit.specs.declared.engine_faults.EngineFault.TheVariants as engine
 use Rattle.pit.specs.declared.solving.Unsolved.{Unsolved}
-use Rattle.pit.specs.declared.solving.Unsolved.TheVariants.{Unsettled, TooLarge, NoMemory}
+use Rattle.pit.specs.declared.solving.Unsolved.TheVariants.{Unsettled, TooLarge, NoMemory, NoThread, Stranger}
 use Rattle.pit.specs.Faults.{UpitFails, PrecFails, ModelFails, ValuesRead}
 use Rattle.pit.specs.Mines.{mine_of, DenoteMine}
 use Rattle.pit.specs.OutputLines.{judgement_line}
@@ -52,6 +54,17 @@ abbrev pub UnsolvedStands : NetView → ℕ → Unsolved → Type 0
 UnsolvedStands net limit Unsettled = IsCutOff net limit
 UnsolvedStands net limit TooLarge = SomeNumberLeaves net limit
 UnsolvedStands net limit NoMemory = Unit {0}
+UnsolvedStands net limit NoThread = Unit {0}
+UnsolvedStands net limit Stranger = Unit {0}
+
+-- what a fault of a run means; the number of workers is always right
+abbrev pub unsolved_by : SolveFault → Unsolved
+unsolved_by run.BadWorkers = Stranger
+unsolved_by run.Unsettled = Unsettled
+unsolved_by run.TooLarge = TooLarge
+unsolved_by run.StrangerNet = Stranger
+unsolved_by run.NoMemory = NoMemory
+unsolved_by run.NoThread = NoThread
 
 -- the text is that of one pit and one flow of the net, and the flow proves the pit
 pub record IsCertificateOf (counts : Bool) (name : Group) (net : NetView) (text : List ℕ) : Type 0 where
@@ -87,10 +100,12 @@ pub record IsTextOf (name : Group) (net : NetView) (text : List ℕ) : Type 0 wh
 abbrev pub IsDueFor : Group → NetView → ℕ → List ℕ → Type 0
 IsDueFor name net limit text = IsTextOf name net text ⊎ IsNoOf net limit text
 
--- what is written with it: all of it, or nothing where memory is wanted, or a front of it where a device fails
+-- what is written with it: all of it, or nothing where memory or a thread is wanted, or a front of it where a device fails
 abbrev pub SolvesNet : Bool → Group → NetView → ℕ → Option (List ℕ) → Option (List ℕ) → Result Verdict EngineFault → Type 0
 SolvesNet counts name net limit old new (Ok verdict) = (text : List ℕ) × AnswersNet counts name net limit verdict text × Appends old new text
 SolvesNet counts name net limit old new (Err engine.Memory) = Keeps old new
+SolvesNet counts name net limit old new (Err engine.Thread) = Keeps old new
+SolvesNet counts name net limit old new (Err engine.Stranger) = Keeps old new
 SolvesNet counts name net limit old new (Err engine.Device) = (text : List ℕ) × IsDueFor name net limit text × ReceivedPrefix old new text
 SolvesNet counts name net limit old new (Err _) = ⊥
 
@@ -114,12 +129,15 @@ abbrev pub AnswersMine : List ℕ → List ℕ → Group → ℕ → Verdict →
 AnswersMine values precedence name limit Done text = IsCertificate values precedence name text
 AnswersMine values precedence name limit No text = (net : NetView) × IsNetBy values precedence name net × IsNoOf net limit text
 
--- Why the engine answers a fault: it stands, and none before it does. Want of memory and a failing device say nothing of the texts.
+-- Why the engine answers a fault: it stands, and none before it does. Want of memory, of a thread, a failing device and a board that
+-- comes back as another's say nothing of the texts.
 abbrev pub SolveFails : List ℕ → List ℕ → Group → EngineFault → Type 0
 SolveFails values precedence name (engine.Upit p) = UpitFails values p
 SolveFails values precedence name (engine.Prec p) = (n : ℕ) × ValuesRead values n × PrecFails n precedence p
 SolveFails values precedence name (engine.Model fault) = (n : ℕ) × DenoteMine values precedence n × ModelFails values n name fault
 SolveFails values precedence name engine.Memory = Unit {0}
+SolveFails values precedence name engine.Thread = Unit {0}
+SolveFails values precedence name engine.Stranger = Unit {0}
 SolveFails values precedence name engine.Device = Unit {0}
 SolveFails values precedence name _ = ⊥
 

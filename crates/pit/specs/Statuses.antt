@@ -5,10 +5,12 @@ use Rattle.pit.specs.declared.judgements.Verdict.TheVariants.{Done, No}
 use Rattle.pit.specs.declared.engine_faults.EngineFault.{EngineFault}
 use Rattle.pit.specs.declared.engine_faults.EngineFault.TheVariants as engine
 
--- 4 for memory and devices, 3 for what is wrong with an input
+-- 4 for what the machine fails at, 3 for what is wrong with an input
 abbrev pub fault_status : EngineFault → ℕ
 fault_status engine.Memory = 4
 fault_status engine.Device = 4
+fault_status engine.Thread = 4
+fault_status engine.Stranger = 4
 fault_status _ = 3
 
 abbrev pub status_of : Result Verdict EngineFault → ℕ

@@ -93,4 +93,10 @@ pub enum EngineFault {
     /// A read or a write failed, or a file could not be opened.
     #[error("device")]
     Device,
+    /// A thread could not be started.
+    #[error("thread")]
+    Thread,
+    /// The board that the workers of a run shared came back as another's.
+    #[error("stranger")]
+    Stranger,
 }

@@ -22,7 +22,8 @@ use prec_file::PrecFault;
 use slope::{PatternFault, SlopeFault};
 use upit_file::UpitFault;
 
-/// The exit status of an engine's answer: 0 done, 1 no, 3 a fault of an input, 4 memory or a device.
+/// The exit status of an engine's answer: 0 done, 1 no, 3 a fault of an input, 4 memory, a device,
+/// a thread or a stranger's board.
 pub fn status(answer: &Result<Verdict, EngineFault>) -> u8
     ensures { result ≡ status_of answer.now }
 {
@@ -30,6 +31,7 @@ pub fn status(answer: &Result<Verdict, EngineFault>) -> u8
         Ok(Verdict::Done) => 0,
         Ok(Verdict::No) => 1,
         Err(EngineFault::Memory | EngineFault::Device) => 4,
+        Err(EngineFault::Thread | EngineFault::Stranger) => 4,
         Err(_) => 3,
     }
 }
@@ -84,6 +86,8 @@ fn push_words(line: &mut ShortLine, fault: &EngineFault)
         }
         EngineFault::Memory => line.push(b"memory"),
         EngineFault::Device => line.push(b"device"),
+        EngineFault::Thread => line.push(b"thread"),
+        EngineFault::Stranger => line.push(b"stranger"),
     }
 }
 

@@ -5,10 +5,12 @@
 //! and to standard output, and gives the exit status.
 #![tactic(auto)]
 
+ghost use Rattle.std.specs.Prelude.{◌≤◌, IfSome};
 ghost use Rattle.pit.specs.Slopes.{IsChoice};
 
 mod checks;
 mod command_line;
+mod efforts;
 mod engine_faults;
 mod fault_lines;
 mod inputs;
@@ -16,6 +18,7 @@ mod judgements;
 mod judging;
 mod pattern_choice;
 mod pattern_words;
+mod progress;
 mod slope_pairs;
 mod slopes;
 #[cfg(test)]
@@ -34,6 +37,7 @@ mod verdict_lines;
 use checks::check_engine;
 use clap::error::ErrorKind;
 use command_line::{CheckFiles, Request, SlopesWords, request_of};
+use efforts::Effort;
 use engine_faults::EngineFault;
 use fault_lines::{status, write_fault};
 use fixed_worth::Counted;
@@ -41,16 +45,20 @@ use judgements::Verdict;
 use ordered_group::Group;
 use pattern_choice::PatternChoice;
 use pattern_words::{pattern_named, up_named};
+use progress::Progress;
 use slope::Up;
 use slopes::slopes_engine;
 use solve_command::SolveWords;
-use solve_words::{group_named, steps_named};
+use solve_words::{group_named, steps_named, workers_named};
 use solves::solve_engine;
 use std::fs::File;
 use std::process::ExitCode;
-use std::rt::{Env, Files};
+use std::rt::{Clock, Env, Files};
+use std::sync::Wait;
+use std::thread::Threads;
 use std::{env, io};
 use stored_run::stored_check;
+use workers::{Gate, OpenGate};
 
 // The exit status where the words are wrong.
 const USAGE: u8 = 2;
@@ -71,7 +79,9 @@ fn main(rt: HostRuntime) -> ExitCode {
 }
 
 // Does what the words ask for, and gives the exit status.
-fn run<R: Files + Print + Eprint + Env + AllocGlobal>(rt: &R) -> Result<u8, EngineFault> {
+fn run<R: Files + Print + Eprint + Env + Clock + Threads + Wait + Sync + AllocGlobal>(
+    rt: &R,
+) -> Result<u8, EngineFault> {
     let given = match env::args(rt) {
         Ok(given) => given,
         Err(error) if error.kind() == io::ErrorKind::OutOfMemory => return Err(EngineFault::Memory),
@@ -100,14 +110,14 @@ fn run<R: Files + Print + Eprint + Env + AllocGlobal>(rt: &R) -> Result<u8, Engi
 }
 
 // Does what was asked for, and gives the exit status.
-fn answer<R: Files + Print + Eprint + AllocGlobal>(
+fn answer<R: Files + Print + Eprint + Clock + Threads + Wait + Sync + AllocGlobal>(
     rt: &R,
     request: Request<'_>,
 ) -> Result<u8, EngineFault> {
     match request {
         Request::Check(files) => Ok(status(&Ok(check_files(rt, files)?))),
-        Request::Solve(words) => match (kind_asked(words), steps_asked(words)) {
-            (Some(group), Some(steps)) => Ok(status(&Ok(solve_files(rt, words, group, steps)?))),
+        Request::Solve(words) => match (kind_asked(words), effort_asked(words)) {
+            (Some(group), Some(effort)) => Ok(status(&Ok(solve_told(rt, words, group, effort)?))),
             _ => usage(rt),
         },
         Request::Slopes(words) => match (pattern_named(words.pattern.as_bytes()), way_up(words)) {
@@ -135,6 +145,24 @@ fn steps_asked(words: SolveWords<'_>) -> Option<u64> {
     match words.steps {
         Some(word) => steps_named(word.as_bytes()),
         None => Some(USUAL_STEPS),
+    }
+}
+
+// The threads of the run: one, where no word says.
+fn workers_asked(words: SolveWords<'_>) -> Option<u32>
+    ensures { IfSome result (λ workers. (1 ≤ workers) × (workers ≤ 64)) }
+{
+    match words.workers {
+        Some(word) => workers_named(word.as_bytes()),
+        None => Some(1),
+    }
+}
+
+// How much the run may use.
+fn effort_asked(words: SolveWords<'_>) -> Option<Effort> {
+    match (workers_asked(words), steps_asked(words)) {
+        (Some(workers), Some(steps)) => Some(Effort::new(workers, steps)),
+        _ => None,
     }
 }
 
@@ -166,17 +194,35 @@ fn check_files<R: Files + Print + AllocGlobal>(
     check_engine(rt.alloc(), &mut upit, &mut prec, &mut certificate, &mut out)
 }
 
-// Solves the mine of two files. Both are opened before any is read.
-fn solve_files<R: Files + Print + AllocGlobal>(
+// Solves the mine of two files, and tells how far it is where that is asked for.
+fn solve_told<R: Files + Print + Eprint + Clock + Threads + Wait + Sync + AllocGlobal>(
     rt: &R,
     words: SolveWords<'_>,
     group: Group,
-    steps: u64,
+    effort: Effort,
+) -> Result<Verdict, EngineFault> {
+    if words.progress {
+        solve_files(rt, words, group, effort, &Progress::new(rt, effort.steps))
+    } else {
+        solve_files(rt, words, group, effort, &OpenGate)
+    }
+}
+
+// Solves the mine of two files. Both are opened before any is read.
+fn solve_files<R: Files + Print + Threads + Wait + Sync + AllocGlobal, T: Gate>(
+    rt: &R,
+    words: SolveWords<'_>,
+    group: Group,
+    effort: Effort,
+    gate: &T,
 ) -> Result<Verdict, EngineFault> {
     let mut prec = Counted::new(opened(rt, words.prec)?);
     let mut upit = Counted::new(opened(rt, words.upit)?);
     let mut out = Counted::new(io::writer(rt));
-    solve_engine(rt.alloc(), &mut upit, &mut prec, group, steps, &mut out)
+    let alloc = rt.alloc();
+    solve_engine(
+        rt, alloc, &mut upit, &mut prec, group, effort, gate, &mut out,
+    )
 }
 
 // Writes what each block of a file rests on by a pattern.

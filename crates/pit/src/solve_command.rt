@@ -1,7 +1,7 @@
 //! The words of `solve`.
 
 use crate::command_line::{STATUSES, file_option, named_option, text_of};
-use clap::{ArgMatches, Command};
+use clap::{Arg, ArgAction, ArgMatches, Command};
 use std::alloc::{AllocError, Global};
 
 const ABOUT: &str = "Finds the best pit and writes its certificate";
@@ -9,13 +9,15 @@ const ABOUT: &str = "Finds the best pit and writes its certificate";
 const DETAILS: &str =
     "Finds the best pit and writes its certificate.\n\nPrints a PITCERT text, which `pit check` accepts: the pit, and a flow that proves it. Prints UNSETTLED where the run needs more steps than --steps allows, and REFUSED TooLarge where a sum of the run or of its check doesn't fit the machine's numbers; both have the status 1.";
 
-/// The words of a request to solve: the files, and where they were given the kind of amount and the steps.
+/// The words of a request to solve: the files, and where they were given the kind of amount, the steps, the workers and that progress is shown.
 #[derive(Clone, Copy)]
 pub struct SolveWords<'a> {
     pub prec: &'a str,
     pub upit: &'a str,
     pub group: Option<&'a str>,
     pub steps: Option<&'a str>,
+    pub workers: Option<&'a str>,
+    pub progress: bool,
 }
 
 /// The command `solve`.
@@ -37,7 +39,19 @@ pub fn solve_command<'a>(alloc: Global) -> Result<Command<'a>, AllocError> {
             "steps",
             "STEPS",
             "The most steps of the run, from 1 to 1099511627776 (1000000000 by default)",
-        ))
+        ))?
+        .arg(named_option(
+            alloc,
+            "workers",
+            "WORKERS",
+            "The threads of the run, from 1 to 64 (1 by default); they share one lock",
+        ))?
+        .arg(
+            Arg::new(alloc, "progress")
+                .long("progress")
+                .action(ArgAction::SetTrue)
+                .help("Tells on standard error, once a second, how far the run is"),
+        )
 }
 
 /// The words that were given.
@@ -47,5 +61,7 @@ pub fn solve_words<'a>(words: &ArgMatches<'a>) -> SolveWords<'a> {
         upit: text_of(words, "upit"),
         group: words.get_str("group"),
         steps: words.get_str("steps"),
+        workers: words.get_str("workers"),
+        progress: words.get_flag("progress"),
     }
 }

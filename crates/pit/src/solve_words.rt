@@ -1,13 +1,16 @@
-//! The words that name a kind of amount and a number of steps.
+//! The words that name a kind of amount, a number of steps and a number of workers.
 
-ghost use Rattle.std.specs.Prelude.{◌≡◌};
-ghost use Rattle.pit.specs.SolveWords.{group_of, steps_of};
+ghost use Rattle.std.specs.Prelude.{◌≡◌, ◌≤◌, IfSome};
+ghost use Rattle.pit.specs.SolveWords.{group_of, steps_of, workers_of};
 
 use fixed_worth::whole;
 use ordered_group::Group;
 
 // The most steps of a run.
 const MOST_STEPS: u64 = 1 << 40;
+
+// The most workers of a run.
+const MOST_WORKERS: u64 = 64;
 
 /// The kind of amount that a word names: `worth` or `pair`.
 pub fn group_named(word: &[u8]) -> Option<Group>
@@ -30,6 +33,23 @@ pub fn steps_named(word: &[u8]) -> Option<u64>
         Ok(number) => {
             if 1 <= number && number <= MOST_STEPS {
                 Some(number)
+            } else {
+                None
+            }
+        }
+        Err(_) => None,
+    }
+}
+
+/// The number of workers that a word names: a whole number from 1 to 64.
+pub fn workers_named(word: &[u8]) -> Option<u32>
+    ensures is { result ≡ workers_of word.now }
+    ensures range { IfSome result (λ workers. (1 ≤ workers) × (workers ≤ 64)) }
+{
+    match whole(word) {
+        Ok(number) => {
+            if 1 <= number && number <= MOST_WORKERS {
+                Some(number as u32)
             } else {
                 None
             }
