@@ -16,6 +16,8 @@ mod finishing;
 mod gates;
 mod serving;
 mod sharing;
+#[cfg(test)]
+mod small_nets_tests;
 mod solving;
 #[cfg(test)]
 mod tests;
