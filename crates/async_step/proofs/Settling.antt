@@ -1,5 +1,5 @@
 -- Turns on one thread.
-use Rattle.std.proofs.Common.{◌≡◌, ◌≢◌, ℕ, ◌+◌, ◌<◌, ◌≤◌, inl, inr, refl, sym, ap, subst, ◌∙◌, arith, Option, Some, None, length, List, Bool, true}
+use Rattle.std.proofs.Common.{◌≡◌, ◌≢◌, ℕ, ◌+◌, ◌<◌, ◌≤◌, inl, inr, refl, sym, ap, subst, ◌∙◌, arith, Option, Some, None, length, List, Bool, true, false, ◌↔◌, IsTrue}
 use Rattle.std.proofs.lemmas.Bool.{cases_eq}
 use Rattle.std.proofs.lemmas.Option.{none-some, same_Some}
 use Rattle.std.specs.Prelude.{MatchOption}
@@ -75,13 +75,13 @@ turned net v w b h over e =
     }
 
 -- ---- whose turn it is
-pub idle_as : {N : Type 0} (f : N → Amount) (o : Operation N) → is_idle o ≡ true → Idle ≡ operation_as f o
-idle_as f Idle h = refl
-idle_as f (Scan have place read best) h = absurd cc
-idle_as f (PushDue have best) h = absurd cc
-idle_as f (TakeDue amount port) h = absurd cc
-idle_as f (GiveDue amount port) h = absurd cc
-idle_as f (RaiseDue have best) h = absurd cc
+pub idle_unless : (o : Operation Amount) (t : Bool) → IsTrue t ↔ ¬ (o ≡ Idle) → t ≡ false → o ≡ Idle
+idle_unless Idle t h f = refl
+idle_unless (Scan have place read best) t h f = absurd (let q : true ≡ false = sym (h.1 (λ e. cc)) ∙ f in cc)
+idle_unless (PushDue have best) t h f = absurd (let q : true ≡ false = sym (h.1 (λ e. cc)) ∙ f in cc)
+idle_unless (TakeDue amount port) t h f = absurd (let q : true ≡ false = sym (h.1 (λ e. cc)) ∙ f in cc)
+idle_unless (GiveDue amount port) t h f = absurd (let q : true ≡ false = sym (h.1 (λ e. cc)) ∙ f in cc)
+idle_unless (RaiseDue have best) t h f = absurd (let q : true ≡ false = sym (h.1 (λ e. cc)) ∙ f in cc)
 
 all_idle : (n : ℕ) (s : State) (b : ℕ) → IsAlone n s (Some b) → s.operation b ≡ Idle → (c : ℕ) → c < n → s.operation c ≡ Idle
 all_idle n s b h idle c l = elim (cases_eq b c) [
