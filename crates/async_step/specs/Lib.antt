@@ -3,3 +3,4 @@ pub mod Views
 pub mod Answers
 pub mod Running
 pub mod Scans
+pub mod Printed

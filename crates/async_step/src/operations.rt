@@ -125,7 +125,7 @@ pub fn see<G: OrderedGroup>(operation: &mut Operation<G>, ports: u32, label: u64
 
 /// The port that a block looks at may be the best so far: the lower, and of two as low the earlier.
 pub fn weigh<G: OrderedGroup>(operation: &mut Operation<G>, port: Port, label: u64)
-    ensures is { operation_as G.parts_of operation.new ≡ weighed_by port label (operation_as G.parts_of operation.old) }
+    ensures { operation_as G.parts_of operation.new ≡ weighed_by port label (operation_as G.parts_of operation.old) }
 {
     match operation {
         Operation::Scan {

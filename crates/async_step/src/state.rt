@@ -147,7 +147,7 @@ impl<G: OrderedGroup> State<G> {
         requires { b < length self.now.operation }
         ensures { operation_as G.parts_of result ≡ (state_of self.now).operation b }
     {
-        self.operation[b as usize]
+        *self.present(b)
     }
 
     /// The operation of block b, in its place.
