@@ -1,5 +1,5 @@
 -- A state's lists with one element changed.
-use Rattle.std.proofs.Common.{◌≡◌, ℕ, ◌<◌, ◌+◌, Bool, false, not, ◌&&◌, ◌||◌, inl, inr, List, [], ◌∷◌, ◌++◌, replicate, length, get_or, set, map, sym, refl, ap, ap₂, subst, ◌∙◌, arith, length-set, get_or-set_same, get_or-set_other}
+use Rattle.std.proofs.Common.{◌≡◌, ℕ, ◌<◌, ◌+◌, Bool, false, not, ◌&&◌, ◌||◌, inl, inr, List, [], ◌∷◌, ◌++◌, replicate, length, set, map, sym, ap, ap₂, subst, ◌∙◌, arith, length-set, get_or-set_same, get_or-set_other}
 use Rattle.std.proofs.lemmas.Bool.{cases_eq}
 use Rattle.std.proofs.lemmas.List.{map-append, replicate-append-replicate}
 use Rattle.ordered_group.specs.Amount.{Amount, zero_amount}
@@ -8,7 +8,7 @@ use Rattle.machine_law.specs.declared.operations.Operation.{Operation}
 use Rattle.machine_law.specs.declared.operations.Operation.TheVariants.{Idle}
 use Rattle.machine_law.specs.Reads.{is_positive}
 use Rattle.async_step.specs.Marks.{mark_at}
-use Rattle.async_step.specs.Views.{StateView, operation_at, IsSized, IsMarked, IsState, is_idle, is_zero, is_waiting, is_busy}
+use Rattle.async_step.specs.Views.{StateView, operation_at, IsMarked, IsState, is_idle, is_zero, is_waiting, is_busy}
 
 -- the marks with one mark changed
 pub marked_set : (old new : ℕ → Bool) (n : ℕ) (marks : List Bool) (b : ℕ) → IsMarked old n marks → b < n → ((c : ℕ) → (c ≡ b → ⊥) → new c ≡ old c) → IsMarked new n (set marks b (new b))

@@ -1,27 +1,25 @@
 -- Turns on one thread.
-use Rattle.std.proofs.Common.{◌≡◌, ◌≢◌, ℕ, ◌+◌, ◌<◌, ◌≤◌, inl, inr, refl, sym, ap, subst, ◌∙◌, arith, Option, Some, None, length, List, Bool, true, false, ◌↔◌, IsTrue}
+use Rattle.std.proofs.Common.{◌≡◌, ◌≢◌, ℕ, ◌+◌, ◌<◌, inl, inr, refl, sym, ap, subst, ◌∙◌, arith, Option, Some, None, length, Bool, true, false, ◌↔◌, IsTrue}
 use Rattle.std.proofs.lemmas.Bool.{cases_eq}
 use Rattle.std.proofs.lemmas.Option.{none-some, same_Some}
 use Rattle.std.specs.Prelude.{MatchOption}
-use Rattle.ordered_group.specs.Amount.{Amount, zero_amount, AtMost, Below}
+use Rattle.ordered_group.specs.Amount.{Amount, zero_amount}
 use Rattle.ordered_group.proofs.Order.{AtMost-both, most_or_below}
 use Rattle.closure_net.specs.Network.{NetView, FlowView, IsNet}
 use Rattle.closure_net.specs.declared.ports.Port.{Port}
 use Rattle.closure_net.specs.declared.ports.PortKind.{PortKind}
 use Rattle.closure_net.specs.declared.ports.PortKind.TheVariants.{Sink, Forward, Backward, Source}
-use Rattle.machine_law.specs.declared.events.Event.{Event}
 use Rattle.machine_law.specs.declared.operations.Operation.{Operation}
 use Rattle.machine_law.specs.declared.operations.Operation.TheVariants.{Idle, Scan, PushDue, TakeDue, GiveDue, RaiseDue}
 use Rattle.machine_law.specs.States.{State, put, opening, IsQuiet}
 use Rattle.machine_law.specs.Steps.{push_amount, pushed_by, given_by, advance_by, advance}
-use Rattle.machine_law.specs.Quiet.{IsFlowOf, IsSolved}
+use Rattle.machine_law.specs.Quiet.{IsFlowOf}
 use Rattle.machine_law.proofs.Law.{runs_keep_law}
 use Rattle.machine_law.proofs.Points.{put-other}
 use Rattle.machine_law.proofs.Quiet.{quiet_solves}
-use Rattle.async_step.specs.Views.{StateView, state_of, is_idle}
-use Rattle.machine_law.specs.Operations.{operation_as}
+use Rattle.async_step.specs.Views.{StateView, state_of}
 use Rattle.async_step.specs.Marks.{IsFirstRound}
-use Rattle.async_step.specs.Answers.{IsStateOf, IsWaiting, Stepped}
+use Rattle.async_step.specs.Answers.{IsStateOf, IsWaiting}
 use Rattle.async_step.specs.Running.{IsAlone, IsTurnOf, HasTurned, TurnFails, IsAtRest, Settles, RunFaultStands}
 use Rattle.async_step.specs.declared.running.RunFault.{RunFault}
 use Rattle.async_step.specs.declared.running.RunFault.TheVariants.{Unsettled, TooLarge, NoMemory}

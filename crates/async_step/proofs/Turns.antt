@@ -1,5 +1,5 @@
 -- What a step leads to, by the operation of its block.
-use Rattle.std.proofs.Common.{◌≡◌, ℕ, ◌<◌, Bool, true, false, not, refl, Option, Some, None, List, [], ◌∷◌, ◌++◌, length, Result, Ok, Err, sym, ap, subst, ◌∙◌}
+use Rattle.std.proofs.Common.{◌≡◌, ℕ, ◌<◌, Bool, true, false, not, refl, Option, Some, None, [], ◌∷◌, ◌++◌, length, Result, Ok, Err, sym, ap, subst, ◌∙◌}
 use Rattle.std.specs.Prelude.{slice_get, MatchResult}
 use Rattle.ordered_group.specs.Amount.{Amount}
 use Rattle.closure_net.specs.Network.{NetView}
@@ -11,7 +11,6 @@ use Rattle.machine_law.specs.declared.events.Event.{Event}
 use Rattle.machine_law.specs.declared.operations.Best.{Best}
 use Rattle.machine_law.specs.declared.operations.Operation.{Operation}
 use Rattle.machine_law.specs.declared.operations.Operation.TheVariants.{Idle, Scan, PushDue, TakeDue, GiveDue, RaiseDue}
-use Rattle.machine_law.specs.States.{State}
 use Rattle.machine_law.specs.Residual.{end_label, IsPortOf}
 use Rattle.machine_law.specs.Steps.{Step, becomes, weighed, looked, looked_by, next_kind, advance_by, advance}
 use Rattle.machine_law.specs.Amounts.{HasAmounts, IsOperation}

@@ -8,10 +8,9 @@ use Rattle.closure_net.specs.Network.{NetView}
 use Rattle.closure_net.specs.Ports.{ports}
 use Rattle.machine_law.specs.States.{State}
 use Rattle.machine_law.specs.Residual.{capacity, end_label}
-use Rattle.machine_law.specs.declared.operations.Best.{Best}
 use Rattle.machine_law.specs.declared.operations.Operation.{Operation}
 use Rattle.machine_law.specs.declared.operations.Operation.TheVariants.{Idle, Scan, PushDue, TakeDue, GiveDue, RaiseDue}
-use Rattle.machine_law.specs.Reads.{better, passed, seen, chosen}
+use Rattle.machine_law.specs.Reads.{better, passed, seen}
 
 -- the operation looks at one of so many ports
 abbrev pub IsScan : {N : Type 0} → ℕ → Operation N → Type 0

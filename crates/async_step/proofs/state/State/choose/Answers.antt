@@ -1,12 +1,10 @@
-use Rattle.std.proofs.Common.{◌≡◌, ℕ, ◌<◌, ◌+◌, ◌∙◌, not, ap, ap₂, subst, sym, set, map, List, Bool, true, length, arith, get_or-set_same}
+use Rattle.std.proofs.Common.{◌≡◌, ◌<◌, ◌+◌, ◌∙◌, ap, subst, sym, set, map, List, length, arith}
 use Rattle.std.specs.Prelude.{slice_index}
-use Rattle.std.proofs.lemmas.List.{length-map, get_or-map, get_or_read}
-use Rattle.ordered_group.specs.Amount.{Amount, zero_amount}
-use Rattle.ordered_group.specs.Sums.{amount_at}
+use Rattle.std.proofs.lemmas.List.{length-map, get_or_read}
+use Rattle.ordered_group.specs.Amount.{Amount}
 use Rattle.machine_law.specs.declared.operations.Operation.{Operation}
 use Rattle.machine_law.specs.Operations.{operation_as}
-use Rattle.machine_law.specs.Reads.{is_positive}
-use Rattle.async_step.specs.Views.{StateView, view_of, IsState, operation_at, is_idle, is_zero, is_waiting, is_busy}
+use Rattle.async_step.specs.Views.{StateView, view_of, IsState, operation_at}
 use Rattle.async_step.specs.Scans.{IsScan, chosen_by}
 use Rattle.async_step.proofs.Changes.{state_works}
 use Rattle.async_step.proofs.Scanning.{scan_under, scan_works, chosen_works, place_is, place_changed}

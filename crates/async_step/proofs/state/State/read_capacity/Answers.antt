@@ -1,4 +1,4 @@
-use Rattle.std.proofs.Common.{◌≡◌, ℕ, ◌<◌, ◌+◌, ◌^◌, ◌∙◌, ap, ap₂, subst, sym, set, length}
+use Rattle.std.proofs.Common.{ℕ, ◌<◌, ◌+◌, ◌^◌, ◌∙◌, ap, ap₂, subst, sym, set, length}
 use Rattle.ordered_group.specs.Amount.{Amount}
 use Rattle.closure_net.specs.Ports.{ports}
 use Rattle.machine_law.specs.declared.operations.Operation.{Operation}

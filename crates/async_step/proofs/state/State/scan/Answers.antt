@@ -1,4 +1,4 @@
-use Rattle.std.proofs.Common.{◌≡◌, ℕ, ◌<◌, Bool, true, false, length, subst}
+use Rattle.std.proofs.Common.{Bool, length, subst}
 use Rattle.closure_net.specs.Ports.{ports}
 use Rattle.machine_law.proofs.PortLists.{port-at}
 use Rattle.async_step.specs.Views.{state_of}
