@@ -1,13 +1,14 @@
 -- A state's lists with one element changed.
-use Rattle.std.proofs.Common.{◌≡◌, ℕ, ◌<◌, ◌+◌, Bool, false, inl, inr, List, [], ◌∷◌, ◌++◌, replicate, length, get_or, set, map, sym, refl, ap, ap₂, subst, ◌∙◌, arith, length-set, get_or-set_same, get_or-set_other}
+use Rattle.std.proofs.Common.{◌≡◌, ℕ, ◌<◌, ◌+◌, Bool, false, not, ◌&&◌, ◌||◌, inl, inr, List, [], ◌∷◌, ◌++◌, replicate, length, set, map, sym, ap, ap₂, subst, ◌∙◌, arith, length-set, get_or-set_same, get_or-set_other}
 use Rattle.std.proofs.lemmas.Bool.{cases_eq}
 use Rattle.std.proofs.lemmas.List.{map-append, replicate-append-replicate}
 use Rattle.ordered_group.specs.Amount.{Amount, zero_amount}
 use Rattle.ordered_group.specs.Sums.{amount_at}
 use Rattle.machine_law.specs.declared.operations.Operation.{Operation}
 use Rattle.machine_law.specs.declared.operations.Operation.TheVariants.{Idle}
+use Rattle.machine_law.specs.Reads.{is_positive}
 use Rattle.async_step.specs.Marks.{mark_at}
-use Rattle.async_step.specs.Views.{StateView, operation_at, IsSized, IsMarked, IsState, is_waiting, is_busy}
+use Rattle.async_step.specs.Views.{StateView, operation_at, IsMarked, IsState, is_idle, is_zero, is_waiting, is_busy}
 
 -- the marks with one mark changed
 pub marked_set : (old new : ℕ → Bool) (n : ℕ) (marks : List Bool) (b : ℕ) → IsMarked old n marks → b < n → ((c : ℕ) → (c ≡ b → ⊥) → new c ≡ old c) → IsMarked new n (set marks b (new b))
@@ -70,6 +71,21 @@ module _ (v : StateView) (ready undone : List Bool) (h : IsState v ready undone)
         sized = record { few = omega (arith, k, h.sized.few); excess = h.sized.excess ∙ sym k; label = h.sized.label ∙ sym k; source = h.sized.source ∙ sym k; sink = h.sized.sink ∙ sym k };
         waiting = subst (λ m. IsMarked w m (set ready b (is_waiting (amount_at v.excess b) o))) (sym k) marked;
         busy = subst (λ m. IsMarked u m (set undone b (is_busy (amount_at v.excess b) o))) (sym k) stirred;
+      }
+
+  -- an operation in the place of another
+  pub state_works : (o : Operation Amount) (steps : ℕ) → b < length v.operation → is_idle (operation_at v.operation b) ≡ false → is_idle o ≡ false → IsState (record v { operation = set v.operation b o; steps = steps }) ready undone
+  state_works o steps l was now =
+      let os = set v.operation b o in
+      let k : length os ≡ length v.operation = length-set v.operation b o in
+      let idle : (c : ℕ) → is_idle (operation_at os c) ≡ is_idle (operation_at v.operation c) = λ c. elim (cases_eq c b) [
+        | inl e ↦ subst (λ x. is_idle (operation_at os x) ≡ is_idle (operation_at v.operation x)) (sym e) (ap is_idle (get_or-set_same v.operation b o Idle l) ∙ (now ∙ sym was))
+        | inr d ↦ ap is_idle (get_or-set_other v.operation b c o Idle d)
+      ] in
+      record {
+        sized = record { few = omega (arith, k, h.sized.few); excess = h.sized.excess ∙ sym k; label = h.sized.label ∙ sym k; source = h.sized.source ∙ sym k; sink = h.sized.sink ∙ sym k };
+        waiting = record { size = h.waiting.size ∙ sym k; at = λ c q. h.waiting.at c (omega (arith, q, k)) ∙ ap (λ i. i && is_positive (amount_at v.excess c)) (sym (idle c)) };
+        busy = record { size = h.busy.size ∙ sym k; at = λ c q. h.busy.at c (omega (arith, q, k)) ∙ ap (λ i. not i || not (is_zero (amount_at v.excess c))) (sym (idle c)) };
       }
 
 -- the first i marks are as the test has them

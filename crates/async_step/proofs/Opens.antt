@@ -1,10 +1,10 @@
 -- The opening state.
-use Rattle.std.proofs.Common.{◌≡◌, ℕ, zero, suc, ◌<◌, ◌≤◌, ◌^◌, Bool, true, false, not, ◌&&◌, ◌||◌, inl, inr, List, [], ◌∷◌, length, get_or, map, replicate, sym, refl, ap, subst, ◌∙◌, arith, pos}
+use Rattle.std.proofs.Common.{◌≡◌, ℕ, zero, suc, ◌≤◌, ◌^◌, Bool, not, inl, inr, List, [], ◌∷◌, length, get_or, map, replicate, sym, refl, ap, subst, ◌∙◌, arith}
 use Rattle.std.specs.Prelude.{All}
 use Rattle.std.proofs.Math.Path.{fun_ext}
 use Rattle.std.proofs.Math.ListN.{get_or-map}
 use Rattle.std.proofs.lemmas.Bool.{cases_lt}
-use Rattle.std.proofs.lemmas.List.{length-map, length-replicate, get_or_past}
+use Rattle.std.proofs.lemmas.List.{length-replicate, get_or_past}
 use Rattle.std.proofs.lemmas.List.Elements.{All-get_or}
 use Rattle.std.proofs.lemmas.Int.{ints}
 use Rattle.ordered_group.specs.Amount.{Amount, zero_amount, minus, positive, negative, FitsPair}
@@ -13,10 +13,10 @@ use Rattle.ordered_group.proofs.Order.{larger_is}
 use Rattle.closure_net.specs.Network.{NetView, IsNet}
 use Rattle.machine_law.specs.declared.operations.Operation.{Operation}
 use Rattle.machine_law.specs.declared.operations.Operation.TheVariants.{Idle}
-use Rattle.machine_law.specs.States.{State, opening}
+use Rattle.machine_law.specs.States.{opening}
 use Rattle.machine_law.specs.Reads.{is_positive}
-use Rattle.async_step.specs.Views.{StateView, state_of, operation_at, IsSized, IsMarked, IsState, is_waiting, is_busy, is_zero}
-use Rattle.async_step.specs.Answers.{Fits, IsReached, IsStateOf}
+use Rattle.async_step.specs.Views.{StateView, state_of, operation_at, IsMarked, IsState, is_waiting, is_busy, is_zero}
+use Rattle.async_step.specs.Answers.{Fits, IsStateOf}
 
 -- a list of one value
 replicate_at : {X : Type 0} (n i : ℕ) (z : X) → get_or (replicate n z) i z ≡ z

@@ -1,27 +1,25 @@
 -- Turns on one thread.
-use Rattle.std.proofs.Common.{◌≡◌, ◌≢◌, ℕ, ◌+◌, ◌<◌, ◌≤◌, inl, inr, refl, sym, ap, subst, ◌∙◌, arith, Option, Some, None, length, List, Bool, true}
+use Rattle.std.proofs.Common.{◌≡◌, ◌≢◌, ℕ, ◌+◌, ◌<◌, inl, inr, refl, sym, ap, subst, ◌∙◌, arith, Option, Some, None, length, Bool, true, false, ◌↔◌, IsTrue}
 use Rattle.std.proofs.lemmas.Bool.{cases_eq}
 use Rattle.std.proofs.lemmas.Option.{none-some, same_Some}
 use Rattle.std.specs.Prelude.{MatchOption}
-use Rattle.ordered_group.specs.Amount.{Amount, zero_amount, AtMost, Below}
+use Rattle.ordered_group.specs.Amount.{Amount, zero_amount}
 use Rattle.ordered_group.proofs.Order.{AtMost-both, most_or_below}
 use Rattle.closure_net.specs.Network.{NetView, FlowView, IsNet}
 use Rattle.closure_net.specs.declared.ports.Port.{Port}
 use Rattle.closure_net.specs.declared.ports.PortKind.{PortKind}
 use Rattle.closure_net.specs.declared.ports.PortKind.TheVariants.{Sink, Forward, Backward, Source}
-use Rattle.machine_law.specs.declared.events.Event.{Event}
 use Rattle.machine_law.specs.declared.operations.Operation.{Operation}
 use Rattle.machine_law.specs.declared.operations.Operation.TheVariants.{Idle, Scan, PushDue, TakeDue, GiveDue, RaiseDue}
 use Rattle.machine_law.specs.States.{State, put, opening, IsQuiet}
 use Rattle.machine_law.specs.Steps.{push_amount, pushed_by, given_by, advance_by, advance}
-use Rattle.machine_law.specs.Quiet.{IsFlowOf, IsSolved}
+use Rattle.machine_law.specs.Quiet.{IsFlowOf}
 use Rattle.machine_law.proofs.Law.{runs_keep_law}
 use Rattle.machine_law.proofs.Points.{put-other}
 use Rattle.machine_law.proofs.Quiet.{quiet_solves}
-use Rattle.async_step.specs.Views.{StateView, state_of, is_idle}
-use Rattle.machine_law.specs.Operations.{operation_as}
+use Rattle.async_step.specs.Views.{StateView, state_of}
 use Rattle.async_step.specs.Marks.{IsFirstRound}
-use Rattle.async_step.specs.Answers.{IsStateOf, IsWaiting, Stepped}
+use Rattle.async_step.specs.Answers.{IsStateOf, IsWaiting}
 use Rattle.async_step.specs.Running.{IsAlone, IsTurnOf, HasTurned, TurnFails, IsAtRest, Settles, RunFaultStands}
 use Rattle.async_step.specs.declared.running.RunFault.{RunFault}
 use Rattle.async_step.specs.declared.running.RunFault.TheVariants.{Unsettled, TooLarge, NoMemory}
@@ -75,13 +73,13 @@ turned net v w b h over e =
     }
 
 -- ---- whose turn it is
-pub idle_as : {N : Type 0} (f : N → Amount) (o : Operation N) → is_idle o ≡ true → Idle ≡ operation_as f o
-idle_as f Idle h = refl
-idle_as f (Scan have place read best) h = absurd cc
-idle_as f (PushDue have best) h = absurd cc
-idle_as f (TakeDue amount port) h = absurd cc
-idle_as f (GiveDue amount port) h = absurd cc
-idle_as f (RaiseDue have best) h = absurd cc
+pub idle_unless : (o : Operation Amount) (t : Bool) → IsTrue t ↔ ¬ (o ≡ Idle) → t ≡ false → o ≡ Idle
+idle_unless Idle t h f = refl
+idle_unless (Scan have place read best) t h f = absurd (let q : true ≡ false = sym (h.1 (λ e. cc)) ∙ f in cc)
+idle_unless (PushDue have best) t h f = absurd (let q : true ≡ false = sym (h.1 (λ e. cc)) ∙ f in cc)
+idle_unless (TakeDue amount port) t h f = absurd (let q : true ≡ false = sym (h.1 (λ e. cc)) ∙ f in cc)
+idle_unless (GiveDue amount port) t h f = absurd (let q : true ≡ false = sym (h.1 (λ e. cc)) ∙ f in cc)
+idle_unless (RaiseDue have best) t h f = absurd (let q : true ≡ false = sym (h.1 (λ e. cc)) ∙ f in cc)
 
 all_idle : (n : ℕ) (s : State) (b : ℕ) → IsAlone n s (Some b) → s.operation b ≡ Idle → (c : ℕ) → c < n → s.operation c ≡ Idle
 all_idle n s b h idle c l = elim (cases_eq b c) [

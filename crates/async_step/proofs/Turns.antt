@@ -1,24 +1,24 @@
 -- What a step leads to, by the operation of its block.
-use Rattle.std.proofs.Common.{◌≡◌, ℕ, ◌<◌, Bool, true, false, not, refl, Option, Some, None, List, [], ◌∷◌, ◌++◌, length, Result, Ok, Err, sym, subst, ◌∙◌}
+use Rattle.std.proofs.Common.{◌≡◌, ℕ, ◌<◌, Bool, true, false, not, refl, Option, Some, None, [], ◌∷◌, ◌++◌, length, Result, Ok, Err, sym, ap, subst, ◌∙◌}
 use Rattle.std.specs.Prelude.{slice_get, MatchResult}
-use Rattle.std.specs.Option.{option_map}
 use Rattle.ordered_group.specs.Amount.{Amount}
 use Rattle.closure_net.specs.Network.{NetView}
 use Rattle.closure_net.specs.Ports.{ports}
 use Rattle.closure_net.specs.declared.ports.Port.{Port}
+use Rattle.closure_net.specs.declared.ports.PortKind.{PortKind}
+use Rattle.closure_net.specs.declared.ports.PortKind.TheVariants.{Sink, Forward, Backward, Source}
 use Rattle.machine_law.specs.declared.events.Event.{Event}
 use Rattle.machine_law.specs.declared.operations.Best.{Best}
 use Rattle.machine_law.specs.declared.operations.Operation.{Operation}
-use Rattle.machine_law.specs.declared.operations.Operation.TheVariants.{Scan, PushDue, GiveDue}
-use Rattle.machine_law.specs.States.{State}
-use Rattle.machine_law.specs.Reads.{chosen}
+use Rattle.machine_law.specs.declared.operations.Operation.TheVariants.{Idle, Scan, PushDue, TakeDue, GiveDue, RaiseDue}
 use Rattle.machine_law.specs.Residual.{end_label, IsPortOf}
-use Rattle.machine_law.specs.Steps.{Step, becomes, weighed, next_kind, advance_by, advance}
+use Rattle.machine_law.specs.Steps.{Step, becomes, weighed, looked, looked_by, next_kind, advance_by, advance}
 use Rattle.machine_law.specs.Amounts.{HasAmounts, IsOperation}
 use Rattle.machine_law.proofs.Law.{runs_keep_law}
 use Rattle.machine_law.proofs.Runs.{run_more}
 use Rattle.async_step.specs.Views.{StateView, state_of}
-use Rattle.async_step.specs.Answers.{IsStateOf, LeadsTelling, told_of, told_beyond, told, saw_as, Stepped, IsRefused}
+use Rattle.async_step.specs.Scans.{IsScan, IsScanAt, chosen_by, looks_by}
+use Rattle.async_step.specs.Answers.{IsStateOf, LeadsTelling, told_of, told_at, told_by, told_beyond, told, saw_as, Stepped, IsRefused}
 use Rattle.async_step.specs.declared.saw.Saw.{Saw}
 use Rattle.async_step.specs.declared.saw.Saw.TheVariants.{Label}
 use Rattle.async_step.specs.declared.refusals.StepRefusal.{StepRefusal}
@@ -31,6 +31,25 @@ amounts_of net v over = (runs_keep_law net over.reached.events (state_of v) over
 pub scan_inside : (net : NetView) (v : StateView) (b : ℕ) (have : Amount) (place : ℕ) (read : Option Amount) (best : Option (Best Amount)) → IsStateOf net v → Scan have place read best ≡ (state_of v).operation b → place < length (ports net b)
 scan_inside net v b have place read best over e = (subst (IsOperation net (state_of v) b) (sym e) ((amounts_of net v over).operation b)).inside
 
+within_of : (net : NetView) (v : StateView) (b place : ℕ) (is_read : Bool) (o : Operation Amount) → IsStateOf net v → IsScanAt place is_read o → o ≡ (state_of v).operation b → place < length (ports net b)
+within_of net v b place is_read Idle over at e = absurd at
+within_of net v b place is_read (Scan have here read best) over at e = subst (λ n. n < length (ports net b)) at.0 (scan_inside net v b have here read best over e)
+within_of net v b place is_read (PushDue have best) over at e = absurd at
+within_of net v b place is_read (TakeDue amount port) over at e = absurd at
+within_of net v b place is_read (GiveDue amount port) over at e = absurd at
+within_of net v b place is_read (RaiseDue have best) over at e = absurd at
+
+pub scan_within : (net : NetView) (v : StateView) (b place : ℕ) (is_read : Bool) → IsStateOf net v → IsScanAt place is_read ((state_of v).operation b) → place < length (ports net b)
+scan_within net v b place is_read over at = within_of net v b place is_read ((state_of v).operation b) over at refl
+
+pub scan_is : {N : Type 0} (n place : ℕ) (is_read : Bool) (o : Operation N) → IsScanAt place is_read o → place < n → IsScan n o
+scan_is n place is_read Idle at l = at
+scan_is n place is_read (Scan have here read best) at l = subst (λ m. m < n) (sym at.0) l
+scan_is n place is_read (PushDue have best) at l = at
+scan_is n place is_read (TakeDue amount port) at l = at
+scan_is n place is_read (GiveDue amount port) at l = at
+scan_is n place is_read (RaiseDue have best) at l = at
+
 pub push_port : (net : NetView) (v : StateView) (b : ℕ) (have : Amount) (best : Best Amount) → IsStateOf net v → PushDue have best ≡ (state_of v).operation b → IsPortOf net b best.port
 push_port net v b have best over e = (subst (IsOperation net (state_of v) b) (sym e) ((amounts_of net v over).operation b)).over.port
 
@@ -42,12 +61,38 @@ module _ {N : Type 0} (f : N → Amount) (net : NetView) (v w : StateView) (b : 
   pub turn : (o : Operation Amount) → o ≡ (state_of v).operation b → LeadsTelling f net v (advance_by net (state_of v) b o) (told_of net (state_of v) b o) w r → LeadsTelling f net v (advance net (state_of v) b) (told net (state_of v) b) w r
   turn o e h = subst (λ (x : Operation Amount). LeadsTelling f net v (advance_by net (state_of v) b x) (told_of net (state_of v) b x) w r) e h
 
-  pub scan_read : (have : Amount) (place : ℕ) (read : Option N) (best : Option (Best Amount)) (cap : N) (port : Port) → read ≡ Some cap → slice_get (ports net b) place ≡ Some port
-      → LeadsTelling f net v (becomes (state_of v) b (chosen (length (ports net b)) ((state_of v).label b) have place best (f cap) port (end_label net (state_of v) port))) (Label (end_label net (state_of v) port)) w r
-      → LeadsTelling f net v (advance_by net (state_of v) b (Scan have place (option_map f read) best)) (told_of net (state_of v) b (Scan have place (option_map f read) best)) w r
-  scan_read have place read best cap port e p h =
-      subst (λ (x : Option N). LeadsTelling f net v (advance_by net (state_of v) b (Scan have place (option_map f x) best)) (told_of net (state_of v) b (Scan have place (option_map f x) best)) w r) (sym e)
-      (subst (λ (q : Option Port). LeadsTelling f net v (becomes (state_of v) b (weighed net (state_of v) b have place best (f cap) q)) (told_beyond net (state_of v) q) w r) (sym p) h)
+  -- at the port at a place, whose capacity is read
+  pub scan_reads : (place : ℕ) (port : Port) (o : Operation Amount) → IsScanAt place true o → slice_get (ports net b) place ≡ Some port
+      → LeadsTelling f net v (becomes (state_of v) b (chosen_by (length (ports net b)) ((state_of v).label b) port (end_label net (state_of v) port) o)) (Label (end_label net (state_of v) port)) w r
+      → LeadsTelling f net v (advance_by net (state_of v) b o) (told_of net (state_of v) b o) w r
+  scan_reads place port Idle at p h = absurd at
+  scan_reads place port (Scan have here None best) at p h = absurd (let q : false ≡ true = at.1 in cc)
+  scan_reads place port (Scan have here (Some read) best) at p h =
+      subst (λ (q : Option Port). LeadsTelling f net v (becomes (state_of v) b (weighed net (state_of v) b have here best read q)) (told_beyond net (state_of v) q) w r) (sym (ap (slice_get (ports net b)) at.0 ∙ p)) h
+  scan_reads place port (PushDue have best) at p h = absurd at
+  scan_reads place port (TakeDue amount over) at p h = absurd at
+  scan_reads place port (GiveDue amount over) at p h = absurd at
+  scan_reads place port (RaiseDue have best) at p h = absurd at
+
+  looks_as : (have : Amount) (place : ℕ) (best : Option (Best Amount)) (port : Port) (k : PortKind) → looks_by net (state_of v) b port k (Scan have place None best) ≡ looked_by net (state_of v) b have place best port k
+  looks_as have place best port Sink = refl
+  looks_as have place best port Forward = refl
+  looks_as have place best port Backward = refl
+  looks_as have place best port Source = refl
+
+  -- or isn't
+  pub scan_looks : (place : ℕ) (port : Port) (o : Operation Amount) → IsScanAt place false o → slice_get (ports net b) place ≡ Some port
+      → LeadsTelling f net v (becomes (state_of v) b (looks_by net (state_of v) b port port.kind o)) (told_by net (state_of v) b port port.kind) w r
+      → LeadsTelling f net v (advance_by net (state_of v) b o) (told_of net (state_of v) b o) w r
+  scan_looks place port Idle at p h = absurd at
+  scan_looks place port (Scan have here None best) at p h =
+      subst (λ (q : Option Port). LeadsTelling f net v (becomes (state_of v) b (looked net (state_of v) b have here best q)) (told_at net (state_of v) b q) w r) (sym (ap (slice_get (ports net b)) at.0 ∙ p))
+      (subst (λ (x : Operation Amount). LeadsTelling f net v (becomes (state_of v) b x) (told_by net (state_of v) b port port.kind) w r) (looks_as have here best port port.kind) h)
+  scan_looks place port (Scan have here (Some read) best) at p h = absurd (let q : true ≡ false = at.1 in cc)
+  scan_looks place port (PushDue have best) at p h = absurd at
+  scan_looks place port (TakeDue amount over) at p h = absurd at
+  scan_looks place port (GiveDue amount over) at p h = absurd at
+  scan_looks place port (RaiseDue have best) at p h = absurd at
 
 -- a step that is made, or refused
 pub stepped : {N : Type 0} (f : N → Amount) (net : NetView) (v w : StateView) (e : Event) (r : Result (Saw N) StepRefusal) → IsStateOf net v → e.block < length net.worths → next_kind net (state_of v) e.block ≡ e.kind

@@ -1,5 +1,5 @@
 -- What the marks tell of the blocks.
-use Rattle.std.proofs.Common.{◌≡◌, ◌↔◌, ℕ, ◌<◌, ◌≤◌, Bool, true, false, not, ◌&&◌, ◌||◌, IsTrue, List, length, Option, Some, None, refl, sym, ap, ap₂, subst, ◌∙◌, arith, Ordering}
+use Rattle.std.proofs.Common.{◌≡◌, ◌↔◌, ℕ, ◌<◌, ◌≤◌, Bool, true, false, not, ◌&&◌, ◌||◌, List, length, Option, Some, None, refl, sym, ap, ap₂, subst, ◌∙◌, arith, Ordering}
 use Rattle.std.specs.Prelude.{MatchOption}
 use Rattle.std.specs.declared.cmp.Ordering.TheVariants.{Less, Equal, Greater}
 use Rattle.std.specs.Ordering.{MatchOrdering, is_lt}
@@ -10,12 +10,12 @@ use Rattle.ordered_group.proofs.Order.{amount_ranks, is_eq_tells}
 use Rattle.closure_net.specs.Network.{NetView, FlowView}
 use Rattle.machine_law.specs.declared.operations.Operation.{Operation}
 use Rattle.machine_law.specs.declared.operations.Operation.TheVariants.{Idle, Scan, PushDue, TakeDue, GiveDue, RaiseDue}
-use Rattle.machine_law.specs.States.{State, IsQuiet}
+use Rattle.machine_law.specs.States.{IsQuiet}
 use Rattle.machine_law.specs.Quiet.{IsFlowOf}
 use Rattle.machine_law.specs.Reads.{is_positive}
 use Rattle.machine_law.proofs.Numbers.{positive-yes}
 use Rattle.async_step.specs.Marks.{mark_at, NoneWithin, ahead_of, IsFirstRound}
-use Rattle.async_step.specs.Views.{StateView, state_of, operation_at, IsSized, IsMarked, IsState, is_idle, is_zero, is_waiting, is_busy}
+use Rattle.async_step.specs.Views.{StateView, state_of, operation_at, IsSized, IsState, is_idle, is_zero, is_waiting, is_busy}
 use Rattle.async_step.specs.Answers.{IsStateOf, IsWaiting}
 
 -- ---- blocks that are done

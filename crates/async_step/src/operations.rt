@@ -1,9 +1,9 @@
 //! What a block does next, by what it read.
 
-ghost use Rattle.std.specs.Prelude.{◌≡◌, ◌<◌, ◌≤◌, ◌^◌};
-ghost use Rattle.std.specs.Option.{option_map};
-ghost use Rattle.machine_law.specs.Operations.{best_as, operation_as};
-ghost use Rattle.machine_law.specs.Reads.{begun, better, ended, passed, seen, chosen};
+ghost use Rattle.std.specs.Prelude.{◌≡◌};
+ghost use Rattle.machine_law.specs.Operations.{operation_as};
+ghost use Rattle.machine_law.specs.Reads.{begun, ended};
+ghost use Rattle.async_step.specs.Scans.{IsScan, passed_by, weighed_by, seen_by, chosen_by};
 ghost use Rattle.machine_law.specs.Steps.{read_kind, push_kind, push_amount};
 
 use crate::tests_of_amounts::is_positive;
@@ -51,17 +51,6 @@ pub fn begun<G: OrderedGroup>(have: G) -> Operation<G>
     }
 }
 
-/// The better of the best port so far, if any, and one more: the lower, and of two as low the
-/// earlier.
-pub fn better_of<N: Copy>(best: Option<Best<N>>, new: Best<N>) -> Best<N>
-    ensures { result ≡ better best new }
-{
-    match best {
-        Some(old) => { if new.label < old.label { new } else { old } }
-        None => new,
-    }
-}
-
 /// The operation of a block of this label once all its ports are passed.
 pub fn ended_at<N: Copy>(label: u64, have: N, best: Option<Best<N>>) -> Operation<N>
     ensures { result ≡ ended label have best }
@@ -78,30 +67,6 @@ pub fn ended_at<N: Copy>(label: u64, have: N, best: Option<Best<N>>) -> Operatio
     }
 }
 
-/// The operation of a block of so many ports and this label once the port at this place is passed.
-pub fn passed_at<N: Copy>(
-    ports: u32,
-    label: u64,
-    have: N,
-    place: u32,
-    best: Option<Best<N>>,
-) -> Operation<N>
-    requires { place < ports }
-    ensures { result ≡ passed ports label have place best }
-{
-    let next = place + 1;
-    if next < ports {
-        Operation::Scan {
-            have,
-            place: next,
-            read: None,
-            best,
-        }
-    } else {
-        ended_at(label, have, best)
-    }
-}
-
 /// The amount of a push over a port whose capacity was read as this.
 pub fn push_amount<G: OrderedGroup>(have: G, port: Port, capacity: G) -> G
     ensures { G.parts_of result ≡ push_amount (G.parts_of have) port.kind (G.parts_of capacity) }
@@ -114,41 +79,92 @@ pub fn push_amount<G: OrderedGroup>(have: G, port: Port, capacity: G) -> G
     }
 }
 
-/// The operation of a block that has read this capacity.
-pub fn seen_at<G: OrderedGroup>(
-    ports: u32,
-    label: u64,
-    have: G,
-    place: u32,
-    best: Option<Best<G>>,
-    capacity: G,
-) -> Operation<G>
-    requires { place < ports }
-    ensures { operation_as G.parts_of result ≡ seen ports label (G.parts_of have) place (option_map (best_as G.parts_of) best) (G.parts_of capacity) }
+/// A block of so many ports and this label passes the port that it looks at.
+pub fn pass<N: Copy>(operation: &mut Operation<N>, ports: u32, label: u64)
+    requires { IsScan ports operation.old }
+    ensures { operation.new ≡ passed_by ports label operation.old }
 {
-    if is_positive(capacity) {
+    let next = match operation {
         Operation::Scan {
             have,
             place,
-            read: Some(capacity),
+            read,
             best,
+        } => {
+            if *place + 1 < ports {
+                *place += 1;
+                *read = None;
+                return;
+            }
+            ended_at(label, *have, *best)
         }
-    } else {
-        passed_at(ports, label, have, place, best)
+        _ => return,
+    };
+    *operation = next;
+}
+
+/// A block reads this capacity of the port that it looks at.
+pub fn see<G: OrderedGroup>(operation: &mut Operation<G>, ports: u32, label: u64, capacity: G)
+    requires { IsScan ports operation.old }
+    ensures { operation_as G.parts_of operation.new ≡ seen_by ports label (G.parts_of capacity) (operation_as G.parts_of operation.old) }
+{
+    if !is_positive(capacity) {
+        pass(operation, ports, label);
+        return;
+    }
+    match operation {
+        Operation::Scan {
+            have: _,
+            place: _,
+            read,
+            best: _,
+        } => *read = Some(capacity),
+        _ => {}
     }
 }
 
-/// The operation of a block that has read the label beyond a port.
-pub fn chosen_at<N: Copy>(
-    ports: u32,
-    label: u64,
-    have: N,
-    place: u32,
-    best: Option<Best<N>>,
-    new: Best<N>,
-) -> Operation<N>
-    requires { place < ports }
-    ensures { result ≡ chosen ports label have place best new.capacity new.port new.label }
+/// The port that a block looks at may be the best so far: the lower, and of two as low the earlier.
+pub fn weigh<G: OrderedGroup>(operation: &mut Operation<G>, port: Port, label: u64)
+    ensures { operation_as G.parts_of operation.new ≡ weighed_by port label (operation_as G.parts_of operation.old) }
 {
-    passed_at(ports, label, have, place, Some(better_of(best, new)))
+    match operation {
+        Operation::Scan {
+            have: _,
+            place: _,
+            read,
+            best,
+        } => {
+            let lower = match best {
+                Some(old) => label < old.label,
+                None => true,
+            };
+            if lower {
+                let capacity = match read {
+                    Some(capacity) => *capacity,
+                    None => G::zero(),
+                };
+                *best = Some(Best {
+                    port,
+                    capacity,
+                    label,
+                });
+            }
+        }
+        _ => {}
+    }
+}
+
+/// A block of so many ports and this label reads the label beyond the port that it looks at.
+pub fn choose<G: OrderedGroup>(
+    operation: &mut Operation<G>,
+    ports: u32,
+    own: u64,
+    port: Port,
+    label: u64,
+)
+    requires { IsScan ports operation.old }
+    ensures { operation_as G.parts_of operation.new ≡ chosen_by ports own port label (operation_as G.parts_of operation.old) }
+{
+    weigh(operation, port, label);
+    pass(operation, ports, own);
 }

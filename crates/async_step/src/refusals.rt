@@ -1,6 +1,10 @@
 //! Why a step, or a list of steps, is refused.
 
+ghost use Rattle.std.specs.Prelude.{Some};
+ghost use Rattle.async_step.specs.Printed.{step_refusal_text, replay_fault_text};
+
 use machine_law::Kind;
+use std::fmt;
 
 /// Why a step is refused. The first in this order that stands is answered.
 #[derive(Clone, Copy, Debug, PartialEq, Eq)]
@@ -15,6 +19,19 @@ pub enum StepRefusal {
     TooManySteps,
 }
 
+impl fmt::Display for StepRefusal {
+    ghost output = { λ refusal. Some (step_refusal_text refusal) };
+
+    fn fmt<W: fmt::Write>(&self, f: &mut fmt::Formatter<W>) -> fmt::Result {
+        match self {
+            StepRefusal::NoSuchBlock => write!(f, "NoSuchBlock"),
+            StepRefusal::OutOfTurn(kind) => write!(f, "OutOfTurn({kind})"),
+            StepRefusal::TooLarge => write!(f, "TooLarge"),
+            StepRefusal::TooManySteps => write!(f, "TooManySteps"),
+        }
+    }
+}
+
 /// Why a list of steps can't be made.
 #[derive(Clone, Copy, Debug, PartialEq, Eq)]
 pub enum ReplayFault {
@@ -22,4 +39,15 @@ pub enum ReplayFault {
     Refused(usize, StepRefusal),
     /// Memory was refused.
     NoMemory,
+}
+
+impl fmt::Display for ReplayFault {
+    ghost output = { λ fault. Some (replay_fault_text fault) };
+
+    fn fmt<W: fmt::Write>(&self, f: &mut fmt::Formatter<W>) -> fmt::Result {
+        match self {
+            ReplayFault::Refused(place, refusal) => write!(f, "Refused({place}, {refusal})"),
+            ReplayFault::NoMemory => write!(f, "NoMemory"),
+        }
+    }
 }

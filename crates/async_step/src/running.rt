@@ -7,9 +7,7 @@ ghost use Rattle.async_step.specs.Running.{Settles, RunFaultStands, IsTurnOf, Ha
 
 use crate::refusals::StepRefusal;
 use crate::state::State;
-use crate::tests_of_amounts::is_idle;
 use closure_net::{Flow, Net};
-use machine_law::Event;
 use ordered_group::OrderedGroup;
 use std::alloc::Global;
 
@@ -44,10 +42,10 @@ fn next_turn<G: OrderedGroup>(net: &Net<G>, state: &State<G>, last: Option<u32>)
     let _blocks = net.len();
     match last {
         Some(block) => {
-            if is_idle(state.operation(block)) {
-                state.waiting(block + 1)
-            } else {
+            if state.has_operation(block) {
                 Some(block)
+            } else {
+                state.waiting(block + 1)
             }
         }
         None => state.waiting(0),
@@ -64,8 +62,7 @@ fn take_turn<G: OrderedGroup>(
     requires turn { IsTurnOf net.now state.old (Some block) }
     ensures { MatchResult result (λ _. HasTurned net.now state.old state.new block) (λ e. TurnFails net.now state.old block e) }
 {
-    let kind = state.next_kind(net, block);
-    match state.step(net, Event { block, kind }) {
+    match state.next_step(net, block) {
         Ok(_) => Ok(()),
         Err(StepRefusal::TooLarge) => Err(RunFault::TooLarge),
         Err(StepRefusal::TooManySteps) => Err(RunFault::Unsettled),

@@ -10,12 +10,14 @@ ghost use Rattle.machine_law.specs.States.{opening, IsQuiet};
 ghost use Rattle.machine_law.specs.Quiet.{IsFlowOf};
 ghost use Rattle.async_step.specs.Marks.{IsFirstRound};
 ghost use Rattle.async_step.specs.Views.{StateView, state_of, operation_at, IsSized};
+ghost use Rattle.async_step.specs.Scans.{IsScan, seen_by, chosen_by};
 ghost use Rattle.async_step.specs.Answers.{IsStateOf, IsWaiting};
 
 use crate::marks::Marks;
 use crate::opening::{busy_marks, idle_operations, positives, waiting_marks, zeros};
-use crate::tests_of_amounts::{is_busy, is_waiting};
-use closure_net::{Carried, Flow, Net};
+use crate::operations::{choose, see};
+use crate::tests_of_amounts::{is_busy, is_idle, is_positive, is_waiting, is_zero};
+use closure_net::{Carried, Flow, Net, Port};
 use machine_law::Operation;
 use ordered_group::OrderedGroup;
 use std::alloc::{AllocError, Global};
@@ -145,7 +147,15 @@ impl<G: OrderedGroup> State<G> {
         requires { b < length self.now.operation }
         ensures { operation_as G.parts_of result ≡ (state_of self.now).operation b }
     {
-        self.operation[b as usize]
+        *self.present(b)
+    }
+
+    /// The operation of block b, in its place.
+    pub(crate) fn present(&self, b: u32) -> &Operation<G>
+        requires { b < length self.now.operation }
+        ensures { operation_as G.parts_of result.now ≡ (state_of self.now).operation b }
+    {
+        &self.operation[b as usize]
     }
 
     /// Whether block b has an operation.
@@ -237,10 +247,10 @@ impl<G: OrderedGroup> State<G> {
         ensures { self.new ≡ record self.old { excess = slice_set self.old.excess b (G.parts_of amount) } }
     {
         let at = b as usize;
-        let operation = self.operation[at];
+        let idle = is_idle(&self.operation[at]);
         self.excess[at] = amount;
-        self.waiting.set(b, is_waiting(amount, operation));
-        self.busy.set(b, is_busy(amount, operation));
+        self.waiting.set(b, is_waiting(amount, idle));
+        self.busy.set(b, is_busy(amount, idle));
     }
 
     pub(crate) fn set_label(&mut self, b: u32, label: u64)
@@ -298,9 +308,49 @@ impl<G: OrderedGroup> State<G> {
     {
         let at = b as usize;
         let excess = self.excess[at];
+        let idle = is_idle(&operation);
         self.operation[at] = operation;
         self.steps += 1;
-        self.waiting.set(b, is_waiting(excess, operation));
-        self.busy.set(b, is_busy(excess, operation));
+        self.waiting.set(b, is_waiting(excess, idle));
+        self.busy.set(b, is_busy(excess, idle));
+    }
+
+    // Gives a block the capacity of the port that it looks at, and counts a step. The operation is
+    // changed in its place: to make it anew costs more than the rest of the step.
+    pub(crate) fn see(&mut self, b: u32, ports: u32, capacity: G)
+        requires block { b < length self.old.operation }
+        requires room { self.old.steps < 2 ^ 40 }
+        requires scan { IsScan ports ((state_of self.old).operation b) }
+        ensures { let s = state_of self.old in self.new ≡ record self.old {
+          operation = slice_set self.old.operation b (seen_by ports (s.label b) (G.parts_of capacity) (s.operation b));
+          steps = self.old.steps + 1;
+        } }
+    {
+        let at = b as usize;
+        let label = self.label[at];
+        see(&mut self.operation[at], ports, label, capacity);
+        self.steps += 1;
+        if is_idle(&self.operation[at]) {
+            let excess = self.excess[at];
+            self.waiting.set(b, is_positive(excess));
+            self.busy.set(b, !is_zero(excess));
+        }
+    }
+
+    // Gives a block the label beyond the port that it looks at, and counts a step. The block had an
+    // operation and has one after, so no mark changes.
+    pub(crate) fn choose(&mut self, b: u32, ports: u32, port: Port, label: u64)
+        requires block { b < length self.old.operation }
+        requires room { self.old.steps < 2 ^ 40 }
+        requires scan { IsScan ports ((state_of self.old).operation b) }
+        ensures { let s = state_of self.old in self.new ≡ record self.old {
+          operation = slice_set self.old.operation b (chosen_by ports (s.label b) port label (s.operation b));
+          steps = self.old.steps + 1;
+        } }
+    {
+        let at = b as usize;
+        let own = self.label[at];
+        choose(&mut self.operation[at], ports, own, port, label);
+        self.steps += 1;
     }
 }

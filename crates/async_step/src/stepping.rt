@@ -20,7 +20,7 @@ impl<G: OrderedGroup> State<G> {
         requires block { b < length net.now.worths }
         ensures { result ≡ next_kind net.now (state_of self.now) b }
     {
-        match self.operation(b) {
+        match self.present(b) {
             Operation::Idle => Kind::ReadExcess,
             Operation::Scan {
                 have: _,
@@ -29,7 +29,7 @@ impl<G: OrderedGroup> State<G> {
                 best: _,
             } => match read {
                 Some(_capacity) => Kind::ReadLabel,
-                None => read_kind(net.port(b, place)),
+                None => read_kind(net.port(b, *place)),
             },
             Operation::PushDue { have: _, best } => push_kind(best.port),
             Operation::TakeDue { amount: _, port: _ } => Kind::TakeExcess,
@@ -45,18 +45,33 @@ impl<G: OrderedGroup> State<G> {
         ensures { let s = state_of self.old in LeadsTelling G.parts_of net.now self.old
             (advance net.now s block) (told net.now s block) self.new result }
     {
-        match self.operation(block) {
+        match self.present(block) {
             Operation::Idle => self.read_excess(net, block),
             Operation::Scan {
-                have,
+                have: _,
                 place,
                 read,
-                best,
-            } => self.scan(net, block, have, place, read, best),
-            Operation::PushDue { have, best } => self.move_capacity(net, block, have, best),
-            Operation::TakeDue { amount, port } => self.take_excess(net, block, amount, port),
-            Operation::GiveDue { amount, port } => self.give_excess(net, block, amount, port),
-            Operation::RaiseDue { have: _, best } => self.raise_label(net, block, best),
+                best: _,
+            } => {
+                let (place, is_read) = (*place, read.is_some());
+                self.scan(net, block, place, is_read)
+            }
+            Operation::PushDue { have, best } => {
+                let (have, best) = (*have, *best);
+                self.move_capacity(net, block, have, best)
+            }
+            Operation::TakeDue { amount, port } => {
+                let (amount, port) = (*amount, *port);
+                self.take_excess(net, block, amount, port)
+            }
+            Operation::GiveDue { amount, port } => {
+                let (amount, port) = (*amount, *port);
+                self.give_excess(net, block, amount, port)
+            }
+            Operation::RaiseDue { have: _, best } => {
+                let best = *best;
+                self.raise_label(net, block, best)
+            }
         }
     }
 

@@ -545,3 +545,46 @@ fn a_state_that_is_not_quiet(rt: HostRuntime) -> Result<(), Fail> {
     }
     Ok(())
 }
+
+#[test]
+fn refusals_as_texts(rt: HostRuntime) -> Result<(), Fail> {
+    let alloc = rt.alloc();
+    let texts = [
+        (StepRefusal::NoSuchBlock, "NoSuchBlock"),
+        (StepRefusal::OutOfTurn(TE), "OutOfTurn(TakeExcess)"),
+        (StepRefusal::TooLarge, "TooLarge"),
+        (StepRefusal::TooManySteps, "TooManySteps"),
+    ];
+    for (refusal, text) in texts {
+        assert_eq!(rt; refusal.to_string(alloc)?.as_str(), text);
+    }
+    let fault = ReplayFault::Refused(11, StepRefusal::OutOfTurn(TE));
+    assert_eq!(rt;
+        fault.to_string(alloc)?.as_str(),
+        "Refused(11, OutOfTurn(TakeExcess))"
+    );
+    assert_eq!(rt;
+        ReplayFault::NoMemory.to_string(alloc)?.as_str(),
+        "NoMemory"
+    );
+    Ok(())
+}
+
+#[test]
+fn kinds_as_texts(rt: HostRuntime) -> Result<(), Fail> {
+    let alloc = rt.alloc();
+    let texts = [
+        (RE, "ReadExcess"),
+        (RC, "ReadCapacity"),
+        (RL, "ReadLabel"),
+        (TC, "TakeCapacity"),
+        (GC, "GiveCapacity"),
+        (TE, "TakeExcess"),
+        (GE, "GiveExcess"),
+        (RA, "RaiseLabel"),
+    ];
+    for (kind, text) in texts {
+        assert_eq!(rt; kind.to_string(alloc)?.as_str(), text);
+    }
+    Ok(())
+}

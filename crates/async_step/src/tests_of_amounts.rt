@@ -1,10 +1,10 @@
 //! Tests of amounts and operations.
 
-ghost use Rattle.std.specs.Prelude.{◌≡◌};
+ghost use Rattle.std.specs.Prelude.{◌≡◌, not, ◌&&◌, ◌||◌};
 ghost use Rattle.ordered_group.specs.Amount.{FitsPair};
 ghost use Rattle.machine_law.specs.Reads.{is_positive};
 ghost use Rattle.machine_law.specs.Operations.{operation_as};
-ghost use Rattle.async_step.specs.Views.{is_idle, is_zero, is_waiting, is_busy};
+ghost use Rattle.async_step.specs.Views.{is_idle, is_zero};
 
 use machine_law::Operation;
 use ordered_group::OrderedGroup;
@@ -24,27 +24,24 @@ pub fn is_zero<G: OrderedGroup>(amount: G) -> bool
 }
 
 /// Whether there is no operation.
-pub fn is_idle<N: Copy>(operation: Operation<N>) -> bool
-    ensures { result ≡ is_idle operation }
+pub fn is_idle<G: OrderedGroup>(operation: &Operation<G>) -> bool
+    ensures { result ≡ is_idle (operation_as G.parts_of operation.now) }
 {
-    match operation {
-        Operation::Idle => true,
-        _ => false,
-    }
+    matches!(operation, Operation::Idle)
 }
 
-/// Whether a block with this excess and operation is ready to begin an operation.
-pub fn is_waiting<G: OrderedGroup>(excess: G, operation: Operation<G>) -> bool
-    ensures { result ≡ is_waiting (G.parts_of excess) (operation_as G.parts_of operation) }
+/// Whether a block with this excess is ready to begin an operation, where it has none or has one.
+pub fn is_waiting<G: OrderedGroup>(excess: G, idle: bool) -> bool
+    ensures { result ≡ idle && is_positive (G.parts_of excess) }
 {
-    is_idle(operation) && is_positive(excess)
+    idle && is_positive(excess)
 }
 
-/// Whether a block with this excess and operation isn't done for now.
-pub fn is_busy<G: OrderedGroup>(excess: G, operation: Operation<G>) -> bool
-    ensures { result ≡ is_busy (G.parts_of excess) (operation_as G.parts_of operation) }
+/// Whether a block with this excess isn't done for now, where it has no operation or has one.
+pub fn is_busy<G: OrderedGroup>(excess: G, idle: bool) -> bool
+    ensures { result ≡ not idle || not (is_zero (G.parts_of excess)) }
 {
-    !is_idle(operation) || !is_zero(excess)
+    !idle || !is_zero(excess)
 }
 
 /// The numbers of a value fit their type.

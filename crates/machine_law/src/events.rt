@@ -1,5 +1,10 @@
 //! The steps of a run.
 
+ghost use Rattle.std.specs.Prelude.{Some};
+ghost use Rattle.machine_law.specs.Printed.{kind_text};
+
+use std::fmt;
+
 /// The kinds of step. Each reads or writes one number that several blocks may share.
 #[derive(Clone, Copy, Debug, PartialEq, Eq)]
 pub enum Kind {
@@ -19,6 +24,23 @@ pub enum Kind {
     GiveExcess,
     /// The block's label is raised.
     RaiseLabel,
+}
+
+impl fmt::Display for Kind {
+    ghost output = { λ kind. Some (kind_text kind) };
+
+    fn fmt<W: fmt::Write>(&self, f: &mut fmt::Formatter<W>) -> fmt::Result {
+        match self {
+            Kind::ReadExcess => write!(f, "ReadExcess"),
+            Kind::ReadCapacity => write!(f, "ReadCapacity"),
+            Kind::ReadLabel => write!(f, "ReadLabel"),
+            Kind::TakeCapacity => write!(f, "TakeCapacity"),
+            Kind::GiveCapacity => write!(f, "GiveCapacity"),
+            Kind::TakeExcess => write!(f, "TakeExcess"),
+            Kind::GiveExcess => write!(f, "GiveExcess"),
+            Kind::RaiseLabel => write!(f, "RaiseLabel"),
+        }
+    }
 }
 
 /// A step of a run: the block that makes it, and its kind.

@@ -1,4 +1,4 @@
-use Rattle.std.proofs.Common.{◌≡◌, ◌∙◌, ap, map}
+use Rattle.std.proofs.Common.{◌∙◌, ap, map}
 use Rattle.ordered_group.specs.Amount.{zero_amount}
 use Rattle.async_step.proofs.Changes.{filled_next}
 use Rattle.async_step.proofs.opening.zeros.Goals as goal

@@ -1,4 +1,4 @@
-use Rattle.std.proofs.Common.{◌≡◌, ℕ, subst, sym}
+use Rattle.std.proofs.Common.{ℕ, subst, sym}
 use Rattle.async_step.specs.Running.{Settles}
 use Rattle.async_step.proofs.Settling.{opens_turn, settles}
 use Rattle.async_step.proofs.running.run_in_turns.Goals as goal

@@ -1,13 +1,11 @@
-use Rattle.std.proofs.Common.{◌≡◌, ◌<◌, ◌+◌, ◌^◌, ◌∙◌, ap, subst, sym, refl, set}
-use Rattle.std.proofs.Common.{arith}
+use Rattle.std.proofs.Common.{◌<◌, ◌^◌, subst, sym}
 use Rattle.ordered_group.specs.Amount.{Amount}
 use Rattle.machine_law.specs.declared.operations.Operation.{Operation}
 use Rattle.machine_law.specs.Operations.{operation_as}
-use Rattle.machine_law.specs.States.{put}
 use Rattle.machine_law.specs.Steps.{becomes}
 use Rattle.async_step.specs.Views.{StateView, state_of}
 use Rattle.async_step.specs.Answers.{GoesTo}
-use Rattle.async_step.proofs.Becoming.{not_full, fits_alone, goes_alone}
+use Rattle.async_step.proofs.Becoming.{not_full, goes_alone}
 use Rattle.async_step.proofs.state.State.become_alone.Goals as goal
 
 pub returns : goal.returns

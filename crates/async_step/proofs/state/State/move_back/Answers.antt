@@ -1,5 +1,5 @@
-use Rattle.std.proofs.Common.{◌≡◌, subst, sym, refl}
-use Rattle.ordered_group.specs.Amount.{Amount, plus, minus, FitsPair}
+use Rattle.std.proofs.Common.{subst, sym, refl}
+use Rattle.ordered_group.specs.Amount.{Amount, minus, FitsPair}
 use Rattle.async_step.specs.Views.{state_of}
 use Rattle.async_step.proofs.Becoming.{put_here}
 use Rattle.async_step.proofs.state.State.move_back.Goals as goal

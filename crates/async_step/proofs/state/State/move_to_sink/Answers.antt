@@ -1,4 +1,4 @@
-use Rattle.std.proofs.Common.{◌≡◌, ◌∙◌, ap, ap₂, subst, sym, refl}
+use Rattle.std.proofs.Common.{◌≡◌, ◌∙◌, ap, subst, sym, refl}
 use Rattle.ordered_group.specs.Amount.{Amount, plus, minus, negative, FitsPair}
 use Rattle.ordered_group.specs.Sums.{amount_at}
 use Rattle.async_step.specs.Views.{state_of}

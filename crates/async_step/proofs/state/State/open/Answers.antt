@@ -1,7 +1,6 @@
 use Rattle.std.proofs.Common.{◌≡◌, ◌∙◌, ap, sym, subst, map, length, replicate, List, arith, rules, refl, not}
 use Rattle.std.proofs.lemmas.List.{length-map}
-use Rattle.ordered_group.specs.Amount.{Amount, positive}
-use Rattle.machine_law.specs.declared.operations.Operation.{Operation}
+use Rattle.ordered_group.specs.Amount.{positive}
 use Rattle.machine_law.specs.declared.operations.Operation.TheVariants.{Idle}
 use Rattle.machine_law.specs.Operations.{operation_as}
 use Rattle.machine_law.specs.Reads.{is_positive}

@@ -1,11 +1,24 @@
-use Rattle.std.proofs.Common.{arith}
-use Rattle.std.proofs.lemmas.Option.{slice_get_within}
+use Rattle.std.proofs.Common.{ℕ, ◌<◌, ◌+◌, ◌^◌, ◌∙◌, ap, ap₂, subst, sym, set, length}
+use Rattle.ordered_group.specs.Amount.{Amount}
 use Rattle.closure_net.specs.Ports.{ports}
-use Rattle.machine_law.proofs.PortLists.{port-at}
+use Rattle.machine_law.specs.declared.operations.Operation.{Operation}
+use Rattle.machine_law.specs.Residual.{capacity}
+use Rattle.machine_law.specs.Steps.{becomes}
+use Rattle.async_step.specs.Views.{StateView, state_of}
+use Rattle.async_step.specs.Scans.{seen_by}
+use Rattle.async_step.specs.Answers.{GoesTo}
+use Rattle.async_step.specs.declared.saw.Saw.TheVariants.{Capacity}
+use Rattle.async_step.proofs.Becoming.{not_full, goes_alone}
 use Rattle.async_step.proofs.state.State.read_capacity.Goals as goal
 
-pub capacity-seen-requires-clause-port : goal.capacity-seen-requires-clause-port
-capacity-seen-requires-clause-port g c = λ κs l. port-at c.args.net.now c.args.block c.args.place c.args.port c.requires.port
-
-pub seen_at-next-requires-after_bounds : goal.seen_at-next-requires-after_bounds
-seen_at-next-requires-after_bounds g c = omega (arith, slice_get_within (ports c.args.net.now c.args.block) c.args.place c.args.port c.requires.port, c.ports.ensures)
+pub returns : goal.returns
+returns g c =
+    let net = c.args.net.now in
+    let v : StateView = c.args.self.now in
+    let b = c.args.block in
+    let next : ℕ → Amount → Operation Amount = λ n x. seen_by n ((state_of v).label b) x ((state_of v).operation b) in
+    let o : Operation Amount = next (length (ports net b)) (capacity net (state_of v) b c.args.port) in
+    let few : v.steps < 2 ^ 40 = not_full c.is_full.result v.steps (2 ^ 40) c.is_full.ensures c.if-is_full.false in (
+      subst (GoesTo net v (becomes (state_of v) b o)) (sym (c.see.ensures ∙ ap₂ (λ n x. record v { operation = set v.operation b (next n x); steps = v.steps + 1 }) c.ports.ensures c.capacity-seen.ensures)) (goes_alone net v c.requires.over b c.requires.block o few),
+      ap Capacity c.capacity-seen.ensures,
+    )

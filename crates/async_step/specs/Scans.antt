@@ -1,0 +1,79 @@
+-- A block's look at its ports, as changes of its operation.
+use Rattle.std.specs.Prelude.{◌≡◌, ℕ, ◌<◌, Bool, true, false, Option, Some, None, length}
+use Rattle.ordered_group.specs.Amount.{Amount, zero_amount}
+use Rattle.closure_net.specs.declared.ports.Port.{Port}
+use Rattle.closure_net.specs.declared.ports.PortKind.{PortKind}
+use Rattle.closure_net.specs.declared.ports.PortKind.TheVariants.{Sink, Forward, Backward, Source}
+use Rattle.closure_net.specs.Network.{NetView}
+use Rattle.closure_net.specs.Ports.{ports}
+use Rattle.machine_law.specs.States.{State}
+use Rattle.machine_law.specs.Residual.{capacity, end_label}
+use Rattle.machine_law.specs.declared.operations.Operation.{Operation}
+use Rattle.machine_law.specs.declared.operations.Operation.TheVariants.{Idle, Scan, PushDue, TakeDue, GiveDue, RaiseDue}
+use Rattle.machine_law.specs.Reads.{better, passed, seen}
+
+-- the operation looks at one of so many ports
+abbrev pub IsScan : {N : Type 0} → ℕ → Operation N → Type 0
+IsScan count Idle = ⊥
+IsScan count (Scan have place read best) = place < count
+IsScan count (PushDue have best) = ⊥
+IsScan count (TakeDue amount port) = ⊥
+IsScan count (GiveDue amount port) = ⊥
+IsScan count (RaiseDue have best) = ⊥
+
+-- whether a capacity was read
+abbrev pub has_read : {N : Type 0} → Option N → Bool
+has_read None = false
+has_read (Some capacity) = true
+
+-- the operation looks at the port at this place, whose capacity is read or not
+abbrev pub IsScanAt : {N : Type 0} → ℕ → Bool → Operation N → Type 0
+IsScanAt at is_read Idle = ⊥
+IsScanAt at is_read (Scan have place read best) = (place ≡ at) × (has_read read ≡ is_read)
+IsScanAt at is_read (PushDue have best) = ⊥
+IsScanAt at is_read (TakeDue amount port) = ⊥
+IsScanAt at is_read (GiveDue amount port) = ⊥
+IsScanAt at is_read (RaiseDue have best) = ⊥
+
+-- the capacity that was read, and zero where none was
+abbrev pub read_or_zero : Option Amount → Amount
+read_or_zero None = zero_amount
+read_or_zero (Some capacity) = capacity
+
+-- after the port is passed
+abbrev pub passed_by : {N : Type 0} → ℕ → ℕ → Operation N → Operation N
+passed_by count label Idle = Idle
+passed_by count label (Scan have place read best) = passed count label have place best
+passed_by count label (PushDue have best) = PushDue have best
+passed_by count label (TakeDue amount port) = TakeDue amount port
+passed_by count label (GiveDue amount port) = GiveDue amount port
+passed_by count label (RaiseDue have best) = RaiseDue have best
+
+-- with one more port that may be the best
+abbrev pub weighed_by : Port → ℕ → Operation Amount → Operation Amount
+weighed_by port beyond Idle = Idle
+weighed_by port beyond (Scan have place read best) = Scan have place read (Some (better best (record { port = port; capacity = read_or_zero read; label = beyond })))
+weighed_by port beyond (PushDue have best) = PushDue have best
+weighed_by port beyond (TakeDue amount port₁) = TakeDue amount port₁
+weighed_by port beyond (GiveDue amount port₁) = GiveDue amount port₁
+weighed_by port beyond (RaiseDue have best) = RaiseDue have best
+
+-- after the capacity of the port is read
+abbrev pub seen_by : ℕ → ℕ → Amount → Operation Amount → Operation Amount
+seen_by count label capacity Idle = Idle
+seen_by count label capacity (Scan have place read best) = seen count label have place best capacity
+seen_by count label capacity (PushDue have best) = PushDue have best
+seen_by count label capacity (TakeDue amount port) = TakeDue amount port
+seen_by count label capacity (GiveDue amount port) = GiveDue amount port
+seen_by count label capacity (RaiseDue have best) = RaiseDue have best
+
+-- after the label beyond the port is read
+abbrev pub chosen_by : ℕ → ℕ → Port → ℕ → Operation Amount → Operation Amount
+chosen_by count label port beyond o = passed_by count label (weighed_by port beyond o)
+
+-- after a read at a port of this kind whose capacity isn't read: of its capacity, or of the label beyond a forward one
+abbrev pub looks_by : NetView → State → ℕ → Port → PortKind → Operation Amount → Operation Amount
+looks_by net s b port Sink o = seen_by (length (ports net b)) (s.label b) (capacity net s b port) o
+looks_by net s b port Forward o = chosen_by (length (ports net b)) (s.label b) port (end_label net s port) o
+looks_by net s b port Backward o = seen_by (length (ports net b)) (s.label b) (capacity net s b port) o
+looks_by net s b port Source o = seen_by (length (ports net b)) (s.label b) (capacity net s b port) o
