@@ -6,4 +6,3 @@ pub mod Scanning
 pub mod Becoming
 pub mod Turns
 pub mod Waits
-pub mod Settling

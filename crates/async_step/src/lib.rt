@@ -23,9 +23,6 @@ mod pushing;
 mod reading;
 mod refusals;
 mod replaying;
-mod running;
-#[cfg(test)]
-mod running_tests;
 mod saw;
 mod state;
 mod stepping;
@@ -36,6 +33,5 @@ mod tests_of_amounts;
 pub use machine_law::{Best, Event, Kind, Operation};
 pub use refusals::{ReplayFault, StepRefusal};
 pub use replaying::replay;
-pub use running::{Ran, RunFault, run_in_turns};
 pub use saw::Saw;
 pub use state::State;
