@@ -9,7 +9,7 @@ use Rattle.fixed_worth.specs.Text.{Left, BeginsTooLong, fields_of}
 use Rattle.fixed_worth.specs.Record.{Line, numbered, is_skipped}
 use Rattle.blocks_file.specs.declared.faults.BlocksFault.TheVariants.{Text, TooMany}
 use Rattle.blocks_file.specs.Records.{record_lines, long_fault, many_fault, early_fault, extra_fault}
-use Rattle.blocks_file.proofs.NextLine.{line, Next, next_is, short}
+use Rattle.fixed_worth.proofs.NextLine.{line, Next, next_is, short}
 
 -- What has been counted, and what is left.
 pub record Counted (all : List Line) (most count extra : ℕ) (left : Left) : Type 0 where

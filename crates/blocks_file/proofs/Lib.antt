@@ -1,4 +1,3 @@
-pub mod NextLine
 pub mod Counts
 pub mod Slots
 pub mod Rows

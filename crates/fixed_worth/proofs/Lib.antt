@@ -13,3 +13,4 @@ pub mod Sources
 pub mod DigitsFromEnd
 pub mod Joined
 pub mod WrittenNumbers
+pub mod NextLine

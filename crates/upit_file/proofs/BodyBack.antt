@@ -16,7 +16,7 @@ use Rattle.upit_file.specs.declared.fault.UpitFault.TheVariants.{Text}
 use Rattle.upit_file.specs.Header.{is_long, fields_in, is_end}
 use Rattle.upit_file.specs.Body.{block_of, value_of, shape_fault, record_fault, line_fault, is_record_of, has_record, value_among, first_fault, before_end}
 use Rattle.upit_file.specs.Writing.{record_line, record_lines}
-use Rattle.upit_file.proofs.NextLine.{line, short}
+use Rattle.fixed_worth.proofs.NextLine.{line, short}
 use Rattle.upit_file.proofs.BodyLines.{has-push}
 use Rattle.upit_file.proofs.Words.{is_word, decimal_digits, digits_are_word, digit_no_separator, two_fields}
 use Rattle.upit_file.proofs.ReadBack.{whole_read, printed_read, printed_all, printed_some}

@@ -12,7 +12,7 @@ use Rattle.upit_file.specs.declared.fault.UpitFault.{UpitFault}
 use Rattle.upit_file.specs.declared.fault.UpitFault.TheVariants.{UnknownBlock, Repeated}
 use Rattle.upit_file.specs.Header.{is_end, fields_in}
 use Rattle.upit_file.specs.Body.{block_of, value_of, shape_fault, block_fault, record_fault, is_record_of, has_record, value_among, first_fault, before_end}
-use Rattle.upit_file.proofs.NextLine.{line, short, Next, next_is}
+use Rattle.fixed_worth.proofs.NextLine.{line, short, Next, next_is}
 
 -- What has been read, and what is left.
 pub record Kept (n : ℕ) (all : List Line) (seen : List Bool) (values : List ℤ) (left : Left) : Type 0 where

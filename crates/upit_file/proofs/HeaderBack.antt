@@ -15,7 +15,7 @@ use Rattle.upit_file.specs.declared.key.Key.TheVariants.{Name, FileType, Blocks,
 use Rattle.upit_file.specs.declared.fault.UpitFault.TheVariants.{Text}
 use Rattle.upit_file.specs.Header.{is_long, fields_in, key_in, header, after_header, first_count, count_fault, key_fault, last_end, from_second, name_in, last_name, header_line_fault, header_lines_fault, last_fault, end_fault, header_fault}
 use Rattle.upit_file.specs.Records.{is_name}
-use Rattle.upit_file.proofs.NextLine.{line, short}
+use Rattle.fixed_worth.proofs.NextLine.{line, short}
 use Rattle.upit_file.proofs.Words.{word_run, gap_run, one_word, decimal_digits, digits_are_word}
 use Rattle.upit_file.proofs.ReadBack.{whole_read}
 

@@ -1,4 +1,3 @@
-pub mod NextLine
 pub mod HeaderLines
 pub mod BodyLines
 pub mod Names

@@ -1,6 +1,6 @@
 use Rattle.std.proofs.Common.{◌^◌, sym, ◌∙◌}
 use Rattle.blocks_file.specs.Records.{lines_in}
-use Rattle.blocks_file.proofs.NextLine.{Next}
+use Rattle.fixed_worth.proofs.NextLine.{Next}
 use Rattle.blocks_file.proofs.Counts.{passes, is_extra, is_counted, not_true, not_false}
 use Rattle.blocks_file.proofs.counting.count_records.Goals.{then-count-eq-MOST_BLOCKS, else-count-eq-MOST_BLOCKS}
 use Rattle.blocks_file.proofs.counting.count_records.Goals as goal

@@ -3,7 +3,7 @@ use Rattle.std.proofs.lemmas.List.{length-replicate}
 use Rattle.fixed_worth.specs.Text.{fields_of}
 use Rattle.blocks_file.specs.Records.{lines_in, columns_of}
 use Rattle.blocks_file.specs.Steps.{HoldsValues, ArePut}
-use Rattle.blocks_file.proofs.NextLine.{Next}
+use Rattle.fixed_worth.proofs.NextLine.{Next}
 use Rattle.blocks_file.proofs.LineAfterLine.{begins, passes, keeps, read_all}
 use Rattle.blocks_file.proofs.Lent.{written_back}
 use Rattle.blocks_file.proofs.reading.read_records.Goals as goal

@@ -1,5 +1,5 @@
 use Rattle.fixed_worth.specs.Record.{numbered}
-use Rattle.upit_file.proofs.NextLine.{Next}
+use Rattle.fixed_worth.proofs.NextLine.{Next}
 use Rattle.upit_file.proofs.BodyLines.{passes, keeps}
 use Rattle.upit_file.proofs.body.read_body.Goals as goal
 
