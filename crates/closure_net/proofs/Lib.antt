@@ -12,3 +12,4 @@ pub mod TwoSets
 pub mod BestPits
 pub mod NetSums
 pub mod PortPlaces
+pub mod Duality

@@ -12,6 +12,7 @@ use Rattle.prec_file.specs.Rests.{from_at, to_at, IsKnown}
 use Rattle.closure_net.specs.Network.{NetView, FlowView}
 use Rattle.closure_net.specs.Closure.{Stays, IsClosed, group_worth}
 use Rattle.closure_net.specs.Flows.{IsFlow, IsTight, IsGreatestFlow, still_to_give}
+use Rattle.closure_net.proofs.Duality.{PairsKnown, closed_bound, greatest_flow_from_tight}
 use Rattle.closure_net.specs.Reached.{IsReached, Reaches}
 use Rattle.closure_net.specs.declared.ports.Port.{Port}
 use Rattle.machine_law.specs.declared.operations.Operation.{Operation}
@@ -27,39 +28,6 @@ use Rattle.machine_law.proofs.Arcs.{arcs-each}
 use Rattle.machine_law.proofs.Law.{runs_keep_law}
 use Rattle.machine_law.proofs.Levels.{empty_above}
 use Rattle.machine_law.proofs.Tight.{tight_sum}
-
--- the pairs are of blocks of the net
-abbrev PairsKnown : NetView → Type 0
-PairsKnown net = All (IsKnown (length net.worths)) net.pairs
-
--- ---- closed sets against flows
--- a closed set sums to at most what the source could still give
-closed_bound : (net : NetView) (flow : FlowView) (e : ℕ → Bool) → PairsKnown net → IsFlow net flow → IsClosed net.pairs e → AtMost (group_worth net.worths e) (still_to_give net flow)
-closed_bound net flow e known is closed =
-    weak_duality (length net.worths) (length net.pairs) (from_at net.pairs) (to_at net.pairs) (amount_at net.worths) (amount_at flow.source) (amount_at flow.sink) (amount_at flow.rest)
-    (λ k l. (known k (0, 0) l).0)
-    (λ k l. (known k (0, 0) l).1)
-    (λ k l. let f = is.fits.rest in is.rest k (omega (arith, l, f)))
-    (λ b l. (is.capacity b l).0)
-    (λ b l. (is.capacity b l).1)
-    is.balance e (λ k l. closed k (0, 0) l)
-
--- with more left of the same sum, less was taken
-less_taken : (p s t : Amount) → AtMost (minus p s) (minus p t) → AtMost t s
-less_taken p s t h = shifted h (record { w = omega (arith, ints); c = omega (arith, ints) })
-
-left_is : (net : NetView) (flow : FlowView) → still_to_give net flow ≡ minus (total (λ b. positive (amount_at net.worths b)) (length net.worths)) (total (amount_at flow.source) (length net.worths))
-left_is net flow = total-minus (λ b. positive (amount_at net.worths b)) (amount_at flow.source) (length net.worths)
-
--- a flow that a tight closed set shows is a greatest one
-greatest_from_tight : (net : NetView) (flow : FlowView) (e : ℕ → Bool) → PairsKnown net → IsFlow net flow → IsClosed net.pairs e → IsTight net flow e → IsGreatestFlow net flow
-greatest_from_tight net flow e known is closed tight =
-    record {
-      is_flow = is;
-      most = λ other h.
-          let bound : AtMost (still_to_give net flow) (still_to_give net other) = rw tight at (closed_bound net other e known h closed) in
-          less_taken _ _ _ (rw (left_is net flow, left_is net other) at bound);
-    }
 
 -- a set that the source's reach doesn't leave is closed
 closed_from : (net : NetView) (flow : FlowView) (e : ℕ → Bool) → Reaches net flow e → IsClosed net.pairs e
@@ -187,7 +155,7 @@ module _ (net : NetView) (s : State) (flow : FlowView) (known : PairsKnown net) 
         let f = quiet_flow in
         let tight : (e : ℕ → Bool) → IsReached net flow e → IsTight net flow e = λ e r. tight_from net flow e known f r.0 (λ b l y. above_full b l (r.1 above above_reaches b y)) in
         record {
-          greatest = greatest_from_tight net flow above known f (closed_from net flow above above_reaches) (tight_from net flow above known f above_reaches above_full);
+          greatest = greatest_flow_from_tight net flow above known f (closed_from net flow above above_reaches) (tight_from net flow above known f above_reaches above_full);
           closed = λ e r. closed_from net flow e r.0;
           tight = tight;
           greatest_set = λ e r. record { closed = closed_from net flow e r.0; most = λ c i. rw (tight e r) (closed_bound net flow c known f i) };
