@@ -5,7 +5,9 @@ ghost use Rattle.std.specs.Prelude.{◌<◌};
 use crate::test_nets::two_on_dear_waste;
 use crate::{Board, End, Locked, OpenGate, Shared, Turn, serve};
 use closure_net::Net;
-use ordered_group::{Worth, WorthSize};
+use ordered_group::{OrderedGroup, Worth, WorthSize};
+use std::alloc::Global;
+use std::process::Abort;
 use std::sync::{Mutex, Wait};
 use std::test::Fail;
 
@@ -137,28 +139,29 @@ fn a_worker_of_no_blocks_asks_from_the_first(rt: HostRuntime) {
     );
 }
 
-#[test]
-fn a_turn_under_the_lock_makes_a_step(rt: HostRuntime) -> Result<(), Fail> {
-    let net: Net<Worth> = two_on_dear_waste(rt.alloc())?;
-    let shared = Locked::new(Board::open(rt.alloc(), &net)?);
+// A turn under the lock makes one step on the board, of the block that is asked for.
+fn makes_steps<G: OrderedGroup, R: Abort + Wait>(rt: &R, alloc: Global) -> Result<(), Fail>
+where
+    Locked<Board<G>>: Shared,
+{
+    let net: Net<G> = two_on_dear_waste(alloc)?;
     let begun = Turn::Stepped {
         block: 1,
         more: true,
     };
-    assert_eq!(rt; shared.act(&rt, None, 1, 10), begun);
+    let shared = Locked::new(Board::open(alloc, &net)?);
+    assert_eq!(rt; shared.act(rt, None, 1, 10), begun);
     assert_eq!(rt; shared.into_inner().count(), 1);
+    let shared = Locked::new(Board::open(alloc, &net)?);
+    assert_eq!(rt; shared.act(rt, None, 1, 2), begun);
+    assert_eq!(rt; shared.act(rt, Some(1), 0, 2), begun);
+    assert_eq!(rt; shared.act(rt, Some(1), 0, 2), Turn::Ended(End::Limit));
+    assert_eq!(rt; shared.into_inner().count(), 2);
     Ok(())
 }
 
 #[test]
-fn a_turn_under_the_lock_makes_a_step_with_sizes_counted(rt: HostRuntime) -> Result<(), Fail> {
-    let net: Net<WorthSize> = two_on_dear_waste(rt.alloc())?;
-    let shared = Locked::new(Board::open(rt.alloc(), &net)?);
-    let begun = Turn::Stepped {
-        block: 1,
-        more: true,
-    };
-    assert_eq!(rt; shared.act(&rt, None, 1, 10), begun);
-    assert_eq!(rt; shared.into_inner().count(), 1);
-    Ok(())
+fn a_turn_under_the_lock_makes_a_step(rt: HostRuntime) -> Result<(), Fail> {
+    makes_steps::<Worth, _>(&rt, rt.alloc())?;
+    makes_steps::<WorthSize, _>(&rt, rt.alloc())
 }
