@@ -1,5 +1,5 @@
 -- Which blocks have an operation.
-use Rattle.std.proofs.Common.{◌≡◌, ◌≢◌, ℕ, ◌+◌, ◌<◌, ◌≤◌, ◌↔◌, ◌⊎◌, IsTrue, refl, sym, ap, subst, ◌∙◌, arith, inl, inr, Bool, true, false, if◌then◌else◌, Option, Some, None, length}
+use Rattle.std.proofs.Common.{◌≡◌, ◌≢◌, ℕ, ◌+◌, ◌<◌, ◌↔◌, ◌⊎◌, IsTrue, refl, sym, ap, subst, ◌∙◌, arith, inl, inr, Bool, true, false, if◌then◌else◌, Option, Some, None}
 use Rattle.std.proofs.lemmas.Bool.{cases_eq}
 use Rattle.std.proofs.lemmas.Option.{none-some, same_Some}
 use Rattle.ordered_group.specs.Amount.{Amount, zero_amount}
@@ -11,12 +11,11 @@ use Rattle.closure_net.specs.declared.ports.PortKind.TheVariants.{Sink, Forward,
 use Rattle.machine_law.specs.declared.operations.Operation.{Operation}
 use Rattle.machine_law.specs.declared.operations.Operation.TheVariants.{Idle, Scan, PushDue, TakeDue, GiveDue, RaiseDue}
 use Rattle.machine_law.specs.States.{State, put, IsQuiet}
-use Rattle.machine_law.specs.Steps.{push_amount, pushed_by, given_by, advance_by, advance}
+use Rattle.machine_law.specs.Steps.{push_amount, pushed_by, given_by, advance_by}
 use Rattle.machine_law.proofs.Law.{runs_keep_law}
 use Rattle.machine_law.proofs.Points.{put-other}
-use Rattle.async_step.specs.Answers.{IsWaiting}
 use Rattle.workers.specs.Boards.{BoardView, shown, blocks_of, IsBoard}
-use Rattle.workers.specs.Turns.{IsOwn, HasNoOwn, IsPicked, IsUnserved, HasServed}
+use Rattle.workers.specs.Turns.{HasNoOwn, IsPicked, IsUnserved, HasServed}
 use Rattle.workers.specs.Solving.{IsAlone, AreIdleBelow, GoesOn}
 
 -- ---- a step changes the operation of its block alone, and is counted

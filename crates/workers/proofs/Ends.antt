@@ -1,23 +1,20 @@
 -- What a board keeps at the end of a run.
-use Rattle.std.proofs.Common.{◌≡◌, ℕ, ◌<◌, ◌≤◌, ◌⊎◌, refl, sym, ap, subst, ◌∙◌, arith, inl, inr, Bool, true, false, Option, Some, Result, Ok, Err, length, ◌^◌, ◌≢◌}
+use Rattle.std.proofs.Common.{◌≡◌, ℕ, ◌≤◌, refl, ap, subst, arith, inl, inr, true, Option, Result, Ok, Err, ◌^◌, ◌≢◌}
 use Rattle.closure_net.specs.Network.{NetView, FlowView, IsNet}
-use Rattle.machine_law.specs.States.{State, IsQuiet}
+use Rattle.machine_law.specs.States.{IsQuiet}
 use Rattle.machine_law.specs.Steps.{advance}
-use Rattle.machine_law.specs.Quiet.{IsFlowOf, IsSolved}
+use Rattle.machine_law.specs.Quiet.{IsFlowOf}
 use Rattle.machine_law.proofs.Quiet.{quiet_solves}
-use Rattle.async_step.specs.Views.{StateView, state_of}
-use Rattle.async_step.specs.Answers.{IsStateOf, Fits}
+use Rattle.async_step.specs.Views.{StateView}
+use Rattle.async_step.specs.Answers.{Fits}
 use Rattle.workers.specs.Boards.{BoardView, board_view, shown, IsBoard}
 use Rattle.std.proofs.lemmas.Bool.{cases_eq}
 use Rattle.std.specs.Prelude.{MatchResult}
-use Rattle.workers.specs.Runs.{IsCutOff, SomeStepLeaves, Settles}
-use Rattle.workers.specs.Turns.{IsGoing, IsPicked, Leaves, IsUncounted, IsAtLimit, SticksNow, IsEnd}
-use Rattle.workers.specs.Solving.{HasSettled, HasEnded, GoesOn, RunFaultStands, SolveFaultStands}
+use Rattle.workers.specs.Runs.{IsCutOff, Settles}
+use Rattle.workers.specs.Turns.{IsGoing, IsPicked, SticksNow}
+use Rattle.workers.specs.Solving.{HasSettled, RunFaultStands, SolveFaultStands}
 use Rattle.workers.specs.declared.solving.SolveFault.{SolveFault}
 use Rattle.workers.specs.declared.solving.SolveFault.TheVariants.{BadWorkers, Unsettled, TooLarge, StrangerNet, NoMemory, NoThread}
-use Rattle.workers.specs.declared.turns.End.{End}
-use Rattle.workers.specs.declared.turns.End.TheVariants.{Quiet, Stuck, Limit, Full}
-use Rattle.workers.proofs.Alone.{picked_inside}
 
 -- a quiet board's flow solves its net
 pub settled : (board : BoardView) (flow : FlowView) → IsBoard board → IsNet board.net → IsQuiet board.net (shown board) → IsFlowOf board.net (shown board) flow → HasSettled board board.net flow

@@ -1,10 +1,10 @@
 -- What a whole run by workers answers.
-use Rattle.std.specs.Prelude.{◌≡◌, ℕ, ◌<◌, ◌≤◌, ◌^◌, ◌⊎◌, Option, Some, length, true}
+use Rattle.std.specs.Prelude.{◌≡◌, ℕ, ◌<◌, ◌≤◌, ◌⊎◌, Option, Some}
 use Rattle.closure_net.specs.Network.{NetView, FlowView}
 use Rattle.machine_law.specs.declared.operations.Operation.TheVariants.{Idle}
 use Rattle.machine_law.specs.States.{State, IsQuiet}
 use Rattle.machine_law.specs.Quiet.{IsFlowOf, IsSolved}
-use Rattle.workers.specs.Boards.{BoardView, shown, blocks_of}
+use Rattle.workers.specs.Boards.{BoardView, shown}
 use Rattle.workers.specs.Runs.{IsCutOff, SomeStepLeaves}
 use Rattle.workers.specs.declared.turns.End.{End}
 use Rattle.workers.specs.declared.turns.End.TheVariants.{Quiet, Stuck, Limit, Full}

@@ -1,7 +1,7 @@
 -- What a turn at a board does.
 use Rattle.std.specs.Prelude.{◌≡◌, ℕ, ◌<◌, ◌≤◌, ◌^◌, ◌⊎◌, ◌↔◌, IsTrue, Bool, true, false, Option, Some}
 use Rattle.machine_law.specs.declared.operations.Operation.TheVariants.{Idle}
-use Rattle.machine_law.specs.States.{State, IsQuiet}
+use Rattle.machine_law.specs.States.{IsQuiet}
 use Rattle.machine_law.specs.Steps.{Step, advance}
 use Rattle.async_step.specs.Marks.{IsFirstRound}
 use Rattle.async_step.specs.Answers.{Fits, IsWaiting, next_event}

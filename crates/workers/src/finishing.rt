@@ -20,7 +20,7 @@ fn end_operation<G: OrderedGroup>(board: &mut Board<G>, block: u32, steps: u64) 
     while board.has_operation(block) {
         match board.turn(Some(block), block, steps) {
             Turn::Stepped { block: _, more: _ } => {}
-            Turn::Idle => unreachable!(),
+            Turn::Idle => unreachable!("a block at work is served"),
             Turn::Ended(end) => return Some(end),
         }
     }
@@ -59,11 +59,11 @@ fn take_turns<G: OrderedGroup>(board: &mut Board<G>, steps: u64) -> End
                 own = if more { Some(block) } else { None };
                 from = block + 1;
             }
-            Turn::Idle => unreachable!(),
+            Turn::Idle => unreachable!("where none is at work one waits"),
             Turn::Ended(end) => return end,
         }
     }
-    unreachable!()
+    unreachable!("a turn at the limit ends the run")
 }
 
 /// Makes the turns that are left, on this thread, until the run ends, and answers why it does. Each is

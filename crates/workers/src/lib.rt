@@ -13,15 +13,23 @@
 
 mod boards;
 mod finishing;
+#[cfg(test)]
+mod gate_tests;
 mod gates;
 mod serving;
+#[cfg(test)]
+mod serving_tests;
 mod sharing;
 #[cfg(test)]
 mod small_nets_tests;
 mod solving;
 #[cfg(test)]
+mod test_nets;
+#[cfg(test)]
 mod tests;
 mod turns;
+#[cfg(test)]
+mod whole_run_tests;
 
 pub use boards::Board;
 pub use gates::{Gate, OpenGate};

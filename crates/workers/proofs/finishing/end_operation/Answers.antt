@@ -1,4 +1,4 @@
-use Rattle.std.proofs.Common.{◌≡◌, ◌<◌, refl, sym, subst, length}
+use Rattle.std.proofs.Common.{◌<◌, refl, sym, subst, length}
 use Rattle.closure_net.specs.Network.{NetView}
 use Rattle.workers.specs.Boards.{blocks_of}
 use Rattle.workers.proofs.Alone.{served_goes_on, still_idle_below}

@@ -1,4 +1,4 @@
-use Rattle.std.proofs.Common.{◌≡◌, ◌≤◌, ℕ, ◌-◌}
+use Rattle.std.proofs.Common.{◌-◌}
 use Rattle.workers.specs.Boards.{shown, IsBoard}
 use Rattle.workers.specs.Solving.{AreIdleBelow, GoesOn}
 use Rattle.workers.proofs.finishing.end_operation.Given as goal

@@ -1,5 +1,3 @@
-use Rattle.std.proofs.Common.{◌≡◌, ℕ}
-use Rattle.workers.specs.Boards.{blocks_of}
 use Rattle.workers.specs.Solving.{AreIdleBelow, GoesOn}
 use Rattle.workers.proofs.finishing.end_operations.Given as goal
 

@@ -1,4 +1,4 @@
-use Rattle.std.proofs.Common.{◌≡◌, ◌∙◌, ◌+◌, ℕ, ap, sym, subst, true, false, Option, Some, None, if◌then◌else◌}
+use Rattle.std.proofs.Common.{◌≡◌, ◌∙◌, ◌+◌, ℕ, ap, sym, subst, Some, None, if◌then◌else◌}
 use Rattle.workers.specs.Boards.{shown, blocks_of}
 use Rattle.workers.specs.Solving.{IsAlone}
 use Rattle.workers.proofs.Alone.{served_goes_on, served_counts, still_alone, unserved_quiet}

@@ -1,4 +1,4 @@
-use Rattle.std.proofs.Common.{◌≡◌, ℕ}
+use Rattle.std.proofs.Common.{◌≡◌}
 use Rattle.workers.specs.Boards.{shown, blocks_of, IsBoard}
 use Rattle.workers.specs.Solving.{IsAlone, GoesOn}
 use Rattle.workers.proofs.finishing.take_turns.Given as goal

@@ -1,4 +1,4 @@
-use Rattle.std.proofs.Common.{◌≡◌, ◌≤◌, sym, subst, arith}
+use Rattle.std.proofs.Common.{subst, arith}
 use Rattle.closure_net.specs.Network.{NetView}
 use Rattle.workers.specs.Runs.{Settles}
 use Rattle.workers.specs.Solving.{RunFaultStands}

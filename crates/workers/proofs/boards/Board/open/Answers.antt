@@ -1,4 +1,3 @@
-use Rattle.std.proofs.Common.{◌≡◌}
 use Rattle.workers.proofs.boards.Board.open.Goals as goal
 
 pub invariant_of-result : goal.invariant_of-result

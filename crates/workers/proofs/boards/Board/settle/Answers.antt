@@ -1,4 +1,4 @@
-use Rattle.std.proofs.Common.{◌≡◌, ◌∙◌, ap, subst, sym}
+use Rattle.std.proofs.Common.{◌∙◌, ap, subst}
 use Rattle.machine_law.specs.States.{IsQuiet}
 use Rattle.async_step.specs.Views.{StateView}
 use Rattle.workers.specs.Boards.{BoardView, board_view, shown}

@@ -1,10 +1,9 @@
-use Rattle.std.proofs.Common.{◌≡◌, rules, true, inr, subst, sym}
-use Rattle.machine_law.specs.Steps.{advance}
-use Rattle.async_step.specs.Answers.{Fits, IsRefused, next_event}
+use Rattle.std.proofs.Common.{rules, true, inr, subst, sym}
+use Rattle.async_step.specs.Answers.{IsRefused, next_event}
 use Rattle.async_step.specs.Views.{state_of}
 use Rattle.async_step.specs.declared.refusals.StepRefusal.{StepRefusal}
 use Rattle.async_step.specs.declared.refusals.StepRefusal.TheVariants.{TooLarge}
-use Rattle.workers.specs.Boards.{BoardView, board_view, shown}
+use Rattle.workers.specs.Boards.{BoardView, board_view}
 use Rattle.workers.specs.Turns.{IsGoing, IsPicked, SticksNow}
 use Rattle.workers.proofs.Ends.{sticks}
 use Rattle.workers.proofs.boards.Board.turn.Goals as goal
