@@ -1,10 +1,10 @@
 -- A text that is sent in pieces: what the writer received of each makes up what it received of all.
-use Rattle.std.proofs.Common.{◌≡◌, ℕ, ◌+◌, ◌≤◌, List, [], ◌++◌, length, take, drop, Option, refl, sym, ap, subst, ◌∙◌, append_assoc, append-nil, length-append, arith}
+use Rattle.std.proofs.Common.{inr, ◌≡◌, ℕ, ◌+◌, ◌≤◌, List, [], ◌++◌, length, take, drop, Option, refl, sym, ap, subst, ◌∙◌, append_assoc, append-nil, length-append, arith}
 use Rattle.std.proofs.Math.Seq.{take-append-add, take-length, take-add}
 use Rattle.std.proofs.lemmas.List.{take-append-le, take_all}
 use Rattle.std.proofs.KnownBytes.{Appends-trans, Appends-nil, Appends-kept}
 use Rattle.std.specs.Io.KnownBytes.{Appends, Keeps}
-use Rattle.fixed_worth.specs.Device.{ReceivedPrefix, SentOrHeld}
+use Rattle.fixed_worth.specs.Device.{ReceivedPrefix, SentOrHeld, PutFailed}
 
 -- ---- all of a piece, or a prefix of it
 
@@ -64,6 +64,11 @@ all_held a held = record { sent = []; received = Appends-nil a; whole = refl }
 pub none_held : (a b c : Option (List ℕ)) (held piece : List ℕ) → Appends a b held → Appends b c piece → SentOrHeld a c [] (held ++ piece)
 none_held a b c held piece first second =
     record { sent = held ++ piece; received = Appends-trans a b c held piece first second; whole = append-nil (held ++ piece) }
+
+-- a write failed behind what was held: nothing is held
+pub failed_in_piece : (a b c : Option (List ℕ)) (held left piece : List ℕ) → left ≡ [] → Appends a b held → ReceivedPrefix b c piece → PutFailed a c held left piece
+failed_in_piece a b c held left piece none first (k, most, second) =
+    inr (none, (k, most, Appends-trans a b c held (take k piece) first second))
 
 -- one more piece, of which a part may be held
 pub held_more : (a b c : Option (List ℕ)) (held rest text piece : List ℕ)

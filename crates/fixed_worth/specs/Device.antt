@@ -1,5 +1,5 @@
 -- What counted devices are to their callers, when a call fails, and what a writer has received.
-use Rattle.std.specs.Prelude.{◌≡◌, ℕ, ◌+◌, ◌-◌, ◌^◌, ◌<◌, ◌≤◌, min, List, [], ◌∷◌, ◌++◌, length, take, Option, Result, Ok, Err, Bool, true, false, cond, ◌==◌}
+use Rattle.std.specs.Prelude.{◌≡◌, ◌⊎◌, ℕ, ◌+◌, ◌-◌, ◌^◌, ◌<◌, ◌≤◌, min, List, [], ◌∷◌, ◌++◌, length, take, Option, Result, Ok, Err, Bool, true, false, cond, ◌==◌}
 use Rattle.std.specs.Io.KnownBytes.{Appends, Consumes}
 
 -- a counted device: the reader or writer that it holds, and how many of its calls failed
@@ -30,3 +30,10 @@ pub record SentOrHeld (old new : Option (List ℕ)) (held text : List ℕ) : Typ
   pub sent : List ℕ
   pub received : Appends old new sent
   pub whole : sent ++ held ≡ text
+
+-- a put failed. Either the page still holds what it held, and the writer received a prefix of that; or the writer
+-- received all of that and a prefix of the piece, and the page holds nothing
+abbrev pub PutFailed : Option (List ℕ) → Option (List ℕ) → List ℕ → List ℕ → List ℕ → Type 0
+PutFailed old new held left piece =
+    ((left ≡ held) × ReceivedPrefix old new held)
+    ⊎ ((left ≡ []) × ((k : ℕ) × (k ≤ length piece) × Appends old new (held ++ take k piece)))

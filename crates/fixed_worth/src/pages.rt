@@ -2,7 +2,7 @@
 
 ghost use Rattle.std.specs.Prelude.{◌≡◌, ℕ, ◌+◌, ◌-◌, ◌^◌, ◌<◌, ◌≤◌, List, [], ◌++◌, length, take, OnOk, OnErr};
 ghost use Rattle.std.specs.Io.KnownBytes.{Appends};
-ghost use Rattle.fixed_worth.specs.Device.{ReceivedPrefix, SentOrHeld};
+ghost use Rattle.fixed_worth.specs.Device.{ReceivedPrefix, SentOrHeld, PutFailed};
 ghost use Rattle.fixed_worth.specs.declared.pages.TheConstants.{ROOM};
 
 use crate::devices::CountedWrite;
@@ -44,13 +44,15 @@ impl Page {
     /// longer than a page is sent at once, behind what was held.
     ///
     /// [`WriteFault::Device`] where a write failed: the writer has then received a prefix of what
-    /// was held and the piece.
+    /// was held and the piece. The page still holds all that it held, unless the writer received
+    /// all of that: then it holds nothing.
     pub fn put<W: CountedWrite>(&mut self, out: &mut W, piece: &[u8]) -> Result<(), WriteFault>
         requires { W.failed out.old < 2 ^ 64 - 1 }
         ensures held { OnOk result (SentOrHeld (W.contents out.old) (W.contents out.new) self.new (self.old ++ piece.now)) }
         ensures kept { OnOk result (W.failed out.new ≡ W.failed out.old) }
         ensures prefix { OnErr result (ReceivedPrefix (W.contents out.old) (W.contents out.new) (self.old ++ piece.now)) }
         ensures counted { OnErr result (W.failed out.new ≡ W.failed out.old + 1) }
+        ensures left { OnErr result (PutFailed (W.contents out.old) (W.contents out.new) self.old self.new piece.now) }
     {
         if piece.len() > self.room() {
             self.finish(out)?;
