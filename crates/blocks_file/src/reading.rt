@@ -1,6 +1,6 @@
 //! Reading a text.
 
-ghost use Rattle.std.specs.Prelude.{◌≡◌, ◌≤◌, ◌^◌, [], Some, None, length, MatchResult};
+ghost use Rattle.std.specs.Prelude.{◌≡◌, ◌≤◌, ◌^◌, [], Some, None, Err, length, MatchResult};
 ghost use Rattle.blocks_file.specs.Records as spec;
 ghost use Rattle.blocks_file.specs.Denotes.{Denotes};
 ghost use Rattle.blocks_file.specs.Steps.{AreKept};
@@ -63,12 +63,14 @@ fn read_records(alloc: Global, text: &[u8], columns: &[u32], n: u32) -> Result<K
 /// # Errors
 /// `Text` for the first line of more than 65,536 bytes; then `TooMany` for the record after the 2^24th. Otherwise that
 /// of the first faulty line, and of its faults the first in this order: `Text` for fewer than four fields, `Number`,
-/// `NoColumn`, `UnknownBlock`, `Repeated`. `NoMemory` where memory is refused.
+/// `NoColumn`, `UnknownBlock`, `Repeated`. `NoMemory` where memory is refused, which is asked for once no line is too
+/// long and no record too many.
 pub fn read_blocks(alloc: Global, text: &[u8], columns: &[u32]) -> Result<BlockModel, BlocksFault>
     requires { length columns.now ≤ 8 }
-    ensures { MatchResult result
+    ensures value { MatchResult result
         (λ m. (spec.fault_of columns.now text.now ≡ None) × Denotes columns.now text.now m)
         (λ e. spec.UnlessMemory e (spec.fault_of columns.now text.now ≡ Some e)) }
+    ensures early { (fault : BlocksFault) → spec.early_fault (spec.lines_in text.now) ≡ Some fault → result ≡ Err fault }
 {
     let n = match count_records(text) {
         Ok(n) => n,

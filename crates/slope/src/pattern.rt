@@ -1,6 +1,6 @@
 //! Patterns of offsets.
 
-ghost use Rattle.std.specs.Prelude.{◌≡◌, ◌<◌, ◌≤◌, All, IfOk, List, MatchOption, MatchResult, Contains, length};
+ghost use Rattle.std.specs.Prelude.{◌≡◌, ◌<◌, ◌≤◌, Err, All, IfOk, List, MatchOption, MatchResult, Contains, length};
 ghost use Rattle.prec_file.specs.Rests.{IsFirstNot};
 ghost use Rattle.slope.specs.Offsets.{Offset, IsUpward, IsPattern, AreOffsets};
 ghost use Rattle.slope.specs.Patterns.{five_offsets, nine_offsets, IsInCone, UpwardAt, ListFaultStands, ConeFaultStands};
@@ -115,9 +115,10 @@ impl Pattern {
     /// In this order: `NotUpward` with the place of the first offset whose third number isn't at least 1, `TooMany` for
     /// more than 4,096 listed offsets, and `NoMemory`.
     pub fn custom(alloc: Global, listed: &[(i32, i32, i32)]) -> Result<Pattern, PatternFault>
-        ensures { MatchResult result
+        ensures value { MatchResult result
             (λ p. All IsUpward listed.now × (length listed.now ≤ 4096) × AreOffsets (Contains listed.now) p)
             (ListFaultStands listed.now) }
+        ensures memory { result ≡ Err PatternFault.NoMemory → All IsUpward listed.now × (length listed.now ≤ 4096) }
     {
         match first_not_upward(listed) {
             Some(place) => return Err(PatternFault::NotUpward(place)),

@@ -1,6 +1,6 @@
 //! Reading a text.
 
-ghost use Rattle.std.specs.Prelude.{◌≡◌, ◌≤◌, ◌^◌, Some, None, MatchResult, IfOk};
+ghost use Rattle.std.specs.Prelude.{◌≡◌, ◌≤◌, ◌^◌, Some, None, Err, MatchResult, IfOk};
 ghost use Rattle.upit_file.specs.Header.{header_fault};
 ghost use Rattle.upit_file.specs.Records as spec;
 
@@ -28,12 +28,14 @@ pub fn declared_blocks(text: &[u8]) -> Result<u32, UpitFault>
 
 /// The name of a text, and the values that it gives to n blocks: that of the block's record, and 0 where it has none.
 ///
-/// Otherwise the first fault of the text, or `NoMemory` where memory is refused.
+/// Otherwise the first fault of the text, or `NoMemory` where memory is refused. A fault of the header is answered before
+/// memory is asked for.
 pub fn read_upit(alloc: Global, text: &[u8], n: u32) -> Result<Upit, UpitFault>
     requires { n ≤ 2 ^ 24 }
-    ensures { MatchResult result
+    ensures value { MatchResult result
         (λ upit. (spec.fault_of n text.now ≡ None) × spec.Denotes n text.now upit)
         (λ e. spec.UnlessMemory e (spec.fault_of n text.now ≡ Some e)) }
+    ensures header { (fault : UpitFault) → header_fault n (spec.lines_in text.now) ≡ Some fault → result ≡ Err fault }
 {
     let mut lines = Lines::new(text);
     let header = match read_header(&mut lines, Some(n)) {
