@@ -26,7 +26,7 @@ module _ (block : ℤ → ℕ → Amount) (n : ℕ) (vs : List ℤ) where
   pub worths_fault_from_amounts : (e : NetFault) → n ≡ length vs → AmountsFaultStands block n vs e → WorthsFaultStands block n vs e
   worths_fault_from_amounts WrongLength l h = absurd h
   worths_fault_from_amounts TooLarge l h = (l, inl h)
-  worths_fault_from_amounts NoMemory l h = tt
+  worths_fault_from_amounts NoMemory l h = l
 
   -- a net of the blocks' amounts is what is built, or the fault stands
   pub net_of_blocks : (ps : List (ℕ × ℕ)) (m : ℕ) (ws : List Amount) (r : Result NetView NetFault) → n ≡ length vs → ws ≡ map (λ v. block v n) vs

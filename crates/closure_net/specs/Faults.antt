@@ -45,8 +45,8 @@ AmountsFaultStands block n vs WrongLength = ⊥
 AmountsFaultStands block n vs TooLarge = BlockLeaves block n vs
 AmountsFaultStands block n vs NoMemory = Unit {0}
 
--- the same where the worths are made of blocks' worths: one that doesn't fit is too large, too
+-- the same where the worths are made of blocks' worths: one that doesn't fit is too large, too, and memory is wanted only where the lengths agree
 abbrev pub WorthsFaultStands : (ℤ → ℕ → Amount) → ℕ → List ℤ → NetFault → Type 0
 WorthsFaultStands block n vs WrongLength = n ≢ length vs
 WorthsFaultStands block n vs TooLarge = (n ≡ length vs) × (BlockLeaves block n vs ⊎ WorthsLeave (map (λ v. block v n) vs))
-WorthsFaultStands block n vs NoMemory = Unit {0}
+WorthsFaultStands block n vs NoMemory = n ≡ length vs

@@ -1,6 +1,6 @@
 //! What the pairs carry.
 
-ghost use Rattle.std.specs.Prelude.{◌≡◌, ℕ, ◌<◌, ◌≤◌, List, length, map, replicate, slice_set, IfOk};
+ghost use Rattle.std.specs.Prelude.{◌≡◌, ℕ, ◌<◌, ◌≤◌, List, length, map, replicate, slice_set, IfOk, MatchResult};
 ghost use Rattle.ordered_group.specs.Amount.{zero_amount};
 ghost use Rattle.ordered_group.specs.Sums.{amount_at};
 ghost use Rattle.closure_net.specs.Carrying as spec;
@@ -82,7 +82,7 @@ impl<G: OrderedGroup> Carried<G> {
     /// Where memory for one more amount is refused. Nothing is changed then.
     pub fn set(&mut self, pair: u32, amount: G) -> Result<(), AllocError>
         requires { pair < length self.old }
-        ensures { IfOk result (λ _. self.new ≡ slice_set self.old pair (G.parts_of amount)) }
+        ensures { MatchResult result (λ _. self.new ≡ slice_set self.old pair (G.parts_of amount)) (λ _. self.new ≡ self.old) }
     {
         match &mut self.places {
             Some(places) => {

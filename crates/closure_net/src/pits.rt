@@ -1,6 +1,6 @@
 //! Pits.
 
-ghost use Rattle.std.specs.Prelude.{◌≡◌, ◌↔◌, ℕ, ◌<◌, ◌≤◌, ◌-◌, ◌^◌, false, IsTrue, List, length, slice_index, MatchOption};
+ghost use Rattle.std.specs.Prelude.{◌≡◌, ◌↔◌, ℕ, ◌<◌, ◌≤◌, ◌+◌, ◌-◌, ◌^◌, false, IsTrue, List, length, slice_index, MatchBool, MatchOption};
 ghost use Rattle.closure_net.specs.Network.{IsAscending, holds_of};
 ghost use Rattle.closure_net.specs.Places.{StandsFrom, StandsBelow};
 
@@ -135,12 +135,14 @@ impl Pit {
         }
     }
 
-    /// Whether b is in the pit, looked for around a place, which is moved behind that of b where it is.
+    /// Whether b is in the pit, looked for around a place, which is moved behind that of b where it is,
+    /// and else stays.
     ///
     /// The place may be any number, and the nearer it is to that of b, the sooner the answer: blocks that follow one
     /// another in the pit are found in constant time each.
     pub fn holds_near(&self, place: &mut usize, b: u32) -> bool
-        ensures { result ≡ holds_of self.now b }
+        ensures is { result ≡ holds_of self.now b }
+        ensures place { MatchBool result ((i : ℕ) × (i < length self.now) × (slice_index self.now i ≡ b) × (place.new ≡ i + 1)) (place.new ≡ place.old) }
     {
         match self.place_near(*place, b) {
             Some(i) => {

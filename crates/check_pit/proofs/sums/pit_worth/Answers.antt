@@ -14,13 +14,13 @@ loop-b-preserved g c =
     elim c.if-holds_near.branch [
       | then-holds_near+in-Some v ↦
           let q = amount_here parts c.worths-worths.result.now c.args.net.now.worths c.loop-b.b v.index-worths-b.result c.worths-worths.ensures.is (omega arith) v.index-worths-b.is in
-          let on = sym c.holds_near.ensures ∙ v.if-holds_near.true in
+          let on = sym c.holds_near.ensures.is ∙ v.if-holds_near.true in
           record {
             so_far = ap parts v.sum-is ∙ set_step e w c.loop-b.b _ _ _ on c.loop-b.invariant.so_far q v.in-Some.ensures.1;
             fits = below_more _ _ c.loop-b.invariant.fits (λ k. fits_there _ _ _ _ c.loop-b.invariant.so_far q v.in-Some.ensures.0);
           }
       | else-holds_near v ↦
-          let off = sym c.holds_near.ensures ∙ v.if-holds_near.false in
+          let off = sym c.holds_near.ensures.is ∙ v.if-holds_near.false in
           record {
             so_far = ap parts v.sum-is ∙ set_skip e w c.loop-b.b _ off c.loop-b.invariant.so_far;
             fits = below_more _ _ c.loop-b.invariant.fits (λ k. absurd (cc (k, off)));
