@@ -1,5 +1,5 @@
 -- Amounts that are kept by their places.
-use Rattle.std.proofs.Common.{◌≡◌, ℕ, zero, suc, ◌≤◌, ◌<◌, List, [], ◌∷◌, ◌++◌, length, map, replicate, set, get_or, Option, None, Some, All, refl, sym, ap, ◌∙◌, arith, subst}
+use Rattle.std.proofs.Common.{◌≡◌, ℕ, zero, suc, ◌≤◌, ◌<◌, List, [], ◌∷◌, ◌++◌, length, map, replicate, set, Option, None, Some, All, refl, sym, ap, ◌∙◌, arith}
 use Rattle.std.proofs.lemmas.List.{map-set, get_or_append_left, get_or-map, get_or-replicate, length-map, length-replicate, ext_get_or, length-append}
 use Rattle.std.proofs.Math.Seq.{get_or-append_seam}
 use Rattle.ordered_group.specs.Amount.{Amount, zero_amount}

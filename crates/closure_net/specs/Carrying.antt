@@ -1,5 +1,5 @@
 -- What pairs carry, as it is kept.
-use Rattle.std.specs.Prelude.{ℕ, [], ◌∷◌, Option, None, Some, List, map}
+use Rattle.std.specs.Prelude.{ℕ, ◌∷◌, Option, None, Some, List, map}
 use Rattle.ordered_group.specs.Amount.{Amount, zero_amount}
 use Rattle.ordered_group.specs.Sums.{amount_at}
 

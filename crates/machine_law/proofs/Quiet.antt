@@ -1,17 +1,17 @@
 -- The flow of a quiet state is a greatest one, and what the source reaches in what it leaves is a greatest closed set.
-use Rattle.std.proofs.Common.{◌≡◌, ◌≢◌, ℕ, ◌+◌, ◌<◌, ◌≤◌, ◌==◌, ◌⊎◌, inl, inr, Bool, true, false, nat_lt, length, All, ap, sym, ◌∙◌, subst, arith}
+use Rattle.std.proofs.Common.{◌≡◌, ◌≢◌, ℕ, ◌+◌, ◌<◌, ◌≤◌, ◌==◌, ◌⊎◌, inl, inr, Bool, true, false, nat_lt, length, ap, sym, ◌∙◌, subst, arith}
 use Rattle.std.proofs.lemmas.Int.{ints}
 use Rattle.std.proofs.lemmas.Bool.{cases_lt, ltb-true, lt-ltb}
 use Rattle.std.proofs.lemmas.List.{get_or_default}
 use Rattle.ordered_group.specs.Amount.{Amount, zero_amount, plus, minus, AtMost, Below, positive, negative}
-use Rattle.ordered_group.specs.Sums.{total, where_so, at_end, amount_at}
+use Rattle.ordered_group.specs.Sums.{where_so, at_end, amount_at}
 use Rattle.ordered_group.proofs.Order.{AtMost-both, AtMost-same, most_or_below}
 use Rattle.ordered_group.proofs.Signs.{sign_or}
-use Rattle.ordered_group.proofs.Totals.{total-same, total-none, total-minus, weak_duality}
-use Rattle.prec_file.specs.Rests.{from_at, to_at, IsKnown}
+use Rattle.ordered_group.proofs.Totals.{total-same, total-none}
+use Rattle.prec_file.specs.Rests.{from_at, to_at}
 use Rattle.closure_net.specs.Network.{NetView, FlowView}
-use Rattle.closure_net.specs.Closure.{Stays, IsClosed, group_worth}
-use Rattle.closure_net.specs.Flows.{IsFlow, IsTight, IsGreatestFlow, still_to_give}
+use Rattle.closure_net.specs.Closure.{Stays, IsClosed}
+use Rattle.closure_net.specs.Flows.{IsFlow, IsTight}
 use Rattle.closure_net.proofs.Duality.{PairsKnown, closed_bound, greatest_flow_from_tight}
 use Rattle.closure_net.specs.Reached.{IsReached, Reaches}
 use Rattle.closure_net.specs.declared.ports.Port.{Port}

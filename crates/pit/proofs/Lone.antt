@@ -13,7 +13,7 @@ use Rattle.check_pit.specs.declared.cert_faults.LineFault.TheVariants.{Text}
 use Rattle.check_pit.specs.Pieces.{Piece, piece_at, read_line, words_of, number_below, unless_fault, in_line, no_line}
 use Rattle.check_pit.specs.Header.{◌>>=◌, header_for, version_in, blocks_in, price_in, group_in, blocks_said, wanted_blocks, wanted_group, is_same_group, or_number, value_behind}
 use Rattle.check_pit.proofs.Going.{text_read}
-use Rattle.check_pit.proofs.Wants.{Joined, joined}
+use Rattle.check_pit.proofs.Wants.{joined}
 
 number_alone : (w : Wanted) (k n : ℕ) (t : Bool) → or_number (cond t (Some k) None) ≡ Ok n → or_number (Some k) ≡ Ok n
 number_alone w k n true h = h

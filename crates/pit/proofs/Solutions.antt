@@ -1,7 +1,7 @@
 -- From a run to what is written of it.
 use Rattle.std.proofs.Common.{◌≡◌, ℕ, ℤ, pos, ◌*ℤ◌, ◌<◌, Bool, List, length, map, refl, sym, ap, ◌∙◌, subst, Option, Some, None, Result, Ok, Err, inl, inr, IfSome, All}
 use Rattle.std.proofs.lemmas.List.{length-map}
-use Rattle.std.specs.Io.KnownBytes.{Appends, Keeps}
+use Rattle.std.specs.Io.KnownBytes.{Appends}
 use Rattle.std.specs.Prelude.{MatchResult}
 use Rattle.fixed_worth.specs.Device.{ReceivedPrefix}
 use Rattle.ordered_group.specs.Amount.{Amount}
@@ -15,12 +15,11 @@ use Rattle.closure_net.specs.Faults.{WorthsFaultStands}
 use Rattle.closure_net.specs.declared.networks.NetFault.{NetFault}
 use Rattle.closure_net.specs.declared.networks.NetFault.TheVariants as net_fault
 use Rattle.workers.specs.Runs.{Settles}
-use Rattle.check_pit.specs.Checks.{IsOfNet, IsSound, FaultStands}
+use Rattle.check_pit.specs.Checks.{IsOfNet, FaultStands}
 use Rattle.check_pit.specs.Certificate.{Covers}
 use Rattle.check_pit.specs.ReadBack.{IsPrice, IsReadBack}
 use Rattle.check_pit.specs.Written.{header_with, text_of}
 use Rattle.check_pit.specs.declared.faults.PitFault.{PitFault}
-use Rattle.check_pit.specs.declared.faults.PitFault.TheVariants as pit_fault
 use Rattle.check_pit.specs.declared.headers.Price.{Price}
 use Rattle.check_pit.specs.declared.headers.Price.TheVariants.{Objective}
 use Rattle.check_pit.specs.Pieces.{pieces_of}
@@ -30,12 +29,10 @@ use Rattle.pit.specs.declared.judgements.Verdict.{Verdict}
 use Rattle.pit.specs.declared.judgements.Verdict.TheVariants.{Done, No}
 use Rattle.pit.specs.declared.engine_faults.EngineFault.{EngineFault}
 use Rattle.pit.specs.declared.engine_faults.EngineFault.TheVariants as engine
-use Rattle.pit.specs.Faults.{IsHeader}
 use Rattle.pit.specs.Inputs.{ReadsUpit, ReadsPrec}
 use Rattle.pit.specs.Judging.{AreRead, IsGroupNamed, of_model}
 use Rattle.pit.specs.Mines.{mine_of, DenoteMine}
-use Rattle.pit.specs.Readings.{block_by}
-use Rattle.pit.specs.Solving.{CheckLeaves, IsSolution, IsNoOf, IsCertificateOf, AnswersNet, SolvesNet, IsCertificate, IsNetBy, AnswersMine, SolveFails, Solves}
+use Rattle.pit.specs.Solving.{CheckLeaves, IsSolution, IsNoOf, IsCertificateOf, AnswersNet, SolvesNet, IsCertificate, IsNetBy, AnswersMine, Solves}
 use Rattle.pit.proofs.Answered.{read_both, keeps_self}
 use Rattle.pit.proofs.Judged.{HasRead, reads, net_made, worths_fail}
 use Rattle.pit.proofs.Lone.{header_alone}

@@ -1,4 +1,4 @@
-use Rattle.std.proofs.Common.{◌≡◌, ◌<◌, ◌+◌, length, arith, map, ap, ◌∙◌, refl, sym}
+use Rattle.std.proofs.Common.{◌≡◌, ◌<◌, ◌+◌, length, arith, ap, ◌∙◌, refl, sym}
 use Rattle.std.proofs.lemmas.List.{length-map}
 use Rattle.ordered_group.specs.Sums.{amount_at}
 use Rattle.prec_file.specs.Rests.{from_at, to_at}

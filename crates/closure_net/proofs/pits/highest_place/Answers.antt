@@ -1,4 +1,4 @@
-use Rattle.std.proofs.Common.{◌≡◌, ℕ, ◌+◌, ◌-◌, ◌<◌, ◌≤◌, get_or, arith, sym, ap, ◌∙◌}
+use Rattle.std.proofs.Common.{◌≡◌, ◌+◌, ◌-◌, get_or, arith, ap, ◌∙◌}
 use Rattle.closure_net.proofs.Ascending.{apart_by_places}
 use Rattle.closure_net.proofs.pits.highest_place.Goals as goal
 

@@ -1,6 +1,5 @@
-use Rattle.std.proofs.Common.{◌≡◌, ◌++◌, ◌∷◌, [], ◌≤◌, ℕ, List, All, Option, Some, length, map, IfSome, subst, ap, sym, ◌∙◌, arith}
+use Rattle.std.proofs.Common.{◌≡◌, ◌++◌, ◌∷◌, [], ◌≤◌, All, length, map, IfSome, subst, ap, sym, ◌∙◌, arith}
 use Rattle.std.proofs.lemmas.List.{length-map, map-append}
-use Rattle.ordered_group.specs.Amount.{Amount}
 use Rattle.closure_net.proofs.Places.{few_set, all_set}
 use Rattle.closure_net.proofs.carrying.Carried.set.Goals as goal
 

@@ -2,7 +2,7 @@ use Rattle.std.proofs.Common.{refl, sym, arith, []}
 use Rattle.std.proofs.lemmas.List.{append-nil}
 use Rattle.std.specs.Fmt.{decimal}
 use Rattle.std.proofs.lemmas.Fmt.{length-decimal-le_wide}
-use Rattle.fixed_worth.proofs.DigitsFromEnd.{AreWritten, starts_above, written_before, all_written, at_most_size}
+use Rattle.fixed_worth.proofs.DigitsFromEnd.{starts_above, written_before, all_written, at_most_size}
 use Rattle.fixed_worth.proofs.numbered.WrittenNumber.of.Goals as goal
 
 pub loop-left-init : goal.loop-left-init
