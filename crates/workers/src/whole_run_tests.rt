@@ -24,7 +24,7 @@ where
 {
     for workers in [2, 4, 64] {
         for _run in 0..20 {
-            let solved = solve(rt, alloc, net, workers, 10_000_000, &OpenGate).ok();
+            let solved = solve(rt, alloc, net, workers, 100_000, &OpenGate).ok();
             let flow = solved.ok_or("solved")?.flow;
             assert!(rt; flow.fits(net));
             assert!(rt; pit_of(alloc, net, &flow)?.blocks() == pit);
