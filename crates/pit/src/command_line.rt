@@ -10,7 +10,7 @@ const ABOUT: &str =
 
 /// The exit statuses, for each command's help.
 pub const STATUSES: &str =
-    "Exit status:\n  0  done: the answer is on standard output\n  1  no: the certificate doesn't prove its pit, or the run gave none\n  2  usage: the words of the command line are wrong\n  3  a file is wrong, or a pattern gives nothing for it: standard error names the fault, and its line in the file\n  4  memory was refused, or a file or the output failed\n\nWithout words pit checks a small example that it carries, and prints the answer.";
+    "Exit status:\n  0  done: the answer is on standard output\n  1  no: the certificate doesn't prove its pit, or the run gave none\n  2  usage: the words of the command line are wrong\n  3  a file is wrong, or a pattern gives nothing for it: standard error names the fault, and its line in the file\n  4  memory or a thread was refused, or a file or the output failed\n\nWithout words pit checks a small example that it carries, and prints the answer.";
 
 const CHECK_ABOUT: &str = "Checks a certificate: does its flow prove that its pit is the best?";
 
