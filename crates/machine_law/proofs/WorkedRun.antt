@@ -41,8 +41,8 @@ record Row : Type 0 where
   see : State → List ℤ
   says : List ℤ
 
-abbrev row : ℕ → List Kind → (State → List ℤ) → List ℤ → Row
-row b ks see says = record { block = b; kinds = ks; see = see; says = says }
+abbrev after : ℕ → List Kind → (State → List ℤ) → List ℤ → Row
+after b ks see says = record { block = b; kinds = ks; see = see; says = says }
 
 abbrev label : ℕ → State → List ℤ
 label b s = pos (s.label b) ∷ []
@@ -61,29 +61,29 @@ at_the_end s = (s.source 2).w ∷ (s.excess 0).w ∷ (s.excess 1).w ∷ (s.exces
 
 abbrev rows : List Row
 rows =
-    row 0 (ReadExcess ∷ ReadLabel ∷ ReadCapacity ∷ ReadLabel ∷ RaiseLabel ∷ []) (label 0) (pos 1 ∷ [])
-    ∷ row 0 (ReadExcess ∷ ReadLabel ∷ ReadCapacity ∷ ReadLabel ∷ []) (label 0) (pos 1 ∷ [])
-    ∷ row 2 (ReadExcess ∷ ReadLabel ∷ ReadCapacity ∷ ReadLabel ∷ RaiseLabel ∷ []) (label 2) (pos 1 ∷ [])
-    ∷ row 2 (ReadExcess ∷ ReadLabel ∷ ReadCapacity ∷ ReadLabel ∷ GiveCapacity ∷ TakeExcess ∷ GiveExcess ∷ []) (flow 1 1) (pos 4 ∷ pos 4 ∷ [])
-    ∷ row 1 (ReadExcess ∷ ReadCapacity ∷ ReadLabel ∷ ReadCapacity ∷ ReadCapacity ∷ ReadLabel ∷ RaiseLabel ∷ []) (label 1) (pos 1 ∷ [])
-    ∷ row 1 (ReadExcess ∷ ReadCapacity ∷ ReadLabel ∷ ReadCapacity ∷ ReadCapacity ∷ ReadLabel ∷ TakeCapacity ∷ TakeExcess ∷ GiveExcess ∷ []) (λ s. (s.sink 1).w ∷ (s.excess 1).w ∷ []) (pos 1 ∷ pos 3 ∷ [])
-    ∷ row 1 (ReadExcess ∷ ReadCapacity ∷ ReadCapacity ∷ ReadCapacity ∷ ReadLabel ∷ RaiseLabel ∷ []) (label 1) (pos 2 ∷ [])
-    ∷ row 1 (ReadExcess ∷ ReadCapacity ∷ ReadCapacity ∷ ReadCapacity ∷ ReadLabel ∷ TakeCapacity ∷ TakeExcess ∷ GiveExcess ∷ []) (flow 1 2) (pos 1 ∷ pos 3 ∷ [])
-    ∷ row 2 (ReadExcess ∷ ReadLabel ∷ ReadCapacity ∷ ReadLabel ∷ RaiseLabel ∷ []) (label 2) (pos 3 ∷ [])
-    ∷ row 2 (ReadExcess ∷ ReadLabel ∷ ReadCapacity ∷ ReadLabel ∷ GiveCapacity ∷ TakeExcess ∷ GiveExcess ∷ []) (flow 1 1) (pos 4 ∷ pos 3 ∷ [])
-    ∷ row 1 (ReadExcess ∷ ReadCapacity ∷ ReadCapacity ∷ ReadCapacity ∷ ReadLabel ∷ RaiseLabel ∷ []) (label 1) (pos 4 ∷ [])
-    ∷ row 0 (GiveCapacity ∷ []) half_way (pos 1 ∷ pos 4 ∷ pos 3 ∷ pos 4 ∷ pos 3 ∷ pos 0 ∷ pos 4 ∷ pos 4 ∷ pos 4 ∷ pos 0 ∷ pos 4 ∷ pos 1 ∷ pos 4 ∷ pos 0 ∷ pos 4 ∷ pos 4 ∷ pos 70 ∷ [])
-    ∷ row 0 (TakeExcess ∷ GiveExcess ∷ []) (λ s. (s.excess 0).w ∷ (s.excess 1).w ∷ []) (pos 0 ∷ pos 7 ∷ [])
-    ∷ row 1 (ReadExcess ∷ ReadCapacity ∷ ReadCapacity ∷ ReadLabel ∷ ReadCapacity ∷ ReadLabel ∷ TakeCapacity ∷ TakeExcess ∷ GiveExcess ∷ []) (flow 0 0) (pos 0 ∷ pos 4 ∷ [])
-    ∷ row 0 (ReadExcess ∷ ReadLabel ∷ ReadCapacity ∷ ReadLabel ∷ RaiseLabel ∷ []) (label 0) (pos 5 ∷ [])
-    ∷ row 0 (ReadExcess ∷ ReadLabel ∷ ReadCapacity ∷ ReadLabel ∷ GiveCapacity ∷ TakeExcess ∷ GiveExcess ∷ []) (flow 0 1) (pos 4 ∷ pos 7 ∷ [])
-    ∷ row 1 (ReadExcess ∷ ReadCapacity ∷ ReadCapacity ∷ ReadLabel ∷ ReadCapacity ∷ ReadLabel ∷ TakeCapacity ∷ TakeExcess ∷ GiveExcess ∷ []) (flow 1 2) (pos 0 ∷ pos 4 ∷ [])
-    ∷ row 1 (ReadExcess ∷ ReadCapacity ∷ ReadCapacity ∷ ReadLabel ∷ ReadCapacity ∷ RaiseLabel ∷ []) (label 1) (pos 6 ∷ [])
-    ∷ row 1 (ReadExcess ∷ ReadCapacity ∷ ReadCapacity ∷ ReadLabel ∷ ReadCapacity ∷ TakeCapacity ∷ TakeExcess ∷ GiveExcess ∷ []) (flow 0 0) (pos 1 ∷ pos 3 ∷ [])
-    ∷ row 0 (ReadExcess ∷ ReadLabel ∷ ReadCapacity ∷ ReadLabel ∷ RaiseLabel ∷ []) (label 0) (pos 6 ∷ [])
-    ∷ row 0 (ReadExcess ∷ ReadLabel ∷ ReadCapacity ∷ ReadLabel ∷ TakeCapacity ∷ TakeExcess ∷ GiveExcess ∷ []) (λ s. (s.source 0).w ∷ []) (pos 1 ∷ [])
-    ∷ row 2 (ReadExcess ∷ ReadLabel ∷ ReadCapacity ∷ ReadLabel ∷ RaiseLabel ∷ []) (label 2) (pos 6 ∷ [])
-    ∷ row 2 (ReadExcess ∷ ReadLabel ∷ ReadCapacity ∷ ReadLabel ∷ TakeCapacity ∷ TakeExcess ∷ GiveExcess ∷ []) at_the_end (pos 0 ∷ pos 0 ∷ pos 0 ∷ pos 0 ∷ pos 1 ∷ pos 0 ∷ pos 1 ∷ pos 1 ∷ pos 140 ∷ [])
+    after 0 (ReadExcess ∷ ReadLabel ∷ ReadCapacity ∷ ReadLabel ∷ RaiseLabel ∷ []) (label 0) (pos 1 ∷ [])
+    ∷ after 0 (ReadExcess ∷ ReadLabel ∷ ReadCapacity ∷ ReadLabel ∷ []) (label 0) (pos 1 ∷ [])
+    ∷ after 2 (ReadExcess ∷ ReadLabel ∷ ReadCapacity ∷ ReadLabel ∷ RaiseLabel ∷ []) (label 2) (pos 1 ∷ [])
+    ∷ after 2 (ReadExcess ∷ ReadLabel ∷ ReadCapacity ∷ ReadLabel ∷ GiveCapacity ∷ TakeExcess ∷ GiveExcess ∷ []) (flow 1 1) (pos 4 ∷ pos 4 ∷ [])
+    ∷ after 1 (ReadExcess ∷ ReadCapacity ∷ ReadLabel ∷ ReadCapacity ∷ ReadCapacity ∷ ReadLabel ∷ RaiseLabel ∷ []) (label 1) (pos 1 ∷ [])
+    ∷ after 1 (ReadExcess ∷ ReadCapacity ∷ ReadLabel ∷ ReadCapacity ∷ ReadCapacity ∷ ReadLabel ∷ TakeCapacity ∷ TakeExcess ∷ GiveExcess ∷ []) (λ s. (s.sink 1).w ∷ (s.excess 1).w ∷ []) (pos 1 ∷ pos 3 ∷ [])
+    ∷ after 1 (ReadExcess ∷ ReadCapacity ∷ ReadCapacity ∷ ReadCapacity ∷ ReadLabel ∷ RaiseLabel ∷ []) (label 1) (pos 2 ∷ [])
+    ∷ after 1 (ReadExcess ∷ ReadCapacity ∷ ReadCapacity ∷ ReadCapacity ∷ ReadLabel ∷ TakeCapacity ∷ TakeExcess ∷ GiveExcess ∷ []) (flow 1 2) (pos 1 ∷ pos 3 ∷ [])
+    ∷ after 2 (ReadExcess ∷ ReadLabel ∷ ReadCapacity ∷ ReadLabel ∷ RaiseLabel ∷ []) (label 2) (pos 3 ∷ [])
+    ∷ after 2 (ReadExcess ∷ ReadLabel ∷ ReadCapacity ∷ ReadLabel ∷ GiveCapacity ∷ TakeExcess ∷ GiveExcess ∷ []) (flow 1 1) (pos 4 ∷ pos 3 ∷ [])
+    ∷ after 1 (ReadExcess ∷ ReadCapacity ∷ ReadCapacity ∷ ReadCapacity ∷ ReadLabel ∷ RaiseLabel ∷ []) (label 1) (pos 4 ∷ [])
+    ∷ after 0 (GiveCapacity ∷ []) half_way (pos 1 ∷ pos 4 ∷ pos 3 ∷ pos 4 ∷ pos 3 ∷ pos 0 ∷ pos 4 ∷ pos 4 ∷ pos 4 ∷ pos 0 ∷ pos 4 ∷ pos 1 ∷ pos 4 ∷ pos 0 ∷ pos 4 ∷ pos 4 ∷ pos 70 ∷ [])
+    ∷ after 0 (TakeExcess ∷ GiveExcess ∷ []) (λ s. (s.excess 0).w ∷ (s.excess 1).w ∷ []) (pos 0 ∷ pos 7 ∷ [])
+    ∷ after 1 (ReadExcess ∷ ReadCapacity ∷ ReadCapacity ∷ ReadLabel ∷ ReadCapacity ∷ ReadLabel ∷ TakeCapacity ∷ TakeExcess ∷ GiveExcess ∷ []) (flow 0 0) (pos 0 ∷ pos 4 ∷ [])
+    ∷ after 0 (ReadExcess ∷ ReadLabel ∷ ReadCapacity ∷ ReadLabel ∷ RaiseLabel ∷ []) (label 0) (pos 5 ∷ [])
+    ∷ after 0 (ReadExcess ∷ ReadLabel ∷ ReadCapacity ∷ ReadLabel ∷ GiveCapacity ∷ TakeExcess ∷ GiveExcess ∷ []) (flow 0 1) (pos 4 ∷ pos 7 ∷ [])
+    ∷ after 1 (ReadExcess ∷ ReadCapacity ∷ ReadCapacity ∷ ReadLabel ∷ ReadCapacity ∷ ReadLabel ∷ TakeCapacity ∷ TakeExcess ∷ GiveExcess ∷ []) (flow 1 2) (pos 0 ∷ pos 4 ∷ [])
+    ∷ after 1 (ReadExcess ∷ ReadCapacity ∷ ReadCapacity ∷ ReadLabel ∷ ReadCapacity ∷ RaiseLabel ∷ []) (label 1) (pos 6 ∷ [])
+    ∷ after 1 (ReadExcess ∷ ReadCapacity ∷ ReadCapacity ∷ ReadLabel ∷ ReadCapacity ∷ TakeCapacity ∷ TakeExcess ∷ GiveExcess ∷ []) (flow 0 0) (pos 1 ∷ pos 3 ∷ [])
+    ∷ after 0 (ReadExcess ∷ ReadLabel ∷ ReadCapacity ∷ ReadLabel ∷ RaiseLabel ∷ []) (label 0) (pos 6 ∷ [])
+    ∷ after 0 (ReadExcess ∷ ReadLabel ∷ ReadCapacity ∷ ReadLabel ∷ TakeCapacity ∷ TakeExcess ∷ GiveExcess ∷ []) (λ s. (s.source 0).w ∷ []) (pos 1 ∷ [])
+    ∷ after 2 (ReadExcess ∷ ReadLabel ∷ ReadCapacity ∷ ReadLabel ∷ RaiseLabel ∷ []) (label 2) (pos 6 ∷ [])
+    ∷ after 2 (ReadExcess ∷ ReadLabel ∷ ReadCapacity ∷ ReadLabel ∷ TakeCapacity ∷ TakeExcess ∷ GiveExcess ∷ []) at_the_end (pos 0 ∷ pos 0 ∷ pos 0 ∷ pos 0 ∷ pos 1 ∷ pos 0 ∷ pos 1 ∷ pos 1 ∷ pos 140 ∷ [])
     ∷ []
 
 abbrev watch : Option State → List Row → List (List ℤ)
