@@ -1,63 +1,34 @@
 //! `pit`: the ultimate pit of a block model, found and checked.
 //!
-//! Stands on every crate of the repository. The engines (`checks`) read bytes and write bytes, and
-//! their contracts say which; this file connects them to the words of the command line, to files
-//! and to standard output, and gives the exit status.
+//! Stands on the engines, which read bytes and write bytes, and whose contracts say which; here they are connected to
+//! the words of the command line, to files and to standard output, and the exit status is given.
 #![tactic(auto)]
 
 ghost use Rattle.std.specs.Prelude.{◌≤◌, IfSome};
-ghost use Rattle.pit.specs.Slopes.{IsChoice};
+ghost use Rattle.engines.specs.Slopes.{IsChoice};
 
-mod checks;
 mod command_line;
-mod efforts;
-mod engine_faults;
-mod fault_lines;
-mod inputs;
-mod judgements;
-mod judging;
-mod pattern_choice;
-mod pattern_words;
 mod progress;
-mod slope_pairs;
-mod slopes;
-#[cfg(test)]
-mod slopes_tests;
 mod solve_command;
-#[cfg(test)]
-mod solve_tests;
-mod solve_words;
-mod solves;
-mod solving;
-mod stored_run;
-#[cfg(test)]
-mod tests;
-mod verdict_lines;
 
-use checks::check_engine;
 use clap::error::ErrorKind;
 use command_line::{CheckFiles, Request, SlopesWords, request_of};
-use efforts::Effort;
-use engine_faults::EngineFault;
-use fault_lines::{status, write_fault};
+use engines::{
+    Effort, EngineFault, PatternChoice, Verdict, check_engine, group_named, pattern_named,
+    slopes_engine, solve_engine, status, steps_named, stored_check, up_named, workers_named,
+    write_fault,
+};
 use fixed_worth::Counted;
-use judgements::Verdict;
 use ordered_group::Group;
-use pattern_choice::PatternChoice;
-use pattern_words::{pattern_named, up_named};
 use progress::Progress;
 use slope::Up;
-use slopes::slopes_engine;
 use solve_command::SolveWords;
-use solve_words::{group_named, steps_named, workers_named};
-use solves::solve_engine;
 use std::fs::File;
 use std::process::ExitCode;
 use std::rt::{Clock, Env, Files};
 use std::sync::Wait;
 use std::thread::Threads;
 use std::{env, io};
-use stored_run::stored_check;
 use workers::{Gate, OpenGate};
 
 // The exit status where the words are wrong.

@@ -1,0 +1,198 @@
+-- From what was read to the judgement.
+use Rattle.std.proofs.Common.{◌≡◌, ℕ, ◌<◌, ℤ, pos, ◌*ℤ◌, Bool, List, length, map, get_or, refl, sym, ap, ◌∙◌, subst, arith, None, Some, Ok, inr}
+use Rattle.std.proofs.lemmas.List.{length-map, get_or-map}
+use Rattle.ordered_group.specs.Amount.{Amount, zero_amount}
+use Rattle.ordered_group.specs.Sums.{where_so}
+use Rattle.ordered_group.specs.Sets.{group_sum}
+use Rattle.ordered_group.specs.Laws.{SumsTellWorth}
+use Rattle.ordered_group.specs.declared.groups.Group.{Group}
+use Rattle.ordered_group.proofs.Totals.Ranges.{total-same}
+use Rattle.prec_file.specs.Rests.{RestsView}
+use Rattle.prec_file.specs.Records as prec
+use Rattle.upit_file.specs.Records as upit
+use Rattle.closure_net.specs.Network.{NetView, FlowView, net_view, IsNet, holds_of}
+use Rattle.closure_net.specs.Closure.{IsGreatest, group_worth}
+use Rattle.closure_net.specs.Mine.{IsNetOf}
+use Rattle.check_pit.specs.Checks.{IsSound, FaultStands}
+use Rattle.check_pit.specs.Certificate.{fault_of, lines_of_text, IsRead, Denotes, UnlessMemory}
+use Rattle.check_pit.specs.declared.faults.PitFault.{PitFault}
+use Rattle.check_pit.specs.declared.headers.Price.{Price}
+use Rattle.check_pit.specs.declared.headers.Header.{Header}
+use Rattle.check_pit.specs.declared.headers.Price.TheVariants.{Objective}
+use Rattle.check_pit.specs.Pieces.{pieces_of}
+use Rattle.check_pit.specs.Header.{header_of}
+use Rattle.engines.specs.Mines.{mine_of, DenoteMine}
+use Rattle.engines.specs.Readings.{Reads}
+use Rattle.engines.specs.Judgements.{IsAccepted, IsRefused}
+use Rattle.engines.specs.Faults.{IsHeader, AreWorths, BodyFails, NetFails, Fails}
+use Rattle.closure_net.specs.Faults.{WorthsFaultStands}
+use Rattle.closure_net.specs.declared.networks.NetFault.{NetFault}
+use Rattle.closure_net.specs.declared.networks.NetFault.TheVariants as net
+use Rattle.check_pit.specs.declared.cert_faults.CertFault.{CertFault}
+use Rattle.check_pit.specs.declared.cert_faults.CertFault.TheVariants as cert
+use Rattle.engines.specs.Judging.{AreRead, IsGroupNamed, of_certificate, of_model}
+use Rattle.engines.proofs.Counted.{count_in-ascending}
+use Rattle.engines.proofs.Listed.{listed_rests}
+
+-- what is read of the worths
+pub worths_read : (n : ℕ) (values : List ℕ) (read : upit.UpitView) (worths : List ℤ) → upit.Denotes n values read → worths ≡ map (λ x. pos 1000 *ℤ x) read.values → AreWorths n values worths
+worths_read n values read worths d e =
+    let size = ap length e ∙ length-map read.values (λ x. pos 1000 *ℤ x) in
+    record {
+      size = size ∙ d.count;
+      each = λ b h.
+          let l : b < length read.values = omega (arith, h, d.count) in
+          ap (λ xs. get_or xs b (pos 0)) e ∙ get_or-map (λ x. pos 1000 *ℤ x) read.values b (pos 0) (pos 0) l ∙ ap (λ x. pos 1000 *ℤ x) (d.worth b h);
+    }
+
+-- the net that is made of them
+pub net_made : (block : ℤ → ℕ → Amount) (values precedence : List ℕ) (read : upit.UpitView) (rests : RestsView) (worths : List ℤ) → AreRead values precedence read rests → worths ≡ map (λ x. pos 1000 *ℤ x) read.values → IsNetOf block (mine_of rests.blocks values precedence) (net_view rests.pairs (map (λ v. block v rests.blocks) worths))
+net_made block values precedence read rests worths a e =
+    let w = worths_read rests.blocks values read worths a.denotes e in
+    record {
+      blocks = length-map worths (λ v. block v rests.blocks) ∙ w.size;
+      worths = λ b h.
+          let l : b < length worths = omega (arith, h, w.size) in
+          get_or-map (λ v. block v rests.blocks) worths b (pos 0) zero_amount l ∙ ap (λ v. block v rests.blocks) (w.each b h);
+      pairs = listed_rests (prec.listed precedence) rests.pairs a.pairs;
+    }
+
+-- What is known once the net is made and the certificate is read without a fault.
+pub record HasRead (name : Group) (block : ℤ → ℕ → Amount) (counts : Bool) (values precedence certificate : List ℕ) (net : NetView) (pit : List ℕ) (flow : FlowView) : Type 0 where
+  pub mine : DenoteMine values precedence (length net.worths)
+  pub named : IsGroupNamed name block counts
+  pub header : IsHeader certificate (length net.worths) name
+  pub is_net : IsNet net
+  pub of_mine : IsNetOf block (mine_of (length net.worths) values precedence) net
+  pub no_fault : fault_of counts name (length net.worths) net.pairs certificate ≡ None
+  pub blocks : ℕ
+  pub price : Price
+  pub read : IsRead counts name (length net.worths) net.pairs certificate blocks price pit flow
+
+module _ (name : Group) (block : ℤ → ℕ → Amount) (counts : Bool) (values precedence certificate : List ℕ) (net : NetView) (pit : List ℕ) (flow : FlowView) (h : HasRead name block counts values precedence certificate net pit flow) where
+  abbrev pub reads : Reads values precedence certificate
+  reads = record {
+    blocks = length net.worths;
+    mine = h.mine;
+    group = name;
+    header = h.header;
+    net = net;
+    is_net = h.is_net;
+    of_mine = let P : (ℤ → ℕ → Amount) → Type 0 = λ f. IsNetOf f (mine_of (length net.worths) values precedence) net in subst P (sym h.named.block_is) h.of_mine;
+    no_fault = let P : Bool → Type 0 = λ c. fault_of c name (length net.worths) net.pairs certificate ≡ None in subst P (sym h.named.counts_is) h.no_fault;
+    pit = pit;
+    flow = flow;
+    denotes = let P : Bool → Type 0 = λ c. Denotes (length net.worths) net.pairs (lines_of_text c (length net.worths) certificate) pit flow in subst P (sym h.named.counts_is) h.read.denotes;
+    ascending = h.read.ascending;
+    known = h.read.known;
+  }
+
+  pub refused : (fault : PitFault) → FaultStands net flow pit fault → IsRefused values precedence certificate fault
+  refused fault f = record { read = reads; stands = f }
+
+  group_sum_is : group_worth net.worths (holds_of pit) ≡ group_sum block (mine_of (length net.worths) values precedence).worth (holds_of pit) (length net.worths)
+  group_sum_is = total-same _ _ (length net.worths) (λ b l. ap (λ x. where_so (holds_of pit b) x) (h.of_mine.worths b l))
+
+  pub accepted : (set_worth : Amount → ℕ → ℕ → ℤ) → SumsTellWorth block set_worth → IsSound net flow pit → IsGreatest net (holds_of pit) → (count : ℕ) (worth : ℤ) → count ≡ length pit → worth ≡ set_worth (group_worth net.worths (holds_of pit)) (length net.worths) count → IsAccepted values precedence certificate name count worth
+  accepted set_worth tells sound greatest count worth c w =
+      let n = length net.worths in
+      let mine = mine_of n values precedence in
+      let size = count_in-ascending pit n h.read.ascending h.read.known in
+      let told = tells mine.worth (holds_of pit) n in
+      record {
+        read = reads;
+        group = refl;
+        sound = sound;
+        proved = h.named.proves mine net (holds_of pit) h.of_mine greatest;
+        count = size ∙ sym c;
+        worth = sym (w ∙ ap (λ a. set_worth a n count) group_sum_is ∙ ap (λ (k : ℕ). set_worth (group_sum block mine.worth (holds_of pit) n) n k) (c ∙ sym size) ∙ told);
+      }
+
+-- the fault of a certificate's text behind its header, for the net that was made
+body_fails : (name : Group) (block : ℤ → ℕ → Amount) (counts : Bool) (values precedence certificate : List ℕ) (net : NetView) (fault : CertFault) → IsGroupNamed name block counts → IsHeader certificate (length net.worths) name → IsNet net → IsNetOf block (mine_of (length net.worths) values precedence) net → fault_of counts name (length net.worths) net.pairs certificate ≡ Some fault → BodyFails values precedence certificate (length net.worths) fault
+body_fails name block counts values precedence certificate net fault named header is_net of_mine f =
+    record {
+      group = name;
+      header = header;
+      net = net;
+      is_net = is_net;
+      of_mine = let P : (ℤ → ℕ → Amount) → Type 0 = λ b. IsNetOf b (mine_of (length net.worths) values precedence) net in subst P (sym named.block_is) of_mine;
+      stands = let P : Bool → Type 0 = λ c. fault_of c name (length net.worths) net.pairs certificate ≡ Some fault in subst P (sym named.counts_is) f;
+    }
+
+-- a fault in answering it
+pub text_fails : (name : Group) (block : ℤ → ℕ → Amount) (counts : Bool) (values precedence certificate : List ℕ) (net : NetView) (fault : CertFault) → DenoteMine values precedence (length net.worths) → IsGroupNamed name block counts → IsHeader certificate (length net.worths) name → IsNet net → IsNetOf block (mine_of (length net.worths) values precedence) net → UnlessMemory fault (fault_of counts name (length net.worths) net.pairs certificate ≡ Some fault) → Fails values precedence certificate (of_certificate fault)
+text_fails name block counts values precedence certificate net (cert.Text k) mine named header is_net of_mine f = (length net.worths, mine, inr (body_fails name block counts values precedence certificate net _ named header is_net of_mine f))
+text_fails name block counts values precedence certificate net (cert.Number k) mine named header is_net of_mine f = (length net.worths, mine, inr (body_fails name block counts values precedence certificate net _ named header is_net of_mine f))
+text_fails name block counts values precedence certificate net (cert.OutOfOrder k) mine named header is_net of_mine f = (length net.worths, mine, inr (body_fails name block counts values precedence certificate net _ named header is_net of_mine f))
+text_fails name block counts values precedence certificate net (cert.UnknownPair k) mine named header is_net of_mine f = (length net.worths, mine, inr (body_fails name block counts values precedence certificate net _ named header is_net of_mine f))
+text_fails name block counts values precedence certificate net cert.Truncated mine named header is_net of_mine f = (length net.worths, mine, inr (body_fails name block counts values precedence certificate net _ named header is_net of_mine f))
+text_fails name block counts values precedence certificate net cert.NoMemory mine named header is_net of_mine f = tt
+
+pub worths_fail : (name : Group) (block : ℤ → ℕ → Amount) (counts : Bool) (values : List ℕ) (read : upit.UpitView) (n : ℕ) (worths : List ℤ) (fault : NetFault) → upit.Denotes n values read → IsGroupNamed name block counts → worths ≡ map (λ x. pos 1000 *ℤ x) read.values → WorthsFaultStands block n worths fault → NetFails values n name fault
+worths_fail name block counts values read n worths fault d named e f =
+    record {
+      worths = worths;
+      are = worths_read n values read worths d e;
+      stands = let P : (ℤ → ℕ → Amount) → Type 0 = λ b. WorthsFaultStands b n worths fault in subst P (sym named.block_is) f;
+    }
+
+-- a fault in making the net
+pub net_fails : (name : Group) (block : ℤ → ℕ → Amount) (counts : Bool) (values precedence certificate : List ℕ) (read : upit.UpitView) (rests : RestsView) (worths : List ℤ) (fault : NetFault) → AreRead values precedence read rests → IsGroupNamed name block counts → IsHeader certificate rests.blocks name → worths ≡ map (λ x. pos 1000 *ℤ x) read.values → WorthsFaultStands block rests.blocks worths fault → Fails values precedence certificate (of_model fault)
+net_fails name block counts values precedence certificate read rests worths net.WrongLength a named header e f = (rests.blocks, a.mine, name, header, worths_fail name block counts values read rests.blocks worths net.WrongLength a.denotes named e f)
+net_fails name block counts values precedence certificate read rests worths net.TooLarge a named header e f = (rests.blocks, a.mine, name, header, worths_fail name block counts values read rests.blocks worths net.TooLarge a.denotes named e f)
+net_fails name block counts values precedence certificate read rests worths net.NoMemory a named header e f = tt
+
+-- what was read of the pairs of a net, said of the net
+pub unless_moved : (fault : CertFault) (counts : Bool) (name : Group) (n m : ℕ) (ps qs : List (ℕ × ℕ)) (text : List ℕ) → n ≡ m → ps ≡ qs → UnlessMemory fault (fault_of counts name n ps text ≡ Some fault) → UnlessMemory fault (fault_of counts name m qs text ≡ Some fault)
+unless_moved fault counts name n m ps qs text e f h =
+    let P : ℕ → Type 0 = λ k. UnlessMemory fault (fault_of counts name k ps text ≡ Some fault) in
+    let Q : List (ℕ × ℕ) → Type 0 = λ l. UnlessMemory fault (fault_of counts name m l text ≡ Some fault) in
+    subst Q f (subst P e h)
+
+pub none_moved : (counts : Bool) (name : Group) (n m : ℕ) (ps qs : List (ℕ × ℕ)) (text : List ℕ) → n ≡ m → ps ≡ qs → fault_of counts name n ps text ≡ None → fault_of counts name m qs text ≡ None
+none_moved counts name n m ps qs text e f h =
+    let P : ℕ → Type 0 = λ k. fault_of counts name k ps text ≡ None in
+    let Q : List (ℕ × ℕ) → Type 0 = λ l. fault_of counts name m l text ≡ None in
+    subst Q f (subst P e h)
+
+pub read_moved : (counts : Bool) (name : Group) (n m : ℕ) (ps qs : List (ℕ × ℕ)) (text : List ℕ) (blocks : ℕ) (price : Price) (pit : List ℕ) (flow : FlowView) → n ≡ m → ps ≡ qs → IsRead counts name n ps text blocks price pit flow → IsRead counts name m qs text blocks price pit flow
+read_moved counts name n m ps qs text blocks price pit flow e f h =
+    let P : ℕ → Type 0 = λ k. IsRead counts name k ps text blocks price pit flow in
+    let Q : List (ℕ × ℕ) → Type 0 = λ l. IsRead counts name m l text blocks price pit flow in
+    subst Q f (subst P e h)
+
+-- what was answered with an accepted pit
+pub judged_accepted : (name : Group) (block : ℤ → ℕ → Amount) (counts : Bool) (values precedence certificate : List ℕ) (net : NetView) (pit : List ℕ) (flow : FlowView) → HasRead name block counts values precedence certificate net pit flow → (set_worth : Amount → ℕ → ℕ → ℤ) → SumsTellWorth block set_worth → (seen : NetView) (blocks : List ℕ) → seen ≡ net → blocks ≡ pit → IsSound net flow pit → IsGreatest seen (holds_of blocks) → (group : Group) (count : ℕ) (worth shown : ℤ) → group ≡ name → count ≡ length blocks → worth ≡ set_worth (group_worth seen.worths (holds_of blocks)) (length seen.worths) count → shown ≡ worth → IsAccepted values precedence certificate group count shown
+judged_accepted name block counts values precedence certificate net pit flow h set_worth tells seen blocks e f sound greatest group count worth shown a b w s =
+    let G : NetView → Type 0 = λ n. IsGreatest n (holds_of blocks) in
+    let H : List ℕ → Type 0 = λ l. IsGreatest net (holds_of l) in
+    let size = b ∙ ap length f in
+    let told = w ∙ ap (λ (n : NetView). set_worth (group_worth n.worths (holds_of blocks)) (length n.worths) count) e ∙ ap (λ (l : List ℕ). set_worth (group_worth net.worths (holds_of l)) (length net.worths) count) f in
+    let all = accepted name block counts values precedence certificate net pit flow h set_worth tells sound (subst H f (subst G e greatest)) count worth size told in
+    let S : ℤ → Type 0 = λ z. IsAccepted values precedence certificate name count z in
+    let N : Group → Type 0 = λ n. IsAccepted values precedence certificate n count shown in
+    subst N (sym a) (subst S (sym s) all)
+
+-- What is known of a net that was made of the worths that were read.
+pub record NetKnown (block : ℤ → ℕ → Amount) (values precedence : List ℕ) (certificate : List ℕ) (name : Group) (net : NetView) : Type 0 where
+  pub mine : DenoteMine values precedence (length net.worths)
+  pub header : IsHeader certificate (length net.worths) name
+  pub of_mine : IsNetOf block (mine_of (length net.worths) values precedence) net
+
+known_at : (block : ℤ → ℕ → Amount) (values precedence certificate : List ℕ) (name : Group) (n m : ℕ) (net : NetView) → n ≡ m → m ≡ length net.worths → DenoteMine values precedence n → IsHeader certificate n name → IsNetOf block (mine_of n values precedence) net → NetKnown block values precedence certificate name net
+known_at block values precedence certificate name n m net e f mine header of_mine =
+    let D : ℕ → Type 0 = λ k. DenoteMine values precedence k in
+    let H : ℕ → Type 0 = λ k. IsHeader certificate k name in
+    let M : ℕ → Type 0 = λ k. IsNetOf block (mine_of k values precedence) net in
+    record { mine = subst D (e ∙ f) mine; header = subst H (e ∙ f) header; of_mine = subst M (e ∙ f) of_mine }
+
+pub net_known : (block : ℤ → ℕ → Amount) (values precedence certificate : List ℕ) (name : Group) (read : upit.UpitView) (rests : RestsView) (worths slice : List ℤ) (net : NetView) → AreRead values precedence read rests → IsHeader certificate rests.blocks name → slice ≡ worths → worths ≡ map (λ x. pos 1000 *ℤ x) read.values → net ≡ net_view rests.pairs (map (λ v. block v rests.blocks) slice) → rests.blocks ≡ length slice → NetKnown block values precedence certificate name net
+net_known block values precedence certificate name read rests worths slice net a header s e is l =
+    let made = net_made block values precedence read rests slice a (s ∙ e) in
+    let M : NetView → Type 0 = λ n. IsNetOf block (mine_of rests.blocks values precedence) n in
+    let size = sym (ap (λ (n : NetView). length n.worths) is ∙ length-map slice (λ v. block v rests.blocks)) in
+    known_at block values precedence certificate name rests.blocks (length slice) net l size a.mine header (subst M (sym is) made)
+
+pub header_is : (text : List ℕ) (header : Header) (n : ℕ) (group : Group) → header_of (pieces_of text) ≡ Ok header → header.blocks ≡ n → header.price ≡ Objective → header.group ≡ group → IsHeader text n group
+header_is text header n group e p q r = e ∙ ap Ok (λ i. record { blocks = p i; price = q i; group = r i })

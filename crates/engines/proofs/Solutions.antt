@@ -1,0 +1,153 @@
+-- From a run to what is written of it.
+use Rattle.std.proofs.Common.{◌≡◌, ℕ, ℤ, pos, ◌*ℤ◌, ◌<◌, Bool, List, length, map, refl, sym, ap, ◌∙◌, subst, Option, Some, None, Result, Ok, Err, inl, inr, IfSome, All}
+use Rattle.std.proofs.lemmas.List.{length-map}
+use Rattle.std.specs.Io.KnownBytes.{Appends}
+use Rattle.std.specs.Prelude.{MatchResult}
+use Rattle.fixed_worth.specs.Device.{ReceivedPrefix}
+use Rattle.ordered_group.specs.Amount.{Amount}
+use Rattle.ordered_group.specs.declared.groups.Group.{Group}
+use Rattle.prec_file.specs.Rests.{RestsView}
+use Rattle.upit_file.specs.Records as upit
+use Rattle.closure_net.specs.Network.{NetView, FlowView, net_view, IsNet, FlowFits, holds_of}
+use Rattle.closure_net.specs.Reached.{IsReached}
+use Rattle.closure_net.specs.Mine.{IsNetOf}
+use Rattle.closure_net.specs.Faults.{WorthsFaultStands}
+use Rattle.closure_net.specs.declared.networks.NetFault.{NetFault}
+use Rattle.closure_net.specs.declared.networks.NetFault.TheVariants as net_fault
+use Rattle.workers.specs.Runs.{Settles}
+use Rattle.check_pit.specs.Checks.{IsOfNet, FaultStands}
+use Rattle.check_pit.specs.Certificate.{Covers}
+use Rattle.check_pit.specs.ReadBack.{IsPrice, IsReadBack}
+use Rattle.check_pit.specs.Written.{header_with, text_of}
+use Rattle.check_pit.specs.declared.faults.PitFault.{PitFault}
+use Rattle.check_pit.specs.declared.headers.Price.{Price}
+use Rattle.check_pit.specs.declared.headers.Price.TheVariants.{Objective}
+use Rattle.check_pit.specs.Pieces.{pieces_of}
+use Rattle.check_pit.proofs.Duality.{duality}
+use Rattle.check_pit.proofs.Tightness.{refused_for_size_only}
+use Rattle.engines.specs.declared.judgements.Verdict.{Verdict}
+use Rattle.engines.specs.declared.judgements.Verdict.TheVariants.{Done, No}
+use Rattle.engines.specs.declared.engine_faults.EngineFault.{EngineFault}
+use Rattle.engines.specs.declared.engine_faults.EngineFault.TheVariants as engine
+use Rattle.engines.specs.Inputs.{ReadsUpit, ReadsPrec}
+use Rattle.engines.specs.Judging.{AreRead, IsGroupNamed, of_model}
+use Rattle.engines.specs.Mines.{mine_of, DenoteMine}
+use Rattle.engines.specs.Solving.{CheckLeaves, IsSolution, IsNoOf, IsCertificateOf, AnswersNet, SolvesNet, IsCertificate, IsNetBy, AnswersMine, Solves}
+use Rattle.engines.proofs.Answered.{read_both, keeps_self}
+use Rattle.engines.proofs.Judged.{HasRead, reads, net_made, worths_fail}
+use Rattle.engines.proofs.Lone.{header_alone}
+
+-- ---- the check of a run's pit
+
+-- what the source reaches is refused for sums that don't fit, and nothing else
+pub check_leaves : (net : NetView) (limit : ℕ) (flow : FlowView) (steps : ℕ) (pit : List ℕ) (fault : PitFault) → Settles net limit flow steps → IsReached net flow (holds_of pit) → IsOfNet net pit → FaultStands net flow pit fault → CheckLeaves net limit
+check_leaves net limit flow steps pit fault settles reached of_net stands =
+    let e = refused_for_size_only net flow pit fault settles.solved.greatest.is_flow of_net (settles.solved.closed (holds_of pit) reached) (settles.solved.tight (holds_of pit) reached) stands in
+    record {
+      flow = flow;
+      steps = steps;
+      settles = settles;
+      pit = pit;
+      reached = reached;
+      of_net = of_net;
+      stands = subst (λ (f : PitFault). FaultStands net flow pit f) e stands;
+    }
+
+-- ---- what is written
+
+pub covers : (net : NetView) (n : ℕ) (ps : List (ℕ × ℕ)) (flow : FlowView) → n ≡ length net.worths → ps ≡ net.pairs → FlowFits net flow → Covers n (length ps) flow
+covers net n ps flow e f h = record { sources = h.source ∙ sym e; rests = h.rest ∙ sym (ap length f); sinks = h.sink ∙ sym e }
+
+pub price_is : (price : Price) → price ≡ Objective → IsPrice price
+price_is price e = subst IsPrice (sym e) tt
+
+pub back_moved : (counts : Bool) (name : Group) (n m : ℕ) (ps qs : List (ℕ × ℕ)) (text : List ℕ) (price : Price) (pit : List ℕ) (flow : FlowView) → n ≡ m → ps ≡ qs → price ≡ Objective → IsReadBack counts name n ps text price pit flow → IsReadBack counts name m qs text Objective pit flow
+back_moved counts name n m ps qs text price pit flow e f g h =
+    let P : ℕ → Type 0 = λ k. IsReadBack counts name k ps text price pit flow in
+    let Q : List (ℕ × ℕ) → Type 0 = λ l. IsReadBack counts name m l text price pit flow in
+    let R : Price → Type 0 = λ p. IsReadBack counts name m qs text p pit flow in
+    subst R g (subst Q f (subst P e h))
+
+-- what was to be written of a solution
+module _ (counts : Bool) (name : Group) (net : NetView) (limit blocks : ℕ) (price : Price) (pit : List ℕ) (flow : FlowView) (n : ℕ) (ps : List (ℕ × ℕ)) (s : IsSolution net blocks price pit flow) (e : n ≡ length net.worths) (f : ps ≡ net.pairs) where
+  abbrev text : List ℕ
+  text = text_of (header_with blocks price name) ps pit flow
+
+  pub certified : (old new : Option (List ℕ)) → (blocks ≡ n → IsPrice price → All (λ b. b < n) pit → IsReadBack counts name n ps text price pit flow) → Appends old new text → SolvesNet counts name net limit old new (Ok Done)
+  certified old new back sent =
+      let below : All (λ b. b < n) pit = subst (λ (k : ℕ). All (λ b. b < k) pit) (sym e) s.sound.of_net in
+      let read = back_moved counts name n (length net.worths) ps net.pairs text price pit flow e f s.objective (back (s.same_blocks ∙ sym e) (price_is price s.objective) below) in
+      (text, record { pit = pit; flow = flow; read = read; sound = s.sound }, sent)
+
+  pub cut_short : (old new : Option (List ℕ)) → ReceivedPrefix old new text → SolvesNet counts name net limit old new (Err engine.Device)
+  cut_short old new prefix = (text, inl (record { pit = pit; flow = flow; sound = s.sound; spelled = λ i. text_of (header_with (s.same_blocks i) (s.objective i) name) (f i) pit flow }), prefix)
+
+pub said_no : (counts : Bool) (name : Group) (net : NetView) (limit : ℕ) (line : List ℕ) (old new : Option (List ℕ)) (r : Result Verdict EngineFault) → IsNoOf net limit line
+    → MatchResult r (λ v. (v ≡ No) × Appends old new line) (λ e. (e ≡ engine.Device) × ReceivedPrefix old new line) → SolvesNet counts name net limit old new r
+said_no counts name net limit line old new (Ok v) h a = subst (λ (w : Verdict). SolvesNet counts name net limit old new (Ok w)) (sym a.0) (line, h, a.1)
+said_no counts name net limit line old new (Err e) h a = subst (λ (w : EngineFault). SolvesNet counts name net limit old new (Err w)) (sym a.0) (line, inr h, a.1)
+
+-- ---- the mine of two texts
+
+pub net_by : (block : ℤ → ℕ → Amount) (counts : Bool) (values precedence : List ℕ) (name : Group) (read : upit.UpitView) (rests : RestsView) (worths slice : List ℤ) (net : NetView) → AreRead values precedence read rests → IsGroupNamed name block counts → IsNet net → slice ≡ worths → worths ≡ map (λ x. pos 1000 *ℤ x) read.values → net ≡ net_view rests.pairs (map (λ v. block v rests.blocks) slice) → rests.blocks ≡ length slice → IsNetBy values precedence name net
+net_by block counts values precedence name read rests worths slice net a named is_net s e is l =
+    let made = net_made block values precedence read rests slice a (s ∙ e) in
+    let size = l ∙ sym (ap (λ (n : NetView). length n.worths) is ∙ length-map slice (λ v. block v rests.blocks)) in
+    let D : ℕ → Type 0 = λ k. DenoteMine values precedence k in
+    let N : NetView → Type 0 = λ n. IsNetOf block (mine_of rests.blocks values precedence) n in
+    let M : ℕ → Type 0 = λ k. IsNetOf block (mine_of k values precedence) net in
+    let B : (ℤ → ℕ → Amount) → Type 0 = λ b. IsNetOf b (mine_of (length net.worths) values precedence) net in
+    record { mine = subst D size a.mine; is_net = is_net; of_mine = subst B (sym named.block_is) (subst M size (subst N (sym is) made)) }
+
+module _ (block : ℤ → ℕ → Amount) (counts : Bool) (values precedence : List ℕ) (name : Group) (net : NetView) (limit : ℕ) (named : IsGroupNamed name block counts) (by : IsNetBy values precedence name net) where
+  certificate_is : (text : List ℕ) → IsCertificateOf counts name net text → IsCertificate values precedence name text
+  certificate_is text c =
+      let B : (ℤ → ℕ → Amount) → Type 0 = λ b. IsNetOf b (mine_of (length net.worths) values precedence) net in
+      let of_mine : IsNetOf block (mine_of (length net.worths) values precedence) net = subst B named.block_is by.of_mine in
+      let known : HasRead name block counts values precedence text net c.pit c.flow = record {
+        mine = by.mine;
+        named = named;
+        header = header_alone (record { blocks = length net.worths; group = name }) (pieces_of text) (record { blocks = length net.worths; price = Objective; group = name }) c.read.read.header;
+        is_net = by.is_net;
+        of_mine = of_mine;
+        no_fault = c.read.none;
+        blocks = length net.worths;
+        price = Objective;
+        read = c.read.read;
+      } in
+      let greatest = (duality net c.flow (holds_of c.pit) by.is_net.rests c.sound.is_flow c.sound.closed c.sound.tight).greatest_set in
+      record {
+        read = reads name block counts values precedence text net c.pit c.flow known;
+        group = refl;
+        sound = c.sound;
+        proved = named.proves (mine_of (length net.worths) values precedence) net (holds_of c.pit) of_mine greatest;
+      }
+
+  answers : (verdict : Verdict) (text : List ℕ) → AnswersNet counts name net limit verdict text → AnswersMine values precedence name limit verdict text
+  answers Done written h = certificate_is written h
+  answers No written h = (net, by, h)
+
+  pub solved : (old new : Option (List ℕ)) (result : Result Verdict EngineFault) → SolvesNet counts name net limit old new result → Solves values precedence name limit old new result
+  solved old new (Ok verdict) h = (h.0, answers verdict h.0 h.1, h.2)
+  solved old new (Err (engine.Upit q)) h = absurd h
+  solved old new (Err (engine.Prec q)) h = absurd h
+  solved old new (Err (engine.Model q)) h = absurd h
+  solved old new (Err (engine.Certificate q)) h = absurd h
+  solved old new (Err (engine.Blocks q)) h = absurd h
+  solved old new (Err (engine.Slope q)) h = absurd h
+  solved old new (Err engine.Memory) h = (tt, h)
+  solved old new (Err engine.Thread) h = (tt, h)
+  solved old new (Err engine.Stranger) h = (tt, h)
+  solved old new (Err engine.Device) h = (tt, inr (net, by, h.0, h.1, h.2))
+
+-- there is no net of the mine
+pub unmade : (block : ℤ → ℕ → Amount) (counts : Bool) (values precedence : List ℕ) (name : Group) (read : upit.UpitView) (rests : RestsView) (worths : List ℤ) (limit : ℕ) (w : Option (List ℕ)) (fault : NetFault) → AreRead values precedence read rests → IsGroupNamed name block counts → worths ≡ map (λ x. pos 1000 *ℤ x) read.values → WorthsFaultStands block rests.blocks worths fault → Solves values precedence name limit w w (Err (of_model fault))
+unmade block counts values precedence name read rests worths limit w net_fault.WrongLength a named e f = ((rests.blocks, a.mine, worths_fail name block counts values read rests.blocks worths net_fault.WrongLength a.denotes named e f), keeps_self w)
+unmade block counts values precedence name read rests worths limit w net_fault.TooLarge a named e f = ((rests.blocks, a.mine, worths_fail name block counts values read rests.blocks worths net_fault.TooLarge a.denotes named e f), keeps_self w)
+unmade block counts values precedence name read rests worths limit w net_fault.NoMemory a named e f = (tt, keeps_self w)
+
+-- what holds of any two texts of what was read holds where the readers tell their bytes
+pub solve_answer : (o r old new : Option (List ℕ)) (values : upit.UpitView) (rests : RestsView) (n : ℕ) (name : Group) (limit : ℕ) (result : Result Verdict EngineFault) → n ≡ length values.values → IfSome o (λ u. ReadsUpit u values) → IfSome r (λ p. ReadsPrec n p rests) → ((u p : List ℕ) → AreRead u p values rests → Solves u p name limit old new result) → IfSome o (λ u. IfSome r (λ p. Solves u p name limit old new result))
+solve_answer None r old new values rests n name limit result e a b h = tt
+solve_answer (Some u) None old new values rests n name limit result e a b h = tt
+solve_answer (Some u) (Some p) old new values rests n name limit result e a b h = h u p (read_both u p values rests n e a b)

@@ -1,0 +1,58 @@
+-- Where the texts are read, no fault of a text stands.
+use Rattle.std.proofs.Common.{◌≡◌, ℕ, List, sym, ap, ◌∙◌, subst, Option, Some, None, Result, Ok, Err, ◌⊎◌, inl, inr}
+use Rattle.ordered_group.specs.declared.groups.Group.{Group}
+use Rattle.prec_file.specs.Records as prec
+use Rattle.prec_file.specs.declared.prec_fault.PrecFault.{PrecFault}
+use Rattle.upit_file.specs.Records as upit
+use Rattle.upit_file.specs.declared.fault.UpitFault.{UpitFault}
+use Rattle.closure_net.specs.Network.{NetView}
+use Rattle.closure_net.specs.Mine.{IsNetOf}
+use Rattle.check_pit.specs.declared.headers.Header.{Header}
+use Rattle.check_pit.specs.Certificate.{fault_of}
+use Rattle.check_pit.specs.declared.cert_faults.CertFault.{CertFault}
+use Rattle.engines.specs.Mines.{mine_of, DenoteMine}
+use Rattle.engines.specs.Readings.{block_by, counts_by, Reads}
+use Rattle.engines.specs.Faults.{ValuesRead, HeaderFails, BodyFails, PriceDiffers}
+use Rattle.engines.proofs.Alone.{ok_same, nets_same}
+
+never : {F : Type 0} (o : Option F) (f : F) → o ≡ None → o ≡ Some f → ⊥
+never o f e g = let h : None ≡ Some f = sym e ∙ g in cc
+
+not_both : {A F : Type 0} (r : Result A F) (a : A) (f : F) → r ≡ Ok a → r ≡ Err f → ⊥
+not_both r a f e g = let h : Ok a ≡ Err f = sym e ∙ g in cc
+
+pub upit_read : (u p c : List ℕ) (fault : UpitFault) → Reads u p c → (upit.declared_of u ≡ Err fault) ⊎ ((n : ℕ) × (upit.declared_of u ≡ Ok n) × (upit.fault_of n u ≡ Some fault)) → ⊥
+upit_read u p c fault r (inl e) = not_both _ _ _ r.mine.declared e
+upit_read u p c fault r (inr h) =
+    let n = ok_same _ _ _ r.mine.declared h.1 in
+    let P : ℕ → Type 0 = λ k. upit.fault_of k u ≡ None in
+    never _ _ (subst P n r.mine.values_read) h.2
+
+pub prec_read : (u p c : List ℕ) (n : ℕ) (fault : PrecFault) → Reads u p c → ValuesRead u n → prec.fault_of n p ≡ Some fault → ⊥
+prec_read u p c n fault r v f =
+    let e = ok_same _ _ _ r.mine.declared v.0 in
+    let P : ℕ → Type 0 = λ k. prec.fault_of k p ≡ None in
+    never _ _ (subst P e r.mine.precedence_read) f
+
+pub price_read : (u p c : List ℕ) (n : ℕ) → Reads u p c → PriceDiffers c n → ⊥
+price_read u p c n r h = let e = ok_same _ _ _ h.1 r.header in h.3 (ap (λ (z : Header). z.price) e)
+
+pub header_read : (u p c : List ℕ) (n : ℕ) (fault : CertFault) → Reads u p c → DenoteMine u p n → HeaderFails c n fault → ⊥
+header_read u p c n fault r m (inl e) = not_both _ _ _ r.header e
+header_read u p c n fault r m (inr h) =
+    let e = ok_same _ _ _ h.1 r.header in
+    let b = ok_same _ _ _ r.mine.declared m.declared in
+    h.2 (ap (λ (z : Header). z.blocks) e ∙ b)
+
+pub body_read : (u p c : List ℕ) (n : ℕ) (fault : CertFault) → Reads u p c → DenoteMine u p n → BodyFails u p c n fault → ⊥
+body_read u p c n fault r m f =
+    let h = ok_same _ _ _ r.header f.header in
+    let blocks : r.blocks ≡ n = ap (λ (z : Header). z.blocks) h in
+    let group : r.group ≡ f.group = ap (λ (z : Header). z.group) h in
+    let M : ℕ → Type 0 = λ k. IsNetOf (block_by r.group) (mine_of k u p) r.net in
+    let N : Group → Type 0 = λ g. IsNetOf (block_by g) (mine_of n u p) r.net in
+    let net = nets_same (block_by f.group) n u p r.net f.net r.is_net f.is_net (subst N group (subst M blocks r.of_mine)) f.of_mine in
+    let A : ℕ → Type 0 = λ k. fault_of (counts_by r.group) r.group k r.net.pairs c ≡ None in
+    let B : Group → Type 0 = λ g. fault_of (counts_by g) g n r.net.pairs c ≡ None in
+    let C : NetView → Type 0 = λ w. fault_of (counts_by f.group) f.group n w.pairs c ≡ None in
+    never _ _ (subst C net (subst B group (subst A blocks r.no_fault))) f.stands

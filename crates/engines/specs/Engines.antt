@@ -1,0 +1,78 @@
+-- How the engine of `check` ends, by the bytes of its inputs and of its output.
+use Rattle.std.specs.Prelude.{◌≡◌, ℕ, ◌+◌, ℤ, ◌⊎◌, List, Option, Result, Ok, Err}
+use Rattle.std.specs.Io.KnownBytes.{Appends, Keeps}
+use Rattle.ordered_group.specs.declared.groups.Group.{Group}
+use Rattle.check_pit.specs.declared.faults.PitFault.{PitFault}
+use Rattle.check_pit.specs.Checks.{IsSound}
+use Rattle.fixed_worth.specs.Device.{ReceivedPrefix}
+use Rattle.engines.specs.declared.judgements.Judgement.{Judgement}
+use Rattle.engines.specs.declared.judgements.Judgement.TheVariants.{Accepted, Refused}
+use Rattle.engines.specs.declared.judgements.Verdict.{Verdict}
+use Rattle.engines.specs.declared.judgements.Verdict.TheVariants.{Done, No}
+use Rattle.engines.specs.declared.engine_faults.EngineFault.{EngineFault}
+use Rattle.engines.specs.declared.engine_faults.EngineFault.TheVariants as engine
+use Rattle.engines.specs.declared.engine_faults.Problem.TheVariants as problem
+use Rattle.engines.specs.declared.engine_faults.CertificateProblem.TheVariants as certificate
+use Rattle.engines.specs.Readings.{Reads}
+use Rattle.engines.specs.Judgements.{IsAccepted, IsRefused, IsJudged}
+use Rattle.engines.specs.Faults.{Fails}
+use Rattle.engines.specs.OutputLines.{judgement_line}
+
+-- It wrote ACCEPTED with the number of blocks and the worth of a pit that the texts prove.
+pub record WritesAccepted (values precedence certificate : List ℕ) (old new : Option (List ℕ)) : Type 0 where
+  pub group : Group
+  pub count : ℕ
+  pub worth : ℤ
+  pub accepted : IsAccepted values precedence certificate group count worth
+  pub written : Appends old new (judgement_line (Accepted group count worth))
+
+-- It wrote REFUSED with a fault that stands.
+pub record WritesRefused (values precedence certificate : List ℕ) (old new : Option (List ℕ)) : Type 0 where
+  pub fault : PitFault
+  pub refused : IsRefused values precedence certificate fault
+  pub written : Appends old new (judgement_line (Refused fault))
+
+-- Nothing was written, or a front of the line of a judgement that stands.
+abbrev pub WritesFront : List ℕ → List ℕ → List ℕ → Option (List ℕ) → Option (List ℕ) → Type 0
+WritesFront values precedence certificate old new = Keeps old new ⊎ ((judgement : Judgement) × IsJudged values precedence certificate judgement × ReceivedPrefix old new (judgement_line judgement))
+
+-- what is in the writer where an engine answers a fault: what was there before, unless a device failed
+abbrev pub WritesAtFault : List ℕ → List ℕ → List ℕ → Option (List ℕ) → Option (List ℕ) → EngineFault → Type 0
+WritesAtFault values precedence certificate old new engine.Device = WritesFront values precedence certificate old new
+WritesAtFault values precedence certificate old new _ = Keeps old new
+
+-- a line could not be written: for want of memory nothing was, and else a front of it
+abbrev pub LineFails : Option (List ℕ) → Option (List ℕ) → List ℕ → EngineFault → Type 0
+LineFails old new line engine.Memory = Keeps old new
+LineFails old new line engine.Device = ReceivedPrefix old new line
+LineFails old new line _ = ⊥
+
+-- the answer, and what was written with it
+abbrev pub Checks : List ℕ → List ℕ → List ℕ → Option (List ℕ) → Option (List ℕ) → Result Verdict EngineFault → Type 0
+Checks values precedence certificate old new (Ok Done) = WritesAccepted values precedence certificate old new
+Checks values precedence certificate old new (Ok No) = WritesRefused values precedence certificate old new
+Checks values precedence certificate old new (Err fault) = Fails values precedence certificate fault × WritesAtFault values precedence certificate old new fault
+
+-- what keeps a sound certificate from being accepted: memory, a device, an input of more than 2^32 bytes, or a worth that doesn't fit
+abbrev pub Hinders : EngineFault → Type 0
+Hinders engine.Memory = Unit {0}
+Hinders engine.Device = Unit {0}
+Hinders (engine.Model fault) = Unit {0}
+Hinders (engine.Upit problem.InputTooLong) = Unit {0}
+Hinders (engine.Prec problem.InputTooLong) = Unit {0}
+Hinders (engine.Certificate certificate.InputTooLong) = Unit {0}
+Hinders _ = ⊥
+
+-- it accepts, unless something hinders it
+abbrev pub AcceptsUnlessHindered : Result Verdict EngineFault → Type 0
+AcceptsUnlessHindered (Ok Done) = Unit {0}
+AcceptsUnlessHindered (Ok No) = ⊥
+AcceptsUnlessHindered (Err fault) = Hinders fault
+
+-- A certificate whose flow is one, whose pit is closed and tight, and whose sums fit is accepted.
+abbrev pub SoundIsAccepted : List ℕ → List ℕ → List ℕ → Result Verdict EngineFault → Type 0
+SoundIsAccepted values precedence certificate answer = (read : Reads values precedence certificate) → IsSound read.net read.flow read.pit → AcceptsUnlessHindered answer
+
+-- a device of four has failed once more, and no other
+pub record OneFailed (a b c d a' b' c' d' : ℕ) : Type 0 where
+  pub one : a' + b' + c' + d' ≡ a + b + c + d + 1

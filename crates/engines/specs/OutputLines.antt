@@ -1,0 +1,62 @@
+-- The lines that the program prints.
+use Rattle.std.specs.Prelude.{ℕ, List, [], ◌∷◌, ◌++◌, codes, decimal}
+use Rattle.fixed_worth.specs.Printed.{printed}
+use Rattle.ordered_group.specs.declared.groups.Group.{Group}
+use Rattle.ordered_group.specs.declared.groups.Group.TheVariants.{Worth, Pair}
+use Rattle.closure_net.specs.Printed.{net_fault_text}
+use Rattle.upit_file.specs.Faults.{upit_fault_text}
+use Rattle.prec_file.specs.Printed.{prec_fault_text}
+use Rattle.blocks_file.specs.Printed.{blocks_fault_text}
+use Rattle.slope.specs.Printed.{pattern_fault_text, slope_fault_text}
+use Rattle.check_pit.specs.FaultText.{fault_text}
+use Rattle.check_pit.specs.PrintedFaults.{pit_fault_text}
+use Rattle.engines.specs.declared.judgements.Judgement.{Judgement}
+use Rattle.engines.specs.declared.judgements.Judgement.TheVariants.{Accepted, Refused}
+use Rattle.engines.specs.declared.engine_faults.Problem.{Problem}
+use Rattle.engines.specs.declared.engine_faults.Problem.TheVariants as problem
+use Rattle.engines.specs.declared.engine_faults.CertificateProblem.{CertificateProblem}
+use Rattle.engines.specs.declared.engine_faults.CertificateProblem.TheVariants as certificate
+use Rattle.engines.specs.declared.engine_faults.SlopeProblem.{SlopeProblem}
+use Rattle.engines.specs.declared.engine_faults.SlopeProblem.TheVariants as of
+use Rattle.engines.specs.declared.engine_faults.EngineFault.{EngineFault}
+use Rattle.engines.specs.declared.engine_faults.EngineFault.TheVariants as engine
+
+-- what stands behind the worth where worth alone was counted
+abbrev pub group_mark : Group → List ℕ
+group_mark Worth = codes " GROUP WORTH"
+group_mark Pair = []
+
+-- the line of a judgement
+abbrev pub judgement_line : Judgement → List ℕ
+judgement_line (Accepted group count worth) = codes "ACCEPTED " ++ (decimal count ++ (codes " " ++ (printed 9 worth ++ (group_mark group ++ 10 ∷ []))))
+judgement_line (Refused fault) = codes "REFUSED " ++ (pit_fault_text fault ++ 10 ∷ [])
+
+abbrev pub problem_text : {F : Type 0} → (F → List ℕ) → Problem F → List ℕ
+problem_text text problem.InputTooLong = codes "InputTooLong"
+problem_text text (problem.Fault fault) = text fault
+
+abbrev pub certificate_text : CertificateProblem → List ℕ
+certificate_text certificate.InputTooLong = codes "InputTooLong"
+certificate_text certificate.WrongPrice = codes "WrongPrice"
+certificate_text (certificate.Fault fault) = fault_text fault
+
+abbrev pub slope_text : SlopeProblem → List ℕ
+slope_text (of.Pattern fault) = pattern_fault_text fault
+slope_text (of.Pairs fault) = slope_fault_text fault
+
+-- what the fault is of, and the fault
+abbrev pub fault_words : EngineFault → List ℕ
+fault_words (engine.Blocks p) = codes "blocks " ++ problem_text blocks_fault_text p
+fault_words (engine.Upit p) = codes "upit " ++ problem_text upit_fault_text p
+fault_words (engine.Prec p) = codes "prec " ++ problem_text prec_fault_text p
+fault_words (engine.Slope p) = codes "slope " ++ slope_text p
+fault_words (engine.Model fault) = codes "model " ++ net_fault_text fault
+fault_words (engine.Certificate p) = codes "certificate " ++ certificate_text p
+fault_words engine.Memory = codes "memory"
+fault_words engine.Device = codes "device"
+fault_words engine.Thread = codes "thread"
+fault_words engine.Stranger = codes "stranger"
+
+-- the line of a fault
+abbrev pub fault_line : EngineFault → List ℕ
+fault_line fault = codes "fault: " ++ (fault_words fault ++ 10 ∷ [])

@@ -1,0 +1,52 @@
+-- The words that name a pattern and a direction.
+use Rattle.std.specs.Prelude.{ℕ, ◌==◌, ◌&&◌, cond, List, [], ◌∷◌, codes, nat_le, Option, Some, None, Result, Ok, Err}
+use Rattle.std.specs.Str.{bytes_eq}
+use Rattle.std.specs.List.{onto_first}
+use Rattle.fixed_worth.specs.declared.numerals.NumberFault.{NumberFault}
+use Rattle.fixed_worth.specs.Numeral.{whole_of}
+use Rattle.slope.specs.declared.up.Up.{Up}
+use Rattle.slope.specs.declared.up.Up.TheVariants.{PlusZ, MinusZ}
+use Rattle.engines.specs.declared.pattern_choice.PatternChoice.{PatternChoice}
+use Rattle.engines.specs.declared.pattern_choice.PatternChoice.TheVariants.{Five, Nine, Cone}
+
+-- the pieces of a word, which colons (58) divide: one more than there are colons
+abbrev pub pieces_of : List ℕ → List (List ℕ)
+pieces_of [] = [] ∷ []
+pieces_of (b ∷ bs) = cond (b == 58) ([] ∷ pieces_of bs) (onto_first b (pieces_of bs))
+
+-- a whole number from 1 to 1,000
+abbrev pub small_number : Result ℕ NumberFault → Option ℕ
+small_number (Ok k) = cond (nat_le 1 k && nat_le k 1000) (Some k) None
+small_number (Err e) = None
+
+-- the number of a cone that a piece is
+abbrev pub cone_number_of : List ℕ → Option ℕ
+cone_number_of piece = small_number (whole_of piece)
+
+-- the cone with these numbers, where all three are there
+abbrev pub cone_with : Option ℕ → Option ℕ → Option ℕ → Option PatternChoice
+cone_with (Some levels) (Some run) (Some rise) = Some (Cone levels run rise)
+cone_with _ _ _ = None
+
+-- the cone that three pieces give: its levels, its run and its rise
+abbrev pub cone_of : List (List ℕ) → Option PatternChoice
+cone_of (levels ∷ run ∷ rise ∷ []) = cone_with (cone_number_of levels) (cone_number_of run) (cone_number_of rise)
+cone_of _ = None
+
+-- the pattern that a name without numbers gives
+abbrev pub plain_pattern_of : List ℕ → Option PatternChoice
+plain_pattern_of name = cond (bytes_eq name (codes "five")) (Some Five) (cond (bytes_eq name (codes "nine")) (Some Nine) None)
+
+-- the pattern that a name gives with the pieces behind it
+abbrev pub pattern_with : List (List ℕ) → Option PatternChoice
+pattern_with [] = None
+pattern_with (name ∷ []) = plain_pattern_of name
+pattern_with (name ∷ piece ∷ pieces) = cond (bytes_eq name (codes "cone")) (cone_of (piece ∷ pieces)) None
+
+-- the pattern that a word names, if it names one
+abbrev pub pattern_of : List ℕ → Option PatternChoice
+pattern_of word = pattern_with (pieces_of word)
+
+-- the direction that a word names, if it names one
+abbrev pub up_of : List ℕ → Option Up
+up_of word = cond (bytes_eq word (codes "plus")) (Some PlusZ) (cond (bytes_eq word (codes "minus")) (Some MinusZ) None)

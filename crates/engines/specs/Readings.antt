@@ -1,0 +1,43 @@
+-- What the three texts of a check denote together.
+use Rattle.std.specs.Prelude.{◌≡◌, ℕ, ◌<◌, All, ℤ, Bool, false, true, List, None, Ok}
+use Rattle.ordered_group.specs.Amount.{Amount}
+use Rattle.ordered_group.specs.Block.{worth_block, counted_block}
+use Rattle.ordered_group.specs.declared.groups.Group.{Group}
+use Rattle.ordered_group.specs.declared.groups.Group.TheVariants.{Worth, Pair}
+use Rattle.closure_net.specs.Network.{NetView, FlowView, IsNet, IsAscending}
+use Rattle.closure_net.specs.Mine.{Mine, IsRichest, IsBest, IsNetOf}
+use Rattle.check_pit.specs.declared.headers.Price.TheVariants.{Objective}
+use Rattle.check_pit.specs.Pieces.{pieces_of}
+use Rattle.check_pit.specs.Header.{header_of}
+use Rattle.check_pit.specs.Certificate.{fault_of, lines_of_text, Denotes}
+use Rattle.engines.specs.Mines.{mine_of, DenoteMine}
+
+-- what one block counts as, and whether an amount has a count
+abbrev pub block_by : Group → ℤ → ℕ → Amount
+block_by Worth = worth_block
+block_by Pair = counted_block
+
+abbrev pub counts_by : Group → Bool
+counts_by Worth = false
+counts_by Pair = true
+
+-- What a certificate proves: that no pit is worth more; and where sizes count too, that the pit is the best one.
+abbrev pub IsProvedPit : Group → Mine → (ℕ → Bool) → Type 0
+IsProvedPit Worth mine e = IsRichest mine e
+IsProvedPit Pair mine e = IsBest mine e
+
+-- The texts denote a mine, its net, and a certificate for it with a pit and a flow.
+pub record Reads (values precedence certificate : List ℕ) : Type 0 where
+  pub blocks : ℕ
+  pub mine : DenoteMine values precedence blocks
+  pub group : Group
+  pub header : header_of (pieces_of certificate) ≡ Ok (record { blocks = blocks; price = Objective; group = group })
+  pub net : NetView
+  pub is_net : IsNet net
+  pub of_mine : IsNetOf (block_by group) (mine_of blocks values precedence) net
+  pub no_fault : fault_of (counts_by group) group blocks net.pairs certificate ≡ None
+  pub pit : List ℕ
+  pub flow : FlowView
+  pub denotes : Denotes blocks net.pairs (lines_of_text (counts_by group) blocks certificate) pit flow
+  pub ascending : IsAscending pit
+  pub known : All (λ b. b < blocks) pit

@@ -1,0 +1,156 @@
+-- How the engine of `solve` ends, by the bytes of its inputs and of its output.
+use Rattle.std.specs.Prelude.{◌≡◌, ℕ, ◌⊎◌, Bool, List, [], ◌∷◌, ◌++◌, codes, length, Option, Result, Ok, Err}
+use Rattle.std.specs.Io.KnownBytes.{Appends, Keeps}
+use Rattle.fixed_worth.specs.Device.{ReceivedPrefix}
+use Rattle.ordered_group.specs.declared.groups.Group.{Group}
+use Rattle.closure_net.specs.Network.{NetView, FlowView, IsNet, holds_of}
+use Rattle.closure_net.specs.Reached.{IsReached}
+use Rattle.closure_net.specs.Mine.{IsNetOf}
+use Rattle.workers.specs.Runs.{Settles, IsCutOff, SomeStepLeaves}
+use Rattle.workers.specs.declared.solving.SolveFault.{SolveFault}
+use Rattle.workers.specs.declared.solving.SolveFault.TheVariants as run
+use Rattle.check_pit.specs.Checks.{IsOfNet, IsSound, FaultStands}
+use Rattle.check_pit.specs.ReadBack.{IsReadBack}
+use Rattle.check_pit.specs.Written.{header_with, text_of}
+use Rattle.check_pit.specs.declared.faults.PitFault.TheVariants as pit_fault
+use Rattle.check_pit.specs.declared.headers.Price.{Price}
+use Rattle.check_pit.specs.declared.headers.Price.TheVariants.{Objective}
+use Rattle.engines.specs.declared.judgements.Judgement.TheVariants.{Refused}
+use Rattle.engines.specs.declared.judgements.Verdict.{Verdict}
+use Rattle.engines.specs.declared.judgements.Verdict.TheVariants.{Done, No}
+use Rattle.engines.specs.declared.engine_faults.EngineFault.{EngineFault}
+use Rattle.engines.specs.declared.engine_faults.EngineFault.TheVariants as engine
+use Rattle.engines.specs.declared.solving.Unsolved.{Unsolved}
+use Rattle.engines.specs.declared.solving.Unsolved.TheVariants.{Unsettled, TooLarge, NoMemory, NoThread, Stranger}
+use Rattle.engines.specs.Faults.{UpitFails, PrecFails, ModelFails, ValuesRead}
+use Rattle.engines.specs.Mines.{mine_of, DenoteMine}
+use Rattle.engines.specs.OutputLines.{judgement_line}
+use Rattle.engines.specs.Readings.{block_by, Reads, IsProvedPit}
+
+-- ---- a net
+
+-- The check of what a run leaves, with the blocks that the source reaches in it, finds a sum that doesn't fit.
+pub record CheckLeaves (net : NetView) (limit : ℕ) : Type 0 where
+  pub flow : FlowView
+  pub steps : ℕ
+  pub settles : Settles net limit flow steps
+  pub pit : List ℕ
+  pub reached : IsReached net flow (holds_of pit)
+  pub of_net : IsOfNet net pit
+  pub stands : FaultStands net flow pit pit_fault.TooLarge
+
+-- a step of a run, or the check of what it leaves, needs a number that doesn't fit
+abbrev pub SomeNumberLeaves : NetView → ℕ → Type 0
+SomeNumberLeaves net limit = SomeStepLeaves net ⊎ CheckLeaves net limit
+
+-- a certificate for the net at the objective, whose flow proves its pit
+pub record IsSolution (net : NetView) (blocks : ℕ) (price : Price) (pit : List ℕ) (flow : FlowView) : Type 0 where
+  pub same_blocks : blocks ≡ length net.worths
+  pub objective : price ≡ Objective
+  pub sound : IsSound net flow pit
+
+-- why there is none
+abbrev pub UnsolvedStands : NetView → ℕ → Unsolved → Type 0
+UnsolvedStands net limit Unsettled = IsCutOff net limit
+UnsolvedStands net limit TooLarge = SomeNumberLeaves net limit
+UnsolvedStands net limit NoMemory = Unit {0}
+UnsolvedStands net limit NoThread = Unit {0}
+UnsolvedStands net limit Stranger = Unit {0}
+
+-- what a fault of a run means; the number of workers is always right
+abbrev pub unsolved_by : SolveFault → Unsolved
+unsolved_by run.BadWorkers = Stranger
+unsolved_by run.Unsettled = Unsettled
+unsolved_by run.TooLarge = TooLarge
+unsolved_by run.StrangerNet = Stranger
+unsolved_by run.NoMemory = NoMemory
+unsolved_by run.NoThread = NoThread
+
+-- the text is that of one pit and one flow of the net, and the flow proves the pit
+pub record IsCertificateOf (counts : Bool) (name : Group) (net : NetView) (text : List ℕ) : Type 0 where
+  pub pit : List ℕ
+  pub flow : FlowView
+  pub read : IsReadBack counts name (length net.worths) net.pairs text Objective pit flow
+  pub sound : IsSound net flow pit
+
+-- the lines of an answer without a certificate
+abbrev pub unsettled_line : List ℕ
+unsettled_line = codes "UNSETTLED" ++ 10 ∷ []
+
+abbrev pub too_large_line : List ℕ
+too_large_line = judgement_line (Refused pit_fault.TooLarge)
+
+-- such a line, and why it is answered
+abbrev pub IsNoOf : NetView → ℕ → List ℕ → Type 0
+IsNoOf net limit text = (IsCutOff net limit × (text ≡ unsettled_line)) ⊎ (SomeNumberLeaves net limit × (text ≡ too_large_line))
+
+-- the text that answers for a net
+abbrev pub AnswersNet : Bool → Group → NetView → ℕ → Verdict → List ℕ → Type 0
+AnswersNet counts name net limit Done text = IsCertificateOf counts name net text
+AnswersNet counts name net limit No text = IsNoOf net limit text
+
+-- the text of a pit and a flow of the net, in which the flow proves the pit
+pub record IsTextOf (name : Group) (net : NetView) (text : List ℕ) : Type 0 where
+  pub pit : List ℕ
+  pub flow : FlowView
+  pub sound : IsSound net flow pit
+  pub spelled : text ≡ text_of (header_with (length net.worths) Objective name) net.pairs pit flow
+
+-- a text that was to be written for a net
+abbrev pub IsDueFor : Group → NetView → ℕ → List ℕ → Type 0
+IsDueFor name net limit text = IsTextOf name net text ⊎ IsNoOf net limit text
+
+-- what is written with it: all of it, or nothing where memory or a thread is wanted, or a front of it where a device fails
+abbrev pub SolvesNet : Bool → Group → NetView → ℕ → Option (List ℕ) → Option (List ℕ) → Result Verdict EngineFault → Type 0
+SolvesNet counts name net limit old new (Ok verdict) = (text : List ℕ) × AnswersNet counts name net limit verdict text × Appends old new text
+SolvesNet counts name net limit old new (Err engine.Memory) = Keeps old new
+SolvesNet counts name net limit old new (Err engine.Thread) = Keeps old new
+SolvesNet counts name net limit old new (Err engine.Stranger) = Keeps old new
+SolvesNet counts name net limit old new (Err engine.Device) = (text : List ℕ) × IsDueFor name net limit text × ReceivedPrefix old new text
+SolvesNet counts name net limit old new (Err _) = ⊥
+
+-- ---- two texts
+
+-- The texts denote a mine, and with the third a certificate for it whose flow proves its pit: a check accepts it.
+pub record IsCertificate (values precedence : List ℕ) (name : Group) (text : List ℕ) : Type 0 where
+  pub read : Reads values precedence text
+  pub group : read.group ≡ name
+  pub sound : IsSound read.net read.flow read.pit
+  pub proved : IsProvedPit name (mine_of read.blocks values precedence) (holds_of read.pit)
+
+-- the net of the mine that two texts denote, in amounts of the group
+pub record IsNetBy (values precedence : List ℕ) (name : Group) (net : NetView) : Type 0 where
+  pub mine : DenoteMine values precedence (length net.worths)
+  pub is_net : IsNet net
+  pub of_mine : IsNetOf (block_by name) (mine_of (length net.worths) values precedence) net
+
+-- the text that answers for two texts
+abbrev pub AnswersMine : List ℕ → List ℕ → Group → ℕ → Verdict → List ℕ → Type 0
+AnswersMine values precedence name limit Done text = IsCertificate values precedence name text
+AnswersMine values precedence name limit No text = (net : NetView) × IsNetBy values precedence name net × IsNoOf net limit text
+
+-- Why the engine answers a fault: it stands, and none before it does. Want of memory, of a thread, a failing device and a board that
+-- comes back as another's say nothing of the texts.
+abbrev pub SolveFails : List ℕ → List ℕ → Group → EngineFault → Type 0
+SolveFails values precedence name (engine.Upit p) = UpitFails values p
+SolveFails values precedence name (engine.Prec p) = (n : ℕ) × ValuesRead values n × PrecFails n precedence p
+SolveFails values precedence name (engine.Model fault) = (n : ℕ) × DenoteMine values precedence n × ModelFails values n name fault
+SolveFails values precedence name engine.Memory = Unit {0}
+SolveFails values precedence name engine.Thread = Unit {0}
+SolveFails values precedence name engine.Stranger = Unit {0}
+SolveFails values precedence name engine.Device = Unit {0}
+SolveFails values precedence name _ = ⊥
+
+-- nothing was written, or a front of an answer
+abbrev pub WritesSolveFront : List ℕ → List ℕ → Group → ℕ → Option (List ℕ) → Option (List ℕ) → Type 0
+WritesSolveFront values precedence name limit old new = Keeps old new ⊎ ((net : NetView) × IsNetBy values precedence name net × (text : List ℕ) × IsDueFor name net limit text × ReceivedPrefix old new text)
+
+-- what is in the writer at a fault: what was there before, unless a device failed
+abbrev pub SolveAtFault : List ℕ → List ℕ → Group → ℕ → Option (List ℕ) → Option (List ℕ) → EngineFault → Type 0
+SolveAtFault values precedence name limit old new engine.Device = WritesSolveFront values precedence name limit old new
+SolveAtFault values precedence name limit old new _ = Keeps old new
+
+-- the answer, and what was written with it
+abbrev pub Solves : List ℕ → List ℕ → Group → ℕ → Option (List ℕ) → Option (List ℕ) → Result Verdict EngineFault → Type 0
+Solves values precedence name limit old new (Ok verdict) = (text : List ℕ) × AnswersMine values precedence name limit verdict text × Appends old new text
+Solves values precedence name limit old new (Err fault) = SolveFails values precedence name fault × SolveAtFault values precedence name limit old new fault

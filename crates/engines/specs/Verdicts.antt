@@ -1,0 +1,9 @@
+-- How an engine ends with a judgement.
+use Rattle.engines.specs.declared.judgements.Judgement.{Judgement}
+use Rattle.engines.specs.declared.judgements.Judgement.TheVariants.{Accepted, Refused}
+use Rattle.engines.specs.declared.judgements.Verdict.{Verdict}
+use Rattle.engines.specs.declared.judgements.Verdict.TheVariants.{Done, No}
+
+abbrev pub verdict_of : Judgement → Verdict
+verdict_of (Accepted group count worth) = Done
+verdict_of (Refused fault) = No

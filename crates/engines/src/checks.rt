@@ -1,0 +1,66 @@
+//! The engine of `check`: bytes in, a verdict out.
+
+ghost use Rattle.std.specs.Prelude.{◌≡◌, ◌+◌, ◌-◌, ◌^◌, ◌<◌, IfSome, IsErrOf};
+ghost use Rattle.engines.specs.Engines.{Checks, SoundIsAccepted, OneFailed};
+
+use crate::engine_faults::EngineFault;
+use crate::inputs::{certificate_from, rests_from, upit_from};
+use crate::judgements::{Judgement, Verdict};
+use crate::judging::judge;
+use crate::verdict_lines::write_judgement;
+use fixed_worth::{CountedRead, CountedWrite};
+use std::alloc::Global;
+
+/// Checks a certificate for the mine of two texts, and writes the answer as one line.
+///
+/// `Done` where it wrote `ACCEPTED`: the pit of the certificate then holds every block that a
+/// block of it rests on, and no such pit is worth more; and with `GROUP PAIR` every other that is
+/// worth the same has more blocks (Picard 1976). `No` where it wrote `REFUSED` with the first fault
+/// of the pit and its flow. The inputs are read in the order of the arguments, each to its end.
+pub fn check_engine<U: CountedRead, P: CountedRead, C: CountedRead, W: CountedWrite>(
+    alloc: Global,
+    upit: &mut U,
+    prec: &mut P,
+    certificate: &mut C,
+    out: &mut W,
+) -> Result<Verdict, EngineFault>
+    requires upit_room { U.failed upit.old < 2 ^ 64 - 1 }
+    requires prec_room { P.failed prec.old < 2 ^ 64 - 1 }
+    requires certificate_room { C.failed certificate.old < 2 ^ 64 - 1 }
+    requires out_room { W.failed out.old < 2 ^ 64 - 1 }
+
+    // What it answers and writes, where the readers tell their bytes.
+    ensures answer { IfSome (U.remaining upit.old) (λ u. IfSome (P.remaining prec.old) (λ p. IfSome (C.remaining certificate.old) (λ c.
+        Checks u p c (W.contents out.old) (W.contents out.new) result))) }
+    ensures complete { IfSome (U.remaining upit.old) (λ u. IfSome (P.remaining prec.old) (λ p. IfSome (C.remaining certificate.old) (λ c.
+        SoundIsAccepted u p c result))) }
+
+    // A device is named only where one failed.
+    ensures device { IsErrOf result EngineFault.Device → OneFailed (U.failed upit.old) (P.failed prec.old) (C.failed certificate.old) (W.failed out.old) (U.failed upit.new) (P.failed prec.new) (C.failed certificate.new) (W.failed out.new) }
+{
+    check_all(alloc, upit, prec, certificate, out)
+}
+
+// The same, without what follows from its answer.
+fn check_all<U: CountedRead, P: CountedRead, C: CountedRead, W: CountedWrite>(
+    alloc: Global,
+    upit: &mut U,
+    prec: &mut P,
+    certificate: &mut C,
+    out: &mut W,
+) -> Result<Verdict, EngineFault>
+    requires upit_room { U.failed upit.old < 2 ^ 64 - 1 }
+    requires prec_room { P.failed prec.old < 2 ^ 64 - 1 }
+    requires certificate_room { C.failed certificate.old < 2 ^ 64 - 1 }
+    requires out_room { W.failed out.old < 2 ^ 64 - 1 }
+    ensures answer { IfSome (U.remaining upit.old) (λ u. IfSome (P.remaining prec.old) (λ p. IfSome (C.remaining certificate.old) (λ c.
+        Checks u p c (W.contents out.old) (W.contents out.new) result))) }
+    ensures device { IsErrOf result EngineFault.Device → OneFailed (U.failed upit.old) (P.failed prec.old) (C.failed certificate.old) (W.failed out.old) (U.failed upit.new) (P.failed prec.new) (C.failed certificate.new) (W.failed out.new) }
+{
+    let upit = upit_from(alloc, upit)?;
+    let rests = rests_from(alloc, prec, upit.len())?;
+    let text = certificate_from(alloc, certificate)?;
+    let judgement = judge(alloc, &upit, rests, text.as_slice())?;
+    write_judgement(alloc, judgement, out)?;
+    Ok(judgement.verdict())
+}

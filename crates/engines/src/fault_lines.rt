@@ -1,0 +1,234 @@
+//! The line of a fault, made without memory, and the exit status.
+
+ghost use Rattle.std.specs.Prelude.{◌≡◌, ◌+◌, ◌-◌, ◌^◌, ◌<◌, ◌≤◌, ◌++◌, ℕ, List, length, OnOk, OnErr};
+ghost use Rattle.std.specs.Io.KnownBytes.{Appends};
+ghost use Rattle.std.specs.Prelude.{decimal, codes};
+ghost use Rattle.fixed_worth.specs.Device.{ReceivedPrefix};
+ghost use Rattle.blocks_file.specs.Printed.{blocks_fault_text};
+ghost use Rattle.slope.specs.Printed.{pattern_fault_text, slope_fault_text};
+ghost use Rattle.upit_file.specs.Faults.{upit_fault_text, at_line};
+ghost use Rattle.prec_file.specs.Printed.{prec_fault_text};
+ghost use Rattle.closure_net.specs.Printed.{net_fault_text};
+ghost use Rattle.engines.specs.OutputLines.{fault_line, fault_words, problem_text, slope_text, certificate_text};
+ghost use Rattle.engines.specs.Statuses.{status_of};
+
+use crate::engine_faults::{CertificateProblem, EngineFault, Problem, SlopeProblem};
+use crate::judgements::Verdict;
+use blocks_file::BlocksFault;
+use check_pit::CertFault;
+use closure_net::NetFault;
+use fixed_worth::{CountedWrite, ShortLine, WriteFault, write_text};
+use prec_file::PrecFault;
+use slope::{PatternFault, SlopeFault};
+use upit_file::UpitFault;
+
+/// The exit status of an engine's answer: 0 done, 1 no, 3 a fault of an input, 4 memory, a device,
+/// a thread or a stranger's board.
+pub fn status(answer: &Result<Verdict, EngineFault>) -> u8
+    ensures { result ≡ status_of answer.now }
+{
+    match answer {
+        Ok(Verdict::Done) => 0,
+        Ok(Verdict::No) => 1,
+        Err(EngineFault::Memory | EngineFault::Device) => 4,
+        Err(EngineFault::Thread | EngineFault::Stranger) => 4,
+        Err(_) => 3,
+    }
+}
+
+/// Writes the line of a fault: `fault: `, the input that has it, and the fault. It takes no memory.
+///
+/// [`WriteFault::Device`] where a write failed: the writer has then received a prefix of the line.
+pub fn write_fault<W: CountedWrite>(fault: &EngineFault, out: &mut W) -> Result<(), WriteFault>
+    requires { W.failed out.old < 2 ^ 64 - 1 }
+    ensures line { OnOk result (Appends (W.contents out.old) (W.contents out.new) (fault_line fault.now)) }
+    ensures kept { OnOk result (W.failed out.new ≡ W.failed out.old) }
+    ensures prefix { OnErr result (ReceivedPrefix (W.contents out.old) (W.contents out.new) (fault_line fault.now)) }
+    ensures counted { OnErr result (W.failed out.new ≡ W.failed out.old + 1) }
+{
+    let mut line = ShortLine::new();
+    line.push(b"fault: ");
+    push_words(&mut line, fault);
+    line.push(b"\n");
+    write_text(out, line.as_bytes())
+}
+
+// What the fault is of, and the fault.
+fn push_words(line: &mut ShortLine, fault: &EngineFault)
+    requires { length line.old ≤ 16 }
+    ensures text { line.new ≡ line.old ++ fault_words fault.now }
+    ensures length { length line.new ≤ length line.old + 100 }
+{
+    match fault {
+        EngineFault::Blocks(problem) => {
+            line.push(b"blocks ");
+            push_blocks(line, problem);
+        }
+        EngineFault::Upit(problem) => {
+            line.push(b"upit ");
+            push_upit(line, problem);
+        }
+        EngineFault::Prec(problem) => {
+            line.push(b"prec ");
+            push_prec(line, problem);
+        }
+        EngineFault::Slope(problem) => {
+            line.push(b"slope ");
+            push_slope(line, problem);
+        }
+        EngineFault::Model(fault) => {
+            line.push(b"model ");
+            push_model(line, fault);
+        }
+        EngineFault::Certificate(problem) => {
+            line.push(b"certificate ");
+            push_certificate(line, problem);
+        }
+        EngineFault::Memory => line.push(b"memory"),
+        EngineFault::Device => line.push(b"device"),
+        EngineFault::Thread => line.push(b"thread"),
+        EngineFault::Stranger => line.push(b"stranger"),
+    }
+}
+
+// A name, and a line's number in parentheses.
+fn push_at(line: &mut ShortLine, name: &[u8], number: u64)
+    requires room { length line.old ≤ 64 }
+    requires short { length name.now ≤ 16 }
+    ensures text { line.new ≡ line.old ++ at_line name.now number }
+    ensures length { length line.new ≤ length line.old + 60 }
+{
+    line.push(name);
+    line.push(b"(");
+    line.push_number(u128::from(number));
+    line.push(b")");
+}
+
+fn push_blocks(line: &mut ShortLine, problem: &Problem<BlocksFault>)
+    requires { length line.old ≤ 64 }
+    ensures text { line.new ≡ line.old ++ problem_text blocks_fault_text problem.now }
+    ensures length { length line.new ≤ length line.old + 60 }
+{
+    match problem {
+        Problem::InputTooLong => line.push(b"InputTooLong"),
+        Problem::Fault(BlocksFault::Text(n)) => push_at(line, b"Text", *n),
+        Problem::Fault(BlocksFault::Number(n)) => push_at(line, b"Number", *n),
+        Problem::Fault(BlocksFault::NoColumn(n)) => push_at(line, b"NoColumn", *n),
+        Problem::Fault(BlocksFault::UnknownBlock(n)) => push_at(line, b"UnknownBlock", *n),
+        Problem::Fault(BlocksFault::Repeated(n)) => push_at(line, b"Repeated", *n),
+        Problem::Fault(BlocksFault::TooMany(n)) => push_at(line, b"TooMany", *n),
+        Problem::Fault(BlocksFault::NoMemory) => line.push(b"NoMemory"),
+    }
+}
+
+fn push_slope(line: &mut ShortLine, problem: &SlopeProblem)
+    requires { length line.old ≤ 64 }
+    ensures text { line.new ≡ line.old ++ slope_text problem.now }
+    ensures length { length line.new ≤ length line.old + 94 }
+{
+    match problem {
+        SlopeProblem::Pattern(fault) => push_pattern(line, fault),
+        SlopeProblem::Pairs(fault) => push_pairs(line, fault),
+    }
+}
+
+fn push_pattern(line: &mut ShortLine, fault: &PatternFault)
+    requires { length line.old ≤ 64 }
+    ensures text { line.new ≡ line.old ++ pattern_fault_text fault.now }
+    ensures length { length line.new ≤ length line.old + 60 }
+{
+    match fault {
+        PatternFault::NotUpward(place) => push_at(line, b"NotUpward", *place as u64),
+        PatternFault::TooMany => line.push(b"TooMany"),
+        PatternFault::NoMemory => line.push(b"NoMemory"),
+    }
+}
+
+fn push_pairs(line: &mut ShortLine, fault: &SlopeFault)
+    requires { length line.old ≤ 64 }
+    ensures text { line.new ≡ line.old ++ slope_fault_text fault.now }
+    ensures length { length line.new ≤ length line.old + 94 }
+{
+    match fault {
+        SlopeFault::SamePlace(first, second) => push_same_place(line, *first, *second),
+        SlopeFault::TooMany => line.push(b"TooMany"),
+        SlopeFault::NoMemory => line.push(b"NoMemory"),
+    }
+}
+
+// Two blocks in parentheses.
+fn push_same_place(line: &mut ShortLine, first: u32, second: u32)
+    requires { length line.old ≤ 64 }
+    ensures text { line.new ≡ line.old ++ slope_fault_text (SlopeFault.SamePlace first second) }
+    ensures length { length line.new ≤ length line.old + 94 }
+{
+    line.push(b"SamePlace(");
+    line.push_number(u128::from(first));
+    line.push(b", ");
+    line.push_number(u128::from(second));
+    line.push(b")");
+}
+
+fn push_upit(line: &mut ShortLine, problem: &Problem<UpitFault>)
+    requires { length line.old ≤ 64 }
+    ensures text { line.new ≡ line.old ++ problem_text upit_fault_text problem.now }
+    ensures length { length line.new ≤ length line.old + 60 }
+{
+    match problem {
+        Problem::InputTooLong => line.push(b"InputTooLong"),
+        Problem::Fault(UpitFault::Text(n)) => push_at(line, b"Text", *n),
+        Problem::Fault(UpitFault::Number(n)) => push_at(line, b"Number", *n),
+        Problem::Fault(UpitFault::NoObjective(n)) => push_at(line, b"NoObjective", *n),
+        Problem::Fault(UpitFault::NotUpit(n)) => push_at(line, b"NotUpit", *n),
+        Problem::Fault(UpitFault::WrongBlocks(n)) => push_at(line, b"WrongBlocks", *n),
+        Problem::Fault(UpitFault::UnknownBlock(n)) => push_at(line, b"UnknownBlock", *n),
+        Problem::Fault(UpitFault::Repeated(n)) => push_at(line, b"Repeated", *n),
+        Problem::Fault(UpitFault::NoMemory) => line.push(b"NoMemory"),
+    }
+}
+
+fn push_prec(line: &mut ShortLine, problem: &Problem<PrecFault>)
+    requires { length line.old ≤ 64 }
+    ensures text { line.new ≡ line.old ++ problem_text prec_fault_text problem.now }
+    ensures length { length line.new ≤ length line.old + 60 }
+{
+    match problem {
+        Problem::InputTooLong => line.push(b"InputTooLong"),
+        Problem::Fault(PrecFault::Text(n)) => push_at(line, b"Text", *n),
+        Problem::Fault(PrecFault::Number(n)) => push_at(line, b"Number", *n),
+        Problem::Fault(PrecFault::UnknownBlock(n)) => push_at(line, b"UnknownBlock", *n),
+        Problem::Fault(PrecFault::Repeated(n)) => push_at(line, b"Repeated", *n),
+        Problem::Fault(PrecFault::WrongCount(n)) => push_at(line, b"WrongCount", *n),
+        Problem::Fault(PrecFault::TooMany(n)) => push_at(line, b"TooMany", *n),
+        Problem::Fault(PrecFault::NoMemory) => line.push(b"NoMemory"),
+    }
+}
+
+fn push_model(line: &mut ShortLine, fault: &NetFault)
+    requires { length line.old ≤ 64 }
+    ensures text { line.new ≡ line.old ++ net_fault_text fault.now }
+    ensures length { length line.new ≤ length line.old + 60 }
+{
+    match fault {
+        NetFault::WrongLength => line.push(b"WrongLength"),
+        NetFault::TooLarge => line.push(b"TooLarge"),
+        NetFault::NoMemory => line.push(b"NoMemory"),
+    }
+}
+
+fn push_certificate(line: &mut ShortLine, problem: &CertificateProblem)
+    requires { length line.old ≤ 64 }
+    ensures text { line.new ≡ line.old ++ certificate_text problem.now }
+    ensures length { length line.new ≤ length line.old + 60 }
+{
+    match problem {
+        CertificateProblem::InputTooLong => line.push(b"InputTooLong"),
+        CertificateProblem::WrongPrice => line.push(b"WrongPrice"),
+        CertificateProblem::Fault(CertFault::Text(n)) => push_at(line, b"Text", *n),
+        CertificateProblem::Fault(CertFault::Number(n)) => push_at(line, b"Number", *n),
+        CertificateProblem::Fault(CertFault::OutOfOrder(n)) => push_at(line, b"OutOfOrder", *n),
+        CertificateProblem::Fault(CertFault::UnknownPair(n)) => push_at(line, b"UnknownPair", *n),
+        CertificateProblem::Fault(CertFault::Truncated) => line.push(b"Truncated"),
+        CertificateProblem::Fault(CertFault::NoMemory) => line.push(b"NoMemory"),
+    }
+}

@@ -1,0 +1,124 @@
+//! Reading the inputs of an engine, each whole and with its own fault.
+
+ghost use Rattle.std.specs.Prelude.{◌≡◌, ◌+◌, ◌-◌, ◌^◌, ◌<◌, ◌≤◌, ◌↔◌, ℕ, ◌⊎◌, length, IfSome, MatchResult, IsErrOf};
+ghost use Rattle.engines.specs.Slopes.{ReadsBlocks, BlocksReadFails};
+ghost use Rattle.engines.specs.Inputs.{ReadsUpit, ListsPrec, ReadsPrec, UpitReadFails, PrecReadFails, TextReadFails};
+
+use crate::engine_faults::{CertificateProblem, EngineFault, Problem};
+use blocks_file::{BlockModel, BlocksFault, read_blocks};
+use fixed_worth::{CountedRead, InputFault, read_whole};
+use prec_file::{ListedPairs, PrecFault, Rests, read_listed};
+use std::alloc::Global;
+use upit_file::{Upit, UpitFault, declared_blocks, read_upit};
+
+// The most bytes of an input.
+const LONGEST: u64 = 1 << 32;
+
+/// The blocks of a text and their places, without columns.
+pub fn blocks_from<R: CountedRead>(alloc: Global, from: &mut R) -> Result<BlockModel, EngineFault>
+    requires { R.failed from.old < 2 ^ 64 - 1 }
+    ensures read { IfSome (R.remaining from.old) (λ text. MatchResult result (ReadsBlocks text) (BlocksReadFails text)) }
+    ensures device { IsErrOf result EngineFault.Device ↔ (R.failed from.new ≡ R.failed from.old + 1) }
+    ensures kept { ¬ IsErrOf result EngineFault.Device → R.failed from.new ≡ R.failed from.old }
+{
+    let text = match read_whole(alloc, from, LONGEST) {
+        Ok(text) => text,
+        Err(InputFault::Device) => return Err(EngineFault::Device),
+        Err(InputFault::InputTooLong) => return Err(EngineFault::Blocks(Problem::InputTooLong)),
+        Err(InputFault::NoMemory) => return Err(EngineFault::Memory),
+    };
+    match read_blocks(alloc, text.as_slice(), &[]) {
+        Ok(model) => Ok(model),
+        Err(BlocksFault::NoMemory) => Err(EngineFault::Memory),
+        Err(fault) => Err(EngineFault::Blocks(Problem::Fault(fault))),
+    }
+}
+
+/// The values of the blocks, as many as the text declares.
+pub fn upit_from<R: CountedRead>(alloc: Global, from: &mut R) -> Result<Upit, EngineFault>
+    requires { R.failed from.old < 2 ^ 64 - 1 }
+    ensures read { IfSome (R.remaining from.old) (λ text. MatchResult result (ReadsUpit text) (UpitReadFails text)) }
+    ensures device { IsErrOf result EngineFault.Device ↔ (R.failed from.new ≡ R.failed from.old + 1) }
+    ensures kept { ¬ IsErrOf result EngineFault.Device → R.failed from.new ≡ R.failed from.old }
+{
+    let text = match read_whole(alloc, from, LONGEST) {
+        Ok(text) => text,
+        Err(InputFault::Device) => return Err(EngineFault::Device),
+        Err(InputFault::InputTooLong) => return Err(EngineFault::Upit(Problem::InputTooLong)),
+        Err(InputFault::NoMemory) => return Err(EngineFault::Memory),
+    };
+    upit_of(alloc, text.as_slice())
+}
+
+// The values that a text gives to the blocks that it declares.
+fn upit_of(alloc: Global, text: &[u8]) -> Result<Upit, EngineFault>
+    ensures read { MatchResult result (ReadsUpit text.now) (UpitReadFails text.now) }
+    ensures no_device { ¬ IsErrOf result EngineFault.Device }
+{
+    let blocks = match declared_blocks(text) {
+        Ok(blocks) => blocks,
+        Err(fault) => return Err(EngineFault::Upit(Problem::Fault(fault))),
+    };
+    match read_upit(alloc, text, blocks) {
+        Ok(upit) => Ok(upit),
+        Err(UpitFault::NoMemory) => Err(EngineFault::Memory),
+        Err(fault) => Err(EngineFault::Upit(Problem::Fault(fault))),
+    }
+}
+
+// The pairs that a text lists. Its bytes are given back here, before the pairs take memory of their own.
+fn listed_from<R: CountedRead>(
+    alloc: Global,
+    from: &mut R,
+    n: u32,
+) -> Result<ListedPairs, EngineFault>
+    requires blocks { n ≤ 2 ^ 24 }
+    requires room { R.failed from.old < 2 ^ 64 - 1 }
+    ensures read { IfSome (R.remaining from.old) (λ text. MatchResult result (ListsPrec n text) (PrecReadFails n text)) }
+    ensures device { IsErrOf result EngineFault.Device ↔ (R.failed from.new ≡ R.failed from.old + 1) }
+    ensures kept { ¬ IsErrOf result EngineFault.Device → R.failed from.new ≡ R.failed from.old }
+{
+    let text = match read_whole(alloc, from, LONGEST) {
+        Ok(text) => text,
+        Err(InputFault::Device) => return Err(EngineFault::Device),
+        Err(InputFault::InputTooLong) => return Err(EngineFault::Prec(Problem::InputTooLong)),
+        Err(InputFault::NoMemory) => return Err(EngineFault::Memory),
+    };
+    match read_listed(alloc, text.as_slice(), n) {
+        Ok(listed) => Ok(listed),
+        Err(PrecFault::NoMemory) => Err(EngineFault::Memory),
+        Err(fault) => Err(EngineFault::Prec(Problem::Fault(fault))),
+    }
+}
+
+/// What rests on what among n blocks.
+pub fn rests_from<R: CountedRead>(alloc: Global, from: &mut R, n: u32) -> Result<Rests, EngineFault>
+    requires blocks { n ≤ 2 ^ 24 }
+    requires room { R.failed from.old < 2 ^ 64 - 1 }
+    ensures read { IfSome (R.remaining from.old) (λ text. MatchResult result (ReadsPrec n text) (PrecReadFails n text)) }
+    ensures device { IsErrOf result EngineFault.Device ↔ (R.failed from.new ≡ R.failed from.old + 1) }
+    ensures kept { ¬ IsErrOf result EngineFault.Device → R.failed from.new ≡ R.failed from.old }
+{
+    let listed = listed_from(alloc, from, n)?;
+    match listed.settle(alloc) {
+        Ok(rests) => Ok(rests),
+        Err(_) => Err(EngineFault::Memory),
+    }
+}
+
+/// The text of a certificate.
+pub fn certificate_from<R: CountedRead>(alloc: Global, from: &mut R) -> Result<Vec<u8>, EngineFault>
+    requires { R.failed from.old < 2 ^ 64 - 1 }
+    ensures read { IfSome (R.remaining from.old) (λ text. MatchResult result (λ v. v.items ≡ text) (TextReadFails text)) }
+    ensures device { IsErrOf result EngineFault.Device ↔ (R.failed from.new ≡ R.failed from.old + 1) }
+    ensures kept { ¬ IsErrOf result EngineFault.Device → R.failed from.new ≡ R.failed from.old }
+{
+    match read_whole(alloc, from, LONGEST) {
+        Ok(text) => Ok(text),
+        Err(InputFault::Device) => Err(EngineFault::Device),
+        Err(InputFault::InputTooLong) => Err(EngineFault::Certificate(
+            CertificateProblem::InputTooLong,
+        )),
+        Err(InputFault::NoMemory) => Err(EngineFault::Memory),
+    }
+}

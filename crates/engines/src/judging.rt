@@ -1,0 +1,171 @@
+//! Judging a certificate for a mine that was read.
+
+ghost use Rattle.std.specs.Prelude.{◌≡◌, ◌≢◌, ◌≤◌, ◌*ℤ◌, pos, ℕ, List, length, map, IfOk, IsErrOf};
+ghost use Rattle.closure_net.specs.Network.{holds_of, IsAscending};
+ghost use Rattle.ordered_group.specs.Amount.{FitsPair};
+ghost use Rattle.closure_net.specs.Closure.{group_worth, IsGreatest};
+ghost use Rattle.closure_net.specs.Mine.{IsNetOf};
+ghost use Rattle.engines.specs.Mines.{DenoteMine, mine_of};
+ghost use Rattle.engines.specs.Faults.{IsHeader};
+ghost use Rattle.engines.specs.Judging.{AreRead, IsGroupNamed, Judges, of_certificate, of_model};
+
+use crate::engine_faults::{CertificateProblem, EngineFault};
+use crate::judgements::Judgement;
+use check_pit::{Accepted, CertFault, Price, check, read_certificate, reading};
+use closure_net::{Net, NetFault, laws};
+use fixed_worth::Micros;
+use ordered_group::{Group, OrderedGroup, Worth, WorthSize};
+use prec_file::Rests;
+use std::alloc::{AllocError, Global};
+use upit_file::Upit;
+
+/// What a certificate proves for the mine of these values and pairs, or why it can't be judged.
+pub fn judge(
+    alloc: Global,
+    upit: &Upit,
+    rests: Rests,
+    certificate: &[u8],
+) -> Result<Judgement, EngineFault>
+    ensures judged { (values precedence : List ℕ) → AreRead values precedence upit.now rests → Judges values precedence certificate.now result }
+    ensures no_device { ¬ IsErrOf result EngineFault.Device }
+{
+    laws::greatest_set_is_richest_pit();
+    laws::greatest_set_is_best_pit::<WorthSize>();
+    let header = match reading::header(certificate) {
+        Ok(header) => header,
+        Err(fault) => return Err(certificate_fault(fault)),
+    };
+    if header.blocks != rests.len() {
+        return Err(certificate_fault(CertFault::Number(2)));
+    }
+    match header.price {
+        Price::Objective => {}
+        Price::Factor(_) => {
+            return Err(EngineFault::Certificate(CertificateProblem::WrongPrice));
+        }
+    }
+    match header.group {
+        Group::Worth => judge_by::<Worth>(alloc, upit, rests, certificate),
+        Group::Pair => judge_by::<WorthSize>(alloc, upit, rests, certificate),
+    }
+}
+
+// The same, where the header is read and the amounts are of the group G.
+fn judge_by<G: OrderedGroup>(
+    alloc: Global,
+    upit: &Upit,
+    rests: Rests,
+    certificate: &[u8],
+) -> Result<Judgement, EngineFault>
+    ensures judged { (values precedence : List ℕ) → AreRead values precedence upit.now rests → IsGroupNamed G.name G.block_parts G.counts
+        → IsHeader certificate.now rests.blocks G.name → Judges values precedence certificate.now result }
+    ensures no_device { ¬ IsErrOf result EngineFault.Device }
+{
+    let nanos = match nanos_of(alloc, upit) {
+        Ok(nanos) => nanos,
+        Err(_) => return Err(EngineFault::Memory),
+    };
+    match Net::<G>::of_worths(alloc, rests, nanos.as_slice()) {
+        Ok(net) => judge_for(alloc, &net, certificate),
+        Err(fault) => Err(model_fault(fault)),
+    }
+}
+
+// The same, where the mine's net is made.
+fn judge_for<G: OrderedGroup>(
+    alloc: Global,
+    net: &Net<G>,
+    certificate: &[u8],
+) -> Result<Judgement, EngineFault>
+    ensures judged { (values precedence : List ℕ) → DenoteMine values precedence (length net.now.worths) → IsGroupNamed G.name G.block_parts G.counts
+        → IsHeader certificate.now (length net.now.worths) G.name → IsNetOf G.block_parts (mine_of (length net.now.worths) values precedence) net.now
+        → Judges values precedence certificate.now result }
+    ensures no_device { ¬ IsErrOf result EngineFault.Device }
+{
+    let _worths = net.worths();
+    let rests = net.rests();
+    let certificate = match read_certificate::<G>(alloc, certificate, rests) {
+        Ok(certificate) => certificate,
+        Err(fault) => return Err(certificate_fault(fault)),
+    };
+    match check(net, &certificate.pit, &certificate.flow) {
+        Ok(accepted) => {
+            let count = size_of(&accepted);
+            let worth = worth_of(&accepted, count);
+            Ok(Judgement::Accepted(G::group(), count, worth))
+        }
+        Err(fault) => Ok(Judgement::Refused(fault)),
+    }
+}
+
+// The number of blocks of an accepted pit.
+fn size_of<G: OrderedGroup>(accepted: &Accepted<'_, G>) -> u32
+    ensures size { result ≡ length accepted.now.pit }
+    ensures most { result ≤ length accepted.now.net.worths }
+    ensures ascending { IsAscending accepted.now.pit }
+{
+    let _size = accepted.net().len();
+    let blocks = accepted.pit().blocks();
+    blocks.len() as u32
+}
+
+// The worth of an accepted pit of this many blocks, in billionths.
+fn worth_of<G: OrderedGroup>(accepted: &Accepted<'_, G>, count: u32) -> i128
+    requires { count ≤ length accepted.now.net.worths }
+    ensures worth { result ≡ G.set_worth (group_worth accepted.now.net.worths (holds_of accepted.now.pit)) (length accepted.now.net.worths) count }
+    ensures greatest { IsGreatest accepted.now.net (holds_of accepted.now.pit) }
+{
+    let size = accepted.net().len();
+    let sum = accepted.worth();
+    known_to_fit(sum);
+    match sum.nanos_of_set(size, count) {
+        Some(worth) => worth,
+        None => unreachable!(),
+    }
+}
+
+// The two numbers of an amount fit the machine's.
+fn known_to_fit<G: OrderedGroup>(amount: G)
+    ensures { FitsPair (G.parts_of amount) }
+{
+    let (_worth, _count) = amount.parts();
+}
+
+/// The worth of each block in billionths.
+pub fn nanos_of(alloc: Global, upit: &Upit) -> Result<Vec<i128>, AllocError>
+    ensures { IfOk result (λ v. v.items ≡ map (λ x. pos 1000 *ℤ x) upit.now.values) }
+{
+    let mut nanos: Vec<i128> = Vec::new(alloc);
+    for b in 0..upit.len() {
+        nanos.push(billionths(upit.value(b)))?;
+    }
+    Ok(nanos)
+}
+
+// The billionths of a value.
+fn billionths(value: Micros) -> i128
+    ensures { result ≡ pos 1000 *ℤ value }
+{
+    1000 * i128::from(value.get())
+}
+
+fn certificate_fault(fault: CertFault) -> EngineFault
+    ensures fault { result ≡ of_certificate fault }
+    ensures no_device { result ≢ EngineFault.Device }
+{
+    match fault {
+        CertFault::NoMemory => EngineFault::Memory,
+        fault => EngineFault::Certificate(CertificateProblem::Fault(fault)),
+    }
+}
+
+/// The engine's fault of a net's.
+pub fn model_fault(fault: NetFault) -> EngineFault
+    ensures fault { result ≡ of_model fault }
+    ensures no_device { result ≢ EngineFault.Device }
+{
+    match fault {
+        NetFault::NoMemory => EngineFault::Memory,
+        fault => EngineFault::Model(fault),
+    }
+}

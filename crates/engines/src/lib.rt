@@ -1,0 +1,44 @@
+//! The engines of the program: bytes in, bytes out, and what each answer means.
+//!
+//! Stands on the crates of files, nets, runs and checks, which hand each other typed values; here they are put
+//! together. An engine reads its inputs to their ends, one after another, does its work, and writes one text; its
+//! contract says which text stands for which bytes. The words that name a pattern, a kind of amount or an effort are
+//! read here too, and a fault is told in one line. The library of the command line is kept out: the program `pit`
+//! opens the files that the words name, and hands them on.
+#![tactic(auto)]
+
+mod checks;
+mod efforts;
+mod engine_faults;
+mod fault_lines;
+mod inputs;
+mod judgements;
+mod judging;
+mod pattern_choice;
+mod pattern_words;
+mod slope_pairs;
+mod slopes;
+mod solve_words;
+mod solves;
+mod solving;
+mod stored_run;
+mod verdict_lines;
+
+pub use checks::check_engine;
+pub use efforts::Effort;
+pub use engine_faults::{CertificateProblem, EngineFault, Problem, SlopeProblem};
+pub use fault_lines::{status, write_fault};
+pub use judgements::Verdict;
+pub use pattern_choice::PatternChoice;
+pub use pattern_words::{pattern_named, up_named};
+pub use slopes::slopes_engine;
+pub use solve_words::{group_named, steps_named, workers_named};
+pub use solves::solve_engine;
+pub use stored_run::stored_check;
+
+#[cfg(test)]
+mod slopes_tests;
+#[cfg(test)]
+mod solve_tests;
+#[cfg(test)]
+mod tests;

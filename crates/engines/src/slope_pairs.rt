@@ -1,0 +1,71 @@
+//! The pairs that a chosen pattern gives of a model, and their text.
+
+ghost use Rattle.std.specs.Prelude.{◌≡◌, ◌+◌, ◌-◌, ◌^◌, ◌<◌, ◌↔◌, OnOk, IfOk, IfErr, MatchResult, IsErrOf};
+ghost use Rattle.std.specs.Io.KnownBytes.{Appends};
+ghost use Rattle.fixed_worth.specs.Device.{ReceivedPrefix};
+ghost use Rattle.prec_file.specs.Written.{prec_text, AreNarrow};
+ghost use Rattle.engines.specs.Slopes.{IsChoice, IsChosen, AreSlopesBy, PatternMakingFails, PairsMakingFail};
+
+use crate::engine_faults::{EngineFault, SlopeProblem};
+use crate::pattern_choice::PatternChoice;
+use blocks_file::BlockModel;
+use fixed_worth::CountedWrite;
+use prec_file::{PrecWriteFault, Rests, write_prec};
+use slope::{Pattern, PatternFault, SlopeFault, Up, laws, rests_of};
+use std::alloc::Global;
+
+// The pattern that is asked for.
+fn pattern_for(alloc: Global, choice: PatternChoice) -> Result<Pattern, EngineFault>
+    requires { IsChoice choice }
+    ensures made { MatchResult result (IsChosen choice) (PatternMakingFails choice) }
+{
+    let made = match choice {
+        PatternChoice::Five => Pattern::five(alloc),
+        PatternChoice::Nine => Pattern::nine(alloc),
+        PatternChoice::Cone { levels, run, rise } => Pattern::cone(alloc, levels, run, rise),
+    };
+    match made {
+        Ok(pattern) => Ok(pattern),
+        Err(PatternFault::NoMemory) => Err(EngineFault::Memory),
+        Err(fault) => Err(EngineFault::Slope(SlopeProblem::Pattern(fault))),
+    }
+}
+
+/// Who rests on whom among the blocks of a model, by the pattern that is asked for.
+pub fn slopes_of(
+    alloc: Global,
+    model: &BlockModel,
+    choice: PatternChoice,
+    up: Up,
+) -> Result<Rests, EngineFault>
+    requires { IsChoice choice }
+    ensures made { MatchResult result (AreSlopesBy model.now choice up) (PairsMakingFail model.now choice up) }
+    ensures narrow { IfOk result AreNarrow }
+    ensures no_device { ¬ IsErrOf result EngineFault.Device }
+{
+    let pattern = pattern_for(alloc, choice)?;
+    laws::slopes_are_narrow(&pattern);
+    match rests_of(alloc, model, &pattern, up) {
+        Ok(rests) => Ok(rests),
+        Err(SlopeFault::NoMemory) => Err(EngineFault::Memory),
+        Err(fault) => Err(EngineFault::Slope(SlopeProblem::Pairs(fault))),
+    }
+}
+
+/// Writes pairs as a precedence file.
+pub fn write_slopes<W: CountedWrite>(rests: &Rests, out: &mut W) -> Result<(), EngineFault>
+    requires narrow { AreNarrow rests.now }
+    requires room { W.failed out.old < 2 ^ 64 - 1 }
+    ensures sent { OnOk result (Appends (W.contents out.old) (W.contents out.new) (prec_text rests.now)) }
+    ensures kept { OnOk result (W.failed out.new ≡ W.failed out.old) }
+    ensures fault { IfErr result (λ e. e ≡ EngineFault.Device) }
+    ensures prefix { IfErr result (λ _. ReceivedPrefix (W.contents out.old) (W.contents out.new) (prec_text rests.now)) }
+    ensures counted { IfErr result (λ _. W.failed out.new ≡ W.failed out.old + 1) }
+{
+    match write_prec(rests, out) {
+        Ok(()) => Ok(()),
+        Err(PrecWriteFault::Device) => Err(EngineFault::Device),
+        // a block rests on no more blocks than a pattern has offsets, which are few
+        Err(PrecWriteFault::TooWide(_)) => unreachable!(),
+    }
+}

@@ -1,0 +1,59 @@
+//! The words that name a kind of amount, a number of steps and a number of workers.
+
+ghost use Rattle.std.specs.Prelude.{◌≡◌, ◌≤◌, IfSome};
+ghost use Rattle.engines.specs.SolveWords.{group_of, steps_of, workers_of};
+
+use fixed_worth::whole;
+use ordered_group::Group;
+
+// The most steps of a run.
+const MOST_STEPS: u64 = 1 << 40;
+
+// The most workers of a run.
+const MOST_WORKERS: u64 = 64;
+
+/// The kind of amount that a word names: `worth` or `pair`.
+pub fn group_named(word: &[u8]) -> Option<Group>
+    ensures { result ≡ group_of word.now }
+{
+    if word == b"worth".as_slice() {
+        Some(Group::Worth)
+    } else if word == b"pair".as_slice() {
+        Some(Group::Pair)
+    } else {
+        None
+    }
+}
+
+/// The number of steps that a word names: a whole number from 1 to 2^40.
+pub fn steps_named(word: &[u8]) -> Option<u64>
+    ensures { result ≡ steps_of word.now }
+{
+    match whole(word) {
+        Ok(number) => {
+            if 1 <= number && number <= MOST_STEPS {
+                Some(number)
+            } else {
+                None
+            }
+        }
+        Err(_) => None,
+    }
+}
+
+/// The number of workers that a word names: a whole number from 1 to 64.
+pub fn workers_named(word: &[u8]) -> Option<u32>
+    ensures is { result ≡ workers_of word.now }
+    ensures range { IfSome result (λ workers. (1 ≤ workers) × (workers ≤ 64)) }
+{
+    match whole(word) {
+        Ok(number) => {
+            if 1 <= number && number <= MOST_WORKERS {
+                Some(number as u32)
+            } else {
+                None
+            }
+        }
+        Err(_) => None,
+    }
+}

@@ -1,0 +1,122 @@
+//! The engine of `solve`: the bytes of a mine in, a certificate of its best pit out.
+
+ghost use Rattle.std.specs.Prelude.{◌≡◌, ◌+◌, ◌-◌, ◌^◌, ◌<◌, ◌↔◌, ℕ, List, IfSome, IsErrOf};
+ghost use Rattle.engines.specs.Judging.{AreRead, IsGroupNamed};
+ghost use Rattle.engines.specs.Solving.{Solves};
+
+use crate::efforts::Effort;
+use crate::engine_faults::EngineFault;
+use crate::inputs::{rests_from, upit_from};
+use crate::judgements::Verdict;
+use crate::judging::{model_fault, nanos_of};
+use crate::solving::solve_net;
+use closure_net::{Net, laws};
+use fixed_worth::{CountedRead, CountedWrite};
+use ordered_group::{Group, OrderedGroup, Worth, WorthSize};
+use prec_file::Rests;
+use std::alloc::Global;
+use std::sync::Wait;
+use std::thread::Threads;
+use upit_file::Upit;
+use workers::{Board, Gate, Locked, Shared};
+
+/// Finds the best pit of the mine of two texts, and writes its certificate.
+///
+/// `Done` where it wrote a certificate, which a check has accepted: its pit holds every block that a
+/// block of it rests on, and no such pit is worth more; and with `Group::Pair` every other that is
+/// worth the same has more blocks (Picard 1976). `No` where it wrote `UNSETTLED`, since a run of
+/// the effort's steps wasn't enough, or `REFUSED TooLarge`, since a number of the run or of the check
+/// doesn't fit. The inputs are read in the order of the arguments, each to its end, and nothing is
+/// written before the answer is known. Each worker of the run passes the gate before each of its turns.
+///
+/// # Errors
+/// In this order: `Upit` and `Prec` for a fault of these texts; `Model` where the net's amounts don't
+/// fit. `Memory` where memory is refused, `Thread` where a worker can't be started, `Stranger` where the
+/// board that the workers shared comes back as another's (see `workers::solve`), `Device` where a read or a write fails: the writer has then
+/// received a front of the answer, and at every other fault nothing.
+pub fn solve_engine<
+    R: Threads + Wait + Sync,
+    U: CountedRead,
+    P: CountedRead,
+    T: Gate,
+    W: CountedWrite,
+>(
+    rt: &R,
+    alloc: Global,
+    upit: &mut U,
+    prec: &mut P,
+    group: Group,
+    effort: Effort,
+    gate: &T,
+    out: &mut W,
+) -> Result<Verdict, EngineFault>
+    requires upit_room { U.failed upit.old < 2 ^ 64 - 1 }
+    requires prec_room { P.failed prec.old < 2 ^ 64 - 1 }
+    requires out_room { W.failed out.old < 2 ^ 64 - 1 }
+
+    // What it answers and writes, where the readers tell their bytes.
+    ensures answer { IfSome (U.remaining upit.old) (λ u. IfSome (P.remaining prec.old) (λ p.
+        Solves u p group effort.steps (W.contents out.old) (W.contents out.new) result)) }
+
+    // A device is named exactly where one failed.
+    ensures device { IsErrOf result EngineFault.Device → U.failed upit.new + P.failed prec.new + W.failed out.new ≡ U.failed upit.old + P.failed prec.old + W.failed out.old + 1 }
+    ensures kept { ¬ IsErrOf result EngineFault.Device → (U.failed upit.new ≡ U.failed upit.old) × (P.failed prec.new ≡ P.failed prec.old) × (W.failed out.new ≡ W.failed out.old) }
+{
+    let upit = upit_from(alloc, upit)?;
+    let rests = rests_from(alloc, prec, upit.len())?;
+    solve_mine(rt, alloc, &upit, rests, group, effort, gate, out)
+}
+
+// The same, where the mine is read.
+fn solve_mine<R: Threads + Wait + Sync, T: Gate, W: CountedWrite>(
+    rt: &R,
+    alloc: Global,
+    upit: &Upit,
+    rests: Rests,
+    group: Group,
+    effort: Effort,
+    gate: &T,
+    out: &mut W,
+) -> Result<Verdict, EngineFault>
+    requires { W.failed out.old < 2 ^ 64 - 1 }
+    ensures answer { (values precedence : List ℕ) → AreRead values precedence upit.now rests → Solves values precedence group effort.steps (W.contents out.old) (W.contents out.new) result }
+    ensures device { IsErrOf result EngineFault.Device ↔ (W.failed out.new ≡ W.failed out.old + 1) }
+    ensures kept { ¬ IsErrOf result EngineFault.Device → W.failed out.new ≡ W.failed out.old }
+{
+    laws::greatest_set_is_richest_pit();
+    laws::greatest_set_is_best_pit::<WorthSize>();
+    match group {
+        Group::Worth => solve_by::<Worth, R, T, W>(rt, alloc, upit, rests, effort, gate, out),
+        Group::Pair => solve_by::<WorthSize, R, T, W>(rt, alloc, upit, rests, effort, gate, out),
+    }
+}
+
+// The same, in amounts of the group G.
+fn solve_by<G: OrderedGroup, R: Threads + Wait + Sync, T: Gate, W: CountedWrite>(
+    rt: &R,
+    alloc: Global,
+    upit: &Upit,
+    rests: Rests,
+    effort: Effort,
+    gate: &T,
+    out: &mut W,
+) -> Result<Verdict, EngineFault>
+where
+    Locked<Board<G>>: Shared,
+    requires { W.failed out.old < 2 ^ 64 - 1 }
+    ensures answer { (values precedence : List ℕ) → AreRead values precedence upit.now rests → IsGroupNamed G.name G.block_parts G.counts
+        → Solves values precedence G.name effort.steps (W.contents out.old) (W.contents out.new) result }
+    ensures device { IsErrOf result EngineFault.Device ↔ (W.failed out.new ≡ W.failed out.old + 1) }
+    ensures kept { ¬ IsErrOf result EngineFault.Device → W.failed out.new ≡ W.failed out.old }
+{
+    let nanos = match nanos_of(alloc, upit) {
+        Ok(nanos) => nanos,
+        Err(_) => return Err(EngineFault::Memory),
+    };
+    let net = match Net::<G>::of_worths(alloc, rests, nanos.as_slice()) {
+        Ok(net) => net,
+        Err(fault) => return Err(model_fault(fault)),
+    };
+    let _worths = net.worths();
+    solve_net(rt, alloc, &net, effort, gate, out)
+}

@@ -1,0 +1,72 @@
+//! The line of a verdict.
+
+ghost use Rattle.std.specs.Prelude.{◌≡◌, ◌+◌, ◌-◌, ◌^◌, ◌<◌, ℕ, OnOk, IfOk, IfErr, IsErrOf, ◌↔◌, Some};
+ghost use Rattle.std.specs.Io.KnownBytes.{Appends, Keeps};
+ghost use Rattle.std.specs.String.{string_bytes};
+ghost use Rattle.engines.specs.OutputLines.{judgement_line, group_mark};
+ghost use Rattle.engines.specs.Engines.{LineFails};
+
+use crate::engine_faults::EngineFault;
+use crate::judgements::Judgement;
+use fixed_worth::{CountedWrite, Nanos, WriteFault, write_text};
+use ordered_group::Group;
+use std::alloc::{AllocError, Global};
+
+/// Writes the line of a judgement: `ACCEPTED`, the number of blocks and the worth, or `REFUSED` and
+/// the fault.
+pub fn write_judgement<W: CountedWrite>(
+    alloc: Global,
+    judgement: Judgement,
+    out: &mut W,
+) -> Result<(), EngineFault>
+    requires { W.failed out.old < 2 ^ 64 - 1 }
+    ensures line { OnOk result (Appends (W.contents out.old) (W.contents out.new) (judgement_line judgement)) }
+    ensures fault { IfErr result (LineFails (W.contents out.old) (W.contents out.new) (judgement_line judgement)) }
+    ensures device { IsErrOf result EngineFault.Device ↔ (W.failed out.new ≡ W.failed out.old + 1) }
+    ensures kept { ¬ IsErrOf result EngineFault.Device → W.failed out.new ≡ W.failed out.old }
+{
+    let line = match line_of(alloc, judgement) {
+        Ok(line) => line,
+        Err(_) => return Err(EngineFault::Memory),
+    };
+    match write_text(out, line.as_bytes()) {
+        Ok(()) => Ok(()),
+        Err(WriteFault::Device) => Err(EngineFault::Device),
+    }
+}
+
+fn line_of(alloc: Global, judgement: Judgement) -> Result<String, AllocError>
+    ensures { IfOk result (λ line. string_bytes line ≡ judgement_line judgement) }
+{
+    match judgement {
+        Judgement::Accepted(group, count, worth) => accepted_line(
+            alloc,
+            group,
+            count,
+            Nanos(worth),
+        ),
+        Judgement::Refused(fault) => format!(in alloc; "REFUSED {fault}\n"),
+    }
+}
+
+fn accepted_line(
+    alloc: Global,
+    group: Group,
+    count: u32,
+    worth: Nanos,
+) -> Result<String, AllocError>
+    ensures { IfOk result (λ line. string_bytes line ≡ judgement_line (Judgement.Accepted group count worth.0)) }
+{
+    let mark = mark_of(group);
+    format!(in alloc; "ACCEPTED {count} {worth}{mark}\n")
+}
+
+// What stands behind the worth where worth alone was counted.
+fn mark_of(group: Group) -> &'static str
+    ensures { result.now ≡ group_mark group }
+{
+    match group {
+        Group::Worth => " GROUP WORTH",
+        Group::Pair => "",
+    }
+}

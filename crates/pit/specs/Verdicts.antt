@@ -1,9 +1,0 @@
--- How an engine ends with a judgement.
-use Rattle.pit.specs.declared.judgements.Judgement.{Judgement}
-use Rattle.pit.specs.declared.judgements.Judgement.TheVariants.{Accepted, Refused}
-use Rattle.pit.specs.declared.judgements.Verdict.{Verdict}
-use Rattle.pit.specs.declared.judgements.Verdict.TheVariants.{Done, No}
-
-abbrev pub verdict_of : Judgement → Verdict
-verdict_of (Accepted group count worth) = Done
-verdict_of (Refused fault) = No
