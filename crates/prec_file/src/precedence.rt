@@ -99,20 +99,14 @@ impl Rests {
         requires { n ≤ 2 ^ 24 }
         ensures { MatchResult result (λ r. (r.blocks ≡ n) × ArePairsOf listed.now r.pairs) (λ e. FaultStands n listed.now e) }
     {
-        match first_unknown(n, listed) {
-            Some(i) => return Err(RestsFault::UnknownBlock(i)),
-            None => {}
+        if let Some(i) = first_unknown(n, listed) {
+            return Err(RestsFault::UnknownBlock(i));
         }
         if listed.len() > 134_217_728 {
             return Err(RestsFault::TooMany);
         }
-        let Ok(pairs) = Vec::from_slice(alloc, listed) else {
-            return Err(RestsFault::NoMemory);
-        };
-        match settled(alloc, n, pairs) {
-            Ok(rests) => Ok(rests),
-            Err(_) => Err(RestsFault::NoMemory),
-        }
+        let pairs = Vec::from_slice(alloc, listed).map_err(|_| RestsFault::NoMemory)?;
+        settled(alloc, n, pairs).map_err(|_| RestsFault::NoMemory)
     }
 
     /// The same pairs, with memory of their own.
@@ -193,9 +187,7 @@ impl Rests {
             (λ k. (k < length self.now.pairs) × (slice_index_or self.now.pairs k (0, 0) ≡ (b, p))) }
     {
         let first = self.firsts[b as usize];
-        match self.above(b).binary_search(&p) {
-            Ok(i) => Some(first + i as u32),
-            Err(_) => None,
-        }
+        let i = self.above(b).binary_search(&p).ok()?;
+        Some(first + i as u32)
     }
 }
