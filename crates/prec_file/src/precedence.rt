@@ -2,7 +2,7 @@
 
 ghost use Rattle.std.specs.Prelude.{◌≡◌, ℕ, ◌+◌, ◌^◌, ◌<◌, ◌≤◌, All, IfOk, MatchResult, MatchOption, length, slice_index_or, map, ◌==◌, not};
 ghost use Rattle.std.specs.List.{filter, Contains};
-ghost use Rattle.prec_file.specs.Rests.{RestsView, IsRests, IsIndexed, IsKnown, KnownAt, IsFirstNot, IsRising, IsStarts, ArePairsOf, from_at, first_of, above_of, below_of};
+ghost use Rattle.prec_file.specs.Rests.{RestsView, IsRests, IsIndexed, AreApart, IsKnown, KnownAt, IsFirstNot, IsRising, IsStarts, ArePairsOf, from_at, first_of, above_of, below_of};
 ghost use Rattle.prec_file.specs.Answer.{FaultStands};
 
 use crate::RestsFault;
@@ -51,6 +51,7 @@ pub(crate) fn indexed(alloc: Global, n: u32, pairs: Vec<(u32, u32)>) -> Result<R
     requires few { length pairs.items ≤ 2 ^ 27 }
     requires known { All (IsKnown n) pairs.items }
     requires rising { IsRising pairs.items }
+    requires apart { AreApart pairs.items }
     ensures { IfOk result (λ r. (r.blocks ≡ n) × (r.pairs ≡ pairs.items)) }
 {
     let firsts = firsts_of(alloc, n, &pairs)?;
