@@ -1,8 +1,10 @@
 -- Finding a pair among those of its block.
-use Rattle.std.proofs.Common.{◌≡◌, ◌≢◌, ℕ, ◌+◌, ◌<◌, ◌≤◌, ◌==◌, inl, inr, List, length, get_or, Ok, Err, sym, ap, subst, ◌∙◌, arith}
+use Rattle.std.proofs.Common.{◌≡◌, ◌≢◌, ℕ, ◌+◌, ◌<◌, ◌≤◌, ◌==◌, inl, inr, List, length, get_or, Some, None, Result, Ok, Err, refl, sym, ap, subst, ◌∙◌, arith}
 use Rattle.std.specs.List.{Contains}
 use Rattle.std.specs.List.Sorted.{IsBinarySearchResult}
 use Rattle.std.specs.Ordering.{nat_cmp}
+use Rattle.std.specs.Result.{result_ok}
+use Rattle.std.proofs.lemmas.Option.{none-some}
 use Rattle.std.proofs.lemmas.List.Sorted.{searched}
 use Rattle.std.proofs.lemmas.Bool.{cases_eq, cases_lt, eq-eqb, eqb-true}
 use Rattle.std.proofs.lemmas.List.{length-map, get_or-map, get_or_default}
@@ -67,16 +69,26 @@ found_pair ps r b p i l e =
     let a = above_at ps r b i l in
     (a.0, a.1 ∙ ap (λ q. (b, q)) e)
 
--- what a binary search among b's predecessors says of the pair
-pub hit : (ps : List (ℕ × ℕ)) → IsRising ps → (b p i : ℕ) (xs : List ℕ) → xs ≡ above_of ps b → IsBinarySearchResult (λ y. nat_cmp y p) xs (Ok i)
-    → (first_of ps b + i < length ps) × (get_or ps (first_of ps b + i) (0, 0) ≡ (b, p))
-hit ps r b p i xs e h =
-    let P : List ℕ → Type 0 = λ ys. IsBinarySearchResult (λ y. nat_cmp y p) ys (Ok i) in
-    let s = searched (above_of ps b) p (Ok i) (subst P e h) (above_ascends ps r b) in
-    found_pair ps r b p i s.0 s.1
+from_ok : (r : Result ℕ ℕ) (i : ℕ) → Some i ≡ result_ok r → r ≡ Ok i
+from_ok (Ok j) i e = grind arith
+from_ok (Err j) i e = absurd (none-some i (sym e))
 
-pub miss : (ps : List (ℕ × ℕ)) → IsRising ps → (b p i : ℕ) (xs : List ℕ) → xs ≡ above_of ps b → IsBinarySearchResult (λ y. nat_cmp y p) xs (Err i) → ¬ (Contains ps (b, p))
-miss ps r b p i xs e h =
+from_none : (r : Result ℕ ℕ) → None ≡ result_ok r → (j : ℕ) × (r ≡ Err j)
+from_none (Ok j) e = absurd (none-some j e)
+from_none (Err j) e = (j, refl)
+
+-- what a binary search among b's predecessors says of the pair
+pub hit : (ps : List (ℕ × ℕ)) → IsRising ps → (b p i : ℕ) (r : Result ℕ ℕ) → Some i ≡ result_ok r → (xs : List ℕ) → xs ≡ above_of ps b → IsBinarySearchResult (λ y. nat_cmp y p) xs r
+    → (first_of ps b + i < length ps) × (get_or ps (first_of ps b + i) (0, 0) ≡ (b, p))
+hit ps up b p i r found xs e h =
+    let P : List ℕ → Type 0 = λ ys. IsBinarySearchResult (λ y. nat_cmp y p) ys (Ok i) in
+    let s = searched (above_of ps b) p (Ok i) (subst P e (subst (IsBinarySearchResult (λ y. nat_cmp y p) xs) (from_ok r i found) h)) (above_ascends ps up b) in
+    found_pair ps up b p i s.0 s.1
+
+pub miss : (ps : List (ℕ × ℕ)) → IsRising ps → (b p : ℕ) (r : Result ℕ ℕ) → None ≡ result_ok r → (xs : List ℕ) → xs ≡ above_of ps b → IsBinarySearchResult (λ y. nat_cmp y p) xs r → ¬ (Contains ps (b, p))
+miss ps up b p r none xs e h =
+    let w = from_none r none in
+    let i = w.0 in
     let P : List ℕ → Type 0 = λ ys. IsBinarySearchResult (λ y. nat_cmp y p) ys (Err i) in
-    let s = searched (above_of ps b) p (Err i) (subst P e h) (above_ascends ps r b) in
+    let s = searched (above_of ps b) p (Err i) (subst P e (subst (IsBinarySearchResult (λ y. nat_cmp y p) xs) w.1 h)) (above_ascends ps up b) in
     not_listed ps b p (λ j l q. elim (cases_lt j i) [ inl a ↦ omega (arith, s.1 j a, q) | inr a ↦ omega (arith, s.2 j a l, q) ])

@@ -1,8 +1,9 @@
 -- What is wrong with a record by itself.
-use Rattle.std.proofs.Common.{◌≡◌, ℕ, suc, ◌<◌, Bool, true, false, ltb, List, [], ◌∷◌, length, map, Some, None, Ok, Err, refl, sym, ap, arith}
+use Rattle.std.proofs.Common.{◌≡◌, ℕ, suc, ◌<◌, Bool, true, false, ltb, List, [], ◌∷◌, length, map, Some, None, Result, Ok, Err, refl, sym, ap, ◌∙◌, arith}
 use Rattle.std.specs.Prelude.{◌||◌, nat_le, is_ok}
 use Rattle.std.specs.List.{list_all, list_any}
-use Rattle.std.specs.Result.{result_unwrap_or}
+use Rattle.std.specs.Result.{MatchResult, IsErrAnd, result_unwrap_or}
+use Rattle.std.proofs.lemmas.Bool.{false≢true}
 use Rattle.std.proofs.lemmas.Bool.Decides.{nat_tests}
 use Rattle.std.proofs.lemmas.List.{length-map}
 use Rattle.fixed_worth.specs.Text.{Run}
@@ -21,6 +22,15 @@ unless (UnknownBlock k) f h = f h
 unless (Repeated k) f h = f h
 unless (WrongCount k) f h = f h
 unless (TooMany k) f h = f h
+
+-- what a result was before another error was put in place of its own
+pub ok_before : {T D E : Type 0} (Q : D → E → Type 0) (r : Result T D) (s : Result T E) (x : T) → s ≡ Ok x → MatchResult r (λ y. s ≡ Ok y) (λ d. IsErrAnd s (Q d)) → r ≡ Ok x
+ok_before Q (Ok y) s x is h = ap (λ t. Ok (result_unwrap_or t x)) (sym h ∙ is)
+ok_before Q (Err d) s x is h = absurd (rw is at h)
+
+pub err_before : {T D E : Type 0} (Q : D → E → Type 0) (r : Result T D) (s : Result T E) (e : E) → s ≡ Err e → MatchResult r (λ y. s ≡ Ok y) (λ d. IsErrAnd s (Q d)) → (d : D) × (r ≡ Err d) × Q d e
+err_before Q (Ok y) s e is h = absurd (false≢true (ap is_ok (sym is ∙ h)))
+err_before Q (Err d) s e is h = (d, refl, rw is at h)
 
 pub reads_ok : (f : List ℕ) (v : ℕ) → Ok v ≡ whole_of f → (reads f ≡ true) × (number_of f ≡ v)
 reads_ok f v e = (ap is_ok (sym e), ap (λ r. result_unwrap_or r 0) (sym e))

@@ -16,7 +16,7 @@ use Rattle.prec_file.specs.declared.prec_fault.PrecFault.{PrecFault}
 use Rattle.prec_file.specs.Rests.{RestsView, IsRests, ArePairsOf, from_at, to_at, numbers, above_of, first_of}
 use Rattle.prec_file.specs.Records.{pairs_in, blocks_in, shape_fault, record_fault, fault_behind, or_else, has, blocks_of, pairs_of, first_fault, listed}
 use Rattle.prec_file.specs.Written.{prec_text, AreNarrow}
-use Rattle.prec_file.specs.ReadBack.{AreApart, ReadsBack}
+use Rattle.prec_file.specs.ReadBack.{ReadsBack}
 use Rattle.prec_file.proofs.Shapes.{sound, pairs_at}
 use Rattle.prec_file.proofs.History.{no_fault}
 use Rattle.prec_file.proofs.Slots.{ending_next, ending_none, ending_most}
@@ -217,8 +217,8 @@ unfolding before
 text_records v w = ap (numbered 0) (text_lines v.blocks v.pairs w)
 
 -- What is written is read back.
-pub reads_back : (v : RestsView) → IsRests v → AreApart v.pairs → AreNarrow v → ReadsBack v (prec_text v)
-reads_back v r apart narrow =
+pub reads_back : (v : RestsView) → IsRests v → AreNarrow v → ReadsBack v (prec_text v)
+reads_back v r narrow =
     let n = v.blocks in
     let ps = v.pairs in
     let w = writable v r narrow in
@@ -226,7 +226,7 @@ reads_back v r apart narrow =
     let same : ArePairsOf (listed (prec_text v)) ps = record {
       rising = r.rising;
       held = λ p h d. pair_held n ps n p w (omega arith) (subst (λ xs. Contains xs p) all h);
-      only = λ p h. (subst (λ xs. Contains xs p) (sym all) (pair_listed n ps n p w (omega arith) h (from_known p h)), apart p h);
+      only = λ p h. (subst (λ xs. Contains xs p) (sym all) (pair_listed n ps n p w (omega arith) h (from_known p h)), r.apart p h);
     } in
     record {
       sound = ap (first_fault n []) (text_records v w) ∙ lines_sound n ps n w (omega arith);

@@ -1,12 +1,7 @@
 -- What it means that a written file is read back.
 use Rattle.std.specs.Prelude.{◌≡◌, ℕ, List, None}
-use Rattle.std.specs.List.{Contains}
 use Rattle.prec_file.specs.Rests.{RestsView, ArePairsOf}
 use Rattle.prec_file.specs.Records.{fault_of, listed}
-
--- No block rests on itself.
-abbrev pub AreApart : List (ℕ × ℕ) → Type 0
-AreApart ps = (p : ℕ × ℕ) → Contains ps p → p.0 ≡ p.1 → ⊥
 
 -- The text has no fault for the value's blocks, and its pairs are the value's and no others.
 pub record ReadsBack (v : RestsView) (text : List ℕ) : Type 0 where

@@ -3,13 +3,13 @@
 //! The function does nothing. A caller names it where its own proof needs the law.
 
 ghost use Rattle.prec_file.specs.Written.{prec_text, AreNarrow};
-ghost use Rattle.prec_file.specs.ReadBack.{AreApart, ReadsBack};
+ghost use Rattle.prec_file.specs.ReadBack.{ReadsBack};
 
 use crate::Rests;
 
 /// What [`crate::write_prec`] writes, [`crate::read_prec`] reads without fault, and as the same pairs.
 pub fn written_reads_back(rests: &Rests)
-    ensures { AreApart rests.now.pairs → AreNarrow rests.now → ReadsBack rests.now (prec_text rests.now) }
+    ensures { AreNarrow rests.now → ReadsBack rests.now (prec_text rests.now) }
 {
     let _ = rests.len();
 }

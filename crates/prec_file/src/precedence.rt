@@ -2,7 +2,7 @@
 
 ghost use Rattle.std.specs.Prelude.{◌≡◌, ℕ, ◌+◌, ◌^◌, ◌<◌, ◌≤◌, All, IfOk, MatchResult, MatchOption, length, slice_index_or, map, ◌==◌, not};
 ghost use Rattle.std.specs.List.{filter, Contains};
-ghost use Rattle.prec_file.specs.Rests.{RestsView, IsRests, IsIndexed, IsKnown, KnownAt, IsFirstNot, IsRising, IsStarts, ArePairsOf, from_at, first_of, above_of, below_of};
+ghost use Rattle.prec_file.specs.Rests.{RestsView, IsRests, IsIndexed, AreApart, IsKnown, KnownAt, IsFirstNot, IsRising, IsStarts, ArePairsOf, from_at, first_of, above_of, below_of};
 ghost use Rattle.prec_file.specs.Answer.{FaultStands};
 
 use crate::RestsFault;
@@ -51,6 +51,7 @@ pub(crate) fn indexed(alloc: Global, n: u32, pairs: Vec<(u32, u32)>) -> Result<R
     requires few { length pairs.items ≤ 2 ^ 27 }
     requires known { All (IsKnown n) pairs.items }
     requires rising { IsRising pairs.items }
+    requires apart { AreApart pairs.items }
     ensures { IfOk result (λ r. (r.blocks ≡ n) × (r.pairs ≡ pairs.items)) }
 {
     let firsts = firsts_of(alloc, n, &pairs)?;
@@ -99,20 +100,14 @@ impl Rests {
         requires { n ≤ 2 ^ 24 }
         ensures { MatchResult result (λ r. (r.blocks ≡ n) × ArePairsOf listed.now r.pairs) (λ e. FaultStands n listed.now e) }
     {
-        match first_unknown(n, listed) {
-            Some(i) => return Err(RestsFault::UnknownBlock(i)),
-            None => {}
+        if let Some(i) = first_unknown(n, listed) {
+            return Err(RestsFault::UnknownBlock(i));
         }
         if listed.len() > 134_217_728 {
             return Err(RestsFault::TooMany);
         }
-        let Ok(pairs) = Vec::from_slice(alloc, listed) else {
-            return Err(RestsFault::NoMemory);
-        };
-        match settled(alloc, n, pairs) {
-            Ok(rests) => Ok(rests),
-            Err(_) => Err(RestsFault::NoMemory),
-        }
+        let pairs = Vec::from_slice(alloc, listed).map_err(|_| RestsFault::NoMemory)?;
+        settled(alloc, n, pairs).map_err(|_| RestsFault::NoMemory)
     }
 
     /// The same pairs, with memory of their own.
@@ -193,9 +188,7 @@ impl Rests {
             (λ k. (k < length self.now.pairs) × (slice_index_or self.now.pairs k (0, 0) ≡ (b, p))) }
     {
         let first = self.firsts[b as usize];
-        match self.above(b).binary_search(&p) {
-            Ok(i) => Some(first + i as u32),
-            Err(_) => None,
-        }
+        let i = self.above(b).binary_search(&p).ok()?;
+        Some(first + i as u32)
     }
 }

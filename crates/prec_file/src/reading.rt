@@ -29,23 +29,20 @@ fn read_line(
         (λ e. UnlessMemory e (record_fault n (λ b. slice_index_or seen.old b false) (length pairs.old.items) line (fields_of text.now) ≡ Some e)) }
 {
     let before = pairs.as_slice().len();
-    match read_record(pairs, text, n, line) {
-        Ok(Some(record)) => {
-            if seen[record.block as usize] {
-                return Err(PrecFault::Repeated(line));
-            }
-            if record.count != record.found {
-                return Err(PrecFault::WrongCount(line));
-            }
-            if before as u64 + record.found > 1 << 27 {
-                return Err(PrecFault::TooMany(line));
-            }
-            seen[record.block as usize] = true;
-            Ok(())
-        }
-        Ok(None) => Ok(()),
-        Err(fault) => Err(fault),
+    let Some(record) = read_record(pairs, text, n, line)? else {
+        return Ok(());
+    };
+    if seen[record.block as usize] {
+        return Err(PrecFault::Repeated(line));
     }
+    if record.count != record.found {
+        return Err(PrecFault::WrongCount(line));
+    }
+    if before as u64 + record.found > 1 << 27 {
+        return Err(PrecFault::TooMany(line));
+    }
+    seen[record.block as usize] = true;
+    Ok(())
 }
 
 // The pairs that a text lists, in its order.
@@ -56,19 +53,14 @@ fn read_pairs(alloc: Global, text: &[u8], n: u32) -> Result<Vec<(u32, u32)>, Pre
         × (length pairs.items ≤ 2 ^ 27) × All (IsKnown n) pairs.items)
         (λ e. UnlessMemory e (fault_of n text.now ≡ Some e)) }
 {
-    let Ok(mut seen) = vec![in alloc; false; n as usize] else {
-        return Err(PrecFault::NoMemory);
-    };
+    let mut seen = vec![in alloc; false; n as usize].map_err(|_| PrecFault::NoMemory)?;
     let mut pairs = Vec::new(alloc);
     let mut lines = Lines::new(text);
     loop {
         match lines.next_line() {
             Ok(Some(line)) => {
                 let number = lines.number();
-                match read_line(seen.as_mut_slice(), &mut pairs, line, n, number) {
-                    Ok(()) => {}
-                    Err(fault) => return Err(fault),
-                }
+                read_line(seen.as_mut_slice(), &mut pairs, line, n, number)?;
             }
             Ok(None) => return Ok(pairs),
             Err(_) => return Err(PrecFault::Text(lines.number() + 1)),
@@ -87,10 +79,8 @@ pub fn read_listed(alloc: Global, text: &[u8], n: u32) -> Result<ListedPairs, Pr
         (λ l. (fault_of n text.now ≡ None) × (l.blocks ≡ n) × (l.pairs ≡ listed text.now))
         (λ e. UnlessMemory e (fault_of n text.now ≡ Some e)) }
 {
-    match read_pairs(alloc, text, n) {
-        Ok(pairs) => Ok(ListedPairs::of(n, pairs)),
-        Err(fault) => Err(fault),
-    }
+    let pairs = read_pairs(alloc, text, n)?;
+    Ok(ListedPairs::of(n, pairs))
 }
 
 /// The pairs that a precedence file lists for n blocks.
@@ -108,11 +98,6 @@ pub fn read_prec(alloc: Global, text: &[u8], n: u32) -> Result<Rests, PrecFault>
         (λ r. (fault_of n text.now ≡ None) × (r.blocks ≡ n) × ArePairsOf (listed text.now) r.pairs)
         (λ e. UnlessMemory e (fault_of n text.now ≡ Some e)) }
 {
-    match read_listed(alloc, text, n) {
-        Ok(listed) => match listed.settle(alloc) {
-            Ok(rests) => Ok(rests),
-            Err(_) => Err(PrecFault::NoMemory),
-        },
-        Err(fault) => Err(fault),
-    }
+    let listed = read_listed(alloc, text, n)?;
+    listed.settle(alloc).map_err(|_| PrecFault::NoMemory)
 }

@@ -39,19 +39,15 @@ fn read_predecessors(
     let mut unknown = block >= n as u64;
     let mut found: u64 = 0;
     for field in fields {
-        match whole(field.text) {
-            Ok(predecessor) => {
-                if block < n as u64 && predecessor < n as u64 {
-                    if pairs.push((block as u32, predecessor as u32)).is_err() {
-                        return Err(PrecFault::NoMemory);
-                    }
-                } else {
-                    unknown = true;
-                }
-                found += 1;
-            }
-            Err(_) => return Err(PrecFault::Number(line)),
+        let predecessor = whole(field.text).map_err(|_| PrecFault::Number(line))?;
+        if block < n as u64 && predecessor < n as u64 {
+            pairs
+                .push((block as u32, predecessor as u32))
+                .map_err(|_| PrecFault::NoMemory)?;
+        } else {
+            unknown = true;
         }
+        found += 1;
     }
     Ok((unknown, found))
 }
@@ -82,26 +78,16 @@ pub(crate) fn read_record(
     if is_remark(first.text) {
         return Ok(None);
     }
-    let Some(second) = fields.next() else {
-        return Err(PrecFault::Text(line));
-    };
-    let Ok(block) = whole(first.text) else {
-        return Err(PrecFault::Number(line));
-    };
-    let Ok(count) = whole(second.text) else {
-        return Err(PrecFault::Number(line));
-    };
-    match read_predecessors(pairs, fields, block, n, line) {
-        Ok((unknown, found)) => {
-            if unknown {
-                return Err(PrecFault::UnknownBlock(line));
-            }
-            Ok(Some(Record {
-                block: block as u32,
-                count,
-                found,
-            }))
-        }
-        Err(fault) => Err(fault),
+    let second = fields.next().ok_or(PrecFault::Text(line))?;
+    let block = whole(first.text).map_err(|_| PrecFault::Number(line))?;
+    let count = whole(second.text).map_err(|_| PrecFault::Number(line))?;
+    let (unknown, found) = read_predecessors(pairs, fields, block, n, line)?;
+    if unknown {
+        return Err(PrecFault::UnknownBlock(line));
     }
+    Ok(Some(Record {
+        block: block as u32,
+        count,
+        found,
+    }))
 }

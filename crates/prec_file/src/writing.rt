@@ -34,10 +34,8 @@ fn put_spaced<W: CountedWrite>(page: &mut Page, out: &mut W, number: u64) -> Res
     ensures counted { OnErr result (W.failed out.new ≡ W.failed out.old + 1) }
 {
     let digits = WrittenNumber::of(number as u128);
-    match page.put(out, b" ") {
-        Ok(()) => page.put(out, digits.as_bytes()),
-        Err(fault) => Err(fault),
-    }
+    page.put(out, b" ")?;
+    page.put(out, digits.as_bytes())
 }
 
 // Puts numbers, a space before each.
@@ -53,10 +51,7 @@ fn put_all_spaced<W: CountedWrite>(
     ensures counted { OnErr result (W.failed out.new ≡ W.failed out.old + 1) }
 {
     for number in numbers {
-        match put_spaced(page, out, *number as u64) {
-            Ok(()) => {}
-            Err(fault) => return Err(fault),
-        }
+        put_spaced(page, out, *number as u64)?;
     }
     Ok(())
 }
@@ -75,10 +70,8 @@ fn put_head<W: CountedWrite>(
     ensures counted { OnErr result (W.failed out.new ≡ W.failed out.old + 1) }
 {
     let digits = WrittenNumber::of(block as u128);
-    match page.put(out, digits.as_bytes()) {
-        Ok(()) => put_spaced(page, out, count),
-        Err(fault) => Err(fault),
-    }
+    page.put(out, digits.as_bytes())?;
+    put_spaced(page, out, count)
 }
 
 // Puts the predecessors of a block, and ends its line.
@@ -89,10 +82,8 @@ fn put_rest<W: CountedWrite>(page: &mut Page, out: &mut W, above: &[u32]) -> Res
     ensures prefix { OnErr result (ReceivedPrefix (W.contents out.old) (W.contents out.new) (page.old ++ (spaced above.now ++ (10 ∷ [])))) }
     ensures counted { OnErr result (W.failed out.new ≡ W.failed out.old + 1) }
 {
-    match put_all_spaced(page, out, above) {
-        Ok(()) => page.put(out, b"\n"),
-        Err(fault) => Err(fault),
-    }
+    put_all_spaced(page, out, above)?;
+    page.put(out, b"\n")
 }
 
 // Puts the line of a block.
@@ -110,10 +101,8 @@ fn put_line<W: CountedWrite>(
     ensures counted { OnErr result (W.failed out.new ≡ W.failed out.old + 1) }
 {
     let above = rests.above(block);
-    match put_head(page, out, block, above.len() as u64) {
-        Ok(()) => put_rest(page, out, above),
-        Err(fault) => Err(fault),
-    }
+    put_head(page, out, block, above.len() as u64)?;
+    put_rest(page, out, above)
 }
 
 // Writes the lines of all blocks.
@@ -126,10 +115,7 @@ fn write_lines<W: CountedWrite>(rests: &Rests, out: &mut W) -> Result<(), WriteF
 {
     let mut page = Page::new();
     for block in 0..rests.len() {
-        match put_line(&mut page, out, rests, block) {
-            Ok(()) => {}
-            Err(fault) => return Err(fault),
-        }
+        put_line(&mut page, out, rests, block)?;
     }
     page.finish(out)
 }
@@ -147,12 +133,8 @@ pub fn write_prec<W: CountedWrite>(rests: &Rests, out: &mut W) -> Result<(), Pre
     ensures narrow { OnOk result (AreNarrow rests.now) }
     ensures fault { IfErr result (λ e. WriteFaultStands rests.now (W.contents out.old) (W.contents out.new) (W.failed out.old) (W.failed out.new) e) }
 {
-    match first_wide(rests) {
-        Some(block) => return Err(PrecWriteFault::TooWide(block)),
-        None => {}
+    if let Some(block) = first_wide(rests) {
+        return Err(PrecWriteFault::TooWide(block));
     }
-    match write_lines(rests, out) {
-        Ok(()) => Ok(()),
-        Err(_) => Err(PrecWriteFault::Device),
-    }
+    write_lines(rests, out).map_err(|_| PrecWriteFault::Device)
 }

@@ -16,6 +16,7 @@ invariant_of-result c = record {
   few = c.requires.few;
   known = c.requires.known;
   rising = c.requires.rising;
+  apart = c.requires.apart;
   tops = c.in_ok-tops.ensures ∙ ap (map (λ p. p.1)) c.deref-2.ensures.value;
   firsts = let P : List (ℕ × ℕ) → Type 0 = λ ps. IsStarts (from_at ps) (length ps) c.args.n c.in_ok-firsts.firsts.items in subst P c.deref.ensures.value c.in_ok-firsts.ensures;
   starts = tops_moved c.deref-3.result.now c.args.pairs.items c.args.n _ (c.deref-3.ensures.value ∙ c.in_ok-tops.ensures ∙ ap (map (λ p. p.1)) c.deref-2.ensures.value) c.in_ok-starts.ensures;

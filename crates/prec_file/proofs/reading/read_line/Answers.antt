@@ -6,33 +6,33 @@ use Rattle.prec_file.proofs.reading.read_line.Goals as goal
 
 pub returns-then-seen-record : goal.returns-then-seen-record
 returns-then-seen-record c =
-    let q = rw c.in-Ok-Some.field-0-is at c.in-Ok-Some.ensures in
+    let q = rw c.in-Some.is at c.in_ok-record.ensures in
     let had : ℕ → Bool = λ b. get_or c.args.seen.now b false in
-    repeated c.args.n had (length c.args.pairs.now.items) c.args.line c.in-Ok-Some.record.block (fields_of c.args.text.now) q.0 q.1 q.2 c.if-seen-record.true
+    repeated c.args.n had (length c.args.pairs.now.items) c.args.line c.in-Some.record.block (fields_of c.args.text.now) q.0 q.1 q.2 c.if-seen-record.true
 
 pub returns-then-record : goal.returns-then-record
 returns-then-record c =
-    let q = rw c.in-Ok-Some.field-0-is at c.in-Ok-Some.ensures in
+    let q = rw c.in-Some.is at c.in_ok-record.ensures in
     let had : ℕ → Bool = λ b. get_or c.args.seen.now b false in
-    wrong_count c.args.n had (length c.args.pairs.now.items) c.args.line c.in-Ok-Some.record.block c.in-Ok-Some.record.count c.in-Ok-Some.record.found (fields_of c.args.text.now) q.0 q.1 q.2 c.if-seen-record.false q.4 q.5 c.if-record.true
+    wrong_count c.args.n had (length c.args.pairs.now.items) c.args.line c.in-Some.record.block c.in-Some.record.count c.in-Some.record.found (fields_of c.args.text.now) q.0 q.1 q.2 c.if-seen-record.false q.4 q.5 c.if-record.true
 
 pub returns-then-before-record : goal.returns-then-before-record
 returns-then-before-record c =
-    let q = rw c.in-Ok-Some.field-0-is at c.in-Ok-Some.ensures in
+    let q = rw c.in-Some.is at c.in_ok-record.ensures in
     let had : ℕ → Bool = λ b. get_or c.args.seen.now b false in
     let k = ap length c.as_slice-before.ensures.value in
-    too_many c.args.n had (length c.args.pairs.now.items) c.args.line c.in-Ok-Some.record.block c.in-Ok-Some.record.count c.in-Ok-Some.record.found (fields_of c.args.text.now) q.0 q.1 q.2 c.if-seen-record.false q.4 q.5 c.if-record.false (omega (arith, k))
+    too_many c.args.n had (length c.args.pairs.now.items) c.args.line c.in-Some.record.block c.in-Some.record.count c.in-Some.record.found (fields_of c.args.text.now) q.0 q.1 q.2 c.if-seen-record.false q.4 q.5 c.if-record.false (omega (arith, k))
 
-pub returns-else-before-record : goal.returns-else-before-record
-returns-else-before-record c =
-    let q = rw c.in-Ok-Some.field-0-is at c.in-Ok-Some.ensures in
+pub returns : goal.returns
+returns c =
+    let q = rw c.in-Some.is at c.in_ok-record.ensures in
     let had : ℕ → Bool = λ b. get_or c.args.seen.now b false in
     let k = ap length c.as_slice-before.ensures.value in
-    let few : length c.args.pairs.now.items + c.in-Ok-Some.record.found ≤ 2 ^ 27 = omega (arith, k) in
+    let few : length c.args.pairs.now.items + c.in-Some.record.found ≤ 2 ^ 27 = omega (arith, k) in
     let all = ap length q.7 in
     let more = pairs_length (fields_of c.args.text.now) q.0 in (
-      no_fault c.args.n had (length c.args.pairs.now.items) c.args.line c.in-Ok-Some.record.block c.in-Ok-Some.record.count c.in-Ok-Some.record.found (fields_of c.args.text.now) q.0 q.1 q.2 c.if-seen-record.false q.4 q.5 c.if-record.false few,
+      no_fault c.args.n had (length c.args.pairs.now.items) c.args.line c.in-Some.record.block c.in-Some.record.count c.in-Some.record.found (fields_of c.args.text.now) q.0 q.1 q.2 c.if-seen-record.false q.4 q.5 c.if-record.false few,
       q.7,
       omega (arith, simp length-append at all, more, q.5),
-      marks (fields_of c.args.text.now) c.args.seen.now c.in-Ok-Some.record.block q.0 q.2,
+      marks (fields_of c.args.text.now) c.args.seen.now c.in-Some.record.block q.0 q.2,
     )

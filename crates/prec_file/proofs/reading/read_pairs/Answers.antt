@@ -1,4 +1,5 @@
 use Rattle.std.proofs.Common.{List, Bool, length, ap, sym, subst, ◌∙◌}
+use Rattle.std.proofs.lemmas.Result.{err_from_is_err_and}
 use Rattle.prec_file.proofs.Shapes.{unless}
 use Rattle.prec_file.proofs.Progress.{ReadSoFar, step_on, step_wrong}
 use Rattle.prec_file.proofs.KnownPairs.{more_known}
@@ -9,7 +10,7 @@ use Rattle.prec_file.proofs.reading.read_pairs.Goals as goal
 pub loop-line-preserved : goal.loop-line-preserved
 loop-line-preserved c =
     let q = rw c.in-Ok-Some.field-0-is at c.in-Ok-Some.ensures in
-    let r = c.in-Ok-read_line.ensures in
+    let r = c.in_ok-read_line-in-Ok-Some.ensures in
     let lent = c.as_mut_slice.ensures.value in
     let same = c.read_line.auto.seen ∙ ap length lent in
     let back = written_back c.read_line.new.seen c.loop-line.seen.items c.loop-line.seen.len same c.loop-line.seen.ok.0 in
@@ -23,10 +24,12 @@ loop-line-preserved c =
       known = more_known c.args.n _ (length c.loop-line.pairs.items) c.number-number.result (fields_of c.in-Ok-Some.line.now) c.loop-line.pairs.items c.read_line.new.pairs.items r.0 c.loop-line.invariant.known r.1;
     }
 
-pub returns-in-Err-read_line : goal.returns-in-Err-read_line
-returns-in-Err-read_line c =
+pub returns-in_err-read_line-in-Ok-Some : goal.returns-in_err-read_line-in-Ok-Some
+returns-in_err-read_line-in-Ok-Some c =
     let q = rw c.in-Ok-Some.field-0-is at c.in-Ok-Some.ensures in
     let lent = c.as_mut_slice.ensures.value in
     let g = subst (λ (xs : List Bool). ReadSoFar c.args.n c.args.text.now xs c.loop-line.pairs.items c.loop-line.lines) (sym lent) c.loop-line.invariant.going in
-    unless c.in-Err-read_line.fault (λ w. step_wrong c.args.n c.number-number.result c.args.text.now c.as_mut_slice.result.now c.loop-line.pairs.items c.loop-line.lines c.next_line.new.self c.in-Ok-Some.line.now c.in-Err-read_line.fault
-    g c.number-number.ensures.value q.1 q.2 q.0 w) c.in-Err-read_line.ensures
+    let fault = c.in_err-read_line-in-Ok-Some.field-0.0 in
+    let p = err_from_is_err_and c.from_residual-in_err-read_line-in-Ok-Some.result c.from_residual-in_err-read_line-in-Ok-Some.ensures.1 in
+    rw (p.1, p.2) (unless fault (λ w. step_wrong c.args.n c.number-number.result c.args.text.now c.as_mut_slice.result.now c.loop-line.pairs.items c.loop-line.lines c.next_line.new.self c.in-Ok-Some.line.now fault
+    g c.number-number.ensures.value q.1 q.2 q.0 w) c.in_err-read_line-in-Ok-Some.ensures)

@@ -2,17 +2,18 @@ use Rattle.std.proofs.Common.{◌≡◌, [], ◌∷◌, ◌∙◌}
 use Rattle.std.specs.Fmt.{decimal}
 use Rattle.std.proofs.lemmas.Result.{on_ok_weaker, on_err_weaker}
 use Rattle.fixed_worth.proofs.Pieces.{held_both, prefix_in_first, prefix_in_second}
+use Rattle.prec_file.proofs.WrittenPieces.{on_err}
 use Rattle.prec_file.proofs.writing.put_spaced.Goals as goal
 
-pub returns-in-Ok-clause-held : goal.returns-in-Ok-clause-held
-returns-in-Ok-clause-held g c =
+pub returns-clause-held : goal.returns-clause-held
+returns-clause-held g c =
     let e : c.as_bytes.result.now ≡ decimal c.args.number = c.as_bytes.ensures ∙ c.of-digits.ensures.digits in
-    rw (← e) (on_ok_weaker _ (held_both _ _ _ c.args.page.now c.put.new.self _ (32 ∷ []) c.as_bytes.result.now c.in-Ok.ensures.held) c.put-in-Ok.ensures.held)
+    rw (← e) (on_ok_weaker _ (held_both _ _ _ c.args.page.now c.put.new.self _ (32 ∷ []) c.as_bytes.result.now c.in_ok-put.ensures.held) c.put-2.ensures.held)
 
-pub returns-in-Ok-clause-prefix : goal.returns-in-Ok-clause-prefix
-returns-in-Ok-clause-prefix g c =
+pub returns-clause-prefix : goal.returns-clause-prefix
+returns-clause-prefix g c =
     let e : c.as_bytes.result.now ≡ decimal c.args.number = c.as_bytes.ensures ∙ c.of-digits.ensures.digits in
-    rw (← e) (on_err_weaker _ (prefix_in_second _ _ _ c.args.page.now c.put.new.self (32 ∷ []) c.as_bytes.result.now c.in-Ok.ensures.held) c.put-in-Ok.ensures.prefix)
+    rw (← e) (on_err_weaker _ (prefix_in_second _ _ _ c.args.page.now c.put.new.self (32 ∷ []) c.as_bytes.result.now c.in_ok-put.ensures.held) c.put-2.ensures.prefix)
 
-pub returns-in-Err-clause-prefix : goal.returns-in-Err-clause-prefix
-returns-in-Err-clause-prefix g c = prefix_in_first _ _ c.args.page.now (32 ∷ []) (decimal c.args.number) c.in-Err.ensures.prefix
+pub returns-in_err-put-clause-prefix : goal.returns-in_err-put-clause-prefix
+returns-in_err-put-clause-prefix g c = on_err c.from_residual.result (prefix_in_first _ _ c.args.page.now (32 ∷ []) (decimal c.args.number) c.in_err-put.ensures.prefix)

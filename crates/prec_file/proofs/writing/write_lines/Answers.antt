@@ -3,26 +3,27 @@ use Rattle.std.proofs.lemmas.Result.{on_err_weaker}
 use Rattle.fixed_worth.specs.Device.{SentOrHeld, ReceivedPrefix}
 use Rattle.fixed_worth.proofs.Pieces.{held_more, held_more_prefix, held_prefix, prefix_of_part}
 use Rattle.prec_file.specs.Written.{line_of, lines_below}
-use Rattle.prec_file.proofs.WrittenPieces.{lines_more, lines_front}
+use Rattle.prec_file.proofs.WrittenPieces.{on_err, lines_more, lines_front}
 use Rattle.prec_file.proofs.writing.write_lines.Goals as goal
 
 pub loop-block-preserved : goal.loop-block-preserved
 loop-block-preserved g c = (
   subst (SentOrHeld (g.W.Write.contents c.args.out.now) (g.W.Write.contents c.put_line.new.out) c.put_line.new.page)
       (lines_more c.args.rests.now.pairs c.loop-block.block)
-      (held_more _ _ _ _ _ _ _ c.loop-block.invariant.0 c.in-Ok.ensures.held),
-  c.in-Ok.ensures.kept ∙ c.loop-block.invariant.1,
+      (held_more _ _ _ _ _ _ _ c.loop-block.invariant.0 c.in_ok-put_line.ensures.held),
+  c.in_ok-put_line.ensures.kept ∙ c.loop-block.invariant.1,
 )
 
-pub returns-in-Err-clause-prefix : goal.returns-in-Err-clause-prefix
-returns-in-Err-clause-prefix g c =
+pub returns-in_err-put_line-clause-prefix : goal.returns-in_err-put_line-clause-prefix
+returns-in_err-put_line-clause-prefix g c =
     let ps = c.args.rests.now.pairs in
     let b = c.loop-block.block in
     let all = lines_front ps (b + 1) c.args.rests.now.blocks (omega arith) in
-    prefix_of_part _ _ (lines_below ps (b + 1)) all.0 _ all.1
+    on_err c.from_residual.result
+    (prefix_of_part _ _ (lines_below ps (b + 1)) all.0 _ all.1
     (subst (ReceivedPrefix (g.W.Write.contents c.args.out.now) (g.W.Write.contents c.put_line.new.out))
     (lines_more ps b)
-    (held_more_prefix _ _ _ c.loop-block.page _ (line_of ps b) c.loop-block.invariant.0 c.in-Err.ensures.prefix))
+    (held_more_prefix _ _ _ c.loop-block.page _ (line_of ps b) c.loop-block.invariant.0 c.in_err-put_line.ensures.prefix)))
 
 pub returns-clause-prefix : goal.returns-clause-prefix
 returns-clause-prefix g c =

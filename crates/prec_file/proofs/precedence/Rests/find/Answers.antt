@@ -3,10 +3,10 @@ use Rattle.prec_file.specs.Rests.{RestsView, IsRising, first_of}
 use Rattle.prec_file.proofs.Order.{at_zero}
 use Rattle.prec_file.proofs.Finding.{hit, miss}
 use Rattle.prec_file.proofs.precedence.Rests.find.Goals as goal
-use Rattle.prec_file.proofs.precedence.Rests.find.Goals.{In-Ok}
+use Rattle.prec_file.proofs.precedence.Rests.find.Goals.{In_ok-i}
 
 -- the place that was found, behind b's first pair
-hit_at : (c : In-Ok) → (c.index-first.result.now + c.in-Ok.i < length c.args.self.now.pairs) × (get_or c.args.self.now.pairs (c.index-first.result.now + c.in-Ok.i) (0, 0) ≡ (c.args.b, c.args.p)) × (length c.args.self.now.pairs ≤ 2 ^ 27)
+hit_at : (c : In_ok-i) → (c.index-first.result.now + c.in_ok-i.i < length c.args.self.now.pairs) × (get_or c.args.self.now.pairs (c.index-first.result.now + c.in_ok-i.i) (0, 0) ≡ (c.args.b, c.args.p)) × (length c.args.self.now.pairs ≤ 2 ^ 27)
 hit_at c =
     let up = subst (λ (v : RestsView). IsRising v.pairs) c.self.view_is c.self.invariant.rising in
     let few = subst (λ (v : RestsView). length v.pairs ≤ 2 ^ 27) c.self.view_is c.self.invariant.few in
@@ -15,7 +15,7 @@ hit_at c =
     let first : c.index-first.result.now ≡ first_of c.args.self.now.pairs c.args.b =
     at_zero c.self.inside.blocks c.args.b _ c.self.inside.firsts.items starts.size (omega arith) c.index-first.ensures
     ∙ starts.at c.args.b (omega arith) ∙ ap (λ v. first_of v.pairs c.args.b) c.self.view_is in
-    let h = hit c.args.self.now.pairs up c.args.b c.args.p c.in-Ok.i c.above.result.now c.above.ensures c.in-Ok.ensures.position in
+    let h = hit c.args.self.now.pairs up c.args.b c.args.p c.in_ok-i.i c.binary_search.result c.in_ok-i.ensures.value c.above.result.now c.above.ensures c.binary_search.ensures.position in
     rw first (h.0, h.1, few)
 
 pub overflow_cast-result : goal.overflow_cast-result
@@ -24,10 +24,10 @@ overflow_cast-result c = let h = hit_at c in omega (arith, h.0, h.2)
 pub overflow_add-result : goal.overflow_add-result
 overflow_add-result c = let h = hit_at c in omega (arith, h.0, h.2)
 
-pub returns-in-Ok : goal.returns-in-Ok
-returns-in-Ok c = let h = hit_at c in (h.0, h.1)
+pub returns : goal.returns
+returns c = let h = hit_at c in (h.0, h.1)
 
-pub returns-in-Err : goal.returns-in-Err
-returns-in-Err c =
+pub returns-in_err-i : goal.returns-in_err-i
+returns-in_err-i c =
     let up = subst (λ (v : RestsView). IsRising v.pairs) c.self.view_is c.self.invariant.rising in
-    miss c.args.self.now.pairs up c.args.b c.args.p c.in-Err.field-0 c.above.result.now c.above.ensures c.in-Err.ensures.position
+    rw c.from_residual.ensures (miss c.args.self.now.pairs up c.args.b c.args.p c.binary_search.result c.in_err-i.ensures.value c.above.result.now c.above.ensures c.binary_search.ensures.position)
