@@ -3,7 +3,7 @@ use Rattle.std.proofs.Common.{◌≡◌, ℕ, ◌+◌, Bool, true, false, not, e
 use Rattle.std.specs.Prelude.{◌&&◌, map, nat_lt}
 use Rattle.std.specs.List.{list_all, flat_map, position_or_len, onto_first}
 use Rattle.std.proofs.lemmas.List.Folds.{list_all-append}
-use Rattle.std.proofs.Math.Seq.{take-append_seam, drop-append_seam, take-length, drop-length}
+use Rattle.std.proofs.Math.Seq.{take-append_seam, drop-append_seam}
 use Rattle.fixed_worth.specs.Text.{lines_of, fields_of, is_separator, runs_from}
 use Rattle.fixed_worth.specs.Laws.{with_line_feeds}
 use Rattle.fixed_worth.proofs.Cuts.{Runs, first_run}
@@ -24,7 +24,7 @@ all_pass_weaker p q w (b ∷ bs) h =
     let k = both_pass (p b) (list_all p bs) h in
     pass_both (q b) (list_all q bs) (w b k.0) (all_pass_weaker p q w bs k.1)
 
-not_passes : (t : Bool) → not t ≡ true → t ≡ false
+pub not_passes : (t : Bool) → not t ≡ true → t ≡ false
 not_passes true h = cc
 not_passes false h = refl
 
@@ -64,48 +64,50 @@ is_word word = nat_lt 0 (length word) && list_all (λ b. not (is_separator b)) w
 abbrev pub behind_spaces : List (List ℕ) → List ℕ
 behind_spaces words = flat_map (λ word. 32 ∷ word) words
 
+-- a text is empty, or its first byte passes
+abbrev pub Breaks : (ℕ → Bool) → List ℕ → Type 0
+Breaks p [] = Unit {0}
+Breaks p (b ∷ bs) = p b ≡ true
+
+-- where no byte passes, and then the text breaks, the first place is there
+pub place_of_break : (p : ℕ → Bool) (word rest : List ℕ) → list_all (λ b. not (p b)) word ≡ true → Breaks p rest → position_or_len p (word ++ rest) ≡ length word
+place_of_break p [] [] h r = refl
+place_of_break p [] (b ∷ bs) h r = rw r refl
+place_of_break p (b ∷ word) rest h r =
+    let q = both_pass (not (p b)) (list_all (λ c. not (p c)) word) h in
+    let e : p b ≡ false = not_passes (p b) q.0 in
+    let n : position_or_len p (b ∷ (word ++ rest)) ≡ 1 + position_or_len p (word ++ rest) = rw e refl in
+    omega (arith, n, place_of_break p word rest q.1 r)
+
+-- a word, and then nothing or a separator: the first field is the word
+pub word_run : (p : ℕ) (word rest : List ℕ) → is_word word ≡ true → Breaks is_separator rest
+    → runs_from p (word ++ rest) ≡ record { text = word; place = p } ∷ runs_from (p + length word) rest
+word_run p [] rest h r = absurd cc
+word_run p (b ∷ bs) rest h r =
+    let s = (both_pass (nat_lt 0 (length (b ∷ bs))) (list_all (λ x. not (is_separator x)) (b ∷ bs)) h).1 in
+    let e : is_separator b ≡ false = not_passes (is_separator b) (both_pass (not (is_separator b)) (list_all (λ x. not (is_separator x)) bs) s).0 in
+    let runs : Runs p (b ∷ bs ++ rest) (length (b ∷ bs)) = subst (λ (w : ℕ). Runs p (b ∷ bs ++ rest) w) (place_of_break is_separator (b ∷ bs) rest s r) (first_run p (b ∷ bs ++ rest) (omega arith) e) in
+    runs
+    ∙ ap (λ t. record { text = t; place = p } ∷ runs_from (p + length (b ∷ bs)) (drop (length (b ∷ bs)) (b ∷ bs ++ rest))) (take-append_seam (b ∷ bs) rest)
+    ∙ ap (λ t. record { text = b ∷ bs; place = p } ∷ runs_from (p + length (b ∷ bs)) t) (drop-append_seam (b ∷ bs) rest)
+
+-- a separator before the fields
+pub gap_run : (p b : ℕ) (rest : List ℕ) → is_separator b ≡ true → runs_from p (b ∷ rest) ≡ runs_from (p + 1) rest
+gap_run p b rest h = rw h refl
+
+-- a word is one field
+pub word_alone : (p : ℕ) (word : List ℕ) → is_word word ≡ true → runs_from p word ≡ record { text = word; place = p } ∷ []
+word_alone p word h = ap (runs_from p) (sym (append-nil word)) ∙ word_run p word [] h tt
+
 space : is_separator 32 ≡ true
 unfolding is_separator
 space = refl
 
-word_ends : (word rest : List ℕ) → list_all (λ b. not (is_separator b)) word ≡ true → position_or_len is_separator (word ++ (32 ∷ rest)) ≡ length word
-word_ends [] rest h = rw space refl
-word_ends (b ∷ bs) rest h =
-    let q = both_pass (not (is_separator b)) (list_all (λ x. not (is_separator x)) bs) h in
-    let e : is_separator b ≡ false = not_passes (is_separator b) q.0 in
-    let n : position_or_len is_separator (b ∷ (bs ++ (32 ∷ rest))) ≡ 1 + position_or_len is_separator (bs ++ (32 ∷ rest)) = rw e refl in
-    omega (arith, n, word_ends bs rest q.1)
-
-word_is_all : (word : List ℕ) → list_all (λ b. not (is_separator b)) word ≡ true → position_or_len is_separator word ≡ length word
-word_is_all [] h = refl
-word_is_all (b ∷ bs) h =
-    let q = both_pass (not (is_separator b)) (list_all (λ x. not (is_separator x)) bs) h in
-    let e : is_separator b ≡ false = not_passes (is_separator b) q.0 in
-    let n : position_or_len is_separator (b ∷ bs) ≡ 1 + position_or_len is_separator bs = rw e refl in
-    omega (arith, n, word_is_all bs q.1)
-
 -- the first word of a line
 word_cut : (p : ℕ) (word rest : List ℕ) → is_word word ≡ true
     → runs_from p (word ++ (32 ∷ rest)) ≡ record { text = word; place = p } ∷ runs_from (p + length word + 1) rest
-word_cut p [] rest h = absurd cc
-word_cut p (b ∷ bs) rest h =
-    let s = (both_pass (nat_lt 0 (length (b ∷ bs))) (list_all (λ x. not (is_separator x)) (b ∷ bs)) h).1 in
-    let e : is_separator b ≡ false = not_passes (is_separator b) (both_pass (not (is_separator b)) (list_all (λ x. not (is_separator x)) bs) s).0 in
-    let r : Runs p (b ∷ bs ++ (32 ∷ rest)) (length (b ∷ bs)) = subst (λ (w : ℕ). Runs p (b ∷ bs ++ (32 ∷ rest)) w) (word_ends (b ∷ bs) rest s) (first_run p (b ∷ bs ++ (32 ∷ rest)) (omega arith) e) in
-    r
-    ∙ ap (λ t. record { text = t; place = p } ∷ runs_from (p + length (b ∷ bs)) (drop (length (b ∷ bs)) (b ∷ bs ++ (32 ∷ rest)))) (take-append_seam (b ∷ bs) (32 ∷ rest))
-    ∙ ap (λ t. record { text = b ∷ bs; place = p } ∷ runs_from (p + length (b ∷ bs)) t) (drop-append_seam (b ∷ bs) (32 ∷ rest))
-    ∙ rw space refl
-
-word_alone : (p : ℕ) (word : List ℕ) → is_word word ≡ true → runs_from p word ≡ record { text = word; place = p } ∷ []
-word_alone p [] h = absurd cc
-word_alone p (b ∷ bs) h =
-    let s = (both_pass (nat_lt 0 (length (b ∷ bs))) (list_all (λ x. not (is_separator x)) (b ∷ bs)) h).1 in
-    let e : is_separator b ≡ false = not_passes (is_separator b) (both_pass (not (is_separator b)) (list_all (λ x. not (is_separator x)) bs) s).0 in
-    let r : Runs p (b ∷ bs) (length (b ∷ bs)) = subst (λ (w : ℕ). Runs p (b ∷ bs) w) (word_is_all (b ∷ bs) s) (first_run p (b ∷ bs) (omega arith) e) in
-    r
-    ∙ ap (λ t. record { text = t; place = p } ∷ runs_from (p + length (b ∷ bs)) (drop (length (b ∷ bs)) (b ∷ bs))) (take-length (b ∷ bs))
-    ∙ ap (λ t. record { text = b ∷ bs; place = p } ∷ runs_from (p + length (b ∷ bs)) t) (drop-length (b ∷ bs))
+word_cut p word rest h =
+    word_run p word (32 ∷ rest) h space ∙ ap (λ runs. record { text = word; place = p } ∷ runs) (gap_run (p + length word) 32 rest space)
 
 words_cut : (p : ℕ) (word : List ℕ) (words : List (List ℕ)) → is_word word ≡ true → list_all is_word words ≡ true
     → map (λ r. r.text) (runs_from p (word ++ behind_spaces words)) ≡ word ∷ words

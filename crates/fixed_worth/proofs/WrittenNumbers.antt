@@ -5,7 +5,7 @@ use Rattle.std.specs.Result.{result_unwrap_or}
 use Rattle.std.specs.List.{list_all}
 use Rattle.std.specs.Fmt.{decimal}
 use Rattle.std.proofs.lemmas.Bool.Decides.{nat_tests}
-use Rattle.std.proofs.lemmas.Fmt.{decimal_by_steps, length-decimal-le}
+use Rattle.std.proofs.lemmas.Fmt.{decimal_by_steps_wide, length-decimal-le}
 use Rattle.std.proofs.lemmas.List.Folds.{list_all-append}
 use Rattle.fixed_worth.specs.Numeral.{is_digit, value_of, whole_of}
 use Rattle.fixed_worth.specs.Record.{is_remark, reads, number_of}
@@ -32,21 +32,29 @@ written_more n text h w = record {
   value = value_of-append text ((48 + n % 10) ∷ []) ∙ rw w.value (omega arith);
 }
 
-written : (n : ℕ) → n < 2 ^ 64 → IsWritten n (decimal n)
-written = decimal_by_steps IsWritten written_one written_more
+written : (n : ℕ) → n < 10 ^ 64 → IsWritten n (decimal n)
+written = decimal_by_steps_wide IsWritten written_one written_more
+
+-- it is digits of this value
+pub decimal_digits : (n : ℕ) → n < 10 ^ 64 → list_all is_digit (decimal n) ≡ true
+decimal_digits n h = (written n h).digits
+
+pub value_of-decimal : (n : ℕ) → n < 10 ^ 64 → value_of (decimal n) ≡ n
+value_of-decimal n h = (written n h).value
 
 -- it is read as the number
 pub whole_of-decimal : (n : ℕ) → n < 2 ^ 64 → whole_of (decimal n) ≡ Ok n
 unfolding whole_of
 whole_of-decimal n h =
-    let w = written n h in
+    let w = written n (omega arith) in
     let some : nat_lt 0 (length (decimal n)) ≡ true = grind (arith, nat_tests, w.some) in
     let few : length (decimal n) ≤ 20 = length-decimal-le 20 n (omega arith) (omega arith) h in
     let short : nat_lt 39 (length (decimal n)) ≡ false = grind (arith, nat_tests) in
     let below : nat_lt n (2 ^ 64) ≡ true = grind (arith, nat_tests) in
     rw (some, w.digits, short, w.value, below) refl
 
-digit_separates_not : (b : ℕ) → is_digit b ≡ true → not (is_separator b) ≡ true
+-- a digit is no separator, and no line feed
+pub digit_separates_not : (b : ℕ) → is_digit b ≡ true → not (is_separator b) ≡ true
 unfolding is_separator
 digit_separates_not b h =
     let q = both_pass (nat_le 48 b) (nat_le b 57) h in
@@ -58,7 +66,7 @@ digit_separates_not b h =
     let k : eqb b 13 ≡ false = grind (arith, nat_tests) in
     rw (e, f, g, k) refl
 
-digit_is_one_line : (b : ℕ) → is_digit b ≡ true → not (eqb b 10) ≡ true
+pub digit_is_one_line : (b : ℕ) → is_digit b ≡ true → not (eqb b 10) ≡ true
 digit_is_one_line b h =
     let q = both_pass (nat_le 48 b) (nat_le b 57) h in
     let e : eqb b 10 ≡ false = grind (arith, nat_tests) in
@@ -67,13 +75,13 @@ digit_is_one_line b h =
 -- it is one word
 pub decimal_is_word : (n : ℕ) → n < 2 ^ 64 → is_word (decimal n) ≡ true
 decimal_is_word n h =
-    let w = written n h in
+    let w = written n (omega arith) in
     pass_both (nat_lt 0 (length (decimal n))) (list_all (λ b. not (is_separator b)) (decimal n)) (grind (arith, nat_tests, w.some))
     (all_pass_weaker is_digit (λ b. not (is_separator b)) digit_separates_not (decimal n) w.digits)
 
 -- it has no line feed
 pub decimal_is_one_line : (n : ℕ) → n < 2 ^ 64 → is_one_line (decimal n) ≡ true
-decimal_is_one_line n h = all_pass_weaker is_digit (λ b. not (eqb b 10)) digit_is_one_line (decimal n) (written n h).digits
+decimal_is_one_line n h = all_pass_weaker is_digit (λ b. not (eqb b 10)) digit_is_one_line (decimal n) (decimal_digits n (omega arith))
 
 no_remark : (text : List ℕ) → list_all is_digit text ≡ true → is_remark text ≡ false
 no_remark [] h = refl
@@ -84,7 +92,7 @@ no_remark (b ∷ bs) h =
 
 -- it begins no remark
 pub decimal_is_no_remark : (n : ℕ) → n < 2 ^ 64 → is_remark (decimal n) ≡ false
-decimal_is_no_remark n h = no_remark (decimal n) (written n h).digits
+decimal_is_no_remark n h = no_remark (decimal n) (decimal_digits n (omega arith))
 
 -- ---- numbers in a row
 

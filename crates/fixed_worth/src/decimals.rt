@@ -46,22 +46,18 @@ fn first_point(text: &[u8]) -> Option<usize>
     text.iter().position(|b| is_point_byte(*b))
 }
 
+#[tactic(auto, using(crate::proofs::Cuts::unwrap_position))]
 fn mark_length(text: &[u8]) -> usize
     ensures { result ≡ position_or_len is_mark text.now }
 {
-    match first_mark(text) {
-        Some(i) => i,
-        None => text.len(),
-    }
+    first_mark(text).unwrap_or(text.len())
 }
 
+#[tactic(auto, using(crate::proofs::Cuts::unwrap_position))]
 fn point_length(text: &[u8]) -> usize
     ensures { result ≡ position_or_len is_point text.now }
 {
-    match first_point(text) {
-        Some(i) => i,
-        None => text.len(),
-    }
+    first_point(text).unwrap_or(text.len())
 }
 
 // The parts of a numeral, and whether it has the mark of an exponent, which may then not be empty.
@@ -93,15 +89,9 @@ fn mantissa(whole: &[u8], fraction: &[u8]) -> Option<u128>
     requires second { IsTrue (list_all is_digit fraction.now) }
     ensures { SomeIff result (value_of (whole.now ++ fraction.now) < 2 ^ 128) (value_of (whole.now ++ fraction.now)) }
 {
-    let mut all = match value(whole) {
-        Some(front) => front,
-        None => return None,
-    };
+    let mut all = value(whole)?;
     for b in fraction {
-        match with_digit(all, *b - b'0') {
-            Some(more) => all = more,
-            None => return None,
-        }
+        all = with_digit(all, *b - b'0')?;
     }
     Some(all)
 }
@@ -134,20 +124,14 @@ fn magnitude(parts: Parts<'_>) -> Result<u128, NumberFault>
     if parts.whole.len() > 36 || parts.fraction.len() > 36 - parts.whole.len() {
         return Err(NumberFault::TooLong);
     }
-    let shift = match value(parts.exponent) {
-        Some(n) if n <= 40 => n as u32,
-        _ => return Err(NumberFault::TooLong),
-    };
-    let Some(m) = mantissa(parts.whole, parts.fraction) else {
-        return Err(NumberFault::TooLong);
-    };
+    let shift = value(parts.exponent)
+        .filter(|n| *n <= 40)
+        .ok_or(NumberFault::TooLong)? as u32;
+    let m = mantissa(parts.whole, parts.fraction).ok_or(NumberFault::TooLong)?;
     let places = parts.fraction.len() as u32;
     let up = if parts.down { 6 } else { 6 + shift };
     let down = if parts.down { places + shift } else { places };
-    match rounded(m, up, down) {
-        Some(n) => Ok(n),
-        None => Err(NumberFault::TooLarge),
-    }
+    rounded(m, up, down).ok_or(NumberFault::TooLarge)
 }
 
 // A numeral with a point and an exponent, in millionths.
@@ -158,12 +142,6 @@ pub(crate) fn decimal(text: &[u8]) -> Result<i64, NumberFault>
     if !are_parts(parts, marked) {
         return Err(NumberFault::NotANumber);
     }
-    match magnitude(parts) {
-        Ok(n) => Ok(if has_minus(text) {
-            -(n as i64)
-        } else {
-            n as i64
-        }),
-        Err(fault) => Err(fault),
-    }
+    let n = magnitude(parts)? as i64;
+    Ok(if has_minus(text) { -n } else { n })
 }

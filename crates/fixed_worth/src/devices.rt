@@ -163,9 +163,6 @@ impl<T: Write> CountedWrite for Counted<T> {
     }
 
     fn write_once(&mut self, piece: &[u8]) -> Option<usize> {
-        match self.write(piece) {
-            Ok(taken) if taken > 0 => Some(taken),
-            _ => None,
-        }
+        self.write(piece).ok().filter(|taken| *taken > 0)
     }
 }

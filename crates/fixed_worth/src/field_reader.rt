@@ -51,23 +51,19 @@ fn first_separator(text: &[u8]) -> Option<usize>
 }
 
 // How many separators come first.
+#[tactic(auto, using(crate::proofs::Cuts::unwrap_position))]
 fn gap_length(text: &[u8]) -> usize
     ensures { result ≡ position_or_len (λ b. not (is_separator b)) text.now }
 {
-    match first_other(text) {
-        Some(i) => i,
-        None => text.len(),
-    }
+    first_other(text).unwrap_or(text.len())
 }
 
 // How many bytes stand before the first separator.
+#[tactic(auto, using(crate::proofs::Cuts::unwrap_position))]
 fn run_length(text: &[u8]) -> usize
     ensures { result ≡ position_or_len is_separator text.now }
 {
-    match first_separator(text) {
-        Some(i) => i,
-        None => text.len(),
-    }
+    first_separator(text).unwrap_or(text.len())
 }
 
 impl<'a> Fields<'a> {

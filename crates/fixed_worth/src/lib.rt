@@ -36,7 +36,7 @@ pub use millionths::Micros;
 pub use numbered::WrittenNumber;
 pub use numerals::{NumberFault, plain_signed, signed_whole, whole};
 pub use pages::Page;
-pub use printing::{MicrosTotal, Nanos};
+pub use printing::{MicrosTotal, Nanos, trimmed_fraction};
 pub use remark::is_remark;
 pub use sending::{WriteFault, write_text};
 pub use short_line::ShortLine;

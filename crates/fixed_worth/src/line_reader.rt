@@ -38,13 +38,11 @@ fn first_line_feed(text: &[u8]) -> Option<usize>
 }
 
 // How many bytes stand before the first line feed.
+#[tactic(auto, using(crate::proofs::Cuts::unwrap_position))]
 fn line_length(text: &[u8]) -> usize
     ensures { result ≡ position_or_len (λ b. b == 10) text.now }
 {
-    match first_line_feed(text) {
-        Some(i) => i,
-        None => text.len(),
-    }
+    first_line_feed(text).unwrap_or(text.len())
 }
 
 pub(crate) fn behind_first(text: &[u8]) -> &[u8]

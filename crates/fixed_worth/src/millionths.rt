@@ -63,10 +63,8 @@ impl Micros {
     pub fn from_text(text: &[u8]) -> Result<Micros, NumberFault>
         ensures { result ≡ decimal_of text.now }
     {
-        match decimal(text) {
-            Ok(millionths) => Ok(Micros { millionths }),
-            Err(fault) => Err(fault),
-        }
+        let millionths = decimal(text)?;
+        Ok(Micros { millionths })
     }
 
     /// How many millionths the amount is.

@@ -31,10 +31,7 @@ pub(crate) fn are_digits(text: &[u8]) -> bool
 pub(crate) fn with_digit(value: u128, digit: u8) -> Option<u128>
     ensures { SomeIff result (value * 10 + digit < 2 ^ 128) (value * 10 + digit) }
 {
-    match value.checked_mul(10) {
-        Some(shifted) => shifted.checked_add(digit as u128),
-        None => None,
-    }
+    value.checked_mul(10)?.checked_add(digit as u128)
 }
 
 // The value of a text of digits that is too short for a sum to overflow, as nearly all numbers of a file are: each byte
@@ -59,10 +56,7 @@ pub(crate) fn value(text: &[u8]) -> Option<u128>
     ensures { SomeIff result (value_of text.now < 2 ^ 128) (value_of text.now) }
 {
     if text.len() <= 19 {
-        match short_value(text) {
-            Some(all) => Some(u128::from(all)),
-            None => unreachable!(),
-        }
+        short_value(text).map(u128::from)
     } else {
         long_value(text)
     }
@@ -75,10 +69,7 @@ fn long_value(text: &[u8]) -> Option<u128>
 {
     let mut all = 0;
     for b in text {
-        match with_digit(all, *b - b'0') {
-            Some(more) => all = more,
-            None => return None,
-        }
+        all = with_digit(all, *b - b'0')?;
     }
     Some(all)
 }
@@ -103,10 +94,9 @@ pub(crate) fn number_below(text: &[u8], limit: u128) -> Result<u128, NumberFault
     if text.len() > 39 {
         return Err(NumberFault::TooLong);
     }
-    match long_value(text) {
-        Some(n) if n < limit => Ok(n),
-        _ => Err(NumberFault::TooLarge),
-    }
+    long_value(text)
+        .filter(|n| *n < limit)
+        .ok_or(NumberFault::TooLarge)
 }
 
 /// Reads a whole number without a sign, such as a block number or a count. Leading zeros are allowed.
@@ -117,10 +107,8 @@ pub(crate) fn number_below(text: &[u8], limit: u128) -> Result<u128, NumberFault
 pub fn whole(text: &[u8]) -> Result<u64, NumberFault>
     ensures { result ≡ whole_of text.now }
 {
-    match number_below(text, 1 << 64) {
-        Ok(n) => Ok(n as u64),
-        Err(fault) => Err(fault),
-    }
+    let n = number_below(text, 1 << 64)?;
+    Ok(n as u64)
 }
 
 pub(crate) fn has_minus(text: &[u8]) -> bool
@@ -161,15 +149,11 @@ pub fn signed_whole(text: &[u8]) -> Result<i128, NumberFault>
     ensures { result ≡ signed_of text.now }
 {
     if has_minus(text) {
-        match number_below(without_sign(text), (1 << 127) + 1) {
-            Ok(n) => Ok(negated(n)),
-            Err(fault) => Err(fault),
-        }
+        let size = number_below(without_sign(text), (1 << 127) + 1)?;
+        Ok(negated(size))
     } else {
-        match number_below(without_sign(text), 1 << 127) {
-            Ok(n) => Ok(n as i128),
-            Err(fault) => Err(fault),
-        }
+        let size = number_below(without_sign(text), 1 << 127)?;
+        Ok(size as i128)
     }
 }
 

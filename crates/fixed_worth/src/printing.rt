@@ -20,12 +20,15 @@ pub struct Nanos(pub i128);
 #[derive(Clone, Copy, Debug, PartialEq, Eq, PartialOrd, Ord)]
 pub struct MicrosTotal(pub i128);
 
-// The fraction without its trailing zeros, and how many places it then has.
-fn trimmed(fraction: u32, places: usize) -> (u32, usize)
+/// A fraction of so many places without its trailing zeros, and how many places it then has: 15 and 2 for 1,500 with 4
+/// places, which is 0.1500.
+pub fn trimmed_fraction(fraction: u64, places: usize) -> (u64, usize)
     requires some { 0 < fraction }
     requires below_one { fraction < 10 ^ places }
     ensures same { without_trailing_zeros (fixed_width places fraction) ≡ fixed_width result.1 result.0 }
-    ensures shown { 0 < result.1 }
+    ensures shown { (0 < result.1) × (result.1 ≤ places) }
+    ensures below_one { result.0 < 10 ^ result.1 }
+    ensures at_most { result.0 ≤ fraction }
 {
     let mut digits = fraction;
     let mut width = places;
@@ -38,7 +41,7 @@ fn trimmed(fraction: u32, places: usize) -> (u32, usize)
 
 fn write_fraction<W: fmt::Write>(
     f: &mut fmt::Formatter<W>,
-    fraction: u32,
+    fraction: u64,
     places: usize,
 ) -> fmt::Result
     requires { fraction < 10 ^ places }
@@ -47,7 +50,7 @@ fn write_fraction<W: fmt::Write>(
     if fraction == 0 {
         return Ok(());
     }
-    let (digits, width) = trimmed(fraction, places);
+    let (digits, width) = trimmed_fraction(fraction, places);
     write!(f, ".{digits:0width$}")
 }
 
@@ -70,7 +73,7 @@ pub(crate) fn write_amount<W: fmt::Write>(
     let unit = tenth_power(places);
     let size = amount.unsigned_abs();
     let whole = size / unit;
-    let fraction = (size % unit) as u32;
+    let fraction = (size % unit) as u64;
     write_sign(f, amount)?;
     write!(f, "{whole}")?;
     write_fraction(f, fraction, places as usize)

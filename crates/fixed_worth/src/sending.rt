@@ -28,10 +28,7 @@ pub fn write_text<W: CountedWrite>(out: &mut W, text: &[u8]) -> Result<(), Write
     let mut done = 0;
     while done < text.len() {
         let (_, rest) = text.split_at(done);
-        match out.write_once(rest) {
-            Some(taken) => done += taken,
-            None => return Err(WriteFault::Device),
-        }
+        done += out.write_once(rest).ok_or(WriteFault::Device)?;
     }
     Ok(())
 }

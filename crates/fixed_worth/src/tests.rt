@@ -1,7 +1,7 @@
 use crate::NumberFault::{NotANumber, TooLarge, TooLong};
 use crate::{
     Field, Fields, Lines, Micros, MicrosTotal, Nanos, NumberFault, TextFault, laws, plain_signed,
-    signed_whole, whole,
+    signed_whole, trimmed_fraction, whole,
 };
 use std::test::Fail;
 
@@ -146,6 +146,12 @@ fn printed_amounts(rt: HostRuntime) -> Result<(), Fail> {
     let half = Micros::new(-500_000).ok_or("half a unit is an amount")?;
     assert_eq!(rt; half.to_string(rt.alloc())?.as_str(), "-0.5");
     Ok(())
+}
+
+#[test]
+fn trimmed_fractions(rt: HostRuntime) {
+    assert_eq!(rt; trimmed_fraction(1_500, 4), (15, 2));
+    assert_eq!(rt; trimmed_fraction(25, 6), (25, 6));
 }
 
 #[test]

@@ -45,14 +45,12 @@ pub fn read_whole<R: CountedRead>(
     let mut text = Vec::new(alloc);
     let mut piece = [0u8; PIECE];
     while text.len() as u64 <= limit {
-        let taken = match from.read_once(&mut piece) {
-            None => return Err(InputFault::Device),
-            Some(0) => return Ok(text),
-            Some(taken) => taken,
-        };
-        if text.extend_from_slice(&piece[..taken]).is_err() {
-            return Err(InputFault::NoMemory);
+        let taken = from.read_once(&mut piece).ok_or(InputFault::Device)?;
+        if taken == 0 {
+            return Ok(text);
         }
+        text.extend_from_slice(&piece[..taken])
+            .map_err(|_| InputFault::NoMemory)?;
     }
     Err(InputFault::InputTooLong)
 }

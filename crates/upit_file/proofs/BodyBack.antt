@@ -1,26 +1,25 @@
 -- The lines of blocks are read back.
-use Rattle.std.proofs.Common.{◌≡◌, ℕ, ℤ, pos, zero, suc, ◌+◌, ◌^◌, ◌<◌, ◌≤◌, Bool, true, false, cond, not, eqb, List, [], ◌∷◌, ◌++◌, length, get_or, Some, None, refl, ap, ◌∙◌, arith, All, length-append}
-use Rattle.std.specs.Prelude.{◌&&◌, ◌||◌, nat_le, unsigned_abs, codes}
+use Rattle.std.proofs.Common.{◌≡◌, ℕ, ℤ, pos, zero, suc, ◌+◌, ◌^◌, ◌<◌, ◌≤◌, Bool, true, false, cond, not, eqb, List, [], ◌∷◌, ◌++◌, length, get_or, Some, None, refl, sym, ap, ◌∙◌, arith, All, length-append, append-nil}
+use Rattle.std.specs.Prelude.{◌||◌, nat_lt, nat_le, unsigned_abs, codes}
 use Rattle.std.specs.Option.{option_or}
 use Rattle.std.specs.List.{list_all}
 use Rattle.std.specs.Fmt.{decimal}
 use Rattle.std.proofs.lemmas.Bool.Decides.{nat_tests}
-use Rattle.std.proofs.lemmas.Fmt.{decimal_nonempty, length-decimal-le_wide}
+use Rattle.std.proofs.lemmas.Fmt.{length-decimal-le_wide}
 use Rattle.std.proofs.lemmas.List.Folds.{list_all-append}
-use Rattle.fixed_worth.specs.Numeral.{is_digit}
 use Rattle.fixed_worth.specs.Printed.{printed}
-use Rattle.fixed_worth.specs.Record.{Line, numbered, is_remark, is_skipped}
+use Rattle.fixed_worth.specs.Record.{Line, numbered, is_skipped}
 use Rattle.fixed_worth.specs.Text.{is_separator, fields_of}
 use Rattle.fixed_worth.proofs.Lengths.{printed_micros_short}
 use Rattle.upit_file.specs.declared.fault.UpitFault.TheVariants.{Text}
 use Rattle.upit_file.specs.Header.{is_long, fields_in, is_end}
 use Rattle.upit_file.specs.Body.{block_of, value_of, shape_fault, record_fault, line_fault, is_record_of, has_record, value_among, first_fault, before_end}
 use Rattle.upit_file.specs.Writing.{record_line, record_lines}
+use Rattle.fixed_worth.proofs.Joined.{pass_both, is_one_line, is_word, fields_cut}
 use Rattle.fixed_worth.proofs.NextLine.{line, short}
+use Rattle.fixed_worth.proofs.WrittenNumbers.{whole_of-decimal, digit_separates_not, digit_is_one_line, decimal_is_word, decimal_is_one_line, decimal_is_no_remark}
 use Rattle.upit_file.proofs.BodyLines.{has-push}
-use Rattle.upit_file.proofs.Words.{is_word, decimal_digits, digits_are_word, digit_no_separator, two_fields}
-use Rattle.upit_file.proofs.ReadBack.{whole_read, printed_read, printed_all, printed_some}
-use Rattle.upit_file.proofs.LinesBack.{is_line, AreLines, digit_no_line_feed, digits_are_line}
+use Rattle.upit_file.proofs.ReadBack.{printed_read, printed_all, printed_some}
 
 abbrev pub Sizes : List ℤ → Type 0
 Sizes [] = Unit {0}
@@ -32,24 +31,20 @@ sizes_each (v ∷ vs) a = (a 0 v (omega arith), sizes_each vs (λ k d h. a (suc 
 
 printed_word : (v : ℤ) → unsigned_abs v ≤ 10 ^ 18 → is_word (printed 6 v) ≡ true
 unfolding is_separator
-printed_word v h = printed_all (λ b. not (is_separator b)) v digit_no_separator refl refl h
+printed_word v h =
+    let some : nat_lt 0 (length (printed 6 v)) ≡ true = grind (arith, nat_tests, printed_some v h) in
+    pass_both (nat_lt 0 (length (printed 6 v))) (list_all (λ b. not (is_separator b)) (printed 6 v)) some (printed_all (λ b. not (is_separator b)) v digit_separates_not refl refl h)
 
 pub record_fields : (b : ℕ) (v : ℤ) → b < 2 ^ 24 → unsigned_abs v ≤ 10 ^ 18 → fields_of (record_line b v) ≡ decimal b ∷ printed 6 v ∷ []
-record_fields b v h s = two_fields (decimal b) (printed 6 v) (decimal_nonempty b (omega arith)) (printed_some v s) (digits_are_word (decimal b) (decimal_digits b (omega arith))) (printed_word v s)
+record_fields b v h s =
+    ap (λ (word : List ℕ). fields_of (decimal b ++ (32 ∷ word))) (sym (append-nil (printed 6 v)))
+    ∙ fields_cut (decimal b) (printed 6 v ∷ []) (decimal_is_word b (omega arith)) (pass_both (is_word (printed 6 v)) true (printed_word v s) refl)
 
 record_short : (b : ℕ) (v : ℤ) → b < 2 ^ 24 → unsigned_abs v ≤ 10 ^ 18 → length (record_line b v) ≤ 65536
 record_short b v h s =
     let a = length-decimal-le_wide 8 b (omega arith) (omega arith) (omega arith) in
     let p = printed_micros_short v s in
     omega (arith, length-append (decimal b) (32 ∷ printed 6 v))
-
-digits_no_remark : (ds : List ℕ) → list_all is_digit ds ≡ true → is_remark ds ≡ false
-digits_no_remark [] h = refl
-digits_no_remark (d ∷ ds) h = by_test (is_digit d) refl h
-  where
-    by_test : (t : Bool) → is_digit d ≡ t → (t && list_all is_digit ds) ≡ true → eqb d 37 ≡ false
-    by_test true e k = grind (arith, nat_tests)
-    by_test false e k = cc
 
 -- The line is the record of block b with the value v.
 record IsRecordOf (b : ℕ) (v : ℤ) (l : Line) : Type 0 where
@@ -61,10 +56,10 @@ record IsRecordOf (b : ℕ) (v : ℤ) (l : Line) : Type 0 where
   worth : value_of (fields_in l) ≡ v
 
 two_shape : (line b : ℕ) (v : ℤ) → b < 2 ^ 24 → unsigned_abs v ≤ 10 ^ 18 → shape_fault line (decimal b ∷ printed 6 v ∷ []) ≡ None
-two_shape line b v h s = rw (whole_read b (omega arith), printed_read v s) refl
+two_shape line b v h s = rw (whole_of-decimal b (omega arith), printed_read v s) refl
 
 two_block : (b : ℕ) (v : ℤ) → b < 2 ^ 24 → block_of (decimal b ∷ printed 6 v ∷ []) ≡ b
-two_block b v h = rw (whole_read b (omega arith)) refl
+two_block b v h = rw (whole_of-decimal b (omega arith)) refl
 
 two_worth : (b : ℕ) (v : ℤ) → unsigned_abs v ≤ 10 ^ 18 → value_of (decimal b ∷ printed 6 v ∷ []) ≡ v
 two_worth b v s = rw (printed_read v s) refl
@@ -76,7 +71,7 @@ is_record k b v h s =
     record {
       small = t;
       open_so = ap is_end f;
-      kept = ap is_skipped f ∙ digits_no_remark (decimal b) (decimal_digits b (omega arith));
+      kept = ap is_skipped f ∙ decimal_is_no_remark b (omega arith);
       shape = ap (shape_fault k) f ∙ two_shape k b v h s;
       block = ap block_of f ∙ two_block b v h;
       worth = ap value_of f ∙ two_worth b v s;
@@ -134,10 +129,11 @@ body_back k b (v ∷ vs) m s =
     ∙ ap (λ ls. l ∷ ls) (body_back (k + 1) (b + 1) vs (omega arith) s.1)
 
 -- No record has a line feed.
-pub record_lines_whole : (b : ℕ) (vs : List ℤ) → b + length vs ≤ 2 ^ 24 → Sizes vs → AreLines (record_lines b vs)
-record_lines_whole b [] m s = tt
+pub record_lines_whole : (b : ℕ) (vs : List ℤ) → b + length vs ≤ 2 ^ 24 → Sizes vs → list_all is_one_line (record_lines b vs) ≡ true
+record_lines_whole b [] m s = refl
 record_lines_whole b (v ∷ vs) m s =
     let q : ℕ → Bool = λ c. not (eqb c 10) in
-    let a : is_line (decimal b) ≡ true = digits_are_line (decimal b) (decimal_digits b (omega arith)) in
-    let p : is_line (printed 6 v) ≡ true = printed_all q v digit_no_line_feed refl refl s.0 in
-    (list_all-append q (decimal b) (32 ∷ printed 6 v) ∙ rw (a, p) refl, record_lines_whole (b + 1) vs (omega arith) s.1)
+    let a : is_one_line (decimal b) ≡ true = decimal_is_one_line b (omega arith) in
+    let p : is_one_line (printed 6 v) ≡ true = printed_all q v digit_is_one_line refl refl s.0 in
+    let here : is_one_line (record_line b v) ≡ true = list_all-append q (decimal b) (32 ∷ printed 6 v) ∙ rw (a, p) refl in
+    pass_both (is_one_line (record_line b v)) (list_all is_one_line (record_lines (b + 1) vs)) here (record_lines_whole (b + 1) vs (omega arith) s.1)

@@ -47,7 +47,7 @@ value_other : (before : List Line) (l : Line) (b : ℕ) → is_record_of b (fiel
 value_other [] l b e = rw e refl
 value_other (x ∷ xs) l b e = ap (cond (is_record_of b (fields_in x)) (value_of (fields_in x))) (value_other xs l b e)
 
-or_parts : (a b : Bool) → (a || b) ≡ false → (a ≡ false) × (b ≡ false)
+pub or_parts : (a b : Bool) → (a || b) ≡ false → (a ≡ false) × (b ≡ false)
 or_parts true b h = absurd (true≢false h)
 or_parts false b h = (refl, h)
 

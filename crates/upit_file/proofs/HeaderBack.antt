@@ -5,7 +5,7 @@ use Rattle.std.specs.Option.{option_or}
 use Rattle.std.specs.List.{list_any, position_or_len}
 use Rattle.std.specs.Fmt.{decimal}
 use Rattle.std.proofs.lemmas.Bool.Decides.{nat_tests}
-use Rattle.std.proofs.lemmas.Fmt.{decimal_nonempty, length-decimal-le_wide}
+use Rattle.std.proofs.lemmas.Fmt.{length-decimal-le_wide}
 use Rattle.std.proofs.lemmas.List.{take_all}
 use Rattle.fixed_worth.specs.Record.{Line}
 use Rattle.fixed_worth.specs.Text.{Run, is_separator, run_before, runs_from}
@@ -15,9 +15,9 @@ use Rattle.upit_file.specs.declared.key.Key.TheVariants.{Name, FileType, Blocks,
 use Rattle.upit_file.specs.declared.fault.UpitFault.TheVariants.{Text}
 use Rattle.upit_file.specs.Header.{is_long, fields_in, key_in, header, after_header, first_count, count_fault, key_fault, last_end, from_second, name_in, last_name, header_line_fault, header_lines_fault, last_fault, end_fault, header_fault}
 use Rattle.upit_file.specs.Records.{is_name}
+use Rattle.fixed_worth.proofs.Joined.{both_pass, not_passes, word_run, gap_run, word_alone}
 use Rattle.fixed_worth.proofs.NextLine.{line, short}
-use Rattle.upit_file.proofs.Words.{word_run, gap_run, one_word, decimal_digits, digits_are_word}
-use Rattle.upit_file.proofs.ReadBack.{whole_read}
+use Rattle.fixed_worth.proofs.WrittenNumbers.{whole_of-decimal, decimal_is_word}
 
 -- ---- the name
 
@@ -56,14 +56,6 @@ last_is : (c : ℕ) (cs : List ℕ) → get_or (c ∷ cs) (length cs) 0 ≡ last
 last_is c [] = refl
 last_is c (d ∷ ds) = last_is d ds
 
-and_first : (a b : Bool) → (a && b) ≡ true → (a ≡ true) × (b ≡ true)
-and_first true b h = (refl, h)
-and_first false b h = cc
-
-not_true : (t : Bool) → not t ≡ true → t ≡ false
-not_true true h = cc
-not_true false h = refl
-
 -- What a name is that is not empty.
 record NameParts (c : ℕ) (cs : List ℕ) : Type 0 where
   few : length (c ∷ cs) ≤ 60000
@@ -79,15 +71,15 @@ name_parts c cs h =
     let d = not (is_separator c) in
     let e = not (is_separator (get_or (c ∷ cs) (suc (length cs) - 1) 0)) in
     let all : (a && b && d && e) ≡ true = rw some at h in
-    let p = and_first (a && b && d) e all in
-    let q = and_first (a && b) d p.0 in
-    let r = and_first a b q.0 in
+    let p = both_pass (a && b && d) e all in
+    let q = both_pass (a && b) d p.0 in
+    let r = both_pass a b q.0 in
     let k : suc (length cs) - 1 ≡ length cs = omega arith in
     record {
       few = (let t : nat_le (suc (length cs)) 60000 ≡ true = r.0 in grind (arith, nat_tests));
-      whole = not_true _ r.1;
-      first = not_true (is_separator c) q.1;
-      last = ap is_separator (sym (last_is c cs)) ∙ ap (λ i. is_separator (get_or (c ∷ cs) i 0)) (sym k) ∙ not_true _ p.1;
+      whole = not_passes _ r.1;
+      first = not_passes (is_separator c) q.1;
+      last = ap is_separator (sym (last_is c cs)) ∙ ap (λ i. is_separator (get_or (c ∷ cs) i 0)) (sym k) ∙ not_passes _ p.1;
     }
 
 pub name_few : (name : List ℕ) → is_name name ≡ true → length name ≤ 60000
@@ -103,7 +95,7 @@ name_runs : (name : List ℕ) → runs_from 0 (codes "NAME: " ++ name) ≡ recor
 unfolding is_separator
 name_runs name =
     let key : Run = record { text = codes "NAME"; place = 0 } in
-    word_run 0 78 (65 ∷ 77 ∷ 69 ∷ []) (58 ∷ 32 ∷ name) refl refl ∙ ap (λ (rs : List Run). key ∷ rs) (gap_run 4 58 (32 ∷ name) refl ∙ gap_run 5 32 name refl)
+    word_run 0 (codes "NAME") (58 ∷ 32 ∷ name) refl refl ∙ ap (λ (rs : List Run). key ∷ rs) (gap_run 4 58 (32 ∷ name) refl ∙ gap_run 5 32 name refl)
 
 second_is : (line : List ℕ) (key r : Run) (rs : List Run) (n : ℕ) → r.place ≡ 6 → last_end 0 (r ∷ rs) ≡ n → length line ≤ n → from_second line (key ∷ r ∷ rs) ≡ drop 6 line
 second_is line key r rs n e f h = ap (λ p. drop p (take (last_end 0 (r ∷ rs)) line)) e ∙ ap (λ m. drop 6 (take m line)) f ∙ ap (drop 6) (take_all n line h)
@@ -162,14 +154,14 @@ count_runs : (n : ℕ) → n < 2 ^ 64 → runs_from 0 (codes "NBLOCKS: " ++ deci
 unfolding is_separator
 count_runs n h =
     let key : Run = record { text = codes "NBLOCKS"; place = 0 } in
-    word_run 0 78 (66 ∷ 76 ∷ 79 ∷ 67 ∷ 75 ∷ 83 ∷ []) (58 ∷ 32 ∷ decimal n) refl refl
-    ∙ ap (λ (rs : List Run). key ∷ rs) (gap_run 7 58 (32 ∷ decimal n) refl ∙ gap_run 8 32 (decimal n) refl ∙ one_word 9 (decimal n) (decimal_nonempty n h) (digits_are_word (decimal n) (decimal_digits n (omega arith))))
+    word_run 0 (codes "NBLOCKS") (58 ∷ 32 ∷ decimal n) refl refl
+    ∙ ap (λ (rs : List Run). key ∷ rs) (gap_run 7 58 (32 ∷ decimal n) refl ∙ gap_run 8 32 (decimal n) refl ∙ word_alone 9 (decimal n) (decimal_is_word n h))
 
 count_sound_fields : (n line : ℕ) → n ≤ 2 ^ 24 → count_fault n line (codes "NBLOCKS" ∷ decimal n ∷ []) ≡ None
 count_sound_fields n line h =
     let same : eqb n n ≡ true = grind (arith, nat_tests) in
     let small : nat_lt (2 ^ 24) n ≡ false = grind (arith, nat_tests) in
-    rw (whole_read n (omega arith), same, small) refl
+    rw (whole_of-decimal n (omega arith), same, small) refl
 
 count_sound : (n : ℕ) → n ≤ 2 ^ 24 → IsSound n Blocks (line 3 (codes "NBLOCKS: " ++ decimal n))
 count_sound n h =

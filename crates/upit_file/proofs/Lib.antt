@@ -3,9 +3,7 @@ pub mod BodyLines
 pub mod Names
 pub mod RecordLines
 pub mod LineFeeds
-pub mod Words
 pub mod ReadBack
-pub mod LinesBack
 pub mod BodyBack
 pub mod HeaderBack
 pub mod RoundTrip

@@ -4,12 +4,9 @@ use Rattle.std.proofs.Math.Seq.{take-suc}
 use Rattle.std.proofs.lemmas.List.{take-append-drop, length-take-le}
 use Rattle.fixed_worth.specs.Laws.{with_line_feeds}
 use Rattle.fixed_worth.specs.Device.{SentOrHeld, ReceivedPrefix}
+use Rattle.fixed_worth.proofs.Joined.{with_line_feeds-append}
 use Rattle.fixed_worth.proofs.Pieces.{held_both, prefix_in_first, prefix_in_second}
 use Rattle.upit_file.specs.Writing.{record_line, record_lines}
-
-pub with_line_feeds-append : (xs ys : List (List ℕ)) → with_line_feeds (xs ++ ys) ≡ with_line_feeds xs ++ with_line_feeds ys
-with_line_feeds-append [] ys = refl
-with_line_feeds-append (x ∷ xs) ys = ap (λ l. x ++ (10 ∷ l)) (with_line_feeds-append xs ys) ∙ sym (append_assoc x (10 ∷ with_line_feeds xs) (with_line_feeds ys))
 
 pub record_lines-append : (b : ℕ) (xs ys : List ℤ) → record_lines b (xs ++ ys) ≡ record_lines b xs ++ record_lines (b + length xs) ys
 record_lines-append b [] ys = let e : b + 0 ≡ b = omega arith in rw e refl

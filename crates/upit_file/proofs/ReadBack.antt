@@ -11,27 +11,14 @@ use Rattle.std.proofs.lemmas.List.Folds.{list_all-append}
 use Rattle.std.proofs.lemmas.Fmt.{length-decimal-le_wide, decimal_nonempty}
 use Rattle.fixed_worth.specs.declared.numerals.NumberFault.{NumberFault}
 use Rattle.fixed_worth.specs.declared.numerals.NumberFault.TheVariants.{NotANumber, TooLong}
-use Rattle.fixed_worth.specs.Numeral.{is_digit, is_number, value_of, whole_of, is_minus, unsigned_of, with_sign}
+use Rattle.fixed_worth.specs.Numeral.{is_digit, is_number, value_of, is_minus, unsigned_of, with_sign}
 use Rattle.fixed_worth.specs.Decimal.{is_mark, is_point, mantissa_of, whole_part, fraction_part, exponent_of, has_mark, most, decimal_of}
 use Rattle.fixed_worth.specs.Printed.{fixed_width, digit_before, without_trailing_zeros, fraction_text, printed}
 use Rattle.fixed_worth.specs.Rounding.{rounded_of}
 use Rattle.fixed_worth.proofs.Digits.{value_of-append}
 use Rattle.fixed_worth.proofs.Powers.{rounds_up}
-use Rattle.upit_file.proofs.Words.{decimal_digits, value_of_decimal, first_place, Breaks}
-
--- ---- a whole number
-
-pub whole_read : (n : ℕ) → n < 2 ^ 64 → whole_of (decimal n) ≡ Ok n
-unfolding whole_of
-whole_read n h =
-    let digits : list_all is_digit (decimal n) ≡ true = decimal_digits n (omega arith) in
-    let short = length-decimal-le_wide 20 n (omega arith) (omega arith) (omega arith) in
-    let long = decimal_nonempty n h in
-    let some : nat_lt 0 (length (decimal n)) ≡ true = grind (arith, nat_tests) in
-    let few : nat_lt 39 (length (decimal n)) ≡ false = grind (arith, nat_tests) in
-    let value : value_of (decimal n) ≡ n = value_of_decimal n (omega arith) in
-    let small : nat_lt n (2 ^ 64) ≡ true = grind (arith, nat_tests) in
-    rw (some, digits, few, value, small) refl
+use Rattle.fixed_worth.proofs.Joined.{both_pass, all_pass_weaker, Breaks, place_of_break}
+use Rattle.fixed_worth.proofs.WrittenNumbers.{decimal_digits, value_of-decimal}
 
 -- ---- a fraction
 
@@ -39,14 +26,10 @@ digits_before : (d : ℕ) (ds : List ℕ) → is_digit d ≡ true → list_all i
 digits_before d [] h k = elim (eqb d 48) as (λ t. list_all is_digit (cond t [] (d ∷ [])) ≡ true) [ true ↦ refl | false ↦ rw h refl ]
 digits_before d (e ∷ es) h k = rw (h, k) refl
 
-and_first : (a b : Bool) → (a && b) ≡ true → (a ≡ true) × (b ≡ true)
-and_first true b h = (refl, h)
-and_first false b h = cc
-
 trimmed_digits : (ds : List ℕ) → list_all is_digit ds ≡ true → list_all is_digit (without_trailing_zeros ds) ≡ true
 trimmed_digits [] h = refl
 trimmed_digits (d ∷ ds) h =
-    let p = and_first (is_digit d) (list_all is_digit ds) h in
+    let p = both_pass (is_digit d) (list_all is_digit ds) h in
     digits_before d (without_trailing_zeros ds) p.0 (trimmed_digits ds p.1)
 
 -- Dropped zeros count as tens.
@@ -101,7 +84,7 @@ places_are f h =
     let all : list_all is_digit (fixed_width 6 f) ≡ true = list_all-append is_digit (replicate (6 - length (decimal f)) 48) (decimal f) ∙ rw (zeros_digits (6 - length (decimal f)), decimal_digits f (omega arith)) refl in
     let short = length-decimal-le_wide 6 f (omega arith) h (omega arith) in
     let six : length (fixed_width 6 f) ≡ 6 = omega (arith, length-append (replicate (6 - length (decimal f)) 48) (decimal f), length-replicate {A = ℕ} (6 - length (decimal f)) 48) in
-    let v : value_of (fixed_width 6 f) ≡ f = zeros_value (6 - length (decimal f)) (decimal f) ∙ value_of_decimal f (omega arith) in
+    let v : value_of (fixed_width 6 f) ≡ f = zeros_value (6 - length (decimal f)) (decimal f) ∙ value_of-decimal f (omega arith) in
     let s = trimmed_same (fixed_width 6 f) in
     record {
       digits = trimmed_digits (fixed_width 6 f) all;
@@ -112,15 +95,11 @@ places_are f h =
 -- ---- a printed value
 
 -- Each byte of a printed value is a digit, a minus (45) or a point (46).
-all_of : (q : ℕ → Bool) (ds : List ℕ) → ((b : ℕ) → is_digit b ≡ true → q b ≡ true) → list_all is_digit ds ≡ true → list_all q ds ≡ true
-all_of q [] d h = refl
-all_of q (b ∷ bs) d h = let r = and_first (is_digit b) (list_all is_digit bs) h in rw (d b r.0, all_of q bs d r.1) refl
-
 fraction_all : (q : ℕ → Bool) (f : ℕ) → ((b : ℕ) → is_digit b ≡ true → q b ≡ true) → q 46 ≡ true → f < 10 ^ 6 → list_all q (fraction_text 6 f) ≡ true
 unfolding fraction_text
 fraction_all q f d p h =
     let g = places_are f h in
-    elim (eqb f 0) as (λ t. list_all q (cond t [] (46 ∷ places f)) ≡ true) [ true ↦ refl | false ↦ rw (p) (all_of q (places f) d g.digits) ]
+    elim (eqb f 0) as (λ t. list_all q (cond t [] (46 ∷ places f)) ≡ true) [ true ↦ refl | false ↦ rw (p) (all_pass_weaker is_digit q d (places f) g.digits) ]
 
 sign_all : (q : ℕ → Bool) (t : Bool) → q 45 ≡ true → list_all q (sign_text t) ≡ true
 sign_all q true h = rw h refl
@@ -131,7 +110,7 @@ unfolding printed
 printed_all q z d p m h =
     let w = unsigned_abs z / 10 ^ 6 in
     let f = unsigned_abs z % 10 ^ 6 in
-    let a : list_all q (decimal w) ≡ true = all_of q (decimal w) d (decimal_digits w (omega arith)) in
+    let a : list_all q (decimal w) ≡ true = all_pass_weaker is_digit q d (decimal w) (decimal_digits w (omega arith)) in
     let b : list_all q (fraction_text 6 f) ≡ true = fraction_all q f d p (omega arith) in
     list_all-append q (sign_text (is_negative z)) (decimal w ++ fraction_text 6 f) ∙ rw (sign_all q (is_negative z) m) (list_all-append q (decimal w) (fraction_text 6 f) ∙ rw (a, b) refl)
 
@@ -180,7 +159,7 @@ unfolding is_point
 digit_no_point b h = grind (arith, nat_tests)
 
 no_place : (p : ℕ → Bool) (w : List ℕ) → list_all (λ b. not (p b)) w ≡ true → position_or_len p w ≡ length w
-no_place p w h = ap (position_or_len p) (sym (append-nil w)) ∙ first_place p w [] h tt
+no_place p w h = ap (position_or_len p) (sym (append-nil w)) ∙ place_of_break p w [] h tt
 
 abbrev pointed : Bool → List ℕ → List ℕ
 pointed none g = cond none [] (46 ∷ g)
@@ -216,18 +195,18 @@ no_marks : (s t : Bool) (w g : List ℕ) → list_all is_digit w ≡ true → li
 unfolding is_mark
 no_marks s t w g h k =
     let q : ℕ → Bool = λ b. not (is_mark b) in
-    list_all-append q (sign_text s) (w ++ pointed t g) ∙ rw (sign_all q s refl) (list_all-append q w (pointed t g) ∙ rw (all_of q w digit_no_mark h, pointed_all q t g refl (all_of q g digit_no_mark k)) refl)
+    list_all-append q (sign_text s) (w ++ pointed t g) ∙ rw (sign_all q s refl) (list_all-append q w (pointed t g) ∙ rw (all_pass_weaker is_digit q digit_no_mark w h, pointed_all q t g refl (all_pass_weaker is_digit q digit_no_mark g k)) refl)
 
 parts_are : (s t : Bool) (d : ℕ) (ds g : List ℕ) → list_all is_digit (d ∷ ds) ≡ true → list_all is_digit g ≡ true → Parts (sign_text s ++ ((d ∷ ds) ++ pointed t g)) (d ∷ ds) (behind_point t g) s
 unfolding has_mark exponent_of whole_part fraction_part
 parts_are s t d ds g h k =
     let w = d ∷ ds in
     let text = sign_text s ++ ((d ∷ ds) ++ pointed t g) in
-    let first : is_digit d ≡ true = (and_first (is_digit d) (list_all is_digit ds) h).0 in
+    let first : is_digit d ≡ true = (both_pass (is_digit d) (list_all is_digit ds) h).0 in
     let at : position_or_len is_mark (sign_text s ++ ((d ∷ ds) ++ pointed t g)) ≡ length (sign_text s ++ ((d ∷ ds) ++ pointed t g)) = no_place is_mark text (no_marks s t (d ∷ ds) g h k) in
     let all : before_first is_mark text ≡ text = ap (λ n. take n text) at ∙ take-length text in
     let mantissa : mantissa_of text ≡ (d ∷ ds) ++ pointed t g = ap unsigned_of all ∙ unsigned_so s d (ds ++ pointed t g) first in
-    let point : position_or_len is_point ((d ∷ ds) ++ pointed t g) ≡ length (d ∷ ds) = first_place is_point (d ∷ ds) (pointed t g) (all_of (λ b. not (is_point b)) (d ∷ ds) digit_no_point h) (breaks_at_point t g) in
+    let point : position_or_len is_point ((d ∷ ds) ++ pointed t g) ≡ length (d ∷ ds) = place_of_break is_point (d ∷ ds) (pointed t g) (all_pass_weaker is_digit (λ b. not (is_point b)) digit_no_point (d ∷ ds) h) (breaks_at_point t g) in
     record {
       mark = (let n = length text in let l : nat_lt (length text) (length text) ≡ false = grind (arith, nat_tests) in ap (λ i. nat_lt i (length text)) at ∙ l);
       exponent = ap (λ i. drop (i + 1) text) at ∙ drop_all (length text + 1) text (omega arith);
@@ -271,7 +250,7 @@ read_whole s t w f n (d ∷ ds) e h k z all small =
     let p = places_are f k in
     let whole : list_all is_digit (d ∷ ds) ≡ true = subst (λ (xs : List ℕ). list_all is_digit xs ≡ true) e (decimal_digits w (omega arith)) in
     let digits : list_all is_digit ((d ∷ ds) ++ behind_point t (places f)) ≡ true = list_all-append is_digit (d ∷ ds) (behind_point t (places f)) ∙ rw (whole, behind_digits t (places f) p.digits) refl in
-    let value : value_of (d ∷ ds) ≡ w = ap value_of (sym e) ∙ value_of_decimal w (omega arith) in
+    let value : value_of (d ∷ ds) ≡ w = ap value_of (sym e) ∙ value_of-decimal w (omega arith) in
     let few : length (d ∷ ds) ≤ 13 = omega (arith, ap length e, length-decimal-le_wide 13 w (omega arith) h (omega arith)) in
     from_parts (sign_text s ++ ((d ∷ ds) ++ pointed t (places f))) (d ∷ ds) (behind_point t (places f)) s (parts_are s t d ds (places f) whole p.digits)
     ∙ digits_read (d ∷ ds) (behind_point t (places f)) s n digits (omega arith) few (behind_few t (places f) p.few) (worth w f t (d ∷ ds) z value p ∙ all) small

@@ -1,39 +1,43 @@
 -- What is written is read back.
-use Rattle.std.proofs.Common.{◌≡◌, ℕ, ℤ, ◌+◌, ◌^◌, ◌≤◌, Bool, true, false, List, [], ◌∷◌, ◌++◌, length, refl, sym, ap, ◌∙◌, arith}
-use Rattle.std.specs.Prelude.{◌&&◌, nat_le, codes}
+use Rattle.std.proofs.Common.{◌≡◌, ℕ, ℤ, ◌+◌, ◌^◌, ◌≤◌, Bool, true, false, not, eqb, List, [], ◌∷◌, ◌++◌, length, refl, sym, ap, ◌∙◌, arith}
+use Rattle.std.specs.Prelude.{nat_le, codes}
+use Rattle.std.specs.List.{list_all, list_any}
 use Rattle.std.specs.Option.{option_or}
 use Rattle.std.specs.Fmt.{decimal}
 use Rattle.std.proofs.lemmas.Bool.Decides.{nat_tests}
+use Rattle.std.proofs.lemmas.List.Folds.{list_all-append}
 use Rattle.fixed_worth.specs.Record.{Line, numbered}
 use Rattle.upit_file.specs.Header.{header, last_name, header_fault}
 use Rattle.upit_file.specs.Body.{body, before_end, first_fault, value_among}
 use Rattle.upit_file.specs.Records.{UpitView, is_name, lines_in}
 use Rattle.upit_file.specs.Writing.{header_lines, record_lines, upit_lines, upit_text}
 use Rattle.upit_file.specs.RoundTrip.{CanBeWritten, IsReadBack}
-use Rattle.upit_file.proofs.Words.{decimal_digits}
-use Rattle.upit_file.proofs.LinesBack.{is_line, AreLines, lines_back, lines-append, none_is_line, digits_are_line}
+use Rattle.fixed_worth.proofs.Joined.{both_pass, is_one_line, lines_cut}
+use Rattle.fixed_worth.proofs.WrittenNumbers.{decimal_is_one_line}
+use Rattle.upit_file.proofs.BodyLines.{or_parts}
 use Rattle.upit_file.proofs.HeaderBack.{name_whole, written, header_back}
 use Rattle.upit_file.proofs.BodyBack.{Sizes, sizes_each, no_first_fault, values_back, body_back, record_lines_whole}
 
-and_first : (a b : Bool) → (a && b) ≡ true → (a ≡ true) × (b ≡ true)
-and_first true b h = (refl, h)
-and_first false b h = cc
+none_passes : (p : ℕ → Bool) (bs : List ℕ) → list_any p bs ≡ false → list_all (λ b. not (p b)) bs ≡ true
+none_passes p [] h = refl
+none_passes p (b ∷ bs) h = let q = or_parts (p b) (list_any p bs) h in rw (q.0, none_passes p bs q.1) refl
 
 -- No line that is written has a line feed within.
-all_lines : (name : List ℕ) (vs : List ℤ) → is_name name ≡ true → length vs ≤ 2 ^ 24 → Sizes vs → AreLines (header_lines name (length vs) ++ (record_lines 0 vs ++ (codes "EOF" ∷ [])))
+all_lines : (name : List ℕ) (vs : List ℤ) → is_name name ≡ true → length vs ≤ 2 ^ 24 → Sizes vs → list_all is_one_line (header_lines name (length vs) ++ (record_lines 0 vs ++ (codes "EOF" ∷ []))) ≡ true
 all_lines name vs h few s =
-    let a : is_line name ≡ true = none_is_line name (name_whole name h) in
-    let b : is_line (decimal (length vs)) ≡ true = digits_are_line (decimal (length vs)) (decimal_digits (length vs) (omega arith)) in
-    (a, (refl, (b, (refl, lines-append (record_lines 0 vs) (codes "EOF" ∷ []) (record_lines_whole 0 vs (omega arith) s) (refl, tt)))))
+    let a : is_one_line name ≡ true = none_passes (λ b. eqb b 10) name (name_whole name h) in
+    let b : is_one_line (decimal (length vs)) ≡ true = decimal_is_one_line (length vs) (omega arith) in
+    let c : list_all is_one_line (record_lines 0 vs ++ (codes "EOF" ∷ [])) ≡ true = list_all-append is_one_line (record_lines 0 vs) (codes "EOF" ∷ []) ∙ rw (record_lines_whole 0 vs (omega arith) s) refl in
+    rw (a, b, c) refl
 
 -- The lines that are read are those that were written.
 read_lines : (u : UpitView) → is_name u.name ≡ true → length u.values ≤ 2 ^ 24 → Sizes u.values → lines_in (upit_text u) ≡ written u.name (length u.values) (numbered 4 (record_lines 0 u.values ++ (codes "EOF" ∷ [])))
-read_lines u h few s = ap (numbered 0) (lines_back (upit_lines u) (all_lines u.name u.values h few s))
+read_lines u h few s = ap (numbered 0) (lines_cut (upit_lines u) (all_lines u.name u.values h few s))
 
 pub read_back : (u : UpitView) → CanBeWritten u → IsReadBack u
 read_back u c =
     let n = length u.values in
-    let form = and_first (is_name u.name) (nat_le (length u.values) (2 ^ 24)) c.form in
+    let form = both_pass (is_name u.name) (nat_le (length u.values) (2 ^ 24)) c.form in
     let few : length u.values ≤ 2 ^ 24 = let t : nat_le (length u.values) (2 ^ 24) ≡ true = form.1 in grind (arith, nat_tests) in
     let s = sizes_each u.values c.sizes in
     let rest = numbered 4 (record_lines 0 u.values ++ (codes "EOF" ∷ [])) in

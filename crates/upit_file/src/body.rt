@@ -18,24 +18,15 @@ pub(crate) fn read_body(alloc: Global, lines: &mut Lines, n: u32) -> Result<Vec<
         × ((b : ℕ) → b < n → slice_index_or values.items b (pos 0) ≡ spec.value_among body b))
         (λ e. UnlessMemory e (spec.first_fault n [] body ≡ Some e)) }
 {
-    let Ok(mut kept) = Kept::new(alloc, n) else {
-        return Err(UpitFault::NoMemory);
-    };
+    let mut kept = Kept::new(alloc, n).map_err(|_| UpitFault::NoMemory)?;
     loop {
         match lines.next_line() {
             Ok(Some(text)) => {
                 let line = lines.number();
-                let read = match read_record(text, line) {
-                    Ok(read) => read,
-                    Err(fault) => return Err(fault),
-                };
-                match read {
+                match read_record(text, line)? {
                     Record::Skipped => {}
                     Record::End => return Ok(kept.into_values()),
-                    Record::Value(block, value) => match kept.keep(block, value, line) {
-                        Ok(()) => {}
-                        Err(fault) => return Err(fault),
-                    },
+                    Record::Value(block, value) => kept.keep(block, value, line)?,
                 }
             }
             Ok(None) => return Ok(kept.into_values()),

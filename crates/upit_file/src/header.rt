@@ -22,15 +22,9 @@ fn read_count(text: &[u8], wanted: Option<u32>, line: u64) -> Result<u32, UpitFa
         (λ e. spec.count_fault (unwrap_or wanted (spec.count_of (fields_of text.now))) line (fields_of text.now) ≡ Some e) }
 {
     let mut fields = Fields::new(text);
-    let Some(_) = fields.next() else {
-        return Err(UpitFault::Text(line));
-    };
-    let Some(field) = fields.next() else {
-        return Err(UpitFault::Text(line));
-    };
-    let Ok(count) = whole(field.text) else {
-        return Err(UpitFault::Number(line));
-    };
+    fields.next().ok_or(UpitFault::Text(line))?;
+    let field = fields.next().ok_or(UpitFault::Text(line))?;
+    let count = whole(field.text).map_err(|_| UpitFault::Number(line))?;
     if count > MOST_BLOCKS {
         return Err(UpitFault::WrongBlocks(line));
     }
@@ -48,9 +42,7 @@ fn read_type(text: &[u8], line: u64) -> Result<(), UpitFault>
         (λ e. spec.type_fault line (fields_of text.now) ≡ Some e) }
 {
     let mut fields = Fields::new(text);
-    let Some(_) = fields.next() else {
-        return Err(UpitFault::NotUpit(line));
-    };
+    fields.next().ok_or(UpitFault::NotUpit(line))?;
     match fields.next() {
         Some(word) if word.text == b"UPIT".as_slice() => Ok(()),
         _ => Err(UpitFault::NotUpit(line)),
@@ -84,22 +76,13 @@ pub(crate) fn read_header<'a>(
             Ok(Some(text)) => {
                 let line = lines.number();
                 match key_in(text) {
-                    Key::Name => match read_name(text, line) {
-                        Ok(given) => name = given,
-                        Err(fault) => return Err(fault),
-                    },
-                    Key::FileType => match read_type(text, line) {
-                        Ok(()) => {}
-                        Err(fault) => return Err(fault),
-                    },
-                    Key::Blocks => match read_count(text, counted.or(wanted), line) {
-                        Ok(n) => counted = Some(n),
-                        Err(fault) => return Err(fault),
-                    },
-                    Key::Objective => return match counted {
-                        Some(blocks) => Ok(Header { name, blocks }),
-                        None => Err(UpitFault::WrongBlocks(line)),
-                    },
+                    Key::Name => name = read_name(text, line)?,
+                    Key::FileType => read_type(text, line)?,
+                    Key::Blocks => counted = Some(read_count(text, counted.or(wanted), line)?),
+                    Key::Objective => {
+                        let blocks = counted.ok_or(UpitFault::WrongBlocks(line))?;
+                        return Ok(Header { name, blocks });
+                    }
                     Key::End => return Err(UpitFault::NoObjective(line)),
                     Key::Other => {}
                 }

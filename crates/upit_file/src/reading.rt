@@ -20,10 +20,8 @@ pub fn declared_blocks(text: &[u8]) -> Result<u32, UpitFault>
     ensures header { IfOk result (λ n. (n ≤ 2 ^ 24) × (header_fault n (spec.lines_in text.now) ≡ None)) }
 {
     let mut lines = Lines::new(text);
-    match read_header(&mut lines, None) {
-        Ok(header) => Ok(header.blocks),
-        Err(fault) => Err(fault),
-    }
+    let header = read_header(&mut lines, None)?;
+    Ok(header.blocks)
 }
 
 /// The name of a text, and the values that it gives to n blocks: that of the block's record, and 0 where it has none.
@@ -38,16 +36,8 @@ pub fn read_upit(alloc: Global, text: &[u8], n: u32) -> Result<Upit, UpitFault>
     ensures header { (fault : UpitFault) → header_fault n (spec.lines_in text.now) ≡ Some fault → result ≡ Err fault }
 {
     let mut lines = Lines::new(text);
-    let header = match read_header(&mut lines, Some(n)) {
-        Ok(header) => header,
-        Err(fault) => return Err(fault),
-    };
-    let values = match read_body(alloc, &mut lines, n) {
-        Ok(values) => values,
-        Err(fault) => return Err(fault),
-    };
-    match Vec::from_slice(alloc, header.name) {
-        Ok(name) => Ok(Upit::of(name, values)),
-        Err(_) => Err(UpitFault::NoMemory),
-    }
+    let header = read_header(&mut lines, Some(n))?;
+    let values = read_body(alloc, &mut lines, n)?;
+    let name = Vec::from_slice(alloc, header.name).map_err(|_| UpitFault::NoMemory)?;
+    Ok(Upit::of(name, values))
 }

@@ -47,11 +47,7 @@ pub(crate) fn read_record(text: &[u8], line: u64) -> Result<Record, UpitFault>
     if fields.next().is_some() {
         return Err(UpitFault::Text(line));
     }
-    let Ok(block) = whole(block.text) else {
-        return Err(UpitFault::Number(line));
-    };
-    match read_value(value.text) {
-        Some(v) => Ok(Record::Value(block, v)),
-        None => Err(UpitFault::Number(line)),
-    }
+    let block = whole(block.text).map_err(|_| UpitFault::Number(line))?;
+    let value = read_value(value.text).ok_or(UpitFault::Number(line))?;
+    Ok(Record::Value(block, value))
 }

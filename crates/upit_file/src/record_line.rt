@@ -1,29 +1,12 @@
 //! The line of a block.
 
 ghost use Rattle.std.specs.Prelude.{◌≡◌, ℕ, ◌+◌, ◌-◌, ◌*◌, ◌/◌, ◌%◌, ◌<◌, ◌≤◌, ◌^◌, [], ◌∷◌, ◌++◌, length, unsigned_abs};
-ghost use Rattle.fixed_worth.specs.Printed.{fixed_width, without_trailing_zeros, fraction_text, printed};
+ghost use Rattle.fixed_worth.specs.Printed.{fraction_text, printed};
 ghost use Rattle.upit_file.specs.Writing as spec;
 
-use fixed_worth::{Micros, ShortLine, WrittenNumber};
+use fixed_worth::{Micros, ShortLine, WrittenNumber, trimmed_fraction};
 
 const MILLION: u64 = 1_000_000;
-
-// Millionths without their trailing zeros, and how many places they then have.
-fn trimmed(millionths: u64) -> (u64, usize)
-    requires some { 0 < millionths }
-    requires below_one { millionths < 10 ^ 6 }
-    ensures same { without_trailing_zeros (fixed_width 6 millionths) ≡ fixed_width result.1 result.0 }
-    ensures width { (0 < result.1) × (result.1 ≤ 6) }
-    ensures below_one { result.0 < 10 ^ 6 }
-{
-    let mut digits = millionths;
-    let mut width = 6;
-    while digits % 10 == 0 {
-        digits /= 10;
-        width -= 1;
-    }
-    (digits, width)
-}
 
 // The places behind the point at the end of the line, and the point where there are some.
 fn push_fraction(line: &mut ShortLine, millionths: u64)
@@ -34,7 +17,7 @@ fn push_fraction(line: &mut ShortLine, millionths: u64)
     if millionths == 0 {
         return;
     }
-    let (digits, width) = trimmed(millionths);
+    let (digits, width) = trimmed_fraction(millionths, 6);
     let number = WrittenNumber::of(u128::from(digits));
     let zeros = width.saturating_sub(number.as_bytes().len());
     let (leading, _) = b"000000".split_at(zeros);

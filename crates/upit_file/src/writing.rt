@@ -23,10 +23,8 @@ fn put_two<W: CountedWrite>(
     ensures prefix { OnErr result (ReceivedPrefix (W.contents out.old) (W.contents out.new) (page.old ++ (first.now ++ second.now))) }
     ensures counted { OnErr result (W.failed out.new ≡ W.failed out.old + 1) }
 {
-    match page.put(out, first) {
-        Ok(()) => page.put(out, second),
-        Err(fault) => Err(fault),
-    }
+    page.put(out, first)?;
+    page.put(out, second)
 }
 
 // A line of two parts, and a line feed.
@@ -42,10 +40,8 @@ fn put_line<W: CountedWrite>(
     ensures prefix { OnErr result (ReceivedPrefix (W.contents out.old) (W.contents out.new) (page.old ++ with_line_feeds ((first.now ++ second.now) ∷ []))) }
     ensures counted { OnErr result (W.failed out.new ≡ W.failed out.old + 1) }
 {
-    match put_two(page, out, first, second) {
-        Ok(()) => page.put(out, b"\n"),
-        Err(fault) => Err(fault),
-    }
+    put_two(page, out, first, second)?;
+    page.put(out, b"\n")
 }
 
 fn put_header<W: CountedWrite>(
@@ -60,19 +56,11 @@ fn put_header<W: CountedWrite>(
     ensures prefix { OnErr result (ReceivedPrefix (W.contents out.old) (W.contents out.new) (page.old ++ with_line_feeds (spec.header_lines name.now n))) }
     ensures counted { OnErr result (W.failed out.new ≡ W.failed out.old + 1) }
 {
-    match put_line(page, out, b"NAME: ", name) {
-        Ok(()) => {}
-        Err(fault) => return Err(fault),
-    }
-    match put_line(page, out, b"TYPE: UPIT", b"") {
-        Ok(()) => {}
-        Err(fault) => return Err(fault),
-    }
+    put_line(page, out, b"NAME: ", name)?;
+    put_line(page, out, b"TYPE: UPIT", b"")?;
     let count = WrittenNumber::of(u128::from(n));
-    match put_line(page, out, b"NBLOCKS: ", count.as_bytes()) {
-        Ok(()) => put_line(page, out, b"OBJECTIVE_FUNCTION:", b""),
-        Err(fault) => Err(fault),
-    }
+    put_line(page, out, b"NBLOCKS: ", count.as_bytes())?;
+    put_line(page, out, b"OBJECTIVE_FUNCTION:", b"")
 }
 
 fn put_records<W: CountedWrite>(
@@ -90,10 +78,7 @@ fn put_records<W: CountedWrite>(
     let mut block: u32 = 0;
     for value in values {
         let line = record_line(block, *value);
-        match put_line(page, out, line.as_bytes(), b"") {
-            Ok(()) => {}
-            Err(fault) => return Err(fault),
-        }
+        put_line(page, out, line.as_bytes(), b"")?;
         block += 1;
     }
     Ok(())
@@ -111,16 +96,8 @@ pub fn write_upit<W: CountedWrite>(upit: &Upit, out: &mut W) -> Result<(), Write
     ensures counted { OnErr result (W.failed out.new ≡ W.failed out.old + 1) }
 {
     let mut page = Page::new();
-    match put_header(&mut page, out, upit.name(), upit.len()) {
-        Ok(()) => {}
-        Err(fault) => return Err(fault),
-    }
-    match put_records(&mut page, out, upit.values()) {
-        Ok(()) => {}
-        Err(fault) => return Err(fault),
-    }
-    match put_line(&mut page, out, b"EOF", b"") {
-        Ok(()) => page.finish(out),
-        Err(fault) => Err(fault),
-    }
+    put_header(&mut page, out, upit.name(), upit.len())?;
+    put_records(&mut page, out, upit.values())?;
+    put_line(&mut page, out, b"EOF", b"")?;
+    page.finish(out)
 }

@@ -6,7 +6,7 @@ use Rattle.upit_file.proofs.body.read_body.Goals as goal
 pub loop-text-preserved-in-Skipped : goal.loop-text-preserved-in-Skipped
 loop-text-preserved-in-Skipped c =
     let q = rw c.in-Ok-Some.field-0-is at c.in-Ok-Some.ensures in
-    let r = rw c.in-Skipped.is at c.in-Ok-read_record.ensures in
+    let r = rw c.in-Skipped.is at c.in_ok-read_record-in-Ok-Some.ensures in
     let h : Next c.loop-text.lines c.next_line.new.self c.number-line.result c.in-Ok-Some.text.now = record { lines = q.1; number = q.2; same = c.number-line.ensures.value; small = q.0 } in
     passes c.args.n (numbered c.args.lines.now.number c.args.lines.now.lines) c.loop-text.kept.seen.items c.loop-text.kept.values.items c.loop-text.lines c.next_line.new.self c.number-line.result c.in-Ok-Some.text.now
     c.loop-text.invariant h r.1 r.0
@@ -15,7 +15,7 @@ pub loop-text-preserved : goal.loop-text-preserved
 loop-text-preserved c =
     let q = rw c.in-Ok-Some.field-0-is at c.in-Ok-Some.ensures in
     let h : Next c.loop-text.lines c.next_line.new.self c.number-line.result c.in-Ok-Some.text.now = record { lines = q.1; number = q.2; same = c.number-line.ensures.value; small = q.0 } in
-    let r = rw c.in-Value.is at c.in-Ok-read_record.ensures in
-    let k = c.in-Ok-keep.ensures in
+    let r = rw c.in-Value.is at c.in_ok-read_record-in-Ok-Some.ensures in
+    let k = c.in_ok-keep-in-Value.ensures in
     keeps c.args.n c.in-Value.block c.in-Value.value (numbered c.args.lines.now.number c.args.lines.now.lines) c.loop-text.kept.seen.items c.keep.new.self.seen.items c.loop-text.kept.values.items c.keep.new.self.values.items
     c.loop-text.lines c.next_line.new.self c.number-line.result c.in-Ok-Some.text.now c.loop-text.invariant h r.1 r.0 r.2 r.3 r.4 k.0 k.1 k.2

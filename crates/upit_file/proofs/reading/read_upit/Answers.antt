@@ -1,7 +1,8 @@
+use Rattle.std.proofs.Common.{◌≡◌, rules}
 use Rattle.upit_file.proofs.Names.{read_is_upit}
 use Rattle.upit_file.proofs.reading.read_upit.Goals as goal
 
 pub of-requires : goal.of-requires
 of-requires c =
-    read_is_upit c.args.n c.args.text.now c.new-lines.result.lines c.in-Ok.header.name.now c.in-Ok-from_slice.name.items c.in-Ok-read_body.values.items c.new-lines.ensures.lines c.in-Ok.ensures.2 c.in-Ok.ensures.3 c.in-Ok-from_slice.ensures.items
-    c.in-Ok-read_body.ensures.1 c.requires
+    let named : c.in_ok-name.name.items ≡ c.in_ok-header.header.name.now = search rules in
+    read_is_upit c.args.n c.args.text.now c.new-lines.result.lines c.in_ok-header.header.name.now c.in_ok-name.name.items c.in_ok-values.values.items c.new-lines.ensures.lines c.in_ok-header.ensures.2 c.in_ok-header.ensures.3 named c.in_ok-values.ensures.1 c.requires

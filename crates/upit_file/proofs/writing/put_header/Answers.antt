@@ -1,7 +1,7 @@
 use Rattle.std.proofs.Common.{ℕ, List, [], ◌∷◌, ◌++◌, ap, subst, ◌∙◌}
 use Rattle.std.specs.Prelude.{codes}
 use Rattle.std.specs.Fmt.{decimal}
-use Rattle.std.proofs.lemmas.Result.{on_ok_weaker, on_err_weaker}
+use Rattle.std.proofs.lemmas.Result.{on_ok_weaker, on_err_weaker, err_from_is_err_and}
 use Rattle.fixed_worth.specs.Laws.{with_line_feeds}
 use Rattle.fixed_worth.specs.Device.{SentOrHeld, ReceivedPrefix}
 use Rattle.upit_file.proofs.LineFeeds.{held_lines, prefix_lines, prefix_before}
@@ -20,49 +20,52 @@ count_line digits = codes "NBLOCKS: " ++ digits
 abbrev last_line : List ℕ
 last_line = codes "OBJECTIVE_FUNCTION:"
 
-pub returns-in-Err-clause-prefix : goal.returns-in-Err-clause-prefix
-returns-in-Err-clause-prefix g c =
-    prefix_before (g.W.Write.contents c.args.out.now) (g.W.Write.contents c.put_line.new.out) c.args.page.now (name_line c.args.name.now ∷ []) (type_line ∷ count_line (decimal c.args.n) ∷ last_line ∷ []) c.in-Err.ensures.prefix
+pub returns-in_err-put_line-clause-prefix : goal.returns-in_err-put_line-clause-prefix
+returns-in_err-put_line-clause-prefix g c =
+    let p = err_from_is_err_and c.from_residual.result c.from_residual.ensures.1 in
+    rw p.1 (prefix_before (g.W.Write.contents c.args.out.now) (g.W.Write.contents c.put_line.new.out) c.args.page.now (name_line c.args.name.now ∷ []) (type_line ∷ count_line (decimal c.args.n) ∷ last_line ∷ []) c.in_err-put_line.ensures.prefix)
 
-pub returns-in-Err-put_line-clause-prefix : goal.returns-in-Err-put_line-clause-prefix
-returns-in-Err-put_line-clause-prefix g c =
-    prefix_before (g.W.Write.contents c.args.out.now) (g.W.Write.contents c.put_line-2.new.out) c.args.page.now (name_line c.args.name.now ∷ type_line ∷ []) (count_line (decimal c.args.n) ∷ last_line ∷ [])
-    (prefix_lines (g.W.Write.contents c.args.out.now) (g.W.Write.contents c.put_line.new.out) (g.W.Write.contents c.put_line-2.new.out) c.args.page.now c.put_line.new.page (name_line c.args.name.now ∷ []) (type_line ∷ []) c.in-Ok.ensures.held c.in-Err-put_line.ensures.prefix)
+pub returns-in_err-put_line-2-clause-prefix : goal.returns-in_err-put_line-2-clause-prefix
+returns-in_err-put_line-2-clause-prefix g c =
+    let p = err_from_is_err_and c.from_residual-in_err-put_line-2.result c.from_residual-in_err-put_line-2.ensures.1 in
+    rw p.1 (prefix_before (g.W.Write.contents c.args.out.now) (g.W.Write.contents c.put_line-2.new.out) c.args.page.now (name_line c.args.name.now ∷ type_line ∷ []) (count_line (decimal c.args.n) ∷ last_line ∷ [])
+    (prefix_lines (g.W.Write.contents c.args.out.now) (g.W.Write.contents c.put_line.new.out) (g.W.Write.contents c.put_line-2.new.out) c.args.page.now c.put_line.new.page (name_line c.args.name.now ∷ []) (type_line ∷ []) c.in_ok-put_line.ensures.held c.in_err-put_line-2.ensures.prefix))
 
-pub returns-in-Err-put_line-2-clause-prefix : goal.returns-in-Err-put_line-2-clause-prefix
-returns-in-Err-put_line-2-clause-prefix g c =
+pub returns-in_err-put_line-3-clause-prefix : goal.returns-in_err-put_line-3-clause-prefix
+returns-in_err-put_line-3-clause-prefix g c =
     let a = g.W.Write.contents c.args.out.now in
     let b = g.W.Write.contents c.put_line.new.out in
     let d = g.W.Write.contents c.put_line-2.new.out in
     let e = g.W.Write.contents c.put_line-3.new.out in
     let digits = c.as_bytes.ensures ∙ c.of-count.ensures.digits ∙ ap decimal c.from.ensures in
-    let two : SentOrHeld a d c.put_line-2.new.page (c.args.page.now ++ with_line_feeds (name_line c.args.name.now ∷ type_line ∷ [])) = held_lines a b d c.args.page.now c.put_line.new.page c.put_line-2.new.page (name_line c.args.name.now ∷ []) (type_line ∷ []) c.in-Ok.ensures.held c.in-Ok-put_line.ensures.held in
-    let third : ReceivedPrefix d e (c.put_line-2.new.page ++ with_line_feeds (count_line (decimal c.args.n) ∷ [])) = subst (λ (t : List ℕ). ReceivedPrefix d e (c.put_line-2.new.page ++ with_line_feeds (count_line t ∷ []))) digits c.in-Err-put_line-2.ensures.prefix in
-    prefix_before a e c.args.page.now (name_line c.args.name.now ∷ type_line ∷ count_line (decimal c.args.n) ∷ []) (last_line ∷ [])
-    (prefix_lines a d e c.args.page.now c.put_line-2.new.page (name_line c.args.name.now ∷ type_line ∷ []) (count_line (decimal c.args.n) ∷ []) two third)
+    let two : SentOrHeld a d c.put_line-2.new.page (c.args.page.now ++ with_line_feeds (name_line c.args.name.now ∷ type_line ∷ [])) = held_lines a b d c.args.page.now c.put_line.new.page c.put_line-2.new.page (name_line c.args.name.now ∷ []) (type_line ∷ []) c.in_ok-put_line.ensures.held c.in_ok-put_line-2.ensures.held in
+    let third : ReceivedPrefix d e (c.put_line-2.new.page ++ with_line_feeds (count_line (decimal c.args.n) ∷ [])) = subst (λ (t : List ℕ). ReceivedPrefix d e (c.put_line-2.new.page ++ with_line_feeds (count_line t ∷ []))) digits c.in_err-put_line-3.ensures.prefix in
+    let p = err_from_is_err_and c.from_residual-in_err-put_line-3.result c.from_residual-in_err-put_line-3.ensures.1 in
+    rw p.1 (prefix_before a e c.args.page.now (name_line c.args.name.now ∷ type_line ∷ count_line (decimal c.args.n) ∷ []) (last_line ∷ [])
+    (prefix_lines a d e c.args.page.now c.put_line-2.new.page (name_line c.args.name.now ∷ type_line ∷ []) (count_line (decimal c.args.n) ∷ []) two third))
 
-pub returns-in-Ok-put_line-2-clause-held : goal.returns-in-Ok-put_line-2-clause-held
-returns-in-Ok-put_line-2-clause-held g c =
+pub returns-clause-held : goal.returns-clause-held
+returns-clause-held g c =
     let a = g.W.Write.contents c.args.out.now in
     let b = g.W.Write.contents c.put_line.new.out in
     let d = g.W.Write.contents c.put_line-2.new.out in
     let e = g.W.Write.contents c.put_line-3.new.out in
-    let f = g.W.Write.contents c.put_line-in-Ok-put_line-2.new.out in
+    let f = g.W.Write.contents c.put_line-4.new.out in
     let digits = c.as_bytes.ensures ∙ c.of-count.ensures.digits ∙ ap decimal c.from.ensures in
-    let two : SentOrHeld a d c.put_line-2.new.page (c.args.page.now ++ with_line_feeds (name_line c.args.name.now ∷ type_line ∷ [])) = held_lines a b d c.args.page.now c.put_line.new.page c.put_line-2.new.page (name_line c.args.name.now ∷ []) (type_line ∷ []) c.in-Ok.ensures.held c.in-Ok-put_line.ensures.held in
-    let third : SentOrHeld d e c.put_line-3.new.page (c.put_line-2.new.page ++ with_line_feeds (count_line (decimal c.args.n) ∷ [])) = subst (λ (t : List ℕ). SentOrHeld d e c.put_line-3.new.page (c.put_line-2.new.page ++ with_line_feeds (count_line t ∷ []))) digits c.in-Ok-put_line-2.ensures.held in
+    let two : SentOrHeld a d c.put_line-2.new.page (c.args.page.now ++ with_line_feeds (name_line c.args.name.now ∷ type_line ∷ [])) = held_lines a b d c.args.page.now c.put_line.new.page c.put_line-2.new.page (name_line c.args.name.now ∷ []) (type_line ∷ []) c.in_ok-put_line.ensures.held c.in_ok-put_line-2.ensures.held in
+    let third : SentOrHeld d e c.put_line-3.new.page (c.put_line-2.new.page ++ with_line_feeds (count_line (decimal c.args.n) ∷ [])) = subst (λ (t : List ℕ). SentOrHeld d e c.put_line-3.new.page (c.put_line-2.new.page ++ with_line_feeds (count_line t ∷ []))) digits c.in_ok-put_line-3.ensures.held in
     let three = held_lines a d e c.args.page.now c.put_line-2.new.page c.put_line-3.new.page (name_line c.args.name.now ∷ type_line ∷ []) (count_line (decimal c.args.n) ∷ []) two third in
-    on_ok_weaker c.put_line-in-Ok-put_line-2.result (held_lines a e f c.args.page.now c.put_line-3.new.page c.put_line-in-Ok-put_line-2.new.page (name_line c.args.name.now ∷ type_line ∷ count_line (decimal c.args.n) ∷ []) (last_line ∷ []) three) c.put_line-in-Ok-put_line-2.ensures.held
+    on_ok_weaker c.put_line-4.result (held_lines a e f c.args.page.now c.put_line-3.new.page c.put_line-4.new.page (name_line c.args.name.now ∷ type_line ∷ count_line (decimal c.args.n) ∷ []) (last_line ∷ []) three) c.put_line-4.ensures.held
 
-pub returns-in-Ok-put_line-2-clause-prefix : goal.returns-in-Ok-put_line-2-clause-prefix
-returns-in-Ok-put_line-2-clause-prefix g c =
+pub returns-clause-prefix : goal.returns-clause-prefix
+returns-clause-prefix g c =
     let a = g.W.Write.contents c.args.out.now in
     let b = g.W.Write.contents c.put_line.new.out in
     let d = g.W.Write.contents c.put_line-2.new.out in
     let e = g.W.Write.contents c.put_line-3.new.out in
-    let f = g.W.Write.contents c.put_line-in-Ok-put_line-2.new.out in
+    let f = g.W.Write.contents c.put_line-4.new.out in
     let digits = c.as_bytes.ensures ∙ c.of-count.ensures.digits ∙ ap decimal c.from.ensures in
-    let two : SentOrHeld a d c.put_line-2.new.page (c.args.page.now ++ with_line_feeds (name_line c.args.name.now ∷ type_line ∷ [])) = held_lines a b d c.args.page.now c.put_line.new.page c.put_line-2.new.page (name_line c.args.name.now ∷ []) (type_line ∷ []) c.in-Ok.ensures.held c.in-Ok-put_line.ensures.held in
-    let third : SentOrHeld d e c.put_line-3.new.page (c.put_line-2.new.page ++ with_line_feeds (count_line (decimal c.args.n) ∷ [])) = subst (λ (t : List ℕ). SentOrHeld d e c.put_line-3.new.page (c.put_line-2.new.page ++ with_line_feeds (count_line t ∷ []))) digits c.in-Ok-put_line-2.ensures.held in
+    let two : SentOrHeld a d c.put_line-2.new.page (c.args.page.now ++ with_line_feeds (name_line c.args.name.now ∷ type_line ∷ [])) = held_lines a b d c.args.page.now c.put_line.new.page c.put_line-2.new.page (name_line c.args.name.now ∷ []) (type_line ∷ []) c.in_ok-put_line.ensures.held c.in_ok-put_line-2.ensures.held in
+    let third : SentOrHeld d e c.put_line-3.new.page (c.put_line-2.new.page ++ with_line_feeds (count_line (decimal c.args.n) ∷ [])) = subst (λ (t : List ℕ). SentOrHeld d e c.put_line-3.new.page (c.put_line-2.new.page ++ with_line_feeds (count_line t ∷ []))) digits c.in_ok-put_line-3.ensures.held in
     let three = held_lines a d e c.args.page.now c.put_line-2.new.page c.put_line-3.new.page (name_line c.args.name.now ∷ type_line ∷ []) (count_line (decimal c.args.n) ∷ []) two third in
-    on_err_weaker c.put_line-in-Ok-put_line-2.result (prefix_lines a e f c.args.page.now c.put_line-3.new.page (name_line c.args.name.now ∷ type_line ∷ count_line (decimal c.args.n) ∷ []) (last_line ∷ []) three) c.put_line-in-Ok-put_line-2.ensures.prefix
+    on_err_weaker c.put_line-4.result (prefix_lines a e f c.args.page.now c.put_line-3.new.page (name_line c.args.name.now ∷ type_line ∷ count_line (decimal c.args.n) ∷ []) (last_line ∷ []) three) c.put_line-4.ensures.prefix

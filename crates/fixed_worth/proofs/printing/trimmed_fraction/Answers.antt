@@ -1,6 +1,6 @@
 use Rattle.std.proofs.Common.{◌≤◌, arith, ◌∙◌}
 use Rattle.fixed_worth.proofs.Fractions.{last_zero_dropped, last_digit_kept, tenth_below}
-use Rattle.fixed_worth.proofs.printing.trimmed.Goals as goal
+use Rattle.fixed_worth.proofs.printing.trimmed_fraction.Goals as goal
 
 pub loop-digits-preserved : goal.loop-digits-preserved
 loop-digits-preserved c =
@@ -9,6 +9,8 @@ loop-digits-preserved c =
       some = omega arith;
       below_one = tenth_below c.loop-digits.width c.loop-digits.digits several c.loop-digits.invariant.below_one;
       small = omega arith;
+      narrow = omega arith;
+      less = omega arith;
       same = c.loop-digits.invariant.same ∙ last_zero_dropped c.loop-digits.width c.loop-digits.digits c.loop-digits.invariant.some c.loop-digits.invariant.small c.loop-digits-test.true;
     }
 
