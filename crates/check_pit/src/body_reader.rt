@@ -16,10 +16,7 @@ use prec_file::Rests;
 fn is_end(kind: Kind) -> bool
     ensures { result ≡ spec.is_end kind }
 {
-    match kind {
-        Kind::End => true,
-        _ => false,
-    }
+    matches!(kind, Kind::End)
 }
 
 // Nothing may stand behind the last line.

@@ -105,10 +105,9 @@ fn balances<G: OrderedGroup>(net: &Net<G>, flow: &Flow<G>) -> Result<(), PitFaul
     let rest = flow.rest();
     let sink = flow.sink();
     for b in 0..rests.len() {
-        match balance_of(rests, source[b as usize], rest, sink[b as usize], b) {
-            Some(true) => {}
-            Some(false) => return Err(PitFault::Unbalanced(b)),
-            None => return Err(PitFault::TooLarge),
+        let balanced = balance_of(rests, source[b as usize], rest, sink[b as usize], b);
+        if !balanced.ok_or(PitFault::TooLarge)? {
+            return Err(PitFault::Unbalanced(b));
         }
     }
     Ok(())

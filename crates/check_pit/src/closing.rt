@@ -37,9 +37,8 @@ pub(crate) fn first_open<G: OrderedGroup>(net: &Net<G>, pit: &Pit) -> Option<(u3
     let mut place = 0;
     for b in 0..rests.len() {
         if pit.holds_near(&mut place, b) {
-            match first_lacking(rests, pit, b) {
-                Some(p) => return Some((b, p)),
-                None => {}
+            if let Some(p) = first_lacking(rests, pit, b) {
+                return Some((b, p));
             }
         }
     }

@@ -88,10 +88,7 @@ impl<G: OrderedGroup> Parts<G> {
     fn put_block(&mut self, block: u32) -> Result<(), CertFault>
         ensures { MatchResult result (λ _. self.new ≡ with_block block self.old) (λ e. e ≡ CertFault.NoMemory) }
     {
-        match self.pit.push(block) {
-            Ok(()) => Ok(()),
-            Err(_) => Err(CertFault::NoMemory),
-        }
+        self.pit.push(block).map_err(|_| CertFault::NoMemory)
     }
 
     fn put_source(&mut self, block: u32, amount: G)
@@ -105,10 +102,7 @@ impl<G: OrderedGroup> Parts<G> {
         requires { pair < length self.old.flow.rest }
         ensures { MatchResult result (λ _. self.new ≡ with_rest pair (G.parts_of amount) self.old) (λ e. e ≡ CertFault.NoMemory) }
     {
-        match self.rest.set(pair, amount) {
-            Ok(()) => Ok(()),
-            Err(_) => Err(CertFault::NoMemory),
-        }
+        self.rest.set(pair, amount).map_err(|_| CertFault::NoMemory)
     }
 
     fn put_sink(&mut self, block: u32, amount: G)
@@ -133,10 +127,12 @@ impl<G: OrderedGroup> Parts<G> {
         match line.kind {
             Kind::Pit => return self.put_block(line.block),
             Kind::Source => self.put_source(line.block, amount(line)),
-            Kind::Rest => match rests.find(line.block, line.other) {
-                Some(pair) => self.put_rest(pair, amount(line))?,
-                None => return Err(CertFault::UnknownPair(number)),
-            },
+            Kind::Rest => {
+                let pair = rests
+                    .find(line.block, line.other)
+                    .ok_or(CertFault::UnknownPair(number))?;
+                self.put_rest(pair, amount(line))?;
+            }
             Kind::Sink => self.put_sink(line.block, amount(line)),
             Kind::End => {}
         }
@@ -153,9 +149,7 @@ impl<G: OrderedGroup> Parts<G> {
             rest,
             sink,
         } = self;
-        match Pit::new(pit) {
-            Some(pit) => Some((pit, Flow::new(source, rest, sink))),
-            None => None,
-        }
+        let pit = Pit::new(pit)?;
+        Some((pit, Flow::new(source, rest, sink)))
     }
 }

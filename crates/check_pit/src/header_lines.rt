@@ -33,13 +33,11 @@ const HIGHEST_FACTOR: u32 = 10_000;
 pub fn number_below(limit: u32, word: &[u8]) -> Option<u32>
     ensures { result ≡ pieces.number_below limit word.now }
 {
-    match plain_signed(word) {
-        Ok(number) => if number >= 0 && number < limit as i128 {
-            Some(number as u32)
-        } else {
-            None
-        },
-        Err(_) => None,
+    let number = plain_signed(word).ok()?;
+    if number >= 0 && number < limit as i128 {
+        Some(number as u32)
+    } else {
+        None
     }
 }
 
@@ -48,12 +46,8 @@ fn value_behind<'a>(key: &[u8], text: &'a [u8]) -> Option<&'a [u8]>
     ensures { MatchOption result (spec.value_behind key.now (words_of text.now) ≡ None) (λ v. spec.value_behind key.now (words_of text.now) ≡ Some v.now) }
 {
     let mut words = Words::new(text);
-    let Some(first) = words.next() else {
-        return None;
-    };
-    let Some(value) = words.next() else {
-        return None;
-    };
+    let first = words.next()?;
+    let value = words.next()?;
     if words.next().is_some() || first != key {
         return None;
     }
@@ -63,10 +57,7 @@ fn value_behind<'a>(key: &[u8], text: &'a [u8]) -> Option<&'a [u8]>
 fn or_number<T>(read: Option<T>) -> Result<T, LineFault>
     ensures { result ≡ spec.or_number read }
 {
-    match read {
-        Some(value) => Ok(value),
-        None => Err(LineFault::Number),
-    }
+    read.ok_or(LineFault::Number)
 }
 
 fn version_in(text: &[u8]) -> Result<(), LineFault>
@@ -96,31 +87,24 @@ fn wanted_blocks(wanted: Option<Wanted>, read: Option<u32>) -> Option<u32>
 fn blocks_in(wanted: Option<Wanted>, text: &[u8]) -> Result<u32, LineFault>
     ensures { result ≡ spec.blocks_in wanted text.now }
 {
-    match value_behind(BLOCKS, text) {
-        Some(word) => or_number(wanted_blocks(wanted, number_below(MOST_BLOCKS + 1, word))),
-        None => Err(LineFault::Text),
-    }
+    let word = value_behind(BLOCKS, text).ok_or(LineFault::Text)?;
+    or_number(wanted_blocks(wanted, number_below(MOST_BLOCKS + 1, word)))
 }
 
 fn factor_of(read: Option<u32>) -> Option<Price>
     ensures { result ≡ spec.factor_of read }
 {
-    match read {
-        Some(factor) => Some(Price::Factor(factor)),
-        None => None,
-    }
+    Some(Price::Factor(read?))
 }
 
 fn price_in(text: &[u8]) -> Result<Price, LineFault>
     ensures { result ≡ spec.price_in text.now }
 {
-    match value_behind(PRICE, text) {
-        Some(word) => if word == OBJECTIVE {
-            Ok(Price::Objective)
-        } else {
-            or_number(factor_of(number_below(HIGHEST_FACTOR + 1, word)))
-        },
-        None => Err(LineFault::Text),
+    let word = value_behind(PRICE, text).ok_or(LineFault::Text)?;
+    if word == OBJECTIVE {
+        Ok(Price::Objective)
+    } else {
+        or_number(factor_of(number_below(HIGHEST_FACTOR + 1, word)))
     }
 }
 
@@ -153,11 +137,10 @@ fn group_in(wanted: Option<Wanted>, text: &[u8]) -> Result<Group, LineFault>
 pub fn in_line<T>(number: u64, read: Result<T, LineFault>) -> Result<T, CertFault>
     ensures { result ≡ pieces.in_line number read }
 {
-    match read {
-        Ok(value) => Ok(value),
-        Err(LineFault::Text) => Err(CertFault::Text(number)),
-        Err(LineFault::Number) => Err(CertFault::Number(number)),
-    }
+    read.map_err(|fault| match fault {
+        LineFault::Text => CertFault::Text(number),
+        LineFault::Number => CertFault::Number(number),
+    })
 }
 
 fn read_version(pieces: &mut Pieces) -> Result<(), CertFault>

@@ -68,13 +68,12 @@ fn is_amount(counts: bool, worth: i128, count: i128) -> bool
 fn amount_in(counts: bool, worth: &[u8], count: &[u8]) -> Option<(i128, i128)>
     ensures { result ≡ spec.amount_in counts worth.now count.now }
 {
-    match (plain_signed(worth), plain_signed(count)) {
-        (Ok(worth), Ok(count)) => if is_amount(counts, worth, count) {
-            Some((worth, count))
-        } else {
-            None
-        },
-        _ => None,
+    let worth = plain_signed(worth).ok()?;
+    let count = plain_signed(count).ok()?;
+    if is_amount(counts, worth, count) {
+        Some((worth, count))
+    } else {
+        None
     }
 }
 
@@ -101,9 +100,7 @@ fn numbered_line(
 fn pit_line(n: u32, mut words: Words) -> Result<BodyLine, LineFault>
     ensures { result ≡ spec.pit_line n words.entry }
 {
-    let Some(block) = words.next() else {
-        return Err(LineFault::Text);
-    };
+    let block = words.next().ok_or(LineFault::Text)?;
     if words.next().is_some() {
         return Err(LineFault::Text);
     }
@@ -113,15 +110,9 @@ fn pit_line(n: u32, mut words: Words) -> Result<BodyLine, LineFault>
 fn block_line(counts: bool, n: u32, kind: Kind, mut words: Words) -> Result<BodyLine, LineFault>
     ensures { result ≡ spec.block_line counts n kind words.entry }
 {
-    let Some(block) = words.next() else {
-        return Err(LineFault::Text);
-    };
-    let Some(worth) = words.next() else {
-        return Err(LineFault::Text);
-    };
-    let Some(count) = words.next() else {
-        return Err(LineFault::Text);
-    };
+    let block = words.next().ok_or(LineFault::Text)?;
+    let worth = words.next().ok_or(LineFault::Text)?;
+    let count = words.next().ok_or(LineFault::Text)?;
     if words.next().is_some() {
         return Err(LineFault::Text);
     }
@@ -136,18 +127,10 @@ fn block_line(counts: bool, n: u32, kind: Kind, mut words: Words) -> Result<Body
 fn rest_line(counts: bool, n: u32, mut words: Words) -> Result<BodyLine, LineFault>
     ensures { result ≡ spec.rest_line counts n words.entry }
 {
-    let Some(block) = words.next() else {
-        return Err(LineFault::Text);
-    };
-    let Some(other) = words.next() else {
-        return Err(LineFault::Text);
-    };
-    let Some(worth) = words.next() else {
-        return Err(LineFault::Text);
-    };
-    let Some(count) = words.next() else {
-        return Err(LineFault::Text);
-    };
+    let block = words.next().ok_or(LineFault::Text)?;
+    let other = words.next().ok_or(LineFault::Text)?;
+    let worth = words.next().ok_or(LineFault::Text)?;
+    let count = words.next().ok_or(LineFault::Text)?;
     if words.next().is_some() {
         return Err(LineFault::Text);
     }
@@ -173,16 +156,13 @@ fn line_of(counts: bool, n: u32, text: &[u8]) -> Result<BodyLine, LineFault>
     ensures { result ≡ spec.line_of counts n text.now }
 {
     let mut words = Words::new(text);
-    let Some(key) = words.next() else {
-        return Err(LineFault::Text);
-    };
-    match kind_of(key) {
-        Some(Kind::Pit) => pit_line(n, words),
-        Some(Kind::Source) => block_line(counts, n, Kind::Source, words),
-        Some(Kind::Rest) => rest_line(counts, n, words),
-        Some(Kind::Sink) => block_line(counts, n, Kind::Sink, words),
-        Some(Kind::End) => end_line(words),
-        None => Err(LineFault::Text),
+    let key = words.next().ok_or(LineFault::Text)?;
+    match kind_of(key).ok_or(LineFault::Text)? {
+        Kind::Pit => pit_line(n, words),
+        Kind::Source => block_line(counts, n, Kind::Source, words),
+        Kind::Rest => rest_line(counts, n, words),
+        Kind::Sink => block_line(counts, n, Kind::Sink, words),
+        Kind::End => end_line(words),
     }
 }
 

@@ -29,10 +29,7 @@ pub(crate) fn with_inflow<G: OrderedGroup>(
     let mut sum = start;
     let numbers = rests.below(b);
     for k in numbers {
-        match sum.try_add(rest.at(*k)) {
-            Some(next) => sum = next,
-            None => return None,
-        }
+        sum = sum.try_add(rest.at(*k))?;
     }
     Some(sum)
 }
@@ -56,10 +53,7 @@ pub(crate) fn with_outflow<G: OrderedGroup>(
     let first = rests.first(b);
     let count = rests.above(b).len();
     for i in 0..count {
-        match sum.try_add(rest.at(first + i as u32)) {
-            Some(next) => sum = next,
-            None => return None,
-        }
+        sum = sum.try_add(rest.at(first + i as u32))?;
     }
     Some(sum)
 }
@@ -97,10 +91,7 @@ pub(crate) fn pit_worth<G: OrderedGroup>(net: &Net<G>, pit: &Pit) -> Option<G>
     let mut place = 0;
     for b in 0..worths.len() {
         if pit.holds_near(&mut place, b as u32) {
-            match sum.try_add(worths[b]) {
-                Some(next) => sum = next,
-                None => return None,
-            }
+            sum = sum.try_add(worths[b])?;
         }
     }
     Some(sum)

@@ -180,10 +180,7 @@ fn put_pit<W: CountedWrite>(page: &mut Page, out: &mut W, pit: &Pit) -> Result<(
             worth: 0,
             count: 0,
         };
-        match put_line(page, out, &line) {
-            Ok(()) => {}
-            Err(fault) => return Err(fault),
-        }
+        put_line(page, out, &line)?;
     }
     Ok(())
 }
@@ -205,10 +202,7 @@ fn put_blocks<G: OrderedGroup, W: CountedWrite>(
 {
     for (k, amount) in amounts.iter().enumerate() {
         if !is_zero(*amount) {
-            match put_line(page, out, &block_line(kind, k as u32, *amount)) {
-                Ok(()) => {}
-                Err(fault) => return Err(fault),
-            }
+            put_line(page, out, &block_line(kind, k as u32, *amount))?;
         }
     }
     Ok(())
@@ -233,10 +227,7 @@ fn put_pairs<G: OrderedGroup, W: CountedWrite>(
     for k in 0..amounts.len() {
         let amount = amounts.at(k as u32);
         if !is_zero(amount) {
-            match put_line(page, out, &pair_line(rests, k as u32, amount)) {
-                Ok(()) => {}
-                Err(fault) => return Err(fault),
-            }
+            put_line(page, out, &pair_line(rests, k as u32, amount))?;
         }
     }
     Ok(())

@@ -8,7 +8,6 @@ pub mod Finds
 pub mod Marks
 pub mod Spreads
 pub mod Reach
-pub mod TwoSets
 pub mod BestPits
 pub mod NetSums
 pub mod PortPlaces

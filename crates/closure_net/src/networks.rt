@@ -93,10 +93,8 @@ impl<G: OrderedGroup> Net<G> {
         if blocks as usize != nanos.len() {
             return Err(NetFault::WrongLength);
         }
-        match amounts_of_blocks(alloc, nanos, blocks) {
-            Ok(worths) => Net::build(rests, worths),
-            Err(fault) => Err(fault),
-        }
+        let worths = amounts_of_blocks(alloc, nanos, blocks)?;
+        Net::build(rests, worths)
     }
 
     /// How many blocks there are.

@@ -127,14 +127,12 @@ fn port_at<G: OrderedGroup>(rests: &Rests, worth: G, b: u32, i: u32) -> Port
         }
         place -= 1;
     }
-    match forward_at(rests, b, place) {
-        Some(port) => return port,
-        None => {}
+    if let Some(port) = forward_at(rests, b, place) {
+        return port;
     }
     place -= forward_count(rests, b);
-    match backward_at(rests, b, place) {
-        Some(port) => return port,
-        None => {}
+    if let Some(port) = backward_at(rests, b, place) {
+        return port;
     }
     Port {
         kind: PortKind::Source,

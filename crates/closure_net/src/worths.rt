@@ -53,13 +53,8 @@ pub(crate) fn amounts_of_blocks<G: OrderedGroup>(
 {
     let mut amounts: Vec<G> = Vec::new(alloc);
     for x in nanos {
-        let Some(amount) = G::of_block(*x, n) else {
-            return Err(NetFault::TooLarge);
-        };
-        match amounts.push(amount) {
-            Ok(()) => {}
-            Err(_) => return Err(NetFault::NoMemory),
-        }
+        let amount = G::of_block(*x, n).ok_or(NetFault::TooLarge)?;
+        amounts.push(amount).map_err(|_| NetFault::NoMemory)?;
     }
     Ok(amounts)
 }

@@ -1,15 +1,17 @@
 -- Worths, numbers and sums of sets of blocks.
-use Rattle.std.proofs.Common.{◌≡◌, ℕ, zero, suc, ◌<◌, ◌≤◌, Bool, true, false, cond, ◌==◌, ◌⊎◌, refl, sym, ap, ap₂, ◌∙◌, arith, ℤ, pos, ◌<ℤ◌, inl, inr, below_more, Ordering}
+use Rattle.std.proofs.Common.{◌≡◌, ℕ, zero, suc, ◌<◌, ◌≤◌, Bool, true, false, cond, ◌==◌, refl, sym, ap, ap₂, ◌∙◌, arith, ℤ, pos, ◌+ℤ◌, ◌≤ℤ◌, ◌<ℤ◌, inl, inr, below_more, Ordering}
 use Rattle.std.specs.declared.cmp.Ordering.TheVariants.{Less, Equal, Greater}
 use Rattle.std.specs.Ordering.{MatchOrdering, int_cmp}
 use Rattle.std.specs.Cmp.{int_ranks}
 use Rattle.std.proofs.lemmas.Int.{ints}
-use Rattle.std.proofs.lemmas.Bool.{cases_eq, eq-eqb, ne_eqb, and_parts}
+use Rattle.std.proofs.lemmas.Bool.{cases_eq, cases_order, eq-eqb, ne_eqb}
 use Rattle.ordered_group.specs.Amount.{Amount, plus, AtMost, Below, Amount_eq}
 use Rattle.ordered_group.specs.Sums.{where_so}
 use Rattle.ordered_group.specs.Sets.{worth_in, count_in, group_sum, IsBefore}
+use Rattle.ordered_group.specs.Block.{worth_block}
+use Rattle.ordered_group.specs.SetSums.{worth_told}
 use Rattle.ordered_group.specs.Laws.{SumsTellWorth, BlocksTellWorth, SumsOrderSets}
-use Rattle.ordered_group.proofs.Totals.Sets.{both, either, total-one, two_sets}
+use Rattle.ordered_group.proofs.Totals.Sets.{union, intersection, within_first, within_second, total-one, two_sets}
 use Rattle.ordered_group.proofs.Totals.Ranges.{total-same}
 
 -- equal sets are worth the same, have as many blocks, and have one sum
@@ -32,6 +34,27 @@ one_or_none false = omega arith
 pub count_in-most : (e : ℕ → Bool) (n : ℕ) → count_in e n ≤ n
 count_in-most e zero = omega arith
 count_in-most e (suc n) = omega (arith, count_in-most e n, one_or_none (e n))
+
+-- the union and the intersection are worth together what both sets are
+pub worth_of_two : (v : ℕ → ℤ) (e c : ℕ → Bool) (n : ℕ) → worth_in v (union e c) n +ℤ worth_in v (intersection e c) n ≡ worth_in v e n +ℤ worth_in v c n
+worth_of_two v e c n =
+    let sums = ap (λ a. a.w) (two_sets (λ k. worth_block (v k) n) e c n) in
+    omega (arith, ints, sums, worth_told v (union e c) n, worth_told v (intersection e c) n, worth_told v e n, worth_told v c n)
+
+worth_rises : (s t : Bool) (x y : ℤ) → (s ≡ true → t ≡ true) → x ≤ℤ y → (cond s y (pos 0) +ℤ cond t x (pos 0)) ≤ℤ (cond t y (pos 0) +ℤ cond s x (pos 0))
+worth_rises true true x y h l = omega (arith, ints)
+worth_rises true false x y h l = absurd (let i = h refl in cc)
+worth_rises false true x y h l = omega (arith, ints, l)
+worth_rises false false x y h l = omega (arith, ints)
+
+-- where no block is worth less, a set within another falls behind it by no less
+pub lead_rises : (v w : ℕ → ℤ) (e c : ℕ → Bool) (n : ℕ) → ((b : ℕ) → b < n → e b ≡ true → c b ≡ true) → ((b : ℕ) → b < n → v b ≤ℤ w b)
+    → (worth_in w e n +ℤ worth_in v c n) ≤ℤ (worth_in w c n +ℤ worth_in v e n)
+lead_rises v w e c zero h r = omega (arith, ints)
+lead_rises v w e c (suc n) h r =
+    let i = lead_rises v w e c n (λ b l. h b (omega arith)) (λ b l. r b (omega arith)) in
+    let t = worth_rises (e n) (c n) (v n) (w n) (h n (omega arith)) (r n (omega arith)) in
+    omega (arith, ints, i, t)
 
 -- the set of one block
 none_before : (v : ℤ) (c n : ℕ) → n ≤ c → (worth_in (λ b. v) (λ b. c == b) n ≡ pos 0) × (count_in (λ b. c == b) n ≡ 0)
@@ -81,19 +104,13 @@ count_in-within a e (suc n) s =
       λ p b l. below_more (λ k. a k ≡ e k) n (i.1 (omega (arith, i.0, t.0, p))) (t.1 (omega (arith, i.0, t.0, p))) b (omega (arith, l)),
     )
 
-either_less : (k l : ℕ) → (k ≡ l → ⊥) → (k < l) ⊎ (l < k)
-either_less zero zero d = absurd (d refl)
-either_less zero (suc l) d = inl (omega arith)
-either_less (suc k) zero d = inr (omega arith)
-either_less (suc k) (suc l) d = elim (either_less k l (λ e. d (ap suc e))) [ inl h ↦ inl (omega (arith, h)) | inr h ↦ inr (omega (arith, h)) ]
-
 unordered : (v : ℕ → ℤ) (e c : ℕ → Bool) (n : ℕ) (o : Ordering) → MatchOrdering o (worth_in v e n <ℤ worth_in v c n) (worth_in v e n ≡ worth_in v c n) (worth_in v c n <ℤ worth_in v e n) → ¬ (IsBefore v n e c) → ¬ (IsBefore v n c e) → (worth_in v e n ≡ worth_in v c n) × (count_in e n ≡ count_in c n)
 unordered v e c n Less r h k = absurd (h (inl r))
 unordered v e c n Equal r h k = (
   r,
-  elim (cases_eq (count_in e n) (count_in c n)) [
+  elim (cases_order (count_in e n) (count_in c n)) [
     | inl i ↦ i
-    | inr d ↦ elim (either_less (count_in e n) (count_in c n) d) [ inl l ↦ absurd (k (inr (sym r, l))) | inr l ↦ absurd (h (inr (r, l))) ]
+    | inr d ↦ elim d [ inl l ↦ absurd (k (inr (sym r, l))) | inr l ↦ absurd (h (inr (r, l))) ]
   ],
 )
 unordered v e c n Greater r h k = absurd (k (inl r))
@@ -118,9 +135,9 @@ module _ (block : ℤ → ℕ → Amount) (orders : SumsOrderSets block) (v : �
   same_within a e n s h = (count_in-within a e n s).1 (same_sums a e n h).1
 
   -- two sets with one sum that neither their union nor their intersection exceeds are one set
-  pub one_greatest : (e c : ℕ → Bool) (n : ℕ) → AtMost (group_sum block v (either c e) n) (group_sum block v e n) → AtMost (group_sum block v (both c e) n) (group_sum block v e n) → group_sum block v c n ≡ group_sum block v e n → (b : ℕ) → b < n → c b ≡ e b
+  pub one_greatest : (e c : ℕ → Bool) (n : ℕ) → AtMost (group_sum block v (union c e) n) (group_sum block v e n) → AtMost (group_sum block v (intersection c e) n) (group_sum block v e n) → group_sum block v c n ≡ group_sum block v e n → (b : ℕ) → b < n → c b ≡ e b
   one_greatest e c n u i same b l =
       let m = meet _ _ _ _ u i same (two_sets (λ k. block (v k) n) c e n) in
-      let in_e = same_within (both c e) e n (λ k h t. (and_parts _ _ t).1) m b l in
-      let in_c = same_within (both c e) c n (λ k h t. (and_parts _ _ t).0) (m ∙ sym same) b l in
+      let in_e = same_within (intersection c e) e n (λ k h t. within_second c e k t) m b l in
+      let in_c = same_within (intersection c e) c n (λ k h t. within_first c e k t) (m ∙ sym same) b l in
       sym in_c ∙ in_e

@@ -63,10 +63,7 @@ pub fn try_sum<G: OrderedGroup>(amounts: &[G]) -> Option<G>
 {
     let mut sum = G::zero();
     for x in amounts {
-        match sum.try_add(*x) {
-            Some(more) => sum = more,
-            None => return None,
-        }
+        sum = sum.try_add(*x)?;
     }
     Some(sum)
 }

@@ -1,7 +1,7 @@
 -- Sums over sets of numbers, a set being a test.
 use Rattle.std.proofs.Common.{◌≡◌, ℕ, zero, suc, ◌<◌, ◌≤◌, Bool, true, false, not, ◌==◌, ◌&&◌, ◌||◌, ◌⊎◌, inl, inr, sym, refl, ◌∙◌, arith, negsuc, ◌≤ℤ◌, below_more}
 use Rattle.std.proofs.lemmas.Int.{ints}
-use Rattle.std.proofs.lemmas.Bool.{cases_eq, eq-eqb, ne_eqb}
+use Rattle.std.proofs.lemmas.Bool.{cases_eq, eq-eqb, ne_eqb, and_parts}
 use Rattle.ordered_group.specs.Amount.{Amount, zero_amount, plus, minus, AtMost, Amount_eq}
 use Rattle.ordered_group.specs.Sums.{total, where_so, at_end}
 use Rattle.ordered_group.proofs.Order.{AtMost-refl}
@@ -92,13 +92,19 @@ split_sum e w n =
     total-same w (λ b. plus (where_so (e b) (w b)) (where_so (not (e b)) (w b))) n (λ b l. split_one (e b) (w b))
     ∙ total-plus (λ b. where_so (e b) (w b)) (λ b. where_so (not (e b)) (w b)) n
 
--- what is in both sets
-abbrev pub both : (ℕ → Bool) → (ℕ → Bool) → ℕ → Bool
-both a b k = a k && b k
-
 -- what is in one of the sets
-abbrev pub either : (ℕ → Bool) → (ℕ → Bool) → ℕ → Bool
-either a b k = a k || b k
+abbrev pub union : (ℕ → Bool) → (ℕ → Bool) → ℕ → Bool
+union a b k = a k || b k
+
+-- what is in both sets
+abbrev pub intersection : (ℕ → Bool) → (ℕ → Bool) → ℕ → Bool
+intersection a b k = a k && b k
+
+pub within_first : (a b : ℕ → Bool) (k : ℕ) → intersection a b k ≡ true → a k ≡ true
+within_first a b k t = (and_parts (a k) (b k) t).0
+
+pub within_second : (a b : ℕ → Bool) (k : ℕ) → intersection a b k ≡ true → b k ≡ true
+within_second a b k t = (and_parts (a k) (b k) t).1
 
 share : (a b : Bool) (x : Amount) → plus (where_so (a || b) x) (where_so (a && b) x) ≡ plus (where_so a x) (where_so b x)
 share true true x = refl
@@ -107,9 +113,9 @@ share false true x = Amount_eq _ _ (omega (arith, ints)) (omega (arith, ints))
 share false false x = refl
 
 -- the sums over a union and an intersection make those over the two sets
-pub two_sets : (w : ℕ → Amount) (a b : ℕ → Bool) (n : ℕ) → plus (total (λ k. where_so (either a b k) (w k)) n) (total (λ k. where_so (both a b k) (w k)) n) ≡ plus (total (λ k. where_so (a k) (w k)) n) (total (λ k. where_so (b k) (w k)) n)
+pub two_sets : (w : ℕ → Amount) (a b : ℕ → Bool) (n : ℕ) → plus (total (λ k. where_so (union a b k) (w k)) n) (total (λ k. where_so (intersection a b k) (w k)) n) ≡ plus (total (λ k. where_so (a k) (w k)) n) (total (λ k. where_so (b k) (w k)) n)
 two_sets w a b n =
-    sym (total-plus (λ k. where_so (either a b k) (w k)) (λ k. where_so (both a b k) (w k)) n)
+    sym (total-plus (λ k. where_so (union a b k) (w k)) (λ k. where_so (intersection a b k) (w k)) n)
     ∙ total-same _ (λ k. plus (where_so (a k) (w k)) (where_so (b k) (w k))) n (λ k h. share (a k) (b k) (w k))
     ∙ total-plus (λ k. where_so (a k) (w k)) (λ k. where_so (b k) (w k)) n
 

@@ -10,14 +10,14 @@ at-requires-after_bounds g c =
     let below = number_below (parts c.args.start) (to_at c.args.rests.now.pairs) (amount_at c.args.rest.now) c.args.b (length c.args.rests.now.pairs) c.below-numbers.result.now c.below-numbers.ensures c.loop-k.k-index (omega arith) in
     omega (arith, below, c.requires.lengths)
 
-pub returns-in-None : goal.returns-in-None
-returns-in-None g c =
+pub returns-in_err-sum : goal.returns-in_err-sum
+returns-in_err-sum g c =
     let parts = g.G.OrderedGroup.parts_of in
     let ks = c.below-numbers.result.now in
     let k = get_or ks c.loop-k.k-index 0 in
     let below = number_below (parts c.args.start) (to_at c.args.rests.now.pairs) (amount_at c.args.rest.now) c.args.b (length c.args.rests.now.pairs) ks c.below-numbers.ensures c.loop-k.k-index (omega arith) in
     let q = sym c.at.ensures in
-    one_leaves (parts c.args.start) (to_at c.args.rests.now.pairs) (amount_at c.args.rest.now) c.args.b (length c.args.rests.now.pairs) ks c.below-numbers.ensures c.loop-k.k-index _ _ (omega arith) c.loop-k.invariant.so_far q c.in-None.ensures
+    rw c.from_residual.ensures (one_leaves (parts c.args.start) (to_at c.args.rests.now.pairs) (amount_at c.args.rest.now) c.args.b (length c.args.rests.now.pairs) ks c.below-numbers.ensures c.loop-k.k-index _ _ (omega arith) c.loop-k.invariant.so_far q c.in_err-sum.ensures)
 
 pub loop-k-preserved : goal.loop-k-preserved
 loop-k-preserved g c =
@@ -28,8 +28,8 @@ loop-k-preserved g c =
     let below = number_below (parts c.args.start) (to_at c.args.rests.now.pairs) f c.args.b (length c.args.rests.now.pairs) ks c.below-numbers.ensures c.loop-k.k-index (omega arith) in
     let q = sym c.at.ensures in
     record {
-      so_far = sum_more (parts c.args.start) f ks c.loop-k.k-index _ _ _ c.loop-k.invariant.so_far q c.in-Some.ensures.1;
-      fits = fits_more (parts c.args.start) f ks c.loop-k.k-index _ _ c.loop-k.invariant.so_far q c.in-Some.ensures.0 c.loop-k.invariant.fits;
+      so_far = sum_more (parts c.args.start) f ks c.loop-k.k-index _ _ _ c.loop-k.invariant.so_far q c.in_ok-sum.ensures.1;
+      fits = fits_more (parts c.args.start) f ks c.loop-k.k-index _ _ c.loop-k.invariant.so_far q c.in_ok-sum.ensures.0 c.loop-k.invariant.fits;
     }
 
 pub returns : goal.returns

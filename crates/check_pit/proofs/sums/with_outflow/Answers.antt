@@ -40,8 +40,8 @@ at-requires-after_bounds g c =
     let below = number_below (parts c.args.start) (from_at ps) (amount_at c.args.rest.now) c.args.b (length ps) ks refl c.loop-i.i inside in
     omega (arith, below, own, c.requires.lengths, c.first-first.ensures, c.len-n.ensures.all.few)
 
-pub returns-in-None : goal.returns-in-None
-returns-in-None g c =
+pub returns-in_err-sum : goal.returns-in_err-sum
+returns-in_err-sum g c =
     let parts = g.G.OrderedGroup.parts_of in
     let ps = c.args.rests.now.pairs in
     let ks = numbers (from_at ps) c.args.b (length ps) in
@@ -51,7 +51,7 @@ returns-in-None g c =
     let own = own_at ps c.len-n.ensures.all.rising c.args.b c.loop-i.i inside ∙ ap (λ x. x + c.loop-i.i) (sym c.first-first.ensures) in
     let below = number_below (parts c.args.start) (from_at ps) f c.args.b (length ps) ks refl c.loop-i.i inside in
     let q = ap f own ∙ sym c.at.ensures in
-    one_leaves (parts c.args.start) (from_at ps) f c.args.b (length ps) ks refl c.loop-i.i _ _ inside c.loop-i.invariant.so_far q c.in-None.ensures
+    rw c.from_residual.ensures (one_leaves (parts c.args.start) (from_at ps) f c.args.b (length ps) ks refl c.loop-i.i _ _ inside c.loop-i.invariant.so_far q c.in_err-sum.ensures)
 
 pub loop-i-preserved : goal.loop-i-preserved
 loop-i-preserved g c =
@@ -65,8 +65,8 @@ loop-i-preserved g c =
     let below = number_below (parts c.args.start) (from_at ps) f c.args.b (length ps) ks refl c.loop-i.i inside in
     let q = ap f own ∙ sym c.at.ensures in
     record {
-      so_far = sum_more (parts c.args.start) f ks c.loop-i.i _ _ _ c.loop-i.invariant.so_far q c.in-Some.ensures.1;
-      fits = fits_more (parts c.args.start) f ks c.loop-i.i _ _ c.loop-i.invariant.so_far q c.in-Some.ensures.0 c.loop-i.invariant.fits;
+      so_far = sum_more (parts c.args.start) f ks c.loop-i.i _ _ _ c.loop-i.invariant.so_far q c.in_ok-sum.ensures.1;
+      fits = fits_more (parts c.args.start) f ks c.loop-i.i _ _ c.loop-i.invariant.so_far q c.in_ok-sum.ensures.0 c.loop-i.invariant.fits;
     }
 
 pub returns : goal.returns

@@ -3,5 +3,5 @@ use Rattle.closure_net.specs.Network.{IsAscending}
 use Rattle.check_pit.specs.Gathered.{Gathered}
 use Rattle.check_pit.proofs.gathering.Parts.finish.Goals as goal
 
-pub returns-in-None : goal.returns-in-None
-returns-in-None g c = λ h. c.in-None.ensures (subst IsAscending (sym (ap (λ (v : Gathered). v.pit) c.self.view_is)) h)
+pub returns-in_err-pit : goal.returns-in_err-pit
+returns-in_err-pit g c = rw c.from_residual.ensures (λ h. c.in_err-pit.ensures (subst IsAscending (sym (ap (λ (v : Gathered). v.pit) c.self.view_is)) h))
