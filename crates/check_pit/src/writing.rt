@@ -279,6 +279,8 @@ fn put_body<G: OrderedGroup, W: CountedWrite>(
 ///
 /// # Errors
 /// `Device` at the first write that fails: the writer has then received a prefix of the text.
+///
+/// `out` must have counted fewer than 2^64 - 1 failures, so that one more can be counted.
 pub fn write_certificate<G: OrderedGroup, W: CountedWrite>(
     certificate: &Certificate<G>,
     rests: &Rests,

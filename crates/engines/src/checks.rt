@@ -17,6 +17,8 @@ use std::alloc::Global;
 /// block of it rests on, and no such pit is worth more; and with `GROUP PAIR` every other that is
 /// worth the same has more blocks (Picard 1976). `No` where it wrote `REFUSED` with the first fault
 /// of the pit and its flow. The inputs are read in the order of the arguments, each to its end.
+///
+/// Each device must have counted fewer than 2^64 - 1 failures, so that one more can be counted.
 pub fn check_engine<U: CountedRead, P: CountedRead, C: CountedRead, W: CountedWrite>(
     alloc: Global,
     upit: &mut U,

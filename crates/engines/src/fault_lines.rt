@@ -39,6 +39,8 @@ pub fn status(answer: &Result<Verdict, EngineFault>) -> u8
 /// Writes the line of a fault: `fault: `, the input that has it, and the fault. It takes no memory.
 ///
 /// [`WriteFault::Device`] where a write failed: the writer has then received a prefix of the line.
+///
+/// `out` must have counted fewer than 2^64 - 1 failures, so that one more can be counted.
 pub fn write_fault<W: CountedWrite>(fault: &EngineFault, out: &mut W) -> Result<(), WriteFault>
     requires { W.failed out.old < 2 ^ 64 - 1 }
     ensures line { OnOk result (Appends (W.contents out.old) (W.contents out.new) (fault_line fault.now)) }

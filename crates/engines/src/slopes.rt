@@ -21,6 +21,8 @@ use std::alloc::Global;
 /// In this order: `Blocks` for a fault of the text; `Slope` for a cone of more than 4,096 offsets, for two blocks at one
 /// place, or for more than 2^27 pairs. `Memory` where memory is refused, `Device` where a read or a write fails: the
 /// writer has then received a front of the text, and at every other fault nothing.
+///
+/// Each device must have counted fewer than 2^64 - 1 failures, so that one more can be counted.
 pub fn slopes_engine<B: CountedRead, W: CountedWrite>(
     alloc: Global,
     blocks: &mut B,

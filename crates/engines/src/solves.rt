@@ -34,6 +34,8 @@ use workers::{Board, Gate, Locked, Shared};
 /// fit. `Memory` where memory is refused, `Thread` where a worker can't be started, `Stranger` where the
 /// board that the workers shared comes back as another's (see `workers::solve`), `Device` where a read or a write fails: the writer has then
 /// received a front of the answer, and at every other fault nothing.
+///
+/// Each device must have counted fewer than 2^64 - 1 failures, so that one more can be counted.
 pub fn solve_engine<
     R: Threads + Wait + Sync,
     U: CountedRead,

@@ -46,6 +46,8 @@ impl Page {
     /// [`WriteFault::Device`] where a write failed: the writer has then received a prefix of what
     /// was held and the piece. The page still holds all that it held, unless the writer received
     /// all of that: then it holds nothing.
+    ///
+    /// `out` must have counted fewer than 2^64 - 1 failures, so that one more can be counted.
     pub fn put<W: CountedWrite>(&mut self, out: &mut W, piece: &[u8]) -> Result<(), WriteFault>
         requires { W.failed out.old < 2 ^ 64 - 1 }
         ensures held { OnOk result (SentOrHeld (W.contents out.old) (W.contents out.new) self.new (self.old ++ piece.now)) }
@@ -68,6 +70,8 @@ impl Page {
     ///
     /// [`WriteFault::Device`] where a write failed: the writer has then received a prefix of what
     /// was held, and the page still holds all of it.
+    ///
+    /// `out` must have counted fewer than 2^64 - 1 failures, so that one more can be counted.
     pub fn finish<W: CountedWrite>(&mut self, out: &mut W) -> Result<(), WriteFault>
         requires { W.failed out.old < 2 ^ 64 - 1 }
         ensures sent { OnOk result (Appends (W.contents out.old) (W.contents out.new) self.old) }

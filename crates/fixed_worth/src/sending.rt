@@ -17,6 +17,8 @@ pub enum WriteFault {
 ///
 /// [`WriteFault::Device`] at the first write that fails: the writer has then received a prefix of
 /// the text. It is not tried again, since a caller can't tell a slow device from a broken one.
+///
+/// `out` must have counted fewer than 2^64 - 1 failures, so that one more can be counted.
 #[tactic(auto, using(crate::proofs::Pieces::sent_more, crate::proofs::Pieces::sent_all, crate::proofs::Pieces::sent_part))]
 pub fn write_text<W: CountedWrite>(out: &mut W, text: &[u8]) -> Result<(), WriteFault>
     requires { W.failed out.old < 2 ^ 64 - 1 }

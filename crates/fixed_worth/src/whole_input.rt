@@ -26,6 +26,8 @@ const PIECE: usize = 65536;
 /// It ends at the first fault: [`InputFault::Device`] where a read failed, an interrupted one too;
 /// [`InputFault::InputTooLong`] once the reader gave more than `limit` bytes;
 /// [`InputFault::NoMemory`] where the bytes found no room. It makes at most `limit` and two reads.
+///
+/// `from` must have counted fewer than 2^64 - 1 failures, so that one more can be counted.
 pub fn read_whole<R: CountedRead>(
     alloc: Global,
     from: &mut R,

@@ -126,6 +126,8 @@ fn write_lines<W: CountedWrite>(rests: &Rests, out: &mut W) -> Result<(), WriteF
 /// # Errors
 /// `TooWide` with the first block that has more than 7,000 predecessors; nothing is written then. `Device` at the first
 /// write that fails: the writer has then received a prefix of the text.
+///
+/// `out` must have counted fewer than 2^64 - 1 failures, so that one more can be counted.
 pub fn write_prec<W: CountedWrite>(rests: &Rests, out: &mut W) -> Result<(), PrecWriteFault>
     requires { W.failed out.old < 2 ^ 64 - 1 }
     ensures sent { OnOk result (Appends (W.contents out.old) (W.contents out.new) (prec_text rests.now)) }

@@ -88,6 +88,8 @@ fn put_records<W: CountedWrite>(
 ///
 /// Takes no memory, and sends the text in large pieces. [`WriteFault::Device`] at the first write that fails: the writer
 /// has then received a prefix of the text.
+///
+/// `out` must have counted fewer than 2^64 - 1 failures, so that one more can be counted.
 pub fn write_upit<W: CountedWrite>(upit: &Upit, out: &mut W) -> Result<(), WriteFault>
     requires { W.failed out.old < 2 ^ 64 - 1 }
     ensures sent { OnOk result (Appends (W.contents out.old) (W.contents out.new) (spec.upit_text upit.now)) }
