@@ -3,8 +3,10 @@
 use blocks_file::BlocksFault;
 use check_pit::CertFault;
 use closure_net::NetFault;
+use fixed_worth::WriteFault;
 use prec_file::PrecFault;
 use slope::{PatternFault, SlopeFault};
+use std::alloc::AllocError;
 use std::fmt;
 use thiserror::Error;
 use upit_file::UpitFault;
@@ -99,4 +101,54 @@ pub enum EngineFault {
     /// The board that the workers of a run shared came back as another's.
     #[error("stranger")]
     Stranger,
+}
+
+impl From<AllocError> for EngineFault {
+    ghost use Rattle.std.specs.Prelude.{◌≡◌};
+    ghost use Rattle.engines.specs.declared.engine_faults.EngineFault.TheVariants as engine;
+
+    ghost from_gives = { λ _ e. e ≡ engine.Memory };
+
+    fn from(_refused: AllocError) -> EngineFault {
+        EngineFault::Memory
+    }
+}
+
+impl From<WriteFault> for EngineFault {
+    ghost use Rattle.std.specs.Prelude.{◌≡◌};
+    ghost use Rattle.engines.specs.declared.engine_faults.EngineFault.TheVariants as engine;
+
+    ghost from_gives = { λ _ e. e ≡ engine.Device };
+
+    fn from(_failed: WriteFault) -> EngineFault {
+        EngineFault::Device
+    }
+}
+
+impl From<NetFault> for EngineFault {
+    ghost use Rattle.std.specs.Prelude.{◌≡◌};
+    ghost use Rattle.engines.specs.Judging.{of_model};
+
+    ghost from_gives = { λ fault e. e ≡ of_model fault };
+
+    fn from(fault: NetFault) -> EngineFault {
+        match fault {
+            NetFault::NoMemory => EngineFault::Memory,
+            fault => EngineFault::Model(fault),
+        }
+    }
+}
+
+impl From<CertFault> for EngineFault {
+    ghost use Rattle.std.specs.Prelude.{◌≡◌};
+    ghost use Rattle.engines.specs.Judging.{of_certificate};
+
+    ghost from_gives = { λ fault e. e ≡ of_certificate fault };
+
+    fn from(fault: CertFault) -> EngineFault {
+        match fault {
+            CertFault::NoMemory => EngineFault::Memory,
+            fault => EngineFault::Certificate(CertificateProblem::Fault(fault)),
+        }
+    }
 }

@@ -100,10 +100,7 @@ pub fn rests_from<R: CountedRead>(alloc: Global, from: &mut R, n: u32) -> Result
     ensures kept { ¬ IsErrOf result EngineFault.Device → R.failed from.new ≡ R.failed from.old }
 {
     let listed = listed_from(alloc, from, n)?;
-    match listed.settle(alloc) {
-        Ok(rests) => Ok(rests),
-        Err(_) => Err(EngineFault::Memory),
-    }
+    Ok(listed.settle(alloc)?)
 }
 
 /// The text of a certificate.

@@ -1,18 +1,18 @@
 //! Judging a certificate for a mine that was read.
 
-ghost use Rattle.std.specs.Prelude.{◌≡◌, ◌≢◌, ◌≤◌, ◌*ℤ◌, pos, ℕ, List, length, map, IfOk, IsErrOf};
+ghost use Rattle.std.specs.Prelude.{◌≡◌, ◌≤◌, ◌*ℤ◌, pos, ℕ, List, length, map, IfOk, IsErrOf};
 ghost use Rattle.closure_net.specs.Network.{holds_of, IsAscending};
 ghost use Rattle.ordered_group.specs.Amount.{FitsPair};
 ghost use Rattle.closure_net.specs.Closure.{group_worth, IsGreatest};
 ghost use Rattle.closure_net.specs.Mine.{IsNetOf};
 ghost use Rattle.engines.specs.Mines.{DenoteMine, mine_of};
 ghost use Rattle.engines.specs.Faults.{IsHeader};
-ghost use Rattle.engines.specs.Judging.{AreRead, IsGroupNamed, Judges, of_certificate, of_model};
+ghost use Rattle.engines.specs.Judging.{AreRead, IsGroupNamed, Judges};
 
 use crate::engine_faults::{CertificateProblem, EngineFault};
 use crate::judgements::Judgement;
 use check_pit::{Accepted, CertFault, Price, check, read_certificate, reading};
-use closure_net::{Net, NetFault, laws};
+use closure_net::{Net, laws};
 use fixed_worth::Micros;
 use ordered_group::{Group, OrderedGroup, Worth, WorthSize};
 use prec_file::Rests;
@@ -31,12 +31,9 @@ pub fn judge(
 {
     laws::greatest_set_is_richest_pit();
     laws::greatest_set_is_best_pit::<WorthSize>();
-    let header = match reading::header(certificate) {
-        Ok(header) => header,
-        Err(fault) => return Err(certificate_fault(fault)),
-    };
+    let header = reading::header(certificate)?;
     if header.blocks != rests.len() {
-        return Err(certificate_fault(CertFault::Number(2)));
+        return Err(EngineFault::from(CertFault::Number(2)));
     }
     match header.price {
         Price::Objective => {}
@@ -61,14 +58,9 @@ fn judge_by<G: OrderedGroup>(
         → IsHeader certificate.now rests.blocks G.name → Judges values precedence certificate.now result }
     ensures no_device { ¬ IsErrOf result EngineFault.Device }
 {
-    let nanos = match nanos_of(alloc, upit) {
-        Ok(nanos) => nanos,
-        Err(_) => return Err(EngineFault::Memory),
-    };
-    match Net::<G>::of_worths(alloc, rests, nanos.as_slice()) {
-        Ok(net) => judge_for(alloc, &net, certificate),
-        Err(fault) => Err(model_fault(fault)),
-    }
+    let nanos = nanos_of(alloc, upit)?;
+    let net = Net::<G>::of_worths(alloc, rests, nanos.as_slice())?;
+    judge_for(alloc, &net, certificate)
 }
 
 // The same, where the mine's net is made.
@@ -84,10 +76,7 @@ fn judge_for<G: OrderedGroup>(
 {
     let _worths = net.worths();
     let rests = net.rests();
-    let certificate = match read_certificate::<G>(alloc, certificate, rests) {
-        Ok(certificate) => certificate,
-        Err(fault) => return Err(certificate_fault(fault)),
-    };
+    let certificate = read_certificate::<G>(alloc, certificate, rests)?;
     match check(net, &certificate.pit, &certificate.flow) {
         Ok(accepted) => {
             let count = size_of(&accepted);
@@ -147,25 +136,4 @@ fn billionths(value: Micros) -> i128
     ensures { result ≡ pos 1000 *ℤ value }
 {
     1000 * i128::from(value.get())
-}
-
-fn certificate_fault(fault: CertFault) -> EngineFault
-    ensures fault { result ≡ of_certificate fault }
-    ensures no_device { result ≢ EngineFault.Device }
-{
-    match fault {
-        CertFault::NoMemory => EngineFault::Memory,
-        fault => EngineFault::Certificate(CertificateProblem::Fault(fault)),
-    }
-}
-
-/// The engine's fault of a net's.
-pub fn model_fault(fault: NetFault) -> EngineFault
-    ensures fault { result ≡ of_model fault }
-    ensures no_device { result ≢ EngineFault.Device }
-{
-    match fault {
-        NetFault::NoMemory => EngineFault::Memory,
-        fault => EngineFault::Model(fault),
-    }
 }

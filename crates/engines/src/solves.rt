@@ -8,7 +8,7 @@ use crate::efforts::Effort;
 use crate::engine_faults::EngineFault;
 use crate::inputs::{rests_from, upit_from};
 use crate::judgements::Verdict;
-use crate::judging::{model_fault, nanos_of};
+use crate::judging::nanos_of;
 use crate::solving::solve_net;
 use closure_net::{Net, laws};
 use fixed_worth::{CountedRead, CountedWrite};
@@ -111,14 +111,8 @@ where
     ensures device { IsErrOf result EngineFault.Device ↔ (W.failed out.new ≡ W.failed out.old + 1) }
     ensures kept { ¬ IsErrOf result EngineFault.Device → W.failed out.new ≡ W.failed out.old }
 {
-    let nanos = match nanos_of(alloc, upit) {
-        Ok(nanos) => nanos,
-        Err(_) => return Err(EngineFault::Memory),
-    };
-    let net = match Net::<G>::of_worths(alloc, rests, nanos.as_slice()) {
-        Ok(net) => net,
-        Err(fault) => return Err(model_fault(fault)),
-    };
+    let nanos = nanos_of(alloc, upit)?;
+    let net = Net::<G>::of_worths(alloc, rests, nanos.as_slice())?;
     let _worths = net.worths();
     solve_net(rt, alloc, &net, effort, gate, out)
 }

@@ -107,10 +107,8 @@ where
         Err(Unsolved::NoThread) => return Err(EngineFault::Thread),
         Err(Unsolved::Stranger) => return Err(EngineFault::Stranger),
     };
-    match write_certificate(&certificate, net.rests(), out) {
-        Ok(()) => Ok(Verdict::Done),
-        Err(WriteFault::Device) => Err(EngineFault::Device),
-    }
+    write_certificate(&certificate, net.rests(), out)?;
+    Ok(Verdict::Done)
 }
 
 // Writes the line of an answer without a certificate.
@@ -122,8 +120,6 @@ fn write_no<W: CountedWrite>(line: &[u8], out: &mut W) -> Result<Verdict, Engine
     ensures device { IsErrOf result EngineFault.Device ↔ (W.failed out.new ≡ W.failed out.old + 1) }
     ensures kept { ¬ IsErrOf result EngineFault.Device → W.failed out.new ≡ W.failed out.old }
 {
-    match write_text(out, line) {
-        Ok(()) => Ok(Verdict::No),
-        Err(WriteFault::Device) => Err(EngineFault::Device),
-    }
+    write_text(out, line)?;
+    Ok(Verdict::No)
 }

@@ -25,14 +25,9 @@ pub fn write_judgement<W: CountedWrite>(
     ensures device { IsErrOf result EngineFault.Device ↔ (W.failed out.new ≡ W.failed out.old + 1) }
     ensures kept { ¬ IsErrOf result EngineFault.Device → W.failed out.new ≡ W.failed out.old }
 {
-    let line = match line_of(alloc, judgement) {
-        Ok(line) => line,
-        Err(_) => return Err(EngineFault::Memory),
-    };
-    match write_text(out, line.as_bytes()) {
-        Ok(()) => Ok(()),
-        Err(WriteFault::Device) => Err(EngineFault::Device),
-    }
+    let line = line_of(alloc, judgement)?;
+    write_text(out, line.as_bytes())?;
+    Ok(())
 }
 
 fn line_of(alloc: Global, judgement: Judgement) -> Result<String, AllocError>

@@ -6,10 +6,10 @@ pub returns-in-Worth-clause-judged : goal.returns-in-Worth-clause-judged
 returns-in-Worth-clause-judged c = λ values precedence read.
     c.judge_by.ensures.judged values precedence read
     (record { block_is = refl; counts_is = refl; proves = c.greatest_set_is_richest_pit.ensures })
-    (header_is c.args.certificate.now c.in-Ok.header c.args.rests.blocks _ (sym c.header.ensures ∙ c.in-Ok.is) (c.if-header-len.false ∙ c.len.ensures.is) c.in-Objective.is c.in-Worth.is)
+    (header_is c.args.certificate.now c.in_ok-header.header c.args.rests.blocks _ (sym c.header.ensures ∙ c.in_ok-header.was) (c.if-header-len.false ∙ c.len.ensures.is) c.in-Objective.is c.in-Worth.is)
 
 pub returns-in-Pair-clause-judged : goal.returns-in-Pair-clause-judged
 returns-in-Pair-clause-judged c = λ values precedence read.
     c.judge_by-in-Pair.ensures.judged values precedence read
     (record { block_is = refl; counts_is = refl; proves = c.greatest_set_is_best_pit.ensures })
-    (header_is c.args.certificate.now c.in-Ok.header c.args.rests.blocks _ (sym c.header.ensures ∙ c.in-Ok.is) (c.if-header-len.false ∙ c.len.ensures.is) c.in-Objective.is c.in-Pair.is)
+    (header_is c.args.certificate.now c.in_ok-header.header c.args.rests.blocks _ (sym c.header.ensures ∙ c.in_ok-header.was) (c.if-header-len.false ∙ c.len.ensures.is) c.in-Objective.is c.in-Pair.is)

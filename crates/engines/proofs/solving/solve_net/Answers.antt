@@ -1,4 +1,5 @@
 use Rattle.std.proofs.Common.{inl, inr, refl, subst}
+use Rattle.std.proofs.lemmas.Result.{err_from_is_err_and}
 use Rattle.engines.specs.declared.solving.Unsolved.{Unsolved}
 use Rattle.engines.specs.Solving.{UnsolvedStands, unsettled_line, too_large_line}
 use Rattle.engines.proofs.Solutions.{certified, cut_short, said_no}
@@ -14,14 +15,16 @@ returns-in-Err-TooLarge-clause-answer g c =
     said_no g.G.OrderedGroup.counts g.G.OrderedGroup.name c.args.net.now c.args.effort.steps too_large_line (g.W.Write.contents c.args.out.now) (g.W.Write.contents c.write_no-in-Err-TooLarge.new.out) c.write_no-in-Err-TooLarge.result
     (inr (subst (λ (u : Unsolved). UnsolvedStands c.args.net.now c.args.effort.steps u) c.in-Err-TooLarge.field-0-is c.in-Err-TooLarge.ensures, refl)) c.write_no-in-Err-TooLarge.ensures.answer
 
-pub returns-in-Ok-write_certificate-clause-answer : goal.returns-in-Ok-write_certificate-clause-answer
-returns-in-Ok-write_certificate-clause-answer g c =
-    let k = c.in-Ok.certificate in
-    certified g.G.OrderedGroup.counts g.G.OrderedGroup.name c.args.net.now c.args.effort.steps k.blocks k.price k.pit k.flow c.rests.result.now.blocks c.rests.result.now.pairs c.in-Ok.ensures c.rests.ensures.blocks c.rests.ensures.pairs
-    (g.W.Write.contents c.args.out.now) (g.W.Write.contents c.write_certificate.new.out) c.in-Ok-write_certificate.ensures.read_back c.in-Ok-write_certificate.ensures.sent
-
 pub returns-clause-answer : goal.returns-clause-answer
 returns-clause-answer g c =
     let k = c.in-Ok.certificate in
-    cut_short g.G.OrderedGroup.counts g.G.OrderedGroup.name c.args.net.now c.args.effort.steps k.blocks k.price k.pit k.flow c.rests.result.now.blocks c.rests.result.now.pairs c.in-Ok.ensures c.rests.ensures.blocks c.rests.ensures.pairs
-    (g.W.Write.contents c.args.out.now) (g.W.Write.contents c.write_certificate.new.out) c.in-Err-Device.ensures.prefix
+    certified g.G.OrderedGroup.counts g.G.OrderedGroup.name c.args.net.now c.args.effort.steps k.blocks k.price k.pit k.flow c.rests.result.now.blocks c.rests.result.now.pairs c.in-Ok.ensures c.rests.ensures.blocks c.rests.ensures.pairs
+    (g.W.Write.contents c.args.out.now) (g.W.Write.contents c.write_certificate.new.out) c.in_ok-write_certificate.ensures.read_back c.in_ok-write_certificate.ensures.sent
+
+pub returns-in_err-write_certificate-clause-answer : goal.returns-in_err-write_certificate-clause-answer
+returns-in_err-write_certificate-clause-answer g c =
+    let k = c.in-Ok.certificate in
+    let p = err_from_is_err_and c.from_residual.result c.from_residual.ensures.1 in
+    rw (p.1, p.2)
+    (cut_short g.G.OrderedGroup.counts g.G.OrderedGroup.name c.args.net.now c.args.effort.steps k.blocks k.price k.pit k.flow c.rests.result.now.blocks c.rests.result.now.pairs c.in-Ok.ensures c.rests.ensures.blocks c.rests.ensures.pairs
+    (g.W.Write.contents c.args.out.now) (g.W.Write.contents c.write_certificate.new.out) c.in_err-write_certificate.ensures.prefix)
