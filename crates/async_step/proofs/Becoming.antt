@@ -1,5 +1,5 @@
 -- What a step leaves, as lists.
-use Rattle.std.proofs.Common.{◌≡◌, ◌↔◌, IsTrue, Bool, true, false, ℕ, ◌+◌, ◌<◌, ◌≤◌, ◌^◌, inl, inr, List, length, get_or, set, sym, refl, subst, ◌∙◌, arith, length-set, get_or-set_same, get_or-set_other}
+use Rattle.std.proofs.Common.{◌≡◌, Result, Err, MatchResult, ◌↔◌, IsTrue, Bool, true, false, ℕ, ◌+◌, ◌<◌, ◌≤◌, ◌^◌, inl, inr, List, length, get_or, set, sym, refl, subst, ◌∙◌, arith, length-set, get_or-set_same, get_or-set_other}
 use Rattle.std.proofs.Math.Path.{fun_ext}
 use Rattle.std.proofs.lemmas.Bool.{cases_eq, cases_lt}
 use Rattle.ordered_group.specs.Amount.{Amount, zero_amount, minus, negative, FitsPair}
@@ -7,11 +7,13 @@ use Rattle.ordered_group.specs.Sums.{amount_at}
 use Rattle.closure_net.specs.Network.{NetView}
 use Rattle.machine_law.specs.declared.operations.Operation.{Operation}
 use Rattle.machine_law.specs.declared.operations.Operation.TheVariants.{Idle}
-use Rattle.machine_law.specs.States.{put}
+use Rattle.machine_law.specs.States.{State, put}
 use Rattle.machine_law.specs.Steps.{becomes}
 use Rattle.machine_law.proofs.Points.{put-same, put-other, put-each}
 use Rattle.async_step.specs.Views.{StateView, state_of, operation_at, IsSized}
-use Rattle.async_step.specs.Answers.{Fits, IsStateOf, GoesTo}
+use Rattle.async_step.specs.Answers.{Fits, IsStateOf, GoesTo, Stays}
+use Rattle.async_step.specs.declared.refusals.StepRefusal.{StepRefusal}
+use Rattle.async_step.specs.declared.refusals.StepRefusal.TheVariants.{TooLarge}
 
 -- a list with another element, as a function from its places
 places-set : {X : Type 0} (xs : List X) (k : ℕ) (v d : X) → k < length xs → (λ i. get_or (set xs k v) i d) ≡ put (λ i. get_or xs i d) k v
@@ -132,3 +134,7 @@ module _ (net : NetView) (v : StateView) (over : IsStateOf net v) (b : ℕ) (l :
   goes_at_sink few x f1 =
       let e : state_of (record v { at_sink = x; operation = set v.operation b o; steps = v.steps + 1 }) ≡ record (becomes (state_of v) b o) { at_sink = x } = λ i. record { excess = (state_of v).excess; label = (state_of v).label; source = (state_of v).source; sink = (state_of v).sink; flow = (state_of v).flow; operation = operation_set i; at_source = v.at_source; at_sink = x; steps = v.steps + 1 } in
       record { state = e; counted = few; fits = subst (Fits net) (sym e) (fits_at_sink x f1); blocks = length-set v.operation b o; pairs = refl }
+
+-- a refusal because a number of the state after the step doesn't fit
+pub too_large : {X : Type 0} (P : X → Type 0) (net : NetView) (old : StateView) (after : State) (r : Result X StepRefusal) → r ≡ Err TooLarge → ¬ (Fits net after) → MatchResult r P (λ e. Stays net old after old e)
+too_large P net old after r is h = rw is (record { same = refl; why = h })

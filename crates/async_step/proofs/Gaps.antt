@@ -1,10 +1,10 @@
 -- What counts tell of stretches without a mark, and of the first mark going round.
-use Rattle.std.proofs.Common.{◌≡◌, ◌↔◌, ℕ, zero, suc, ◌+◌, ◌*◌, ◌/◌, ◌%◌, ◌<◌, ◌≤◌, ◌^◌, Bool, true, false, inl, inr, List, length, get_or, replicate, sym, refl, ap, subst, ◌∙◌, arith}
+use Rattle.std.proofs.Common.{◌≡◌, ◌↔◌, ℕ, zero, suc, ◌+◌, ◌*◌, ◌/◌, ◌%◌, ◌<◌, ◌≤◌, ◌^◌, Bool, true, false, inl, inr, List, length, get_or, replicate, sym, refl, subst, ◌∙◌, arith}
 use Rattle.std.proofs.Math.Nat.{lt-div-mul-add, div-lt_iff_lt-mul}
 use Rattle.std.proofs.lemmas.Nat.{div-add-mod'}
 use Rattle.std.proofs.lemmas.Bool.{cases_lt}
 use Rattle.std.proofs.lemmas.Bool.Decides.{nat_tests}
-use Rattle.std.proofs.lemmas.List.{get_or_default}
+use Rattle.std.proofs.lemmas.List.{get_or_default, length-replicate}
 use Rattle.ordered_group.specs.Sets.{count_in}
 use Rattle.async_step.specs.Marks.{mark_at, run_count, IsCounted, IsMarks, NoneWithin, IsFirstWithin, ahead_of, IsFirstRound}
 use Rattle.async_step.proofs.Counts.{run_none}
@@ -40,32 +40,24 @@ none_at zero b = refl
 none_at (suc n) zero = refl
 none_at (suc n) (suc b) = none_at n b
 
-length_none : (n : ℕ) → length (replicate n false) ≡ n
-length_none zero = refl
-length_none (suc n) = ap suc (length_none n)
-
 zeros_at : (n i : ℕ) → get_or (replicate {A = ℕ} n 0) i 0 ≡ 0
 zeros_at zero i = refl
 zeros_at (suc n) zero = refl
 zeros_at (suc n) (suc i) = zeros_at n i
 
-length_zeros : (n : ℕ) → length (replicate {A = ℕ} n 0) ≡ n
-length_zeros zero = refl
-length_zeros (suc n) = ap suc (length_zeros n)
-
 counted_none : (n width : ℕ) → 0 < width → IsCounted (replicate n false) width (replicate {A = ℕ} (n / width + 1) 0)
 counted_none n width w = record {
   covers = λ b l. (
-      let m : b < (n / width + 1) * width = (let p = lt-div-mul-add {a = n} {b = width} w in let q = length_none n in grind arith) in
+      let m : b < (n / width + 1) * width = (let p = lt-div-mul-add {a = n} {b = width} w in let q = length-replicate n false in grind arith) in
       let r = (div-lt_iff_lt-mul {k = width} {x = b} {y = n / width + 1} w).1 m in
-      omega (arith, r, length_zeros (n / width + 1)));
+      omega (arith, r, length-replicate {A = ℕ} (n / width + 1) 0));
   at = λ i l. zeros_at (n / width + 1) i ∙ sym (run_empty (replicate n false) (i * width) width (λ b. none_at n b));
 }
 
 pub marks_none : (n : ℕ) (marks : List Bool) (smalls middles larges : List ℕ) → n ≤ 2 ^ 24 → marks ≡ replicate n false → smalls ≡ replicate (n / 64 + 1) 0 → middles ≡ replicate (n / 4096 + 1) 0 → larges ≡ replicate (n / 262144 + 1) 0 → IsMarks marks smalls middles larges 0
 marks_none n marks smalls middles larges h e p q r =
     rw (e, p, q, r) (record {
-      few = omega (arith, length_none n);
+      few = omega (arith, length-replicate n false);
       small = counted_none n 64 (omega arith);
       middle = counted_none n 4096 (omega arith);
       large = counted_none n 262144 (omega arith);

@@ -1,5 +1,5 @@
 -- What a step leads to, by the operation of its block.
-use Rattle.std.proofs.Common.{◌≡◌, ℕ, ◌<◌, Bool, true, false, not, refl, Option, Some, None, [], ◌∷◌, ◌++◌, length, Result, Ok, Err, sym, ap, subst, ◌∙◌}
+use Rattle.std.proofs.Common.{◌≡◌, ℕ, ◌<◌, Bool, true, false, refl, Option, Some, None, [], ◌∷◌, ◌++◌, length, Result, Ok, Err, sym, ap, subst, ◌∙◌}
 use Rattle.std.specs.Prelude.{slice_get, MatchResult}
 use Rattle.ordered_group.specs.Amount.{Amount}
 use Rattle.closure_net.specs.Network.{NetView}
@@ -121,8 +121,3 @@ pub still_state : {N : Type 0} (f : N → Amount) (net : NetView) (v w : StateVi
     → MatchResult r (λ saw. Stepped net v e w (saw_as f saw)) (λ x. IsRefused net v e w x) → IsStateOf net w
 still_state f net v w e (Ok saw) over h = h.state
 still_state f net v w e (Err x) over h = subst (IsStateOf net) (sym h.same) over
-
--- what isn't false is true
-pub not_false : (t : Bool) → not t ≡ false → t ≡ true
-not_false true h = refl
-not_false false h = absurd cc

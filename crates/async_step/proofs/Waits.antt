@@ -1,5 +1,6 @@
 -- What the marks tell of the blocks.
-use Rattle.std.proofs.Common.{◌≡◌, ◌↔◌, ℕ, ◌<◌, ◌≤◌, Bool, true, false, not, ◌&&◌, ◌||◌, List, length, Option, Some, None, refl, sym, ap, ap₂, subst, ◌∙◌, arith, Ordering}
+use Rattle.std.proofs.Common.{◌≡◌, ◌↔◌, ℕ, ◌<◌, ◌≤◌, Bool, true, false, not, ◌||◌, List, length, Option, Some, None, refl, sym, ap, ap₂, subst, ◌∙◌, arith, Ordering}
+use Rattle.std.proofs.lemmas.Bool.{and_parts}
 use Rattle.std.specs.Prelude.{MatchOption}
 use Rattle.std.specs.declared.cmp.Ordering.TheVariants.{Less, Equal, Greater}
 use Rattle.std.specs.Ordering.{MatchOrdering, is_lt}
@@ -53,16 +54,11 @@ below_lt x y Less h k = refl
 below_lt x y Equal h k = absurd (omega (arith, ints, k, ap (λ a. a.w) h, ap (λ a. a.c) h))
 below_lt x y Greater h k = absurd (omega (arith, ints, h, k))
 
-ready_parts : (i p : Bool) → i && p ≡ true → (i ≡ true) × (p ≡ true)
-ready_parts true true h = (refl, refl)
-ready_parts true false h = absurd cc
-ready_parts false p h = absurd cc
-
 pub ready_tells : (v : StateView) (b : ℕ) → (is_waiting (amount_at v.excess b) (operation_at v.operation b) ≡ true) ↔ IsWaiting (state_of v) b
 ready_tells v b =
     let e = amount_at v.excess b in
     let o = operation_at v.operation b in (
-      λ h. (let p = ready_parts (is_idle o) (is_positive e) h in record { excess = positive-yes e p.1; idle = idle_is o p.0 }),
+      λ h. (let p = and_parts (is_idle o) (is_positive e) h in record { excess = positive-yes e p.1; idle = idle_is o p.0 }),
       λ h. (ap (λ x. is_waiting e x) h.idle ∙ below_lt zero_amount e (amount_cmp zero_amount e) (amount_ranks zero_amount e) h.excess),
     )
 

@@ -33,15 +33,15 @@ impl<G: OrderedGroup> State<G> {
         requires block { block < length net.now.worths }
         ensures { let s = state_of self.old in Leads net.now self.old (pushed_by s block (G.parts_of amount) port Sink) self.new result }
     {
-        match self.sink(block).try_add(amount) {
-            Some(more) => match net.negative(block).try_sub(more) {
-                Some(_room) => {
-                    self.become_with_sink(net, block, Operation::TakeDue { amount, port }, more)
-                }
-                None => Err(StepRefusal::TooLarge),
-            },
-            None => Err(StepRefusal::TooLarge),
-        }
+        let more = self
+            .sink(block)
+            .try_add(amount)
+            .ok_or(StepRefusal::TooLarge)?;
+        let _room = net
+            .negative(block)
+            .try_sub(more)
+            .ok_or(StepRefusal::TooLarge)?;
+        self.become_with_sink(net, block, Operation::TakeDue { amount, port }, more)
     }
 
     // Over a forward port: the flow of its pair rises.
@@ -57,16 +57,12 @@ impl<G: OrderedGroup> State<G> {
         requires slot { port.slot < length net.now.pairs }
         ensures { let s = state_of self.old in Leads net.now self.old (pushed_by s block (G.parts_of amount) port Forward) self.new result }
     {
-        match self.flow(port.slot).try_add(amount) {
-            Some(more) => self.become_with_flow(
-                net,
-                block,
-                Operation::TakeDue { amount, port },
-                port.slot,
-                more,
-            ),
-            None => Err(StepRefusal::TooLarge),
-        }
+        let more = self
+            .flow(port.slot)
+            .try_add(amount)
+            .ok_or(StepRefusal::TooLarge)?;
+        let next = Operation::TakeDue { amount, port };
+        self.become_with_flow(net, block, next, port.slot, more)
     }
 
     // Over a backward port: the flow of its pair falls.
@@ -82,16 +78,12 @@ impl<G: OrderedGroup> State<G> {
         requires slot { port.slot < length net.now.pairs }
         ensures { let s = state_of self.old in Leads net.now self.old (pushed_by s block (G.parts_of amount) port Backward) self.new result }
     {
-        match self.flow(port.slot).try_sub(amount) {
-            Some(less) => self.become_with_flow(
-                net,
-                block,
-                Operation::TakeDue { amount, port },
-                port.slot,
-                less,
-            ),
-            None => Err(StepRefusal::TooLarge),
-        }
+        let less = self
+            .flow(port.slot)
+            .try_sub(amount)
+            .ok_or(StepRefusal::TooLarge)?;
+        let next = Operation::TakeDue { amount, port };
+        self.become_with_flow(net, block, next, port.slot, less)
     }
 
     // Back to the source.
@@ -106,15 +98,11 @@ impl<G: OrderedGroup> State<G> {
         requires block { block < length net.now.worths }
         ensures { let s = state_of self.old in Leads net.now self.old (pushed_by s block (G.parts_of amount) port Source) self.new result }
     {
-        match self.source(block).try_sub(amount) {
-            Some(less) => self.become_with_source(
-                net,
-                block,
-                Operation::TakeDue { amount, port },
-                less,
-            ),
-            None => Err(StepRefusal::TooLarge),
-        }
+        let less = self
+            .source(block)
+            .try_sub(amount)
+            .ok_or(StepRefusal::TooLarge)?;
+        self.become_with_source(net, block, Operation::TakeDue { amount, port }, less)
     }
 
     // The capacity step of a push of an amount over a port.
@@ -147,10 +135,8 @@ impl<G: OrderedGroup> State<G> {
             (pushed s block d best.port) (Moved d) self.new result }
     {
         let amount = push_amount(have, best.port, best.capacity);
-        match self.push(net, block, amount, best.port) {
-            Ok(()) => Ok(Saw::Moved(amount)),
-            Err(refusal) => Err(refusal),
-        }
+        self.push(net, block, amount, best.port)?;
+        Ok(Saw::Moved(amount))
     }
 
     /// A push takes its amount from its own block's excess.
@@ -166,16 +152,13 @@ impl<G: OrderedGroup> State<G> {
         ensures { let s = state_of self.old in LeadsTelling G.parts_of net.now self.old
             (taken s block (G.parts_of amount) port) (Moved (G.parts_of amount)) self.new result }
     {
-        match self.excess(block).try_sub(amount) {
-            Some(less) => {
-                let next = Operation::GiveDue { amount, port };
-                match self.become_with_excess(net, block, next, block, less) {
-                    Ok(()) => Ok(Saw::Moved(amount)),
-                    Err(refusal) => Err(refusal),
-                }
-            }
-            None => Err(StepRefusal::TooLarge),
-        }
+        let less = self
+            .excess(block)
+            .try_sub(amount)
+            .ok_or(StepRefusal::TooLarge)?;
+        let next = Operation::GiveDue { amount, port };
+        self.become_with_excess(net, block, next, block, less)?;
+        Ok(Saw::Moved(amount))
     }
 
     // At the sink.
@@ -184,10 +167,8 @@ impl<G: OrderedGroup> State<G> {
         requires block { block < length net.now.worths }
         ensures { let s = state_of self.old in Leads net.now self.old (record (becomes s block Idle) { at_sink = plus s.at_sink (G.parts_of amount) }) self.new result }
     {
-        match self.at_sink().try_add(amount) {
-            Some(more) => self.become_with_at_sink(net, block, Operation::Idle, more),
-            None => Err(StepRefusal::TooLarge),
-        }
+        let more = self.at_sink().try_add(amount).ok_or(StepRefusal::TooLarge)?;
+        self.become_with_at_sink(net, block, Operation::Idle, more)
     }
 
     // At the source.
@@ -196,10 +177,11 @@ impl<G: OrderedGroup> State<G> {
         requires block { block < length net.now.worths }
         ensures { let s = state_of self.old in Leads net.now self.old (record (becomes s block Idle) { at_source = plus s.at_source (G.parts_of amount) }) self.new result }
     {
-        match self.at_source().try_add(amount) {
-            Some(more) => self.become_with_at_source(net, block, Operation::Idle, more),
-            None => Err(StepRefusal::TooLarge),
-        }
+        let more = self
+            .at_source()
+            .try_add(amount)
+            .ok_or(StepRefusal::TooLarge)?;
+        self.become_with_at_source(net, block, Operation::Idle, more)
     }
 
     // At another block.
@@ -215,10 +197,11 @@ impl<G: OrderedGroup> State<G> {
         requires other { other < length net.now.worths }
         ensures { let s = state_of self.old in Leads net.now self.old (record (becomes s block Idle) { excess = put s.excess other (plus (s.excess other) (G.parts_of amount)) }) self.new result }
     {
-        match self.excess(other).try_add(amount) {
-            Some(more) => self.become_with_excess(net, block, Operation::Idle, other, more),
-            None => Err(StepRefusal::TooLarge),
-        }
+        let more = self
+            .excess(other)
+            .try_add(amount)
+            .ok_or(StepRefusal::TooLarge)?;
+        self.become_with_excess(net, block, Operation::Idle, other, more)
     }
 
     // The last step of a push of an amount over a port.
@@ -252,10 +235,8 @@ impl<G: OrderedGroup> State<G> {
         ensures { let s = state_of self.old in LeadsTelling G.parts_of net.now self.old
             (given s block (G.parts_of amount) port) (Moved (G.parts_of amount)) self.new result }
     {
-        match self.give(net, block, amount, port) {
-            Ok(()) => Ok(Saw::Moved(amount)),
-            Err(refusal) => Err(refusal),
-        }
+        self.give(net, block, amount, port)?;
+        Ok(Saw::Moved(amount))
     }
 
     /// A block raises its label above the best port's.
@@ -270,12 +251,8 @@ impl<G: OrderedGroup> State<G> {
         ensures { let s = state_of self.old in LeadsTelling G.parts_of net.now self.old
             (raised s block (best_as G.parts_of best)) (Raised (best.label + 1)) self.new result }
     {
-        match best.label.checked_add(1) {
-            Some(label) => match self.become_with_label(net, block, Operation::Idle, label) {
-                Ok(()) => Ok(Saw::Raised(label)),
-                Err(refusal) => Err(refusal),
-            },
-            None => Err(StepRefusal::TooLarge),
-        }
+        let label = best.label.checked_add(1).ok_or(StepRefusal::TooLarge)?;
+        self.become_with_label(net, block, Operation::Idle, label)?;
+        Ok(Saw::Raised(label))
     }
 }

@@ -26,10 +26,8 @@ impl<G: OrderedGroup> State<G> {
             (becomes s block (begun (s.excess block))) (Excess (s.excess block)) self.new result }
     {
         let have = self.excess(block);
-        match self.become_alone(net, block, begun(have)) {
-            Ok(()) => Ok(Saw::Excess(have)),
-            Err(refusal) => Err(refusal),
-        }
+        self.become_alone(net, block, begun(have))?;
+        Ok(Saw::Excess(have))
     }
 
     /// The capacity of a port of a block.

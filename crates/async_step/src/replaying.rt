@@ -27,9 +27,8 @@ pub fn replay<G: OrderedGroup>(
         (λ s. Run net.now (opening net.now) events.now (state_of s) × IsStateOf net.now s)
         (λ fault. ReplayFaultStands net.now events.now fault) }
 {
-    let mut state = match State::open(alloc, net) {
-        Ok(state) => state,
-        Err(_) => return Err(ReplayFault::NoMemory),
+    let Ok(mut state) = State::open(alloc, net) else {
+        return Err(ReplayFault::NoMemory);
     };
     for i in 0..events.len() {
         let event = events[i];

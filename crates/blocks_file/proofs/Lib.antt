@@ -6,3 +6,4 @@ pub mod Marks
 pub mod LineAfterLine
 pub mod Lent
 pub mod Denoted
+mod Results

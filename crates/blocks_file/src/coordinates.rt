@@ -20,12 +20,10 @@ pub struct Place {
 pub(crate) fn read_coordinate(field: &[u8]) -> Option<i32>
     ensures { result ≡ spec.coordinate_read field.now }
 {
-    match signed_whole(field) {
-        Ok(value) => if value >= -2_147_483_648 && value < 2_147_483_648 {
-            Some(value as i32)
-        } else {
-            None
-        },
-        Err(_) => None,
+    let value = signed_whole(field).ok()?;
+    if value >= -2_147_483_648 && value < 2_147_483_648 {
+        Some(value as i32)
+    } else {
+        None
     }
 }

@@ -14,10 +14,9 @@ fn is_record(line: &[u8]) -> bool
     requires { length line.now ≤ 65536 }
     ensures { result ≡ not (is_skipped (fields_of line.now)) }
 {
-    match Fields::new(line).next() {
-        Some(field) => !is_remark(field.text),
-        None => false,
-    }
+    Fields::new(line)
+        .next()
+        .is_some_and(|field| !is_remark(field.text))
 }
 
 // Counts the records of a text that has no line that is too long, and not too many records.

@@ -22,30 +22,17 @@ fn read_records(alloc: Global, text: &[u8], columns: &[u32], n: u32) -> Result<K
         (λ kept. (spec.first_fault n columns.now [] all ≡ None) × AreKept n columns.now all kept.places.items kept.values.items)
         (λ e. spec.UnlessMemory e (spec.first_fault n columns.now [] all ≡ Some e)) }
 {
-    let Ok(mut kept) = Kept::new(alloc, n, columns.len() as u32) else {
-        return Err(BlocksFault::NoMemory);
-    };
-    let Ok(mut row) = zeros(alloc, columns.len()) else {
-        return Err(BlocksFault::NoMemory);
-    };
+    let mut kept = Kept::new(alloc, n, columns.len() as u32).map_err(|_| BlocksFault::NoMemory)?;
+    let mut row = zeros(alloc, columns.len()).map_err(|_| BlocksFault::NoMemory)?;
     let mut lines = Lines::new(text);
     loop {
         match lines.next_line() {
             Ok(Some(line)) => {
                 let number = lines.number();
-                match read_record(row.as_mut_slice(), columns, line, number) {
-                    Ok(Some(record)) => match kept.keep(
-                        record.block,
-                        record.place,
-                        row.as_slice(),
-                        number,
-                    ) {
-                        Ok(()) => {}
-                        Err(fault) => return Err(fault),
-                    },
-                    Ok(None) => {}
-                    Err(fault) => return Err(fault),
-                }
+                let Some(record) = read_record(row.as_mut_slice(), columns, line, number)? else {
+                    continue;
+                };
+                kept.keep(record.block, record.place, row.as_slice(), number)?;
             }
             Ok(None) => return Ok(kept),
             // counting has met no line that is too long
@@ -72,12 +59,7 @@ pub fn read_blocks(alloc: Global, text: &[u8], columns: &[u32]) -> Result<BlockM
         (λ e. spec.UnlessMemory e (spec.fault_of columns.now text.now ≡ Some e)) }
     ensures early { (fault : BlocksFault) → spec.early_fault (spec.lines_in text.now) ≡ Some fault → result ≡ Err fault }
 {
-    let n = match count_records(text) {
-        Ok(n) => n,
-        Err(fault) => return Err(fault),
-    };
-    match read_records(alloc, text, columns, n) {
-        Ok(kept) => Ok(BlockModel::of(n, columns.len() as u32, kept.places, kept.values)),
-        Err(fault) => Err(fault),
-    }
+    let n = count_records(text)?;
+    let kept = read_records(alloc, text, columns, n)?;
+    Ok(BlockModel::of(n, columns.len() as u32, kept.places, kept.values))
 }

@@ -26,18 +26,10 @@ fn read_head(block: &[u8], x: &[u8], y: &[u8], z: &[u8]) -> Option<Record>
         × (r.block ≡ spec.number_of block.now)
         × (r.place ≡ spec.place_at x.now y.now z.now)) }
 {
-    let Ok(block) = whole(block) else {
-        return None;
-    };
-    let Some(x) = read_coordinate(x) else {
-        return None;
-    };
-    let Some(y) = read_coordinate(y) else {
-        return None;
-    };
-    let Some(z) = read_coordinate(z) else {
-        return None;
-    };
+    let block = whole(block).ok()?;
+    let x = read_coordinate(x)?;
+    let y = read_coordinate(y)?;
+    let z = read_coordinate(z)?;
     Some(Record {
         block,
         place: Place { x, y, z },
@@ -69,24 +61,14 @@ pub(crate) fn read_record(
     if is_remark(block.text) {
         return Ok(None);
     }
-    let Some(x) = fields.next() else {
-        return Err(BlocksFault::Text(line));
-    };
-    let Some(y) = fields.next() else {
-        return Err(BlocksFault::Text(line));
-    };
-    let Some(z) = fields.next() else {
-        return Err(BlocksFault::Text(line));
-    };
-    let Some(record) = read_head(block.text, x.text, y.text, z.text) else {
-        return Err(BlocksFault::Number(line));
-    };
-    match read_row(row, columns, fields, line) {
-        Ok(count) => if are_there(columns, count) {
-            Ok(Some(record))
-        } else {
-            Err(BlocksFault::NoColumn(line))
-        },
-        Err(fault) => Err(fault),
+    let x = fields.next().ok_or(BlocksFault::Text(line))?;
+    let y = fields.next().ok_or(BlocksFault::Text(line))?;
+    let z = fields.next().ok_or(BlocksFault::Text(line))?;
+    let record = read_head(block.text, x.text, y.text, z.text).ok_or(BlocksFault::Number(line))?;
+    let count = read_row(row, columns, fields, line)?;
+    if are_there(columns, count) {
+        Ok(Some(record))
+    } else {
+        Err(BlocksFault::NoColumn(line))
     }
 }

@@ -49,13 +49,9 @@ fn take_field(
     if !is_chosen(columns, column) {
         return Ok(());
     }
-    match read_value(field) {
-        Some(value) => {
-            fill(row, columns, column, value);
-            Ok(())
-        }
-        None => Err(BlocksFault::Number(line)),
-    }
+    let value = read_value(field).ok_or(BlocksFault::Number(line))?;
+    fill(row, columns, column, value);
+    Ok(())
 }
 
 // Reads the chosen columns among the fields: how many fields there are.
@@ -73,10 +69,7 @@ pub(crate) fn read_row(
 {
     let mut column = 0;
     for field in fields {
-        match take_field(row, columns, column, field.text, line) {
-            Ok(()) => {}
-            Err(fault) => return Err(fault),
-        }
+        take_field(row, columns, column, field.text, line)?;
         column += 1;
     }
     Ok(column)

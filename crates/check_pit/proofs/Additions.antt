@@ -1,5 +1,6 @@
 -- What a line adds to what is gathered.
 use Rattle.std.proofs.Common.{◌≡◌, ◌≢◌, ℕ, zero, suc, get_or, set, ◌<◌, Bool, true, false, cond, eqb, ltb, inl, inr, List, [], ◌∷◌, length, map, refl, sym, ap, ◌∙◌, subst, arith, append-nil, get_or-set_same, get_or-set_other}
+use Rattle.std.proofs.lemmas.Bool.{ltb-true}
 use Rattle.std.specs.Prelude.{◌&&◌, Contains}
 use Rattle.std.proofs.lemmas.List.{map-set, length-set}
 use Rattle.std.proofs.lemmas.Bool.Decides.{nat_tests}
@@ -65,9 +66,6 @@ rest_absent has line r h = rw r h
 pub rest_present : (has : ℕ → ℕ → Bool) (line : BodyLine) → line.kind ≡ Rest → has line.block line.other ≡ true → is_of_model has line.kind line ≡ true
 rest_present has line r h = rw r h
 
-pub ltb_true : (i j : ℕ) → ltb i j ≡ true → i < j
-ltb_true i j h = grind (arith, nat_tests)
-
 ltb_neither : (i j : ℕ) → ltb i j ≡ false → ltb j i ≡ false → i ≡ j
 ltb_neither i j g h = grind (arith, nat_tests)
 
@@ -79,8 +77,8 @@ apart ps i j q r h l e f =
     elim (r.rises i j h l) [ inl x ↦ omega (arith, a, b, x) | inr x ↦ omega (arith, a, b, x.1) ]
 
 pub one_place : (ps : List (ℕ × ℕ)) (i j : ℕ) (q : ℕ × ℕ) → IsRising ps → i < length ps → j < length ps → get_or ps i (0, 0) ≡ q → get_or ps j (0, 0) ≡ q → (t u : Bool) → ltb i j ≡ t → ltb j i ≡ u → i ≡ j
-one_place ps i j q r h l e f true u x y = absurd (apart ps i j q r (ltb_true i j x) l e f)
-one_place ps i j q r h l e f false true x y = absurd (apart ps j i q r (ltb_true j i y) h f e)
+one_place ps i j q r h l e f true u x y = absurd (apart ps i j q r (ltb-true i j x) l e f)
+one_place ps i j q r h l e f false true x y = absurd (apart ps j i q r (ltb-true j i y) h f e)
 one_place ps i j q r h l e f false false x y = ltb_neither i j x y
 
 same_pair : (q : ℕ × ℕ) (b p : ℕ) → q ≡ (b, p) → (eqb q.0 b && eqb q.1 p) ≡ true

@@ -1,22 +1,13 @@
 -- Amounts of values that were read from a list.
 use Rattle.std.proofs.Common.{◌≡◌, ℕ, ◌<◌, List, length, get_or, map, sym, ap, subst, ◌∙◌}
-use Rattle.std.proofs.lemmas.List.{length-map}
+use Rattle.closure_net.proofs.Views.{at_view}
 use Rattle.ordered_group.specs.Amount.{Amount, zero_amount, minus, positive, FitsPair}
 use Rattle.ordered_group.specs.Sums.{amount_at}
 use Rattle.closure_net.specs.Flows.{Within, WithinAt, room_at}
-use Rattle.ordered_group.proofs.Lists.{at_map}
-
--- a list has the length of its amounts
-pub same_length : {X : Type 0} (f : X → Amount) (xs : List X) (amounts : List Amount) → map f xs ≡ amounts → length xs ≡ length amounts
-same_length f xs amounts is = sym (length-map xs f) ∙ ap length is
-
--- the amount at i is that of the value that was read there
-pub amount_here : {X : Type 0} (f : X → Amount) (xs : List X) (amounts : List Amount) (i : ℕ) (x : X) → map f xs ≡ amounts → i < length xs → x ≡ get_or xs i x → amount_at amounts i ≡ f x
-amount_here f xs amounts i x is h e = ap (λ l. amount_at l i) (sym is) ∙ at_map f xs i x h e
 
 -- the opposite of the value that was read at i fits
 pub opposite_here : {X : Type 0} (f : X → Amount) (xs : List X) (amounts : List Amount) (i : ℕ) (x : X) → map f xs ≡ amounts → i < length xs → x ≡ get_or xs i x → FitsPair (minus zero_amount (amount_at amounts i)) → FitsPair (minus zero_amount (f x))
-opposite_here f xs amounts i x is h e p = let P : Amount → Type 0 = λ a. FitsPair (minus zero_amount a) in subst P (amount_here f xs amounts i x is h e) p
+opposite_here f xs amounts i x is h e p = let P : Amount → Type 0 = λ a. FitsPair (minus zero_amount a) in subst P (at_view f xs amounts i x is h e) p
 
 -- block i keeps to its worth, where the values that were read do
 pub within_there : {X : Type 0} (f : X → Amount) (ws ss ts : List Amount) (worths source sink : List X) (i : ℕ) (w s t : X) → map f worths ≡ ws → map f source ≡ ss → map f sink ≡ ts → i < length worths → i < length source → i < length sink → w ≡ get_or worths i w → s ≡ get_or source i s → t ≡ get_or sink i t → Within (f w) (f s) (f t) → WithinAt ws ss ts i
@@ -24,7 +15,7 @@ within_there f ws ss ts worths source sink i w s t is_w is_s is_t hw hs ht ew es
     let P : Amount → Type 0 = λ a. Within a (amount_at ss i) (amount_at ts i) in
     let Q : Amount → Type 0 = λ a. Within (f w) a (amount_at ts i) in
     let R : Amount → Type 0 = λ a. Within (f w) (f s) a in
-    subst P (sym (amount_here f worths ws i w is_w hw ew)) (subst Q (sym (amount_here f source ss i s is_s hs es)) (subst R (sym (amount_here f sink ts i t is_t ht et)) h))
+    subst P (sym (at_view f worths ws i w is_w hw ew)) (subst Q (sym (at_view f source ss i s is_s hs es)) (subst R (sym (at_view f sink ts i t is_t ht et)) h))
 
 -- what the source could still give block i, by what was read and computed
 pub room_here : (ws ss : List Amount) (i : ℕ) (w s p r : Amount) → amount_at ws i ≡ w → amount_at ss i ≡ s → p ≡ positive w → r ≡ minus p s → room_at ws ss i ≡ r

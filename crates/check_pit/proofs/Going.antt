@@ -130,7 +130,7 @@ pub record Sound (counts : Bool) (n : ℕ) (line : BodyLine) : Type 0 where
 abbrev refused : Result BodyLine LineFault
 refused = Err Text
 
-no_line_is : (line : BodyLine) {P : Type 0} → refused ≡ Ok line → P
+pub no_line_is : (line : BodyLine) {P : Type 0} → refused ≡ Ok line → P
 no_line_is line h = absurd cc
 
 none_other : (o : Option ℕ) (line : BodyLine) → o ≡ Some line.other → o ≡ Some 0 → line.other ≡ 0

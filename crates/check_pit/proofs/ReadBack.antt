@@ -1,5 +1,6 @@
 -- The text of a value is read without a fault.
-use Rattle.std.proofs.Common.{◌≡◌, ℕ, ◌+◌, ◌≤◌, ◌^◌, Bool, true, false, cond, ltb, eqb, List, [], ◌∷◌, ◌++◌, length, drop, Option, Some, None, Result, Ok, refl, sym, ap, ◌∙◌, subst, arith, append_assoc, length-append}
+use Rattle.std.proofs.Common.{◌≡◌, ℕ, ◌+◌, ◌≤◌, ◌^◌, Bool, true, false, cond, ltb, List, [], ◌∷◌, ◌++◌, length, drop, Option, Some, None, Result, Ok, refl, sym, ap, ◌∙◌, subst, arith, append_assoc, length-append}
+use Rattle.std.proofs.lemmas.Bool.{eq-eqb}
 use Rattle.std.specs.Prelude.{pos}
 use Rattle.std.specs.Str.{bytes_eq}
 use Rattle.std.specs.Fmt.{decimal}
@@ -86,10 +87,6 @@ body_read counts n has (l ∷ ls) previous k u o =
     subst (λ (t : List ℕ). ReadAs counts n has previous k t (l ∷ ls)) (sym (append_assoc (spaced (line_words l)) (10 ∷ body_text ls) end_text))
     (read_more counts n has previous k l ls (body_text ls ++ end_text) o.1 o.0 (body_read counts n has ls (Some l) (k + 1) (rank_most l.kind o.1.1.last) o.2))
 
--- The header.
-equal_itself : (n : ℕ) → eqb n n ≡ true
-equal_itself n = grind (arith, nat_tests)
-
 keyed_read : (key w : List ℕ) → is_word key ≡ true → is_word w ≡ true → bytes_eq key key ≡ true → value_behind key (words_of (spaced (key ∷ w ∷ []))) ≡ Some w
 keyed_read key w k h e =
     let both : are_words (key ∷ w ∷ []) ≡ true = rw (k, h) refl in
@@ -102,7 +99,7 @@ blocks_read : (n : ℕ) (name : Group) → n ≤ 2 ^ 24 → blocks_in (wanted_fo
 blocks_read n name h =
     ap (blocks_said (wanted_for n name)) (keyed_read (codes "BLOCKS") (decimal n) refl (decimal_is_word n (omega arith)) refl)
     ∙ ap (λ (o : Option ℕ). or_number (wanted_blocks (wanted_for n name) o)) (number_read (2 ^ 24 + 1) n (omega arith) (omega arith))
-    ∙ ap (λ (t : Bool). or_number (cond t (Some n) None)) (equal_itself n)
+    ∙ ap (λ (t : Bool). or_number (cond t (Some n) None)) (eq-eqb n n refl)
 
 price_length : (price : Price) → IsPrice price → length (price_word price) ≤ 9
 price_length Objective h = omega arith

@@ -1,5 +1,6 @@
 -- Two lists of lines in order that say the same are the same.
 use Rattle.std.proofs.Common.{◌≡◌, ℕ, suc, ◌<◌, Bool, true, false, eqb, ◌⊎◌, inl, inr, List, [], ◌∷◌, length, get_or, Option, refl, sym, ap, ◌∙◌, subst, arith}
+use Rattle.std.proofs.lemmas.Bool.{eqb-true, eq-eqb}
 use Rattle.std.specs.Prelude.{◌&&◌, ◌||◌}
 use Rattle.std.specs.Ordering.{nat_cmp, ordering_then}
 use Rattle.std.proofs.lemmas.Bool.Decides.{nat_tests}
@@ -44,12 +45,6 @@ sink_kind Rest t h = absurd (let z : false ≡ true = h in cc)
 sink_kind Sink t h = (refl, h)
 sink_kind End t h = absurd (let z : false ≡ true = h in cc)
 
-same_number : (x y : ℕ) → eqb x y ≡ true → x ≡ y
-same_number x y h = grind (arith, nat_tests)
-
-number_same : (x y : ℕ) → x ≡ y → eqb x y ≡ true
-number_same x y h = grind (arith, nat_tests)
-
 two_same : (x y u v : ℕ) → (eqb x y && eqb u v) ≡ true → (x ≡ y) × (u ≡ v)
 two_same x y u v h = (grind (arith, nat_tests), grind (arith, nat_tests))
 
@@ -57,10 +52,10 @@ both_same : (x y u v : ℕ) → x ≡ y → u ≡ v → (eqb x y && eqb u v) ≡
 both_same x y u v e f = grind (arith, nat_tests)
 
 pub source_so : (b : ℕ) (l : BodyLine) → gives_source b l ≡ true → (l.kind ≡ Source) × (l.block ≡ b)
-source_so b l h = let q = source_kind l.kind (eqb l.block b) h in (q.0, same_number l.block b q.1)
+source_so b l h = let q = source_kind l.kind (eqb l.block b) h in (q.0, eqb-true l.block b q.1)
 
 pub sink_so : (b : ℕ) (l : BodyLine) → gives_sink b l ≡ true → (l.kind ≡ Sink) × (l.block ≡ b)
-sink_so b l h = let q = sink_kind l.kind (eqb l.block b) h in (q.0, same_number l.block b q.1)
+sink_so b l h = let q = sink_kind l.kind (eqb l.block b) h in (q.0, eqb-true l.block b q.1)
 
 pub rest_so : (x : ℕ × ℕ) (l : BodyLine) → gives_rest x l ≡ true → (l.kind ≡ Rest) × (x.0 ≡ l.block) × (x.1 ≡ l.other)
 rest_so x l h = let q = rest_kind l.kind (eqb x.0 l.block && eqb x.1 l.other) h in let r = two_same x.0 l.block x.1 l.other q.1 in (q.0, r.0, r.1)
@@ -167,14 +162,14 @@ moved n pairs blocks flow p q ls ms s t l Pit e h =
     is_same n (has_pair pairs) q ms l f.line f.held (f.kind_is ∙ sym e) f.block_is (other.other (not_rest f.line Pit f.kind_is refl) ∙ sym (mine.other (not_rest l Pit e refl))) (other.none f.kind_is ∙ sym (mine.none e))
 moved n pairs blocks flow p q ls ms s t l Source e h =
     let mine = has_good (Proper n (has_pair pairs)) p ls s.order l h in
-    let gives : gives_source l.block l ≡ true = ap (λ (k : Kind). is_source k && eqb l.block l.block) e ∙ number_same l.block l.block refl in
+    let gives : gives_source l.block l ≡ true = ap (λ (k : Kind). is_source k && eqb l.block l.block) e ∙ eq-eqb l.block l.block refl in
     let f = given_too n (has_pair pairs) (gives_source l.block) p q ls ms l (amount_at flow.source l.block) (tells_source n (has_pair pairs) l.block) s.order t.order h gives (ap carries e) (s.says.source l.block mine.block) (t.says.source l.block mine.block) in
     let so = source_so l.block f.line f.so in
     let other = has_good (Proper n (has_pair pairs)) q ms t.order f.line f.held in
     is_same n (has_pair pairs) q ms l f.line f.held (so.0 ∙ sym e) so.1 (other.other (not_rest f.line Source so.0 refl) ∙ sym (mine.other (not_rest l Source e refl))) f.amount
 moved n pairs blocks flow p q ls ms s t l Sink e h =
     let mine = has_good (Proper n (has_pair pairs)) p ls s.order l h in
-    let gives : gives_sink l.block l ≡ true = ap (λ (k : Kind). is_sink k && eqb l.block l.block) e ∙ number_same l.block l.block refl in
+    let gives : gives_sink l.block l ≡ true = ap (λ (k : Kind). is_sink k && eqb l.block l.block) e ∙ eq-eqb l.block l.block refl in
     let f = given_too n (has_pair pairs) (gives_sink l.block) p q ls ms l (amount_at flow.sink l.block) (tells_sink n (has_pair pairs) l.block) s.order t.order h gives (ap carries e) (s.says.sink l.block mine.block) (t.says.sink l.block mine.block) in
     let so = sink_so l.block f.line f.so in
     let other = has_good (Proper n (has_pair pairs)) q ms t.order f.line f.held in

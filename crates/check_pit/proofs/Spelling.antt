@@ -19,7 +19,7 @@ use Rattle.check_pit.specs.Pieces.{Piece, within, number_below, words_of, read_l
 use Rattle.check_pit.specs.BodyLines.{kind_of, is_amount, amount_said, amount_in, pit_line, block_line, rest_line, end_line, line_with, line_of_words, line_of, is_end, next_line, end_fault, fault_from, body_fault, lines_from, lines_in}
 use Rattle.check_pit.specs.Written.{spaced, words_with, line_words, body_text, end_text}
 use Rattle.check_pit.proofs.Texts.{pieces_text, words_make_line}
-use Rattle.check_pit.proofs.Going.{numbered, text_read}
+use Rattle.check_pit.proofs.Going.{numbered, text_read, no_line_is}
 use Rattle.check_pit.proofs.Order.{met}
 
 -- The key of a kind.
@@ -78,9 +78,6 @@ amount_is counts v w a h = amount_of_words counts v w a (plain_of v) (plain_of w
 -- The words of a line.
 abbrev refused : Result BodyLine LineFault
 refused = Err Text
-
-no_line_is : (line : BodyLine) {P : Type 0} → refused ≡ Ok line → P
-no_line_is line h = absurd cc
 
 pit_words : (n : ℕ) (words : List (List ℕ)) (l : BodyLine) → pit_line n words ≡ Ok l → key_word Pit ∷ words ≡ line_words l
 pit_words n [] l h = no_line_is l h

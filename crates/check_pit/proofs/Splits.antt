@@ -1,18 +1,13 @@
 -- Where a text is cut into pieces, and a line into words.
 use Rattle.std.proofs.Common.{◌≡◌, ℕ, zero, suc, get_or, ◌+◌, ◌<◌, ◌≤◌, Bool, true, false, cond, eqb, List, [], ◌∷◌, length, take, drop, Some, None, refl, sym, ap, ◌∙◌, subst, arith, ltb}
+use Rattle.fixed_worth.proofs.Cuts.{position_none}
 use Rattle.std.specs.Prelude.{position}
 use Rattle.std.specs.List.{onto_first, position_or_len}
 use Rattle.std.proofs.lemmas.List.Quantifiers.{position-Some}
 use Rattle.std.proofs.lemmas.List.{length-take-le}
-use Rattle.std.proofs.lemmas.List.Sums.{prefix_len-le-length}
 use Rattle.std.proofs.lemmas.Bool.Decides.{nat_tests}
 use Rattle.check_pit.specs.declared.cert_faults.CertFault.TheVariants as fault
 use Rattle.check_pit.specs.Pieces.{Piece, Unread, onto_piece, pieces_of, piece_at, words_of, no_line}
-
-pub position_none : {X : Type 0} (p : X → Bool) (xs : List X) → position p xs ≡ None → length xs ≡ position_or_len p xs
-position_none p xs e =
-    let small : position_or_len p xs ≤ length xs = prefix_len-le-length _ xs in
-    grind (arith, nat_tests)
 
 -- The first line ends at the first line feed.
 piece_to : (bs : List ℕ) (j : ℕ) → j < length bs → eqb (get_or bs j 0) 10 ≡ true → ((k : ℕ) → k < j → eqb (get_or bs k 0) 10 ≡ false)

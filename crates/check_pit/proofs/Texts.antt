@@ -1,5 +1,6 @@
 -- Pieces and words make up their text again, and a text that is made of lines of words has these lines and words.
 use Rattle.std.proofs.Common.{◌≡◌, ℕ, suc, ◌+◌, ◌<◌, Bool, true, false, cond, not, eqb, List, [], ◌∷◌, ◌++◌, length, refl, sym, ap, ◌∙◌, arith}
+use Rattle.std.proofs.lemmas.Bool.{and_parts}
 use Rattle.std.specs.Prelude.{◌&&◌, ◌%◌, ◌^◌, ℤ, pos, negsuc, FitsSigned}
 use Rattle.std.specs.Int.{w128}
 use Rattle.std.proofs.lemmas.Int.{ints}
@@ -72,11 +73,6 @@ byte_parts : (b : ℕ) (r : Bool) → (is_word_byte b && r) ≡ true → (eqb b 
 byte_parts b true h = (grind (arith, nat_tests), grind (arith, nat_tests), refl)
 byte_parts b false h = absurd (grind (arith, nat_tests))
 
-both_parts : (s t : Bool) → (s && t) ≡ true → (s ≡ true) × (t ≡ true)
-both_parts true true h = (refl, refl)
-both_parts true false h = absurd (let z : false ≡ true = h in cc)
-both_parts false t h = absurd (let z : false ≡ true = h in cc)
-
 word_before : (w rest : List ℕ) → is_word w ≡ true → words_of (w ++ (32 ∷ rest)) ≡ w ∷ words_of rest
 word_before [] rest h = refl
 word_before (b ∷ w) rest h =
@@ -92,9 +88,9 @@ word_alone (b ∷ w) h =
     rw e (ap (onto_first b) (word_alone w q.2))
 
 pub words_read : (w : List ℕ) (ws : List (List ℕ)) → are_words (w ∷ ws) ≡ true → words_of (spaced (w ∷ ws)) ≡ w ∷ ws
-words_read w [] h = word_alone w (both_parts (is_word w) true h).0
+words_read w [] h = word_alone w (and_parts (is_word w) true h).0
 words_read w (v ∷ ws) h =
-    let q = both_parts (is_word w) (are_words (v ∷ ws)) h in
+    let q = and_parts (is_word w) (are_words (v ∷ ws)) h in
     word_before w (spaced (v ∷ ws)) q.0 ∙ ap (λ (us : List (List ℕ)). w ∷ us) (words_read v ws q.1)
 
 -- A line has no line feed.
@@ -122,9 +118,9 @@ word_no_feed [] h = refl
 word_no_feed (b ∷ w) h = word_feed_at b (is_word w) (has_no_feed w) h (word_no_feed w)
 
 pub spaced_no_feed : (w : List ℕ) (ws : List (List ℕ)) → are_words (w ∷ ws) ≡ true → has_no_feed (spaced (w ∷ ws)) ≡ true
-spaced_no_feed w [] h = word_no_feed w (both_parts (is_word w) true h).0
+spaced_no_feed w [] h = word_no_feed w (and_parts (is_word w) true h).0
 spaced_no_feed w (v ∷ ws) h =
-    let q = both_parts (is_word w) (are_words (v ∷ ws)) h in
+    let q = and_parts (is_word w) (are_words (v ∷ ws)) h in
     list_all-append (λ b. not (eqb b 10)) w (32 ∷ spaced (v ∷ ws)) ∙ rw (word_no_feed w q.0) (spaced_no_feed v ws q.1)
 
 -- Printed numbers are words.

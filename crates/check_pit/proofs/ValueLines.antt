@@ -1,5 +1,6 @@
 -- The lines of a value stand in order, and say the value.
 use Rattle.std.proofs.Common.{◌≡◌, ◌≢◌, ℕ, zero, suc, ◌+◌, ◌<◌, ◌≤◌, Bool, true, false, cond, eqb, ltb, inl, inr, pos, List, [], ◌∷◌, ◌++◌, length, map, get_or, Option, Some, None, refl, sym, ap, ◌∙◌, subst, arith, append-nil}
+use Rattle.std.proofs.lemmas.Bool.{eq-eqb, ne_eqb}
 use Rattle.std.specs.Prelude.{◌&&◌}
 use Rattle.std.specs.List.{All}
 use Rattle.std.specs.Cmp.{nat_cmp_is}
@@ -216,17 +217,11 @@ pit_is pairs pit flow =
 four_parts : (gives : BodyLine → Bool) (hs ls ms ns : List BodyLine) → given gives zero_amount (hs ++ (ls ++ (ms ++ ns))) ≡ given gives (given gives (given gives (given gives zero_amount hs) ls) ms) ns
 four_parts gives hs ls ms ns = given_append gives zero_amount hs (ls ++ (ms ++ ns)) ∙ given_append gives (given gives zero_amount hs) ls (ms ++ ns) ∙ given_append gives (given gives (given gives zero_amount hs) ls) ms ns
 
-equal_itself : (b : ℕ) → eqb b b ≡ true
-equal_itself b = grind (arith, nat_tests)
-
-not_equal : (a b : ℕ) → a ≢ b → eqb a b ≡ false
-not_equal a b h = grind (arith, nat_tests)
-
 owns_source : (n b : ℕ) → Owns (gives_source b) (block_at Source) n b
-owns_source n b = record { mine = λ x. equal_itself b; others = λ j x h l. not_equal j b h; same = λ j x. refl }
+owns_source n b = record { mine = λ x. eq-eqb b b refl; others = λ j x h l. ne_eqb j b h; same = λ j x. refl }
 
 owns_sink : (n b : ℕ) → Owns (gives_sink b) (block_at Sink) n b
-owns_sink n b = record { mine = λ x. equal_itself b; others = λ j x h l. not_equal j b h; same = λ j x. refl }
+owns_sink n b = record { mine = λ x. eq-eqb b b refl; others = λ j x h l. ne_eqb j b h; same = λ j x. refl }
 
 pair_itself : (q : ℕ × ℕ) → (eqb q.0 q.0 && eqb q.1 q.1) ≡ true
 pair_itself q = grind (arith, nat_tests)

@@ -1,6 +1,6 @@
 -- The marks of a search.
 use Rattle.std.proofs.Common.{◌^◌, ◌≡◌, ℕ, zero, suc, ◌<◌, ◌≤◌, Bool, true, false, inl, inr, List, [], ◌∷◌, ◌++◌, length, get_or, set, replicate, sym, refl, ap, subst, ◌∙◌, arith, All, length-append, length-set, get_or-set_same, get_or-set_other}
-use Rattle.std.proofs.lemmas.List.{get_or_default}
+use Rattle.std.proofs.lemmas.List.{get_or_default, length-replicate}
 use Rattle.std.proofs.lemmas.List.Elements.{All-push, All-nil}
 use Rattle.std.proofs.lemmas.Bool.{cases_eq}
 use Rattle.closure_net.specs.Network.{holds_of}
@@ -31,18 +31,14 @@ none_at zero b = refl
 none_at (suc n) zero = refl
 none_at (suc n) (suc b) = none_at n b
 
-length_none : (n : ℕ) → length (replicate n false) ≡ n
-length_none zero = refl
-length_none (suc n) = ap suc (length_none n)
-
 -- a search begins with no mark set
 pub search_none : (n space : ℕ) (marks : List Bool) (found : List ℕ) → n ≤ 2 ^ 24 → n ≤ space → marks ≡ replicate n false → found ≡ [] → IsSearch marks found space
 search_none n space marks found h r e f =
     let P : List Bool → Type 0 = λ ts. IsSearch ts found space in
     let Q : List ℕ → Type 0 = λ xs. IsSearch (replicate n false) xs space in
     subst P (sym e) (subst Q (sym f) (record {
-      few = omega (arith, length_none n);
-      room = omega (arith, length_none n);
+      few = omega (arith, length-replicate n false);
+      room = omega (arith, length-replicate n false);
       count = sym (trues_none n);
       same = λ b. none_at n b;
       known = All-nil (λ b. b < length (replicate n false));

@@ -1,7 +1,6 @@
 -- A search that has passed over all that it found has reached the least set.
 use Rattle.std.proofs.Common.{◌≡◌, ℕ, ◌+◌, ◌<◌, ◌≤◌, ◌==◌, nat_lt, Bool, true, inl, inr, List, length, get_or, sym, ap, subst, ◌∙◌, arith, All}
-use Rattle.std.proofs.lemmas.Bool.{cases_eq, cases_lt, eq-eqb, eqb-true}
-use Rattle.std.proofs.lemmas.Bool.Decides.{nat_tests}
+use Rattle.std.proofs.lemmas.Bool.{cases_eq, cases_lt, eq-eqb, eqb-true, lt-ltb, ltb-true}
 use Rattle.std.proofs.lemmas.List.{get_or-map, get_or_default, length-map}
 use Rattle.prec_file.specs.Rests.{from_at, to_at, passing, numbers, above_of, below_of, IsKnown}
 use Rattle.prec_file.proofs.Passing.{passing_at, passing_here, passing_after, passing_grows}
@@ -97,18 +96,12 @@ searched_reaches net flow found h s l = record {
   up = λ k r w t. let a = place_of found (to_at net.pairs k) t in s.up a.0 k (omega (arith, a.1)) r w (sym a.2);
 }
 
-lt_true : (e b : ℕ) → e < b → nat_lt e b ≡ true
-lt_true e b h = grind (arith, nat_tests)
-
-lt_tells : (e b : ℕ) → nat_lt e b ≡ true → e < b
-lt_tells e b h = grind (arith, nat_tests)
-
 -- the known blocks are such a set
 all_reach : (net : NetView) (flow : FlowView) → All (IsKnown (length net.worths)) net.pairs → Reaches net flow (λ x. nat_lt x (length net.worths))
 all_reach net flow h = record {
-  begins = λ b l w. lt_true b (length net.worths) l;
-  down = λ k l t. lt_true (to_at net.pairs k) (length net.worths) (h k (0, 0) l).1;
-  up = λ k l w t. lt_true (from_at net.pairs k) (length net.worths) (h k (0, 0) l).0;
+  begins = λ b l w. lt-ltb b (length net.worths) l;
+  down = λ k l t. lt-ltb (to_at net.pairs k) (length net.worths) (h k (0, 0) l).1;
+  up = λ k l w t. lt-ltb (from_at net.pairs k) (length net.worths) (h k (0, 0) l).0;
 }
 
 -- a list of all that pass below n holds what passes
@@ -128,7 +121,7 @@ pub reached : (net : NetView) (flow : FlowView) (found : List ℕ) (h n : ℕ) (
 reached net flow found h n pit e k s l q =
     let r = searched_reaches net flow found h s l in
     let e' = holds_of found in
-    let known : (x : ℕ) → e' x ≡ true → x < n = λ x t. let z = lt_tells x (length net.worths) (s.sound _ (all_reach net flow k) x t) in omega (arith, z, e) in
+    let known : (x : ℕ) → e' x ≡ true → x < n = λ x t. let z = ltb-true x (length net.worths) (s.sound _ (all_reach net flow k) x t) in omega (arith, z, e) in
     let P : List ℕ → Type 0 = λ xs. IsReached net flow (holds_of xs) in
     let known_to : (i : ℕ) → i < length net.pairs → (from_at net.pairs i < length net.worths) × (to_at net.pairs i < length net.worths) = λ i z. k i (0, 0) z in
     let all : IsReached net flow (holds_of (passing e' n)) = (

@@ -2,6 +2,7 @@
 use Rattle.std.proofs.Common.{◌≡◌, ℕ, ◌+◌, Bool, true, false, not, eqb, List, [], ◌∷◌, ◌++◌, length, drop, refl, sym, ap, ◌∙◌, subst, arith, append_assoc, append-nil}
 use Rattle.std.specs.Prelude.{◌&&◌, map, nat_lt}
 use Rattle.std.specs.List.{list_all, flat_map, position_or_len, onto_first}
+use Rattle.std.proofs.lemmas.Bool.{not-true, and_parts, and_from}
 use Rattle.std.proofs.lemmas.List.Folds.{list_all-append}
 use Rattle.std.proofs.Math.Seq.{take-append_seam, drop-append_seam}
 use Rattle.fixed_worth.specs.Text.{lines_of, fields_of, is_separator, runs_from}
@@ -10,23 +11,15 @@ use Rattle.fixed_worth.proofs.Cuts.{Runs, first_run}
 
 -- ---- tests of all bytes
 
-pub both_pass : (a b : Bool) → (a && b) ≡ true → (a ≡ true) × (b ≡ true)
-both_pass true b h = (refl, h)
-both_pass false b h = absurd cc
-
 pub pass_both : (a b : Bool) → a ≡ true → b ≡ true → (a && b) ≡ true
-pass_both a b g h = rw (g, h) refl
+pass_both = and_from
 
 -- what passes a test passes one that asks for less
 pub all_pass_weaker : (p q : ℕ → Bool) → ((b : ℕ) → p b ≡ true → q b ≡ true) → (bs : List ℕ) → list_all p bs ≡ true → list_all q bs ≡ true
 all_pass_weaker p q w [] h = refl
 all_pass_weaker p q w (b ∷ bs) h =
-    let k = both_pass (p b) (list_all p bs) h in
-    pass_both (q b) (list_all q bs) (w b k.0) (all_pass_weaker p q w bs k.1)
-
-pub not_passes : (t : Bool) → not t ≡ true → t ≡ false
-not_passes true h = cc
-not_passes false h = refl
+    let k = and_parts (p b) (list_all p bs) h in
+    and_from (q b) (list_all q bs) (w b k.0) (all_pass_weaker p q w bs k.1)
 
 -- ---- lines
 
@@ -38,15 +31,15 @@ is_one_line line = list_all (λ b. not (eqb b 10)) line
 pub line_cut : (line rest : List ℕ) → is_one_line line ≡ true → lines_of (line ++ (10 ∷ rest)) ≡ line ∷ lines_of rest
 line_cut [] rest h = refl
 line_cut (b ∷ bs) rest h =
-    let q = both_pass (not (eqb b 10)) (is_one_line bs) h in
-    let e : eqb b 10 ≡ false = not_passes (eqb b 10) q.0 in
+    let q = and_parts (not (eqb b 10)) (is_one_line bs) h in
+    let e : eqb b 10 ≡ false = not-true (eqb b 10) q.0 in
     rw e (ap (onto_first b) (line_cut bs rest q.1))
 
 -- lines with a line feed behind each are the lines of their text
 pub lines_cut : (lines : List (List ℕ)) → list_all is_one_line lines ≡ true → lines_of (with_line_feeds lines) ≡ lines
 lines_cut [] h = refl
 lines_cut (line ∷ lines) h =
-    let q = both_pass (is_one_line line) (list_all is_one_line lines) h in
+    let q = and_parts (is_one_line line) (list_all is_one_line lines) h in
     line_cut line (with_line_feeds lines) q.0 ∙ ap (λ ls. line ∷ ls) (lines_cut lines q.1)
 
 pub with_line_feeds-append : (xs ys : List (List ℕ)) → with_line_feeds (xs ++ ys) ≡ with_line_feeds xs ++ with_line_feeds ys
@@ -74,8 +67,8 @@ pub place_of_break : (p : ℕ → Bool) (word rest : List ℕ) → list_all (λ 
 place_of_break p [] [] h r = refl
 place_of_break p [] (b ∷ bs) h r = rw r refl
 place_of_break p (b ∷ word) rest h r =
-    let q = both_pass (not (p b)) (list_all (λ c. not (p c)) word) h in
-    let e : p b ≡ false = not_passes (p b) q.0 in
+    let q = and_parts (not (p b)) (list_all (λ c. not (p c)) word) h in
+    let e : p b ≡ false = not-true (p b) q.0 in
     let n : position_or_len p (b ∷ (word ++ rest)) ≡ 1 + position_or_len p (word ++ rest) = rw e refl in
     omega (arith, n, place_of_break p word rest q.1 r)
 
@@ -84,8 +77,8 @@ pub word_run : (p : ℕ) (word rest : List ℕ) → is_word word ≡ true → Br
     → runs_from p (word ++ rest) ≡ record { text = word; place = p } ∷ runs_from (p + length word) rest
 word_run p [] rest h r = absurd cc
 word_run p (b ∷ bs) rest h r =
-    let s = (both_pass (nat_lt 0 (length (b ∷ bs))) (list_all (λ x. not (is_separator x)) (b ∷ bs)) h).1 in
-    let e : is_separator b ≡ false = not_passes (is_separator b) (both_pass (not (is_separator b)) (list_all (λ x. not (is_separator x)) bs) s).0 in
+    let s = (and_parts (nat_lt 0 (length (b ∷ bs))) (list_all (λ x. not (is_separator x)) (b ∷ bs)) h).1 in
+    let e : is_separator b ≡ false = not-true (is_separator b) (and_parts (not (is_separator b)) (list_all (λ x. not (is_separator x)) bs) s).0 in
     let runs : Runs p (b ∷ bs ++ rest) (length (b ∷ bs)) = subst (λ (w : ℕ). Runs p (b ∷ bs ++ rest) w) (place_of_break is_separator (b ∷ bs) rest s r) (first_run p (b ∷ bs ++ rest) (omega arith) e) in
     runs
     ∙ ap (λ t. record { text = t; place = p } ∷ runs_from (p + length (b ∷ bs)) (drop (length (b ∷ bs)) (b ∷ bs ++ rest))) (take-append_seam (b ∷ bs) rest)
@@ -114,7 +107,7 @@ words_cut : (p : ℕ) (word : List ℕ) (words : List (List ℕ)) → is_word wo
 words_cut p word [] h g =
     ap (λ line. map (λ r. r.text) (runs_from p line)) (append-nil word) ∙ ap (map (λ r. r.text)) (word_alone p word h)
 words_cut p word (next ∷ words) h g =
-    let q = both_pass (is_word next) (list_all is_word words) g in
+    let q = and_parts (is_word next) (list_all is_word words) g in
     ap (map (λ r. r.text)) (word_cut p word (next ++ behind_spaces words) h)
     ∙ ap (λ fields. word ∷ fields) (words_cut (p + length word + 1) next words q.0 q.1)
 
@@ -125,10 +118,10 @@ fields_cut = words_cut 0
 behind_spaces_is_one_line : (words : List (List ℕ)) → list_all is_one_line words ≡ true → is_one_line (behind_spaces words) ≡ true
 behind_spaces_is_one_line [] h = refl
 behind_spaces_is_one_line (word ∷ words) h =
-    let q = both_pass (is_one_line word) (list_all is_one_line words) h in
-    list_all-append (λ b. not (eqb b 10)) word (behind_spaces words) ∙ pass_both (is_one_line word) (is_one_line (behind_spaces words)) q.0 (behind_spaces_is_one_line words q.1)
+    let q = and_parts (is_one_line word) (list_all is_one_line words) h in
+    list_all-append (λ b. not (eqb b 10)) word (behind_spaces words) ∙ and_from (is_one_line word) (is_one_line (behind_spaces words)) q.0 (behind_spaces_is_one_line words q.1)
 
 -- words without line feeds, with single spaces between, are one line
 pub joined_is_one_line : (word : List ℕ) (words : List (List ℕ)) → is_one_line word ≡ true → list_all is_one_line words ≡ true → is_one_line (word ++ behind_spaces words) ≡ true
 joined_is_one_line word words h g =
-    list_all-append (λ b. not (eqb b 10)) word (behind_spaces words) ∙ pass_both (is_one_line word) (is_one_line (behind_spaces words)) h (behind_spaces_is_one_line words g)
+    list_all-append (λ b. not (eqb b 10)) word (behind_spaces words) ∙ and_from (is_one_line word) (is_one_line (behind_spaces words)) h (behind_spaces_is_one_line words g)

@@ -4,6 +4,7 @@ use Rattle.std.specs.Prelude.{◌&&◌, nat_lt, nat_le, map, is_ok, All}
 use Rattle.std.specs.Result.{result_unwrap_or}
 use Rattle.std.specs.List.{list_all}
 use Rattle.std.specs.Fmt.{decimal}
+use Rattle.std.proofs.lemmas.Bool.{and_parts, and_from}
 use Rattle.std.proofs.lemmas.Bool.Decides.{nat_tests}
 use Rattle.std.proofs.lemmas.Fmt.{decimal_by_steps_wide, length-decimal-le}
 use Rattle.std.proofs.lemmas.List.Folds.{list_all-append}
@@ -11,7 +12,7 @@ use Rattle.fixed_worth.specs.Numeral.{is_digit, value_of, whole_of}
 use Rattle.fixed_worth.specs.Record.{is_remark, reads, number_of}
 use Rattle.fixed_worth.specs.Text.{is_separator}
 use Rattle.fixed_worth.proofs.Digits.{value_of-append}
-use Rattle.fixed_worth.proofs.Joined.{pass_both, both_pass, all_pass_weaker, is_word, is_one_line}
+use Rattle.fixed_worth.proofs.Joined.{all_pass_weaker, is_word, is_one_line}
 
 -- The text is digits, at least one, of this value.
 record IsWritten (n : ℕ) (text : List ℕ) : Type 0 where
@@ -23,12 +24,12 @@ one_digit : (d : ℕ) → d < 10 → is_digit (48 + d) ≡ true
 one_digit d h = grind (arith, nat_tests)
 
 written_one : (n : ℕ) → n < 10 → IsWritten n ((48 + n) ∷ [])
-written_one n h = record { some = omega arith; digits = pass_both (is_digit (48 + n)) true (one_digit n h) refl; value = omega arith }
+written_one n h = record { some = omega arith; digits = and_from (is_digit (48 + n)) true (one_digit n h) refl; value = omega arith }
 
 written_more : (n : ℕ) (text : List ℕ) → 10 ≤ n → IsWritten (n / 10) text → IsWritten n (text ++ ((48 + n % 10) ∷ []))
 written_more n text h w = record {
   some = omega (arith, length-append text ((48 + n % 10) ∷ []), w.some);
-  digits = list_all-append is_digit text ((48 + n % 10) ∷ []) ∙ pass_both (list_all is_digit text) (is_digit (48 + n % 10) && true) w.digits (pass_both (is_digit (48 + n % 10)) true (one_digit (n % 10) (omega arith)) refl);
+  digits = list_all-append is_digit text ((48 + n % 10) ∷ []) ∙ and_from (list_all is_digit text) (is_digit (48 + n % 10) && true) w.digits (and_from (is_digit (48 + n % 10)) true (one_digit (n % 10) (omega arith)) refl);
   value = value_of-append text ((48 + n % 10) ∷ []) ∙ rw w.value (omega arith);
 }
 
@@ -57,7 +58,7 @@ whole_of-decimal n h =
 pub digit_separates_not : (b : ℕ) → is_digit b ≡ true → not (is_separator b) ≡ true
 unfolding is_separator
 digit_separates_not b h =
-    let q = both_pass (nat_le 48 b) (nat_le b 57) h in
+    let q = and_parts (nat_le 48 b) (nat_le b 57) h in
     let l : 48 ≤ b = grind (arith, nat_tests) in
     let m : b ≤ 57 = grind (arith, nat_tests) in
     let e : eqb b 32 ≡ false = grind (arith, nat_tests) in
@@ -68,7 +69,7 @@ digit_separates_not b h =
 
 pub digit_is_one_line : (b : ℕ) → is_digit b ≡ true → not (eqb b 10) ≡ true
 digit_is_one_line b h =
-    let q = both_pass (nat_le 48 b) (nat_le b 57) h in
+    let q = and_parts (nat_le 48 b) (nat_le b 57) h in
     let e : eqb b 10 ≡ false = grind (arith, nat_tests) in
     rw e refl
 
@@ -76,7 +77,7 @@ digit_is_one_line b h =
 pub decimal_is_word : (n : ℕ) → n < 2 ^ 64 → is_word (decimal n) ≡ true
 decimal_is_word n h =
     let w = written n (omega arith) in
-    pass_both (nat_lt 0 (length (decimal n))) (list_all (λ b. not (is_separator b)) (decimal n)) (grind (arith, nat_tests, w.some))
+    and_from (nat_lt 0 (length (decimal n))) (list_all (λ b. not (is_separator b)) (decimal n)) (grind (arith, nat_tests, w.some))
     (all_pass_weaker is_digit (λ b. not (is_separator b)) digit_separates_not (decimal n) w.digits)
 
 -- it has no line feed
@@ -86,8 +87,8 @@ decimal_is_one_line n h = all_pass_weaker is_digit (λ b. not (eqb b 10)) digit_
 no_remark : (text : List ℕ) → list_all is_digit text ≡ true → is_remark text ≡ false
 no_remark [] h = refl
 no_remark (b ∷ bs) h =
-    let q = both_pass (is_digit b) (list_all is_digit bs) h in
-    let k = both_pass (nat_le 48 b) (nat_le b 57) q.0 in
+    let q = and_parts (is_digit b) (list_all is_digit bs) h in
+    let k = and_parts (nat_le 48 b) (nat_le b 57) q.0 in
     grind (arith, nat_tests)
 
 -- it begins no remark
@@ -108,7 +109,7 @@ pub decimals_pass : (test : List ℕ → Bool) → ((n : ℕ) → n < 2 ^ 64 →
     → (ns : List ℕ) → All (λ n. n < 2 ^ 64) ns → list_all test (map decimal ns) ≡ true
 decimals_pass test each [] h = refl
 decimals_pass test each (n ∷ ns) h =
-    pass_both (test (decimal n)) (list_all test (map decimal ns)) (each n (h 0 0 (omega arith))) (decimals_pass test each ns (λ k d l. h (suc k) d (omega arith)))
+    and_from (test (decimal n)) (list_all test (map decimal ns)) (each n (h 0 0 (omega arith))) (decimals_pass test each ns (λ k d l. h (suc k) d (omega arith)))
 
 -- they are read as the same numbers
 pub numbers_of-decimals : (ns : List ℕ) → All (λ n. n < 2 ^ 64) ns → map number_of (map decimal ns) ≡ ns

@@ -52,10 +52,7 @@ fn add(offsets: &mut Vec<(i32, i32, i32)>, offset: (i32, i32, i32)) -> Result<()
     if offsets.len() >= MOST_OFFSETS {
         return Err(PatternFault::TooMany);
     }
-    match offsets.push(offset) {
-        Ok(()) => Ok(()),
-        Err(_) => Err(PatternFault::NoMemory),
-    }
+    offsets.push(offset).map_err(|_| PatternFault::NoMemory)
 }
 
 // Adds the offsets of a level whose first number is x.
@@ -72,10 +69,7 @@ fn add_row(offsets: &mut Vec<(i32, i32, i32)>, level: Level, x: i32) -> Result<(
     for step in 0..2 * level.reach + 1 {
         let y = coordinate(level.reach, step);
         if is_near(level, x, y) {
-            match add(offsets, (x, y, level.number as i32)) {
-                Ok(()) => {}
-                Err(fault) => return Err(fault),
-            }
+            add(offsets, (x, y, level.number as i32))?;
         }
     }
     Ok(())
@@ -93,10 +87,7 @@ fn add_level(offsets: &mut Vec<(i32, i32, i32)>, level: Level) -> Result<(), Pat
 {
     for step in 0..2 * level.reach + 1 {
         let x = coordinate(level.reach, step);
-        match add_row(offsets, level, x) {
-            Ok(()) => {}
-            Err(fault) => return Err(fault),
-        }
+        add_row(offsets, level, x)?;
     }
     Ok(())
 }
@@ -123,10 +114,7 @@ pub(crate) fn cone_offsets(
             run,
             rise,
         };
-        match add_level(&mut offsets, level) {
-            Ok(()) => {}
-            Err(fault) => return Err(fault),
-        }
+        add_level(&mut offsets, level)?;
     }
     Ok(offsets)
 }

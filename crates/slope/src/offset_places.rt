@@ -41,17 +41,8 @@ pub(crate) fn place_at(from: Place, offset: (i32, i32, i32), up: Up) -> Option<P
         ((to : Spot) → IsPlace to → offset_between up from to ≢ offset)
         (λ to. offset_between up from to ≡ offset) }
 {
-    let x = match moved(from.x, offset.0 as i64) {
-        Some(x) => x,
-        None => return None,
-    };
-    let y = match moved(from.y, offset.1 as i64) {
-        Some(y) => y,
-        None => return None,
-    };
-    let z = match moved(from.z, height(offset.2, up)) {
-        Some(z) => z,
-        None => return None,
-    };
+    let x = moved(from.x, offset.0 as i64)?;
+    let y = moved(from.y, offset.1 as i64)?;
+    let z = moved(from.z, height(offset.2, up))?;
     Some(Place { x, y, z })
 }

@@ -60,10 +60,7 @@ impl Pattern {
         ensures { MatchResult result (AreOffsets (Contains five_offsets)) (λ e. e ≡ PatternFault.NoMemory) }
     {
         let listed = [(0, 0, 1), (1, 0, 1), (-1, 0, 1), (0, 1, 1), (0, -1, 1)];
-        match Pattern::gathered(alloc, &listed) {
-            Ok(pattern) => Ok(pattern),
-            Err(_) => Err(PatternFault::NoMemory),
-        }
+        Pattern::gathered(alloc, &listed).map_err(|_| PatternFault::NoMemory)
     }
 
     /// The square of nine blocks above, which is called 1:9.
@@ -84,10 +81,7 @@ impl Pattern {
             (1, 0, 1),
             (1, 1, 1),
         ];
-        match Pattern::gathered(alloc, &listed) {
-            Ok(pattern) => Ok(pattern),
-            Err(_) => Err(PatternFault::NoMemory),
-        }
+        Pattern::gathered(alloc, &listed).map_err(|_| PatternFault::NoMemory)
     }
 
     /// A cone that opens upward by `run` for each `rise`: on each of so many levels above, the blocks whose distance
@@ -101,12 +95,10 @@ impl Pattern {
         requires rise { (1 ≤ rise) × (rise ≤ 1000) }
         ensures { MatchResult result (AreOffsets (IsInCone levels run rise)) (ConeFaultStands levels run rise) }
     {
-        match cone_offsets(alloc, levels, run, rise) {
-            Ok(listed) => Ok(Pattern {
-                offsets: in_order(listed),
-            }),
-            Err(fault) => Err(fault),
-        }
+        let listed = cone_offsets(alloc, levels, run, rise)?;
+        Ok(Pattern {
+            offsets: in_order(listed),
+        })
     }
 
     /// The offsets of a list, which may be empty; repeats are dropped.
@@ -120,17 +112,13 @@ impl Pattern {
             (ListFaultStands listed.now) }
         ensures memory { result ≡ Err PatternFault.NoMemory → All IsUpward listed.now × (length listed.now ≤ 4096) }
     {
-        match first_not_upward(listed) {
-            Some(place) => return Err(PatternFault::NotUpward(place)),
-            None => {}
+        if let Some(place) = first_not_upward(listed) {
+            return Err(PatternFault::NotUpward(place));
         }
         if listed.len() > MOST_OFFSETS {
             return Err(PatternFault::TooMany);
         }
-        match Pattern::gathered(alloc, listed) {
-            Ok(pattern) => Ok(pattern),
-            Err(_) => Err(PatternFault::NoMemory),
-        }
+        Pattern::gathered(alloc, listed).map_err(|_| PatternFault::NoMemory)
     }
 
     /// The offsets, in order.

@@ -42,9 +42,6 @@ pub(crate) fn block_at(
         ((p : ℕ) → p < model.now.blocks → offset_between up from (place_of model.now p) ≢ offset)
         (λ p. (p < model.now.blocks) × (offset_between up from (place_of model.now p) ≡ offset)) }
 {
-    let place = match place_at(from, offset, up) {
-        Some(place) => place,
-        None => return None,
-    };
+    let place = place_at(from, offset, up)?;
     index.get(&place).copied()
 }

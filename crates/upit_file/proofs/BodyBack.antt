@@ -4,6 +4,7 @@ use Rattle.std.specs.Prelude.{◌||◌, nat_lt, nat_le, unsigned_abs, codes}
 use Rattle.std.specs.Option.{option_or}
 use Rattle.std.specs.List.{list_all}
 use Rattle.std.specs.Fmt.{decimal}
+use Rattle.std.proofs.lemmas.Bool.{and_from}
 use Rattle.std.proofs.lemmas.Bool.Decides.{nat_tests}
 use Rattle.std.proofs.lemmas.Fmt.{length-decimal-le_wide}
 use Rattle.std.proofs.lemmas.List.Folds.{list_all-append}
@@ -15,7 +16,7 @@ use Rattle.upit_file.specs.declared.fault.UpitFault.TheVariants.{Text}
 use Rattle.upit_file.specs.Header.{is_long, fields_in, is_end}
 use Rattle.upit_file.specs.Body.{block_of, value_of, shape_fault, record_fault, line_fault, is_record_of, has_record, value_among, first_fault, before_end}
 use Rattle.upit_file.specs.Writing.{record_line, record_lines}
-use Rattle.fixed_worth.proofs.Joined.{pass_both, is_one_line, is_word, fields_cut}
+use Rattle.fixed_worth.proofs.Joined.{is_one_line, is_word, fields_cut}
 use Rattle.fixed_worth.proofs.NextLine.{line, short}
 use Rattle.fixed_worth.proofs.WrittenNumbers.{whole_of-decimal, digit_separates_not, digit_is_one_line, decimal_is_word, decimal_is_one_line, decimal_is_no_remark}
 use Rattle.upit_file.proofs.BodyLines.{has-push}
@@ -33,12 +34,12 @@ printed_word : (v : ℤ) → unsigned_abs v ≤ 10 ^ 18 → is_word (printed 6 v
 unfolding is_separator
 printed_word v h =
     let some : nat_lt 0 (length (printed 6 v)) ≡ true = grind (arith, nat_tests, printed_some v h) in
-    pass_both (nat_lt 0 (length (printed 6 v))) (list_all (λ b. not (is_separator b)) (printed 6 v)) some (printed_all (λ b. not (is_separator b)) v digit_separates_not refl refl h)
+    and_from (nat_lt 0 (length (printed 6 v))) (list_all (λ b. not (is_separator b)) (printed 6 v)) some (printed_all (λ b. not (is_separator b)) v digit_separates_not refl refl h)
 
 pub record_fields : (b : ℕ) (v : ℤ) → b < 2 ^ 24 → unsigned_abs v ≤ 10 ^ 18 → fields_of (record_line b v) ≡ decimal b ∷ printed 6 v ∷ []
 record_fields b v h s =
     ap (λ (word : List ℕ). fields_of (decimal b ++ (32 ∷ word))) (sym (append-nil (printed 6 v)))
-    ∙ fields_cut (decimal b) (printed 6 v ∷ []) (decimal_is_word b (omega arith)) (pass_both (is_word (printed 6 v)) true (printed_word v s) refl)
+    ∙ fields_cut (decimal b) (printed 6 v ∷ []) (decimal_is_word b (omega arith)) (and_from (is_word (printed 6 v)) true (printed_word v s) refl)
 
 record_short : (b : ℕ) (v : ℤ) → b < 2 ^ 24 → unsigned_abs v ≤ 10 ^ 18 → length (record_line b v) ≤ 65536
 record_short b v h s =
@@ -136,4 +137,4 @@ record_lines_whole b (v ∷ vs) m s =
     let a : is_one_line (decimal b) ≡ true = decimal_is_one_line b (omega arith) in
     let p : is_one_line (printed 6 v) ≡ true = printed_all q v digit_is_one_line refl refl s.0 in
     let here : is_one_line (record_line b v) ≡ true = list_all-append q (decimal b) (32 ∷ printed 6 v) ∙ rw (a, p) refl in
-    pass_both (is_one_line (record_line b v)) (list_all is_one_line (record_lines (b + 1) vs)) here (record_lines_whole (b + 1) vs (omega arith) s.1)
+    and_from (is_one_line (record_line b v)) (list_all is_one_line (record_lines (b + 1) vs)) here (record_lines_whole (b + 1) vs (omega arith) s.1)

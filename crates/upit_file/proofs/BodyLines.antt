@@ -1,10 +1,12 @@
 -- Reading the records line after line.
-use Rattle.std.proofs.Common.{◌≡◌, ℕ, ◌<◌, ◌≢◌, Bool, true, false, cond, eqb, List, [], ◌∷◌, ◌++◌, length, get_or, set, replicate, Option, Some, None, ℤ, pos, refl, sym, ap, ◌∙◌, subst, arith, append_assoc, get_or-set_same, get_or-set_other, true≢false}
+use Rattle.std.proofs.Common.{◌≡◌, ℕ, ◌<◌, ◌≢◌, Bool, true, false, cond, eqb, List, [], ◌∷◌, ◌++◌, length, get_or, set, replicate, Option, Some, None, ℤ, pos, refl, sym, ap, ◌∙◌, subst, arith, append_assoc, get_or-set_same, get_or-set_other}
 use Rattle.std.specs.Prelude.{◌||◌, nat_lt, nat_le}
 use Rattle.std.specs.Option.{option_or}
+use Rattle.std.proofs.lemmas.Bool.{or_parts}
 use Rattle.std.proofs.lemmas.Bool.Decides.{nat_tests}
 use Rattle.std.proofs.lemmas.List.{length-replicate, get_or-replicate}
 use Rattle.std.proofs.lemmas.List.Folds.{list_any-append}
+use Rattle.std.proofs.Math.Bool.{or-false}
 use Rattle.std.proofs.Math.ListN.{length-set}
 use Rattle.fixed_worth.specs.Text.{Left, fields_of}
 use Rattle.fixed_worth.specs.Record.{Line, numbered, is_skipped}
@@ -35,21 +37,13 @@ begins n all seen values left e s v = record {
   all_values = ap length v ∙ length-replicate n (pos 0);
 }
 
-or_false : (x : Bool) → (x || false) ≡ x
-or_false true = refl
-or_false false = refl
-
 pub has-push : (before : List Line) (l : Line) (b : ℕ) → has_record (before ++ l ∷ []) b ≡ (has_record before b || is_record_of b (fields_in l))
-has-push before l b = list_any-append (λ x. is_record_of b (fields_in x)) before (l ∷ []) ∙ ap (λ t. has_record before b || t) (or_false (is_record_of b (fields_in l)))
+has-push before l b = list_any-append (λ x. is_record_of b (fields_in x)) before (l ∷ []) ∙ ap (λ t. has_record before b || t) (or-false (is_record_of b (fields_in l)))
 
 -- A line that is no record of b leaves b's value.
 value_other : (before : List Line) (l : Line) (b : ℕ) → is_record_of b (fields_in l) ≡ false → value_among (before ++ l ∷ []) b ≡ value_among before b
 value_other [] l b e = rw e refl
 value_other (x ∷ xs) l b e = ap (cond (is_record_of b (fields_in x)) (value_of (fields_in x))) (value_other xs l b e)
-
-pub or_parts : (a b : Bool) → (a || b) ≡ false → (a ≡ false) × (b ≡ false)
-or_parts true b h = absurd (true≢false h)
-or_parts false b h = (refl, h)
 
 -- A block's first record gives its value.
 value_first : (before : List Line) (l : Line) (b : ℕ) → has_record before b ≡ false → is_record_of b (fields_in l) ≡ true → value_among (before ++ l ∷ []) b ≡ value_of (fields_in l)
@@ -101,7 +95,7 @@ passes n all seen values left next k text g h e s =
       before = g.before ++ l ∷ [];
       fault = j.0;
       whole = j.1;
-      marks = λ b i. g.marks b i ∙ sym (has-push g.before l b ∙ ap (λ t. has_record g.before b || t) (out b) ∙ or_false (has_record g.before b));
+      marks = λ b i. g.marks b i ∙ sym (has-push g.before l b ∙ ap (λ t. has_record g.before b || t) (out b) ∙ or-false (has_record g.before b));
       worth = λ b i. g.worth b i ∙ sym (value_other g.before l b (out b));
       all_seen = g.all_seen;
       all_values = g.all_values;
@@ -125,7 +119,7 @@ mark_at seen before block b l i h r true e =
     subst (λ (x : ℕ). get_or (set seen block true) x false ≡ true) (sym same) (get_or-set_same seen block true false i) ∙ sym (has-push before l b ∙ ap (λ t. has_record before b || t) (r ∙ e) ∙ or_true (has_record before b))
 mark_at seen before block b l i h r false e =
     let ne : b ≢ block = grind (arith, nat_tests) in
-    get_or-set_other seen block b true false ne ∙ h ∙ sym (has-push before l b ∙ ap (λ t. has_record before b || t) (r ∙ e) ∙ or_false (has_record before b))
+    get_or-set_other seen block b true false ne ∙ h ∙ sym (has-push before l b ∙ ap (λ t. has_record before b || t) (r ∙ e) ∙ or-false (has_record before b))
 
 worth_at : (values : List ℤ) (before : List Line) (block b : ℕ) (v : ℤ) (l : Line) → block < length values → get_or values b (pos 0) ≡ value_among before b → is_record_of b (fields_in l) ≡ eqb block b → has_record before block ≡ false → v ≡ value_of (fields_in l)
     → (t : Bool) → eqb block b ≡ t → get_or (set values block v) b (pos 0) ≡ value_among (before ++ l ∷ []) b

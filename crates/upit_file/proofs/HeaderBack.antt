@@ -4,6 +4,7 @@ use Rattle.std.specs.Prelude.{◌&&◌, nat_lt, nat_le, is_some, codes, map}
 use Rattle.std.specs.Option.{option_or}
 use Rattle.std.specs.List.{list_any, position_or_len}
 use Rattle.std.specs.Fmt.{decimal}
+use Rattle.std.proofs.lemmas.Bool.{not-true, and_parts}
 use Rattle.std.proofs.lemmas.Bool.Decides.{nat_tests}
 use Rattle.std.proofs.lemmas.Fmt.{length-decimal-le_wide}
 use Rattle.std.proofs.lemmas.List.{take_all}
@@ -15,7 +16,7 @@ use Rattle.upit_file.specs.declared.key.Key.TheVariants.{Name, FileType, Blocks,
 use Rattle.upit_file.specs.declared.fault.UpitFault.TheVariants.{Text}
 use Rattle.upit_file.specs.Header.{is_long, fields_in, key_in, header, after_header, first_count, count_fault, key_fault, last_end, from_second, name_in, last_name, header_line_fault, header_lines_fault, last_fault, end_fault, header_fault}
 use Rattle.upit_file.specs.Records.{is_name}
-use Rattle.fixed_worth.proofs.Joined.{both_pass, not_passes, word_run, gap_run, word_alone}
+use Rattle.fixed_worth.proofs.Joined.{word_run, gap_run, word_alone}
 use Rattle.fixed_worth.proofs.NextLine.{line, short}
 use Rattle.fixed_worth.proofs.WrittenNumbers.{whole_of-decimal, decimal_is_word}
 
@@ -71,15 +72,15 @@ name_parts c cs h =
     let d = not (is_separator c) in
     let e = not (is_separator (get_or (c ∷ cs) (suc (length cs) - 1) 0)) in
     let all : (a && b && d && e) ≡ true = rw some at h in
-    let p = both_pass (a && b && d) e all in
-    let q = both_pass (a && b) d p.0 in
-    let r = both_pass a b q.0 in
+    let p = and_parts (a && b && d) e all in
+    let q = and_parts (a && b) d p.0 in
+    let r = and_parts a b q.0 in
     let k : suc (length cs) - 1 ≡ length cs = omega arith in
     record {
       few = (let t : nat_le (suc (length cs)) 60000 ≡ true = r.0 in grind (arith, nat_tests));
-      whole = not_passes _ r.1;
-      first = not_passes (is_separator c) q.1;
-      last = ap is_separator (sym (last_is c cs)) ∙ ap (λ i. is_separator (get_or (c ∷ cs) i 0)) (sym k) ∙ not_passes _ p.1;
+      whole = not-true _ r.1;
+      first = not-true (is_separator c) q.1;
+      last = ap is_separator (sym (last_is c cs)) ∙ ap (λ i. is_separator (get_or (c ∷ cs) i 0)) (sym k) ∙ not-true _ p.1;
     }
 
 pub name_few : (name : List ℕ) → is_name name ≡ true → length name ≤ 60000

@@ -5,6 +5,7 @@ use Rattle.std.specs.Int.{is_negative}
 use Rattle.std.specs.Fmt.{decimal, sign_text}
 use Rattle.std.specs.List.{list_all, position_or_len, before_first, after_first}
 use Rattle.std.proofs.Math.Seq.{take-append_seam, take-length, drop-append-add}
+use Rattle.std.proofs.lemmas.Bool.{and_parts}
 use Rattle.std.proofs.lemmas.Bool.Decides.{nat_tests}
 use Rattle.std.proofs.lemmas.List.{length-replicate, drop_all}
 use Rattle.std.proofs.lemmas.List.Folds.{list_all-append}
@@ -17,7 +18,7 @@ use Rattle.fixed_worth.specs.Printed.{fixed_width, digit_before, without_trailin
 use Rattle.fixed_worth.specs.Rounding.{rounded_of}
 use Rattle.fixed_worth.proofs.Digits.{value_of-append}
 use Rattle.fixed_worth.proofs.Powers.{rounds_up}
-use Rattle.fixed_worth.proofs.Joined.{both_pass, all_pass_weaker, Breaks, place_of_break}
+use Rattle.fixed_worth.proofs.Joined.{all_pass_weaker, Breaks, place_of_break}
 use Rattle.fixed_worth.proofs.WrittenNumbers.{decimal_digits, value_of-decimal}
 
 -- ---- a fraction
@@ -29,7 +30,7 @@ digits_before d (e ∷ es) h k = rw (h, k) refl
 trimmed_digits : (ds : List ℕ) → list_all is_digit ds ≡ true → list_all is_digit (without_trailing_zeros ds) ≡ true
 trimmed_digits [] h = refl
 trimmed_digits (d ∷ ds) h =
-    let p = both_pass (is_digit d) (list_all is_digit ds) h in
+    let p = and_parts (is_digit d) (list_all is_digit ds) h in
     digits_before d (without_trailing_zeros ds) p.0 (trimmed_digits ds p.1)
 
 -- Dropped zeros count as tens.
@@ -202,7 +203,7 @@ unfolding has_mark exponent_of whole_part fraction_part
 parts_are s t d ds g h k =
     let w = d ∷ ds in
     let text = sign_text s ++ ((d ∷ ds) ++ pointed t g) in
-    let first : is_digit d ≡ true = (both_pass (is_digit d) (list_all is_digit ds) h).0 in
+    let first : is_digit d ≡ true = (and_parts (is_digit d) (list_all is_digit ds) h).0 in
     let at : position_or_len is_mark (sign_text s ++ ((d ∷ ds) ++ pointed t g)) ≡ length (sign_text s ++ ((d ∷ ds) ++ pointed t g)) = no_place is_mark text (no_marks s t (d ∷ ds) g h k) in
     let all : before_first is_mark text ≡ text = ap (λ n. take n text) at ∙ take-length text in
     let mantissa : mantissa_of text ≡ (d ∷ ds) ++ pointed t g = ap unsigned_of all ∙ unsigned_so s d (ds ++ pointed t g) first in

@@ -1,5 +1,5 @@
 -- The line of a block, by its pieces.
-use Rattle.std.proofs.Common.{◌≡◌, ℕ, ℤ, pos, negsuc, ◌<ℤ◌, ◌≤ℤ◌, true, false, eqb, ◌-◌, ◌/◌, ◌%◌, ◌^◌, ◌≤◌, List, [], ◌∷◌, ◌++◌, length, take, replicate, sym, ap, ◌∙◌, refl, arith, append_assoc, append-nil}
+use Rattle.std.proofs.Common.{◌≡◌, ℕ, ℤ, pos, negsuc, ◌<ℤ◌, ◌≤ℤ◌, true, false, ◌-◌, ◌/◌, ◌%◌, ◌^◌, ◌≤◌, List, [], ◌∷◌, ◌++◌, length, take, replicate, sym, ap, ◌∙◌, refl, arith, append_assoc, append-nil}
 use Rattle.std.specs.Prelude.{unsigned_abs}
 use Rattle.std.specs.Int.{is_negative}
 use Rattle.std.specs.Fmt.{decimal, sign_text}
@@ -7,17 +7,11 @@ use Rattle.std.proofs.lemmas.Bool.Decides.{nat_tests}
 use Rattle.std.proofs.lemmas.Int.{ints}
 use Rattle.std.proofs.lemmas.List.{take-replicate}
 use Rattle.fixed_worth.specs.Printed.{fixed_width, without_trailing_zeros, fraction_text, printed}
+use Rattle.fixed_worth.proofs.Shown.{no_fraction, point_and_digits}
 use Rattle.upit_file.specs.Writing.{record_line}
 
-pub no_fraction : (n : ℕ) (old : List ℕ) → n ≡ 0 → old ≡ old ++ fraction_text 6 n
-unfolding fraction_text
-no_fraction n old e = rw e (sym (append-nil old))
-
-some_fraction : (n w d : ℕ) → (n ≡ 0 → ⊥) → without_trailing_zeros (fixed_width 6 n) ≡ fixed_width w d → 46 ∷ fixed_width w d ≡ fraction_text 6 n
-unfolding fraction_text
-some_fraction n w d some same =
-    let more : eqb n 0 ≡ false = grind (arith, nat_tests) in
-    rw (more, same) refl
+pub no_fraction_pushed : (n : ℕ) (old : List ℕ) → n ≡ 0 → old ≡ old ++ fraction_text 6 n
+no_fraction_pushed n old e = sym (append-nil old) ∙ ap (λ t. old ++ t) (no_fraction 6 n e)
 
 regrouped : (a x y : List ℕ) → ((a ++ (46 ∷ [])) ++ x) ++ y ≡ a ++ (46 ∷ (x ++ y))
 regrouped a x y = simp append_assoc
@@ -27,7 +21,7 @@ pub fraction_pushed : (n w d zeros : ℕ) (old number line : List ℕ) → (n �
     → line ≡ ((old ++ (46 ∷ [])) ++ take zeros (replicate 6 48)) ++ number → line ≡ old ++ fraction_text 6 n
 fraction_pushed n w d zeros old number line some same e z six f =
     f ∙ ap (λ k. ((old ++ (46 ∷ [])) ++ k) ++ number) (take-replicate zeros 6 48 (omega arith)) ∙ regrouped old (replicate zeros 48) number
-    ∙ ap (λ k. old ++ (46 ∷ (replicate k 48 ++ number))) z ∙ ap (λ ds. old ++ (46 ∷ (replicate (w - length ds) 48 ++ ds))) e ∙ ap (λ t. old ++ t) (some_fraction n w d some same)
+    ∙ ap (λ k. old ++ (46 ∷ (replicate k 48 ++ number))) z ∙ ap (λ ds. old ++ (46 ∷ (replicate (w - length ds) 48 ++ ds))) e ∙ ap (λ t. old ++ t) (point_and_digits 6 n w d some same)
 
 together : (a s w f : List ℕ) → (((a ++ (32 ∷ [])) ++ s) ++ w) ++ f ≡ a ++ (32 ∷ (s ++ (w ++ f)))
 together a s w f = simp append_assoc

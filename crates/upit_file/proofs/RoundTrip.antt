@@ -4,6 +4,7 @@ use Rattle.std.specs.Prelude.{nat_le, codes}
 use Rattle.std.specs.List.{list_all, list_any}
 use Rattle.std.specs.Option.{option_or}
 use Rattle.std.specs.Fmt.{decimal}
+use Rattle.std.proofs.lemmas.Bool.{and_parts, or_parts}
 use Rattle.std.proofs.lemmas.Bool.Decides.{nat_tests}
 use Rattle.std.proofs.lemmas.List.Folds.{list_all-append}
 use Rattle.fixed_worth.specs.Record.{Line, numbered}
@@ -12,9 +13,8 @@ use Rattle.upit_file.specs.Body.{body, before_end, first_fault, value_among}
 use Rattle.upit_file.specs.Records.{UpitView, is_name, lines_in}
 use Rattle.upit_file.specs.Writing.{header_lines, record_lines, upit_lines, upit_text}
 use Rattle.upit_file.specs.RoundTrip.{CanBeWritten, IsReadBack}
-use Rattle.fixed_worth.proofs.Joined.{both_pass, is_one_line, lines_cut}
+use Rattle.fixed_worth.proofs.Joined.{is_one_line, lines_cut}
 use Rattle.fixed_worth.proofs.WrittenNumbers.{decimal_is_one_line}
-use Rattle.upit_file.proofs.BodyLines.{or_parts}
 use Rattle.upit_file.proofs.HeaderBack.{name_whole, written, header_back}
 use Rattle.upit_file.proofs.BodyBack.{Sizes, sizes_each, no_first_fault, values_back, body_back, record_lines_whole}
 
@@ -37,7 +37,7 @@ read_lines u h few s = ap (numbered 0) (lines_cut (upit_lines u) (all_lines u.na
 pub read_back : (u : UpitView) → CanBeWritten u → IsReadBack u
 read_back u c =
     let n = length u.values in
-    let form = both_pass (is_name u.name) (nat_le (length u.values) (2 ^ 24)) c.form in
+    let form = and_parts (is_name u.name) (nat_le (length u.values) (2 ^ 24)) c.form in
     let few : length u.values ≤ 2 ^ 24 = let t : nat_le (length u.values) (2 ^ 24) ≡ true = form.1 in grind (arith, nat_tests) in
     let s = sizes_each u.values c.sizes in
     let rest = numbered 4 (record_lines 0 u.values ++ (codes "EOF" ∷ [])) in

@@ -130,9 +130,8 @@ impl<G: OrderedGroup> Board<G> {
         if self.state.count() >= steps {
             return Turn::Ended(End::Limit);
         }
-        let block = match self.picked(own, from) {
-            Some(block) => block,
-            None => return Turn::Idle,
+        let Some(block) = self.picked(own, from) else {
+            return Turn::Idle;
         };
         match self.state.next_step(&self.net, block) {
             Ok(_) => Turn::Stepped {

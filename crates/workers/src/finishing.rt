@@ -34,9 +34,8 @@ fn end_operations<G: OrderedGroup>(board: &mut Board<G>, steps: u64) -> Option<E
     ensures end { MatchOption result (AreIdleBelow board.new (blocks_of board.new)) (λ end. HasEnded board.new steps end) }
 {
     for block in 0..board.len() {
-        match end_operation(board, block, steps) {
-            Some(end) => return Some(end),
-            None => {}
+        if let Some(end) = end_operation(board, block, steps) {
+            return Some(end);
         }
     }
     None

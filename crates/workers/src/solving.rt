@@ -109,10 +109,8 @@ where
         return Err(SolveFault::BadWorkers);
     }
     let limit = steps.min(MOST_STEPS);
-    match board_after(rt, alloc, net, workers, limit, gate) {
-        Ok(board) => flow_of(board, limit),
-        Err(fault) => Err(fault),
-    }
+    let board = board_after(rt, alloc, net, workers, limit, gate)?;
+    flow_of(board, limit)
 }
 
 // The board of a net as so many workers leave it.
@@ -128,10 +126,8 @@ where
     Locked<Board<G>>: Shared,
     ensures { MatchResult result (λ board. IsLeft net.now limit board) (λ fault. IsLoss fault) }
 {
-    let shared = match Board::open(alloc, net) {
-        Ok(board) => Locked::new(board),
-        Err(_) => return Err(SolveFault::NoMemory),
-    };
+    let board = Board::open(alloc, net).map_err(|_| SolveFault::NoMemory)?;
+    let shared = Locked::new(board);
     if !serve_all(rt, &shared, gate, workers, net.len(), limit) {
         return Err(SolveFault::NoThread);
     }

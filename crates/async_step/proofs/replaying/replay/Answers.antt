@@ -9,8 +9,8 @@ use Rattle.machine_law.proofs.Runs.{run_more}
 use Rattle.async_step.specs.Views.{state_of}
 use Rattle.async_step.proofs.replaying.replay.Goals as goal
 
-pub returns-in-Err-step : goal.returns-in-Err-step
-returns-in-Err-step g c =
+pub returns-in-Err : goal.returns-in-Err
+returns-in-Err g c =
     let d : Event = record { block = 0; kind = ReadExcess } in
     record {
       before = c.loop-i.i;
@@ -19,7 +19,7 @@ returns-in-Err-step g c =
       run = c.loop-i.invariant.run;
       event = get_or c.args.events.now c.loop-i.i d;
       present = slice_get-get_or c.args.events.now c.loop-i.i d c.loop-i-test.true;
-      stands = c.in-Err-step.ensures.made.stands;
+      stands = c.in-Err.ensures.made.stands;
     }
 
 pub loop-i-preserved : goal.loop-i-preserved

@@ -12,7 +12,7 @@ pub loop-step-preserved : goal.loop-step-preserved
 loop-step-preserved c =
     let x : SFits w32 c.coordinate-x.result = search rules in
     let e = c.coordinate-x.ensures in
-    let a = simp to_z-of_z at c.in-Ok.ensures in
+    let a = simp to_z-of_z at c.in_ok-add_row.ensures in
     let next = pos (c.loop-step.step + 1) -ℤ pos c.args.level.reach in
     let up : c.coordinate-x.result +ℤ pos 1 ≡ next = omega (arith, ints, e) in
     let P : ℤ → Type 0 = λ t. Collects (IsBelowRow c.args.level.run c.args.level.rise (pos c.args.level.number) t) c.add_row.new.offsets.items in

@@ -1,11 +1,14 @@
 use Rattle.std.proofs.Common.{◌≡◌, ◌+◌, arith, pos, ℕ, subst}
+use Rattle.std.proofs.lemmas.Result.{err_from_is_err_and}
 use Rattle.slope.specs.Lists.{Collects}
 use Rattle.slope.specs.Cones.{IsBelowLevel}
 use Rattle.slope.proofs.ConeSteps.{cone_ended, cone_wider}
 use Rattle.slope.proofs.cone.cone_offsets.Goals as goal
 
-pub returns-in-Err : goal.returns-in-Err
-returns-in-Err c = cone_wider c.loop-number.number c.args.levels c.args.run c.args.rise c.in-Err.fault (omega arith) c.in-Err.ensures
+pub returns-in_err-add_level : goal.returns-in_err-add_level
+returns-in_err-add_level c =
+    let p = err_from_is_err_and c.from_residual.result c.from_residual.ensures.1 in
+    rw (p.1, p.2) (cone_wider c.loop-number.number c.args.levels c.args.run c.args.rise c.in_err-add_level.field-0.0 (omega arith) c.in_err-add_level.ensures)
 
 pub returns : goal.returns
 returns c =

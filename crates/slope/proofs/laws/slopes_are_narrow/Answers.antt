@@ -1,4 +1,3 @@
-use Rattle.std.proofs.Common.{◌≡◌, List, subst, sym}
 use Rattle.slope.proofs.Narrow.{above_most, slopes_narrow}
 use Rattle.slope.proofs.laws.slopes_are_narrow.Goals as goal
 

@@ -1,10 +1,10 @@
 use Rattle.std.proofs.Common.{◌≡◌, ◌-◌, ◌++◌, length, take, replicate, ap, ◌∙◌, [], ◌∷◌}
 use Rattle.std.specs.Fmt.{decimal}
-use Rattle.upit_file.proofs.RecordLines.{no_fraction, fraction_pushed}
+use Rattle.upit_file.proofs.RecordLines.{no_fraction_pushed, fraction_pushed}
 use Rattle.upit_file.proofs.record_line.push_fraction.Goals as goal
 
 pub returns-then-millionths-eq0 : goal.returns-then-millionths-eq0
-returns-then-millionths-eq0 c = no_fraction c.args.millionths c.args.line.now c.if-millionths-eq0.true
+returns-then-millionths-eq0 c = no_fraction_pushed c.args.millionths c.args.line.now c.if-millionths-eq0.true
 
 pub returns : goal.returns
 returns c =
