@@ -4,7 +4,7 @@ ghost use Rattle.std.specs.Prelude.{◌≤◌, ◌^◌};
 ghost use Rattle.async_step.specs.Answers.{IsStateOf};
 
 use crate::{ReplayFault, Saw, State, StepRefusal, replay};
-use closure_net::Net;
+use closure_net::{Carried, Flow, Net};
 use machine_law::{Event, Kind};
 use ordered_group::{Worth, WorthSize};
 use prec_file::Rests;
@@ -420,6 +420,19 @@ fn every_row_of_the_run(rt: HostRuntime) -> Result<(), Fail> {
     Ok(())
 }
 
+// One unit goes from the source over the first pair into the sink.
+fn is_flow_of_one(rt: &impl Abort, flow: &Flow<Worth>) {
+    assert!(rt; flow.source() == [worth(1), worth(0), worth(0)].as_slice());
+    assert!(rt; flow.sink() == [worth(0), worth(1), worth(0)].as_slice());
+    carries_one(rt, flow.rest());
+}
+
+fn carries_one(rt: &impl Abort, rest: &Carried<Worth>) {
+    assert_eq!(rt; rest.len(), 2);
+    assert_eq!(rt; rest.at(0), worth(1));
+    assert_eq!(rt; rest.at(1), worth(0));
+}
+
 #[test]
 fn the_run_ends_in_a_flow(rt: HostRuntime) -> Result<(), Fail> {
     let alloc = rt.alloc();
@@ -427,16 +440,8 @@ fn the_run_ends_in_a_flow(rt: HostRuntime) -> Result<(), Fail> {
     let events = run_of_rows(alloc)?;
     assert_eq!(rt; events.len(), 140);
     let state = replay(alloc, &net, &events)?;
-    assert!(rt; state.quiet());
     let flow = state.into_flow(&net).ok().ok_or("quiet")?;
-    assert!(rt; flow.source() == [worth(1), worth(0), worth(0)].as_slice());
-    let rest = flow.rest();
-    assert_eq!(rt; rest.len(), 2);
-    if rest.len() == 2 {
-        assert_eq!(rt; rest.at(0), worth(1));
-        assert_eq!(rt; rest.at(1), worth(0));
-    }
-    assert!(rt; flow.sink() == [worth(0), worth(1), worth(0)].as_slice());
+    is_flow_of_one(&rt, &flow);
     Ok(())
 }
 
@@ -458,22 +463,17 @@ fn a_step_out_of_turn(rt: HostRuntime) -> Result<(), Fail> {
     Ok(())
 }
 
-#[test]
-fn a_sum_too_large(rt: HostRuntime) -> Result<(), Fail> {
-    let alloc = rt.alloc();
+// A block and one that it rests on, with sizes that don't fit twice.
+fn large_net(alloc: Global) -> Result<Net<WorthSize>, Fail> {
     let rests = rests(alloc, 2, &[(0, 1)])?;
-    let worths = [
-        WorthSize {
-            nanos: 5,
-            size: i128::MAX,
-        },
-        WorthSize {
-            nanos: -4,
-            size: i128::MAX,
-        },
-    ];
+    let size = i128::MAX;
+    let worths = [WorthSize { nanos: 5, size }, WorthSize { nanos: -4, size }];
     let worths = Vec::from_slice(alloc, &worths)?;
-    let net = Net::build(rests, worths).ok().ok_or("net")?;
+    Ok(Net::build(rests, worths).ok().ok_or("net")?)
+}
+
+// The steps up to the one that doesn't fit.
+fn steps_that_fit(alloc: Global) -> Result<Vec<Event>, Fail> {
     let mut events = Vec::new(alloc);
     push_steps(
         &mut events,
@@ -485,13 +485,36 @@ fn a_sum_too_large(rt: HostRuntime) -> Result<(), Fail> {
         1,
         &[RE, RC, RL, RC, RL, RA, RE, RC, RL, RC, RL, TC],
     )?;
+    Ok(events)
+}
+
+// The step is refused, and no step is counted.
+fn is_too_large(rt: &impl Abort, state: &mut State<WorthSize>, net: &Net<WorthSize>, event: Event)
+    requires { IsStateOf net.now state.old }
+    ensures { IsStateOf net.now state.new }
+{
+    assert_eq!(rt; state.step(net, event).err(), Some(StepRefusal::TooLarge));
+    assert_eq!(rt; state.count(), 24);
+}
+
+#[test]
+fn a_sum_too_large(rt: HostRuntime) -> Result<(), Fail> {
+    let alloc = rt.alloc();
+    let net = large_net(alloc)?;
+    let events = steps_that_fit(alloc)?;
     let mut state = replay(alloc, &net, &events)?;
-    assert_eq!(rt; state.count(), 24);
     let event = Event { block: 1, kind: TE };
-    assert_eq!(rt; state.step(&net, event), Err(StepRefusal::TooLarge));
-    assert_eq!(rt; state.step(&net, event), Err(StepRefusal::TooLarge));
-    assert_eq!(rt; state.count(), 24);
-    events.push(event)?;
+    is_too_large(&rt, &mut state, &net, event);
+    is_too_large(&rt, &mut state, &net, event);
+    Ok(())
+}
+
+#[test]
+fn a_run_with_a_sum_too_large(rt: HostRuntime) -> Result<(), Fail> {
+    let alloc = rt.alloc();
+    let net = large_net(alloc)?;
+    let mut events = steps_that_fit(alloc)?;
+    events.push(Event { block: 1, kind: TE })?;
     let fault = replay(alloc, &net, &events).err();
     assert_eq!(rt;
         fault,
@@ -511,6 +534,16 @@ fn no_such_block(rt: HostRuntime) -> Result<(), Fail> {
     Ok(())
 }
 
+// A block with four units reads its excess.
+fn reads_four(rt: &impl Abort, state: &mut State<Worth>, net: &Net<Worth>, block: u32)
+    requires { IsStateOf net.now state.old }
+    ensures { IsStateOf net.now state.new }
+{
+    let event = Event { block, kind: RE };
+    let saw = state.step(net, event).ok();
+    assert_eq!(rt; saw, Some(Saw::Excess(worth(4))));
+}
+
 #[test]
 fn waiting_goes_round(rt: HostRuntime) -> Result<(), Fail> {
     let alloc = rt.alloc();
@@ -518,11 +551,9 @@ fn waiting_goes_round(rt: HostRuntime) -> Result<(), Fail> {
     let mut state = State::open(alloc, &net)?;
     assert_eq!(rt; state.waiting(0), Some(0));
     assert_eq!(rt; state.waiting(1), Some(2));
-    let event = Event { block: 2, kind: RE };
-    assert_eq!(rt; state.step(&net, event), Ok(Saw::Excess(worth(4))));
+    reads_four(&rt, &mut state, &net, 2);
     assert_eq!(rt; state.waiting(1), Some(0));
-    let event = Event { block: 0, kind: RE };
-    assert_eq!(rt; state.step(&net, event), Ok(Saw::Excess(worth(4))));
+    reads_four(&rt, &mut state, &net, 0);
     assert_eq!(rt; state.waiting(1), None);
     assert!(rt; !state.quiet());
     Ok(())
@@ -534,8 +565,7 @@ fn a_state_that_is_not_quiet(rt: HostRuntime) -> Result<(), Fail> {
     let net = two_on_waste(alloc)?;
     assert_eq!(rt; net.len(), 3);
     let mut state = State::open(alloc, &net)?;
-    let event = Event { block: 0, kind: RE };
-    assert_eq!(rt; state.step(&net, event), Ok(Saw::Excess(worth(4))));
+    reads_four(&rt, &mut state, &net, 0);
     match state.into_flow(&net) {
         Ok(_) => assert!(rt; false, "a flow of a state that isn't quiet"),
         Err(state) => {
