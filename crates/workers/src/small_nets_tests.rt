@@ -141,32 +141,54 @@ fn is_best(rt: &impl Abort, set: u32, n: u32, pairs: &[(u32, u32)], nanos: &[i12
     assert_eq!(rt; (worth_of(set, nanos), set.count_ones()), best);
 }
 
+fn shape_of(i: u32) -> Shape {
+    match i % 3 {
+        0 => Shape::Chain,
+        1 => Shape::Star,
+        _ => Shape::Cycle,
+    }
+}
+
+// A worth for each block, from -10 to 10; of every fourth net each other block is worth nothing.
+fn nanos_of(alloc: Global, numbers: &mut Numbers, i: u32, n: u32) -> Result<Vec<i128>, Fail> {
+    let mut nanos = Vec::new(alloc);
+    for b in 0..n {
+        let worth = if i % 4 == 3 && b % 2 == 0 {
+            0
+        } else {
+            ((numbers.next() % 21) as i128).wrapping_sub(10)
+        };
+        nanos.push(worth)?;
+    }
+    Ok(nanos)
+}
+
+// A run of the net at each group finds the best of all its closed sets.
+fn finds_the_best<R: Threads + Wait + Sync + Abort>(
+    rt: &R,
+    alloc: Global,
+    n: u32,
+    pairs: &[(u32, u32)],
+    nanos: &[i128],
+) -> Result<(), Fail>
+    requires { n ≤ 2 ^ 24 }
+{
+    let set = set_by_a_run::<WorthSize, R>(rt, alloc, n, pairs, nanos)?;
+    is_best(rt, set, n, pairs, nanos);
+    let set = set_by_a_run::<Worth, R>(rt, alloc, n, pairs, nanos)?;
+    is_best(rt, set, n, pairs, nanos);
+    Ok(())
+}
+
 #[test]
 fn small_nets_against_all_closed_sets(rt: HostRuntime) -> Result<(), Fail> {
     let alloc = rt.alloc();
     let mut numbers = Numbers { last: 2026 };
     for i in 0..204u32 {
         let n = i / 17 + 1;
-        let shape = match i % 3 {
-            0 => Shape::Chain,
-            1 => Shape::Star,
-            _ => Shape::Cycle,
-        };
-        let pairs = pairs_of(alloc, shape, n)?;
-        let mut nanos = Vec::new(alloc);
-        for b in 0..n {
-            // every fourth net has a block of no worth for each other one
-            let worth = if i % 4 == 3 && b % 2 == 0 {
-                0
-            } else {
-                ((numbers.next() % 21) as i128).wrapping_sub(10)
-            };
-            nanos.push(worth)?;
-        }
-        let set = set_by_a_run::<WorthSize, _>(&rt, alloc, n, &pairs, &nanos)?;
-        is_best(&rt, set, n, &pairs, &nanos);
-        let set = set_by_a_run::<Worth, _>(&rt, alloc, n, &pairs, &nanos)?;
-        is_best(&rt, set, n, &pairs, &nanos);
+        let pairs = pairs_of(alloc, shape_of(i), n)?;
+        let nanos = nanos_of(alloc, &mut numbers, i, n)?;
+        finds_the_best(&rt, alloc, n, &pairs, &nanos)?;
     }
     Ok(())
 }
