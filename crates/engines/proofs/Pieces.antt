@@ -6,12 +6,8 @@ use Rattle.std.specs.List.{onto_first, position_or_len}
 use Rattle.std.proofs.lemmas.List.Quantifiers.{position-Some}
 use Rattle.std.proofs.lemmas.List.Sums.{prefix_len-le-length}
 use Rattle.std.proofs.lemmas.Bool.Decides.{nat_tests}
+use Rattle.fixed_worth.proofs.Cuts.{position_none}
 use Rattle.engines.specs.PatternWords.{pieces_of, cone_of, pattern_with, pattern_of}
-
-position_none : {X : Type 0} (p : X → Bool) (xs : List X) → position p xs ≡ None → length xs ≡ position_or_len p xs
-position_none p xs e =
-    let small : position_or_len p xs ≤ length xs = prefix_len-le-length _ xs in
-    grind (arith, nat_tests)
 
 -- the first piece ends at the first colon
 piece_to : (bs : List ℕ) (j : ℕ) → j < length bs → eqb (get_or bs j 0) 58 ≡ true → ((k : ℕ) → k < j → eqb (get_or bs k 0) 58 ≡ false)

@@ -11,9 +11,6 @@ use Rattle.fixed_worth.proofs.Cuts.{Runs, first_run}
 
 -- ---- tests of all bytes
 
-pub pass_both : (a b : Bool) → a ≡ true → b ≡ true → (a && b) ≡ true
-pass_both = and_from
-
 -- what passes a test passes one that asks for less
 pub all_pass_weaker : (p q : ℕ → Bool) → ((b : ℕ) → p b ≡ true → q b ≡ true) → (bs : List ℕ) → list_all p bs ≡ true → list_all q bs ≡ true
 all_pass_weaker p q w [] h = refl

@@ -9,7 +9,6 @@ pub mod PlainNumbers
 pub mod Powers
 pub mod Shown
 pub mod Pieces
-pub mod Sources
 pub mod DigitsFromEnd
 pub mod Joined
 pub mod WrittenNumbers

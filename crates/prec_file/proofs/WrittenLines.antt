@@ -3,13 +3,14 @@ use Rattle.std.proofs.Common.{◌≡◌, ℕ, zero, suc, ◌+◌, ◌*◌, ◌<�
 use Rattle.std.specs.Prelude.{map}
 use Rattle.std.specs.List.{list_all}
 use Rattle.std.specs.Fmt.{decimal}
+use Rattle.std.proofs.lemmas.Bool.{and_from}
 use Rattle.std.proofs.lemmas.Fmt.{length-decimal-le}
 use Rattle.std.proofs.lemmas.List.{get_or_default}
 use Rattle.std.proofs.lemmas.List.Elements.{All-weaker}
 use Rattle.std.proofs.lemmas.List.Folds.{flat_map-map, list_all-append}
 use Rattle.fixed_worth.specs.Text.{lines_of, fields_of}
 use Rattle.fixed_worth.specs.Laws.{with_line_feeds}
-use Rattle.fixed_worth.proofs.Joined.{is_one_line, is_word, behind_spaces, lines_cut, with_line_feeds-append, fields_cut, joined_is_one_line, pass_both}
+use Rattle.fixed_worth.proofs.Joined.{is_one_line, is_word, behind_spaces, lines_cut, with_line_feeds-append, fields_cut, joined_is_one_line}
 use Rattle.fixed_worth.proofs.WrittenNumbers.{decimal_is_word, decimal_is_one_line, decimals_pass}
 use Rattle.prec_file.specs.Rests.{IsKnown, IsRising, above_of, first_of}
 use Rattle.prec_file.specs.Written.{spaced, line_of, lines_below, AreNarrow}
@@ -67,7 +68,7 @@ small n ps b w = All-weaker (λ p. p < n) (λ p. p < 2 ^ 64) (λ p l. omega (ari
 
 words_pass : (test : List ℕ → Bool) → ((k : ℕ) → k < 2 ^ 64 → test (decimal k) ≡ true) → (n : ℕ) (ps : List (ℕ × ℕ)) (b : ℕ) → IsWritable n ps → b < n → list_all test (words_at ps b) ≡ true
 words_pass test each n ps b w l =
-    pass_both (test (decimal (length (above_of ps b)))) (list_all test (map decimal (above_of ps b))) (each (length (above_of ps b)) (omega (arith, w.narrow b l)))
+    and_from (test (decimal (length (above_of ps b)))) (list_all test (map decimal (above_of ps b))) (each (length (above_of ps b)) (omega (arith, w.narrow b l)))
     (decimals_pass test each (above_of ps b) (small n ps b w))
 
 row_is_one_line : (n : ℕ) (ps : List (ℕ × ℕ)) (b : ℕ) → IsWritable n ps → b < n → is_one_line (row ps b) ≡ true
@@ -78,8 +79,8 @@ rows_are_lines : (n : ℕ) (ps : List (ℕ × ℕ)) (m : ℕ) → IsWritable n p
 rows_are_lines n ps zero w l = refl
 rows_are_lines n ps (suc m) w l =
     list_all-append is_one_line (rows ps m) (row ps m ∷ [])
-    ∙ pass_both (list_all is_one_line (rows ps m)) (list_all is_one_line (row ps m ∷ [])) (rows_are_lines n ps m w (omega arith))
-    (pass_both (is_one_line (row ps m)) true (row_is_one_line n ps m w (omega arith)) refl)
+    ∙ and_from (list_all is_one_line (rows ps m)) (list_all is_one_line (row ps m ∷ [])) (rows_are_lines n ps m w (omega arith))
+    (and_from (is_one_line (row ps m)) true (row_is_one_line n ps m w (omega arith)) refl)
 
 -- the lines of the text
 pub text_lines : (n : ℕ) (ps : List (ℕ × ℕ)) → IsWritable n ps → lines_of (lines_below ps n) ≡ rows ps n
