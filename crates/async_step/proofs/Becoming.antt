@@ -1,5 +1,5 @@
 -- What a step leaves, as lists.
-use Rattle.std.proofs.Common.{◌≡◌, Result, Err, MatchResult, ◌↔◌, IsTrue, Bool, true, false, ℕ, ◌+◌, ◌<◌, ◌≤◌, ◌^◌, inl, inr, List, length, get_or, set, sym, refl, subst, ◌∙◌, arith, length-set, get_or-set_same, get_or-set_other}
+use Rattle.std.proofs.Common.{◌≡◌, Result, Err, MatchResult, ◌↔◌, IsTrue, Bool, true, false, ℕ, ◌+◌, ◌<◌, ◌≤◌, ◌^◌, inl, inr, List, length, get_or, set, sym, refl, ap, subst, ◌∙◌, arith, length-set, get_or-set_same, get_or-set_other}
 use Rattle.std.proofs.Math.Path.{fun_ext}
 use Rattle.std.proofs.lemmas.Bool.{cases_eq, cases_lt}
 use Rattle.ordered_group.specs.Amount.{Amount, zero_amount, minus, negative, FitsPair}
@@ -12,6 +12,9 @@ use Rattle.machine_law.specs.Steps.{becomes}
 use Rattle.machine_law.proofs.Points.{put-same, put-other, put-each}
 use Rattle.async_step.specs.Views.{StateView, state_of, operation_at, IsSized}
 use Rattle.async_step.specs.Answers.{Fits, IsStateOf, GoesTo, Stays}
+use Rattle.async_step.specs.Changes.{CanChange, changed, lists_changed}
+use Rattle.async_step.specs.declared.changing.Change.{Change}
+use Rattle.async_step.specs.declared.changing.Change.TheVariants.{Nothing, Excess, Label, Source, Sink, Flow, AtSource, AtSink}
 use Rattle.async_step.specs.declared.refusals.StepRefusal.{StepRefusal}
 use Rattle.async_step.specs.declared.refusals.StepRefusal.TheVariants.{TooLarge}
 
@@ -55,85 +58,94 @@ module _ (net : NetView) (v : StateView) (over : IsStateOf net v) (b : ℕ) (l :
   operation_set : (λ c. operation_at (set v.operation b o) c) ≡ put (λ c. operation_at v.operation c) b o
   operation_set = places-set v.operation b o Idle (omega (arith, l, over.blocks))
 
-  pub fits_alone : Fits net (becomes (state_of v) b o)
-  fits_alone =
+  -- every number fits after a change that can be made
+  pub fits_changed : (change : Change Amount) → CanChange net b change → Fits net (changed (becomes (state_of v) b o) b change)
+  fits_changed Nothing can =
       let h = over.fits in
       record { excess = h.excess; label = h.label; source = h.source; sink = h.sink; room = h.room; flow = h.flow; at_source = h.at_source; at_sink = h.at_sink }
-
-  pub goes_alone : v.steps < 2 ^ 40 → GoesTo net v (becomes (state_of v) b o) (record v { operation = set v.operation b o; steps = v.steps + 1 })
-  goes_alone few =
-      let e : state_of (record v { operation = set v.operation b o; steps = v.steps + 1 }) ≡ becomes (state_of v) b o = λ i. record { excess = (state_of v).excess; label = (state_of v).label; source = (state_of v).source; sink = (state_of v).sink; flow = (state_of v).flow; operation = operation_set i; at_source = v.at_source; at_sink = v.at_sink; steps = v.steps + 1 } in
-      record { state = e; counted = few; fits = subst (Fits net) (sym e) (fits_alone); blocks = length-set v.operation b o; pairs = refl }
-
-  pub fits_excess : (sized : IsSized v) → (at : ℕ) → (x : Amount) → at < length net.worths → FitsPair x → Fits net (record (becomes (state_of v) b o) { excess = put (state_of v).excess at x })
-  fits_excess sized at x f3 f4 =
+  fits_changed (Excess at x) can =
       let h = over.fits in
-      record { excess = fits_put (state_of v).excess at x h.excess f4; label = h.label; source = h.source; sink = h.sink; room = h.room; flow = h.flow; at_source = h.at_source; at_sink = h.at_sink }
-
-  pub goes_excess : v.steps < 2 ^ 40 → (sized : IsSized v) → (at : ℕ) → (x : Amount) → at < length net.worths → FitsPair x → GoesTo net v (record (becomes (state_of v) b o) { excess = put (state_of v).excess at x }) (record v { excess = set v.excess at x; operation = set v.operation b o; steps = v.steps + 1 })
-  goes_excess few sized at x f3 f4 =
-      let e : state_of (record v { excess = set v.excess at x; operation = set v.operation b o; steps = v.steps + 1 }) ≡ record (becomes (state_of v) b o) { excess = put (state_of v).excess at x } = λ i. record { excess = places-set v.excess at x zero_amount (omega (arith, f3, over.blocks, sized.excess)) i; label = (state_of v).label; source = (state_of v).source; sink = (state_of v).sink; flow = (state_of v).flow; operation = operation_set i; at_source = v.at_source; at_sink = v.at_sink; steps = v.steps + 1 } in
-      record { state = e; counted = few; fits = subst (Fits net) (sym e) (fits_excess sized at x f3 f4); blocks = length-set v.operation b o; pairs = refl }
-
-  pub fits_label : (sized : IsSized v) → (x : ℕ) → x < 2 ^ 64 → Fits net (record (becomes (state_of v) b o) { label = put (state_of v).label b x })
-  fits_label sized x f2 =
+      record { excess = fits_put (state_of v).excess at x h.excess can.1; label = h.label; source = h.source; sink = h.sink; room = h.room; flow = h.flow; at_source = h.at_source; at_sink = h.at_sink }
+  fits_changed (Label x) can =
       let h = over.fits in
-      record { excess = h.excess; label = label_put (state_of v).label b x h.label f2; source = h.source; sink = h.sink; room = h.room; flow = h.flow; at_source = h.at_source; at_sink = h.at_sink }
-
-  pub goes_label : v.steps < 2 ^ 40 → (sized : IsSized v) → (x : ℕ) → x < 2 ^ 64 → GoesTo net v (record (becomes (state_of v) b o) { label = put (state_of v).label b x }) (record v { label = set v.label b x; operation = set v.operation b o; steps = v.steps + 1 })
-  goes_label few sized x f2 =
-      let e : state_of (record v { label = set v.label b x; operation = set v.operation b o; steps = v.steps + 1 }) ≡ record (becomes (state_of v) b o) { label = put (state_of v).label b x } = λ i. record { excess = (state_of v).excess; label = places-set v.label b x 0 (omega (arith, l, over.blocks, sized.label)) i; source = (state_of v).source; sink = (state_of v).sink; flow = (state_of v).flow; operation = operation_set i; at_source = v.at_source; at_sink = v.at_sink; steps = v.steps + 1 } in
-      record { state = e; counted = few; fits = subst (Fits net) (sym e) (fits_label sized x f2); blocks = length-set v.operation b o; pairs = refl }
-
-  pub fits_source : (sized : IsSized v) → (x : Amount) → FitsPair x → Fits net (record (becomes (state_of v) b o) { source = put (state_of v).source b x })
-  fits_source sized x f2 =
+      record { excess = h.excess; label = label_put (state_of v).label b x h.label can; source = h.source; sink = h.sink; room = h.room; flow = h.flow; at_source = h.at_source; at_sink = h.at_sink }
+  fits_changed (Source x) can =
       let h = over.fits in
-      record { excess = h.excess; label = h.label; source = fits_put (state_of v).source b x h.source f2; sink = h.sink; room = h.room; flow = h.flow; at_source = h.at_source; at_sink = h.at_sink }
-
-  pub goes_source : v.steps < 2 ^ 40 → (sized : IsSized v) → (x : Amount) → FitsPair x → GoesTo net v (record (becomes (state_of v) b o) { source = put (state_of v).source b x }) (record v { source = set v.source b x; operation = set v.operation b o; steps = v.steps + 1 })
-  goes_source few sized x f2 =
-      let e : state_of (record v { source = set v.source b x; operation = set v.operation b o; steps = v.steps + 1 }) ≡ record (becomes (state_of v) b o) { source = put (state_of v).source b x } = λ i. record { excess = (state_of v).excess; label = (state_of v).label; source = places-set v.source b x zero_amount (omega (arith, l, over.blocks, sized.source)) i; sink = (state_of v).sink; flow = (state_of v).flow; operation = operation_set i; at_source = v.at_source; at_sink = v.at_sink; steps = v.steps + 1 } in
-      record { state = e; counted = few; fits = subst (Fits net) (sym e) (fits_source sized x f2); blocks = length-set v.operation b o; pairs = refl }
-
-  pub fits_sink : (sized : IsSized v) → (x : Amount) → FitsPair x → FitsPair (minus (negative (amount_at net.worths b)) x) → Fits net (record (becomes (state_of v) b o) { sink = put (state_of v).sink b x })
-  fits_sink sized x f2 f3 =
+      record { excess = h.excess; label = h.label; source = fits_put (state_of v).source b x h.source can; sink = h.sink; room = h.room; flow = h.flow; at_source = h.at_source; at_sink = h.at_sink }
+  fits_changed (Sink x) can =
       let h = over.fits in
-      record { excess = h.excess; label = h.label; source = h.source; sink = fits_put (state_of v).sink b x h.sink f2; room = room_put net (state_of v).sink b x h.room f3; flow = h.flow; at_source = h.at_source; at_sink = h.at_sink }
-
-  pub goes_sink : v.steps < 2 ^ 40 → (sized : IsSized v) → (x : Amount) → FitsPair x → FitsPair (minus (negative (amount_at net.worths b)) x) → GoesTo net v (record (becomes (state_of v) b o) { sink = put (state_of v).sink b x }) (record v { sink = set v.sink b x; operation = set v.operation b o; steps = v.steps + 1 })
-  goes_sink few sized x f2 f3 =
-      let e : state_of (record v { sink = set v.sink b x; operation = set v.operation b o; steps = v.steps + 1 }) ≡ record (becomes (state_of v) b o) { sink = put (state_of v).sink b x } = λ i. record { excess = (state_of v).excess; label = (state_of v).label; source = (state_of v).source; sink = places-set v.sink b x zero_amount (omega (arith, l, over.blocks, sized.sink)) i; flow = (state_of v).flow; operation = operation_set i; at_source = v.at_source; at_sink = v.at_sink; steps = v.steps + 1 } in
-      record { state = e; counted = few; fits = subst (Fits net) (sym e) (fits_sink sized x f2 f3); blocks = length-set v.operation b o; pairs = refl }
-
-  pub fits_flow : (k : ℕ) → (x : Amount) → k < length net.pairs → FitsPair x → Fits net (record (becomes (state_of v) b o) { flow = put (state_of v).flow k x })
-  fits_flow k x f2 f3 =
+      record { excess = h.excess; label = h.label; source = h.source; sink = fits_put (state_of v).sink b x h.sink can.0; room = room_put net (state_of v).sink b x h.room can.1; flow = h.flow; at_source = h.at_source; at_sink = h.at_sink }
+  fits_changed (Flow k x) can =
       let h = over.fits in
-      record { excess = h.excess; label = h.label; source = h.source; sink = h.sink; room = h.room; flow = fits_put (state_of v).flow k x h.flow f3; at_source = h.at_source; at_sink = h.at_sink }
-
-  pub goes_flow : v.steps < 2 ^ 40 → (k : ℕ) → (x : Amount) → k < length net.pairs → FitsPair x → GoesTo net v (record (becomes (state_of v) b o) { flow = put (state_of v).flow k x }) (record v { flow = set v.flow k x; operation = set v.operation b o; steps = v.steps + 1 })
-  goes_flow few k x f2 f3 =
-      let e : state_of (record v { flow = set v.flow k x; operation = set v.operation b o; steps = v.steps + 1 }) ≡ record (becomes (state_of v) b o) { flow = put (state_of v).flow k x } = λ i. record { excess = (state_of v).excess; label = (state_of v).label; source = (state_of v).source; sink = (state_of v).sink; flow = places-set v.flow k x zero_amount (omega (arith, f2, over.pairs)) i; operation = operation_set i; at_source = v.at_source; at_sink = v.at_sink; steps = v.steps + 1 } in
-      record { state = e; counted = few; fits = subst (Fits net) (sym e) (fits_flow k x f2 f3); blocks = length-set v.operation b o; pairs = length-set v.flow k x }
-
-  pub fits_at_source : (x : Amount) → FitsPair x → Fits net (record (becomes (state_of v) b o) { at_source = x })
-  fits_at_source x f1 =
+      record { excess = h.excess; label = h.label; source = h.source; sink = h.sink; room = h.room; flow = fits_put (state_of v).flow k x h.flow can.1; at_source = h.at_source; at_sink = h.at_sink }
+  fits_changed (AtSource x) can =
       let h = over.fits in
-      record { excess = h.excess; label = h.label; source = h.source; sink = h.sink; room = h.room; flow = h.flow; at_source = f1; at_sink = h.at_sink }
-
-  pub goes_at_source : v.steps < 2 ^ 40 → (x : Amount) → FitsPair x → GoesTo net v (record (becomes (state_of v) b o) { at_source = x }) (record v { at_source = x; operation = set v.operation b o; steps = v.steps + 1 })
-  goes_at_source few x f1 =
-      let e : state_of (record v { at_source = x; operation = set v.operation b o; steps = v.steps + 1 }) ≡ record (becomes (state_of v) b o) { at_source = x } = λ i. record { excess = (state_of v).excess; label = (state_of v).label; source = (state_of v).source; sink = (state_of v).sink; flow = (state_of v).flow; operation = operation_set i; at_source = x; at_sink = v.at_sink; steps = v.steps + 1 } in
-      record { state = e; counted = few; fits = subst (Fits net) (sym e) (fits_at_source x f1); blocks = length-set v.operation b o; pairs = refl }
-
-  pub fits_at_sink : (x : Amount) → FitsPair x → Fits net (record (becomes (state_of v) b o) { at_sink = x })
-  fits_at_sink x f1 =
+      record { excess = h.excess; label = h.label; source = h.source; sink = h.sink; room = h.room; flow = h.flow; at_source = can; at_sink = h.at_sink }
+  fits_changed (AtSink x) can =
       let h = over.fits in
-      record { excess = h.excess; label = h.label; source = h.source; sink = h.sink; room = h.room; flow = h.flow; at_source = h.at_source; at_sink = f1 }
+      record { excess = h.excess; label = h.label; source = h.source; sink = h.sink; room = h.room; flow = h.flow; at_source = h.at_source; at_sink = can }
 
-  pub goes_at_sink : v.steps < 2 ^ 40 → (x : Amount) → FitsPair x → GoesTo net v (record (becomes (state_of v) b o) { at_sink = x }) (record v { at_sink = x; operation = set v.operation b o; steps = v.steps + 1 })
-  goes_at_sink few x f1 =
-      let e : state_of (record v { at_sink = x; operation = set v.operation b o; steps = v.steps + 1 }) ≡ record (becomes (state_of v) b o) { at_sink = x } = λ i. record { excess = (state_of v).excess; label = (state_of v).label; source = (state_of v).source; sink = (state_of v).sink; flow = (state_of v).flow; operation = operation_set i; at_source = v.at_source; at_sink = x; steps = v.steps + 1 } in
-      record { state = e; counted = few; fits = subst (Fits net) (sym e) (fits_at_sink x f1); blocks = length-set v.operation b o; pairs = refl }
+  -- the lists after the change and the next operation
+  abbrev pub gone_on : Change Amount → StateView
+  gone_on change =
+      let w = lists_changed v b change in
+      record w { operation = set w.operation b o; steps = w.steps + 1 }
+
+  -- they show the state after both
+  shows : IsSized v → (change : Change Amount) → CanChange net b change → state_of (gone_on change) ≡ changed (becomes (state_of v) b o) b change
+  shows sized Nothing can = λ i. record { excess = (state_of v).excess; label = (state_of v).label; source = (state_of v).source; sink = (state_of v).sink; flow = (state_of v).flow; operation = operation_set i; at_source = v.at_source; at_sink = v.at_sink; steps = v.steps + 1 }
+  shows sized (Excess at x) can = λ i. record { excess = places-set v.excess at x zero_amount (omega (arith, can.0, over.blocks, sized.excess)) i; label = (state_of v).label; source = (state_of v).source; sink = (state_of v).sink; flow = (state_of v).flow; operation = operation_set i; at_source = v.at_source; at_sink = v.at_sink; steps = v.steps + 1 }
+  shows sized (Label x) can = λ i. record { excess = (state_of v).excess; label = places-set v.label b x 0 (omega (arith, l, over.blocks, sized.label)) i; source = (state_of v).source; sink = (state_of v).sink; flow = (state_of v).flow; operation = operation_set i; at_source = v.at_source; at_sink = v.at_sink; steps = v.steps + 1 }
+  shows sized (Source x) can = λ i. record { excess = (state_of v).excess; label = (state_of v).label; source = places-set v.source b x zero_amount (omega (arith, l, over.blocks, sized.source)) i; sink = (state_of v).sink; flow = (state_of v).flow; operation = operation_set i; at_source = v.at_source; at_sink = v.at_sink; steps = v.steps + 1 }
+  shows sized (Sink x) can = λ i. record { excess = (state_of v).excess; label = (state_of v).label; source = (state_of v).source; sink = places-set v.sink b x zero_amount (omega (arith, l, over.blocks, sized.sink)) i; flow = (state_of v).flow; operation = operation_set i; at_source = v.at_source; at_sink = v.at_sink; steps = v.steps + 1 }
+  shows sized (Flow k x) can = λ i. record { excess = (state_of v).excess; label = (state_of v).label; source = (state_of v).source; sink = (state_of v).sink; flow = places-set v.flow k x zero_amount (omega (arith, can.0, over.pairs)) i; operation = operation_set i; at_source = v.at_source; at_sink = v.at_sink; steps = v.steps + 1 }
+  shows sized (AtSource x) can = λ i. record { excess = (state_of v).excess; label = (state_of v).label; source = (state_of v).source; sink = (state_of v).sink; flow = (state_of v).flow; operation = operation_set i; at_source = x; at_sink = v.at_sink; steps = v.steps + 1 }
+  shows sized (AtSink x) can = λ i. record { excess = (state_of v).excess; label = (state_of v).label; source = (state_of v).source; sink = (state_of v).sink; flow = (state_of v).flow; operation = operation_set i; at_source = v.at_source; at_sink = x; steps = v.steps + 1 }
+
+  -- as many blocks and pairs as before
+  same_blocks : (change : Change Amount) → (lists_changed v b change).operation ≡ v.operation
+  same_blocks Nothing = refl
+  same_blocks (Excess at x) = refl
+  same_blocks (Label x) = refl
+  same_blocks (Source x) = refl
+  same_blocks (Sink x) = refl
+  same_blocks (Flow k x) = refl
+  same_blocks (AtSource x) = refl
+  same_blocks (AtSink x) = refl
+
+  same_pairs : (change : Change Amount) → length (lists_changed v b change).flow ≡ length v.flow
+  same_pairs Nothing = refl
+  same_pairs (Excess at x) = refl
+  same_pairs (Label x) = refl
+  same_pairs (Source x) = refl
+  same_pairs (Sink x) = refl
+  same_pairs (Flow k x) = length-set v.flow k x
+  same_pairs (AtSource x) = refl
+  same_pairs (AtSink x) = refl
+
+  pub same_steps : (change : Change Amount) → (lists_changed v b change).steps ≡ v.steps
+  same_steps Nothing = refl
+  same_steps (Excess at x) = refl
+  same_steps (Label x) = refl
+  same_steps (Source x) = refl
+  same_steps (Sink x) = refl
+  same_steps (Flow k x) = refl
+  same_steps (AtSource x) = refl
+  same_steps (AtSink x) = refl
+
+  pub still_there : (change : Change Amount) → b < length (lists_changed v b change).operation
+  still_there change = subst (λ os. b < length os) (sym (same_blocks change)) (omega (arith, l, over.blocks))
+
+  pub goes : v.steps < 2 ^ 40 → IsSized v → (change : Change Amount) → CanChange net b change → GoesTo net v (changed (becomes (state_of v) b o) b change) (gone_on change)
+  goes few sized change can =
+      let e = shows sized change can in
+      record {
+        state = e;
+        counted = few;
+        fits = subst (Fits net) (sym e) (fits_changed change can);
+        blocks = length-set (lists_changed v b change).operation b o ∙ ap length (same_blocks change);
+        pairs = same_pairs change;
+      }
 
 -- a refusal because a number of the state after the step doesn't fit
 pub too_large : {X : Type 0} (P : X → Type 0) (net : NetView) (old : StateView) (after : State) (r : Result X StepRefusal) → r ≡ Err TooLarge → ¬ (Fits net after) → MatchResult r P (λ e. Stays net old after old e)

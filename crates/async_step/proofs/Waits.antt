@@ -1,12 +1,9 @@
 -- What the marks tell of the blocks.
-use Rattle.std.proofs.Common.{◌≡◌, ◌↔◌, ℕ, ◌<◌, ◌≤◌, Bool, true, false, not, ◌||◌, List, length, Option, Some, None, refl, sym, ap, ap₂, subst, ◌∙◌, arith, Ordering}
+use Rattle.std.proofs.Common.{◌≡◌, ◌↔◌, ℕ, ◌<◌, ◌≤◌, Bool, true, false, not, ◌||◌, List, length, Option, Some, None, refl, sym, ap, ap₂, subst, ◌∙◌, arith}
 use Rattle.std.proofs.lemmas.Bool.{and_parts}
 use Rattle.std.specs.Prelude.{MatchOption}
-use Rattle.std.specs.declared.cmp.Ordering.TheVariants.{Less, Equal, Greater}
-use Rattle.std.specs.Ordering.{MatchOrdering, is_lt}
-use Rattle.ordered_group.specs.Amount.{Amount, zero_amount, Below, amount_cmp}
+use Rattle.ordered_group.specs.Amount.{Amount, zero_amount, amount_cmp}
 use Rattle.ordered_group.specs.Sums.{amount_at}
-use Rattle.std.proofs.lemmas.Int.{ints}
 use Rattle.ordered_group.proofs.Order.{amount_ranks, is_eq_tells}
 use Rattle.closure_net.specs.Network.{NetView, FlowView}
 use Rattle.machine_law.specs.declared.operations.Operation.{Operation}
@@ -14,7 +11,7 @@ use Rattle.machine_law.specs.declared.operations.Operation.TheVariants.{Idle, Sc
 use Rattle.machine_law.specs.States.{IsQuiet}
 use Rattle.machine_law.specs.Quiet.{IsFlowOf}
 use Rattle.machine_law.specs.Reads.{is_positive}
-use Rattle.machine_law.proofs.Numbers.{positive-yes}
+use Rattle.machine_law.proofs.Numbers.{positive-yes, tells_below}
 use Rattle.async_step.specs.Marks.{mark_at, NoneWithin, ahead_of, IsFirstRound}
 use Rattle.async_step.specs.Views.{StateView, state_of, operation_at, IsSized, IsState, is_idle, is_zero, is_waiting, is_busy}
 use Rattle.async_step.specs.Answers.{IsStateOf, IsWaiting}
@@ -49,17 +46,12 @@ quiet_tells net v ready undone h n =
     )
 
 -- ---- blocks that are ready
-below_lt : (x y : Amount) (o : Ordering) → MatchOrdering o (Below x y) (x ≡ y) (Below y x) → Below x y → is_lt o ≡ true
-below_lt x y Less h k = refl
-below_lt x y Equal h k = absurd (omega (arith, ints, k, ap (λ a. a.w) h, ap (λ a. a.c) h))
-below_lt x y Greater h k = absurd (omega (arith, ints, h, k))
-
 pub ready_tells : (v : StateView) (b : ℕ) → (is_waiting (amount_at v.excess b) (operation_at v.operation b) ≡ true) ↔ IsWaiting (state_of v) b
 ready_tells v b =
     let e = amount_at v.excess b in
     let o = operation_at v.operation b in (
       λ h. (let p = and_parts (is_idle o) (is_positive e) h in record { excess = positive-yes e p.1; idle = idle_is o p.0 }),
-      λ h. (ap (λ x. is_waiting e x) h.idle ∙ below_lt zero_amount e (amount_cmp zero_amount e) (amount_ranks zero_amount e) h.excess),
+      λ h. (ap (λ x. is_waiting e x) h.idle ∙ tells_below zero_amount e (amount_cmp zero_amount e) (amount_ranks zero_amount e) h.excess),
     )
 
 pub waits : (v : StateView) (ready undone : List Bool) (from : ℕ) (r : Option ℕ) → IsState v ready undone → MatchOption r (NoneWithin ready 0 (length ready)) (λ b. IsFirstRound (λ c. mark_at ready c ≡ true) (length ready) from b)

@@ -1,5 +1,6 @@
 pub mod Marks
 pub mod Views
 pub mod Answers
+pub mod Changes
 pub mod Scans
 pub mod Printed

@@ -1,13 +1,11 @@
-//! A step's last part: the numbers that it changes, the block's next operation, and the count.
+//! A step's last part: the number that it changes, the block's next operation, and the count.
 
 ghost use Rattle.std.specs.Prelude.{◌≡◌, ◌<◌, length};
-ghost use Rattle.ordered_group.specs.Amount.{FitsPair, minus, negative};
-ghost use Rattle.ordered_group.specs.Sums.{amount_at};
 ghost use Rattle.machine_law.specs.Operations.{operation_as};
-ghost use Rattle.machine_law.specs.States.{put};
 ghost use Rattle.machine_law.specs.Steps.{becomes};
 ghost use Rattle.async_step.specs.Views.{state_of};
 ghost use Rattle.async_step.specs.Answers.{IsStateOf, Leads};
+ghost use Rattle.async_step.specs.Changes.{CanChange, change_as, changed, lists_changed};
 
 use crate::refusals::StepRefusal;
 use crate::state::State;
@@ -15,180 +13,65 @@ use closure_net::Net;
 use machine_law::Operation;
 use ordered_group::OrderedGroup;
 
+/// What a step changes beside its block's operation and the count of steps.
+#[derive(Clone, Copy)]
+pub enum Change<N> {
+    /// Nothing: it only reads.
+    Nothing,
+    /// The excess of a block.
+    Excess(u32, N),
+    /// The label of its own block.
+    Label(u64),
+    /// What its own block has of the source.
+    Source(N),
+    /// What its own block gave the sink.
+    Sink(N),
+    /// The flow of a pair.
+    Flow(u32, N),
+    /// What has arrived at the source.
+    AtSource(N),
+    /// What has arrived at the sink.
+    AtSink(N),
+}
+
 impl<G: OrderedGroup> State<G> {
-    /// No number changes.
-    pub(crate) fn become_alone(
-        &mut self,
-        _net: &Net<G>,
-        b: u32,
-        operation: Operation<G>,
-    ) -> Result<(), StepRefusal>
+    // The number becomes what it is said to become.
+    fn change(&mut self, _net: &Net<G>, b: u32, change: Change<G>)
         requires over { IsStateOf _net.now self.old }
         requires block { b < length _net.now.worths }
-        ensures { Leads _net.now self.old (becomes (state_of self.old) b (operation_as G.parts_of operation)) self.new result }
+        requires can { CanChange _net.now b (change_as G.parts_of change) }
+        ensures { self.new ≡ lists_changed self.old b (change_as G.parts_of change) }
     {
-        let _sized = self.len();
-        if self.is_full() {
-            return Err(StepRefusal::TooManySteps);
+        match change {
+            Change::Nothing => {}
+            Change::Excess(at, amount) => self.set_excess(at, amount),
+            Change::Label(label) => self.set_label(b, label),
+            Change::Source(amount) => self.set_source(b, amount),
+            Change::Sink(amount) => self.set_sink(b, amount),
+            Change::Flow(pair, amount) => self.set_flow(pair, amount),
+            Change::AtSource(amount) => self.set_at_source(amount),
+            Change::AtSink(amount) => self.set_at_sink(amount),
         }
-        self.go_on(b, operation);
-        Ok(())
     }
 
-    /// The excess of a block changes.
-    pub(crate) fn become_with_excess(
+    /// The step is made: a number changes, and the block goes on with this operation.
+    pub(crate) fn make_step(
         &mut self,
-        _net: &Net<G>,
+        net: &Net<G>,
         b: u32,
+        change: Change<G>,
         operation: Operation<G>,
-        at: u32,
-        amount: G,
     ) -> Result<(), StepRefusal>
-        requires over { IsStateOf _net.now self.old }
-        requires block { b < length _net.now.worths }
-        requires at { at < length _net.now.worths }
-        requires fit { FitsPair (G.parts_of amount) }
-        ensures { let s = state_of self.old in Leads _net.now self.old (record (becomes s b (operation_as G.parts_of operation)) { excess = put s.excess at (G.parts_of amount) }) self.new result }
+        requires over { IsStateOf net.now self.old }
+        requires block { b < length net.now.worths }
+        requires can { CanChange net.now b (change_as G.parts_of change) }
+        ensures { Leads net.now self.old (changed (becomes (state_of self.old) b (operation_as G.parts_of operation)) b (change_as G.parts_of change)) self.new result }
     {
         let _sized = self.len();
         if self.is_full() {
             return Err(StepRefusal::TooManySteps);
         }
-        self.set_excess(at, amount);
-        self.go_on(b, operation);
-        Ok(())
-    }
-
-    /// The label of the block changes.
-    pub(crate) fn become_with_label(
-        &mut self,
-        _net: &Net<G>,
-        b: u32,
-        operation: Operation<G>,
-        label: u64,
-    ) -> Result<(), StepRefusal>
-        requires over { IsStateOf _net.now self.old }
-        requires block { b < length _net.now.worths }
-        ensures { let s = state_of self.old in Leads _net.now self.old (record (becomes s b (operation_as G.parts_of operation)) { label = put s.label b label }) self.new result }
-    {
-        let _sized = self.len();
-        if self.is_full() {
-            return Err(StepRefusal::TooManySteps);
-        }
-        self.set_label(b, label);
-        self.go_on(b, operation);
-        Ok(())
-    }
-
-    /// What the block has of the source changes.
-    pub(crate) fn become_with_source(
-        &mut self,
-        _net: &Net<G>,
-        b: u32,
-        operation: Operation<G>,
-        amount: G,
-    ) -> Result<(), StepRefusal>
-        requires over { IsStateOf _net.now self.old }
-        requires block { b < length _net.now.worths }
-        requires fit { FitsPair (G.parts_of amount) }
-        ensures { let s = state_of self.old in Leads _net.now self.old (record (becomes s b (operation_as G.parts_of operation)) { source = put s.source b (G.parts_of amount) }) self.new result }
-    {
-        let _sized = self.len();
-        if self.is_full() {
-            return Err(StepRefusal::TooManySteps);
-        }
-        self.set_source(b, amount);
-        self.go_on(b, operation);
-        Ok(())
-    }
-
-    /// What the block gave the sink changes.
-    pub(crate) fn become_with_sink(
-        &mut self,
-        _net: &Net<G>,
-        b: u32,
-        operation: Operation<G>,
-        amount: G,
-    ) -> Result<(), StepRefusal>
-        requires over { IsStateOf _net.now self.old }
-        requires block { b < length _net.now.worths }
-        requires fit { FitsPair (G.parts_of amount) }
-        requires room { FitsPair (minus (negative (amount_at _net.now.worths b)) (G.parts_of amount)) }
-        ensures { let s = state_of self.old in Leads _net.now self.old (record (becomes s b (operation_as G.parts_of operation)) { sink = put s.sink b (G.parts_of amount) }) self.new result }
-    {
-        let _sized = self.len();
-        if self.is_full() {
-            return Err(StepRefusal::TooManySteps);
-        }
-        self.set_sink(b, amount);
-        self.go_on(b, operation);
-        Ok(())
-    }
-
-    /// The flow of a pair changes.
-    pub(crate) fn become_with_flow(
-        &mut self,
-        _net: &Net<G>,
-        b: u32,
-        operation: Operation<G>,
-        k: u32,
-        amount: G,
-    ) -> Result<(), StepRefusal>
-        requires over { IsStateOf _net.now self.old }
-        requires block { b < length _net.now.worths }
-        requires pair { k < length _net.now.pairs }
-        requires fit { FitsPair (G.parts_of amount) }
-        ensures { let s = state_of self.old in Leads _net.now self.old (record (becomes s b (operation_as G.parts_of operation)) { flow = put s.flow k (G.parts_of amount) }) self.new result }
-    {
-        let _sized = self.len();
-        if self.is_full() {
-            return Err(StepRefusal::TooManySteps);
-        }
-        self.set_flow(k, amount);
-        self.go_on(b, operation);
-        Ok(())
-    }
-
-    /// What has arrived at the source changes.
-    pub(crate) fn become_with_at_source(
-        &mut self,
-        _net: &Net<G>,
-        b: u32,
-        operation: Operation<G>,
-        amount: G,
-    ) -> Result<(), StepRefusal>
-        requires over { IsStateOf _net.now self.old }
-        requires block { b < length _net.now.worths }
-        requires fit { FitsPair (G.parts_of amount) }
-        ensures { let s = state_of self.old in Leads _net.now self.old (record (becomes s b (operation_as G.parts_of operation)) { at_source = G.parts_of amount }) self.new result }
-    {
-        let _sized = self.len();
-        if self.is_full() {
-            return Err(StepRefusal::TooManySteps);
-        }
-        self.set_at_source(amount);
-        self.go_on(b, operation);
-        Ok(())
-    }
-
-    /// What has arrived at the sink changes.
-    pub(crate) fn become_with_at_sink(
-        &mut self,
-        _net: &Net<G>,
-        b: u32,
-        operation: Operation<G>,
-        amount: G,
-    ) -> Result<(), StepRefusal>
-        requires over { IsStateOf _net.now self.old }
-        requires block { b < length _net.now.worths }
-        requires fit { FitsPair (G.parts_of amount) }
-        ensures { let s = state_of self.old in Leads _net.now self.old (record (becomes s b (operation_as G.parts_of operation)) { at_sink = G.parts_of amount }) self.new result }
-    {
-        let _sized = self.len();
-        if self.is_full() {
-            return Err(StepRefusal::TooManySteps);
-        }
-        self.set_at_sink(amount);
+        self.change(net, b, change);
         self.go_on(b, operation);
         Ok(())
     }

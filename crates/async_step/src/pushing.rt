@@ -12,6 +12,7 @@ ghost use Rattle.async_step.specs.Views.{state_of};
 ghost use Rattle.async_step.specs.Answers.{IsStateOf, Leads, LeadsTelling};
 ghost use Rattle.async_step.specs.declared.saw.Saw.TheVariants.{Moved, Raised};
 
+use crate::changing::Change;
 use crate::operations::push_amount;
 use crate::refusals::StepRefusal;
 use crate::saw::Saw;
@@ -41,7 +42,8 @@ impl<G: OrderedGroup> State<G> {
             .negative(block)
             .try_sub(more)
             .ok_or(StepRefusal::TooLarge)?;
-        self.become_with_sink(net, block, Operation::TakeDue { amount, port }, more)
+        let next = Operation::TakeDue { amount, port };
+        self.make_step(net, block, Change::Sink(more), next)
     }
 
     // Over a forward port: the flow of its pair rises.
@@ -62,7 +64,7 @@ impl<G: OrderedGroup> State<G> {
             .try_add(amount)
             .ok_or(StepRefusal::TooLarge)?;
         let next = Operation::TakeDue { amount, port };
-        self.become_with_flow(net, block, next, port.slot, more)
+        self.make_step(net, block, Change::Flow(port.slot, more), next)
     }
 
     // Over a backward port: the flow of its pair falls.
@@ -83,7 +85,7 @@ impl<G: OrderedGroup> State<G> {
             .try_sub(amount)
             .ok_or(StepRefusal::TooLarge)?;
         let next = Operation::TakeDue { amount, port };
-        self.become_with_flow(net, block, next, port.slot, less)
+        self.make_step(net, block, Change::Flow(port.slot, less), next)
     }
 
     // Back to the source.
@@ -102,7 +104,8 @@ impl<G: OrderedGroup> State<G> {
             .source(block)
             .try_sub(amount)
             .ok_or(StepRefusal::TooLarge)?;
-        self.become_with_source(net, block, Operation::TakeDue { amount, port }, less)
+        let next = Operation::TakeDue { amount, port };
+        self.make_step(net, block, Change::Source(less), next)
     }
 
     // The capacity step of a push of an amount over a port.
@@ -157,7 +160,7 @@ impl<G: OrderedGroup> State<G> {
             .try_sub(amount)
             .ok_or(StepRefusal::TooLarge)?;
         let next = Operation::GiveDue { amount, port };
-        self.become_with_excess(net, block, next, block, less)?;
+        self.make_step(net, block, Change::Excess(block, less), next)?;
         Ok(Saw::Moved(amount))
     }
 
@@ -168,7 +171,7 @@ impl<G: OrderedGroup> State<G> {
         ensures { let s = state_of self.old in Leads net.now self.old (record (becomes s block Idle) { at_sink = plus s.at_sink (G.parts_of amount) }) self.new result }
     {
         let more = self.at_sink().try_add(amount).ok_or(StepRefusal::TooLarge)?;
-        self.become_with_at_sink(net, block, Operation::Idle, more)
+        self.make_step(net, block, Change::AtSink(more), Operation::Idle)
     }
 
     // At the source.
@@ -181,7 +184,7 @@ impl<G: OrderedGroup> State<G> {
             .at_source()
             .try_add(amount)
             .ok_or(StepRefusal::TooLarge)?;
-        self.become_with_at_source(net, block, Operation::Idle, more)
+        self.make_step(net, block, Change::AtSource(more), Operation::Idle)
     }
 
     // At another block.
@@ -201,7 +204,7 @@ impl<G: OrderedGroup> State<G> {
             .excess(other)
             .try_add(amount)
             .ok_or(StepRefusal::TooLarge)?;
-        self.become_with_excess(net, block, Operation::Idle, other, more)
+        self.make_step(net, block, Change::Excess(other, more), Operation::Idle)
     }
 
     // The last step of a push of an amount over a port.
@@ -252,7 +255,7 @@ impl<G: OrderedGroup> State<G> {
             (raised s block (best_as G.parts_of best)) (Raised (best.label + 1)) self.new result }
     {
         let label = best.label.checked_add(1).ok_or(StepRefusal::TooLarge)?;
-        self.become_with_label(net, block, Operation::Idle, label)?;
+        self.make_step(net, block, Change::Label(label), Operation::Idle)?;
         Ok(Saw::Raised(label))
     }
 }

@@ -10,6 +10,7 @@ ghost use Rattle.async_step.specs.Scans.{IsScan, IsScanAt, seen_by, chosen_by, l
 ghost use Rattle.async_step.specs.Answers.{IsStateOf, LeadsTelling, told_by, told};
 ghost use Rattle.async_step.specs.declared.saw.Saw.TheVariants.{Excess, Capacity, Label};
 
+use crate::changing::Change;
 use crate::operations::begun;
 use crate::refusals::StepRefusal;
 use crate::saw::Saw;
@@ -26,7 +27,7 @@ impl<G: OrderedGroup> State<G> {
             (becomes s block (begun (s.excess block))) (Excess (s.excess block)) self.new result }
     {
         let have = self.excess(block);
-        self.become_alone(net, block, begun(have))?;
+        self.make_step(net, block, Change::Nothing, begun(have))?;
         Ok(Saw::Excess(have))
     }
 

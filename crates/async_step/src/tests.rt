@@ -549,13 +549,20 @@ fn waiting_goes_round(rt: HostRuntime) -> Result<(), Fail> {
     let alloc = rt.alloc();
     let net = two_on_waste(alloc)?;
     let mut state = State::open(alloc, &net)?;
-    assert_eq!(rt; state.waiting(0), Some(0));
-    assert_eq!(rt; state.waiting(1), Some(2));
+    assert_eq!(rt; (state.waiting(0), state.waiting(1)), (Some(0), Some(2)));
     reads_four(&rt, &mut state, &net, 2);
-    assert_eq!(rt; state.waiting(1), Some(0));
+    assert_eq!(rt; (state.waiting(0), state.waiting(1)), (Some(0), Some(0)));
+    Ok(())
+}
+
+#[test]
+fn no_block_waits_where_all_are_at_work(rt: HostRuntime) -> Result<(), Fail> {
+    let alloc = rt.alloc();
+    let net = two_on_waste(alloc)?;
+    let mut state = State::open(alloc, &net)?;
+    reads_four(&rt, &mut state, &net, 2);
     reads_four(&rt, &mut state, &net, 0);
-    assert_eq!(rt; state.waiting(1), None);
-    assert!(rt; !state.quiet());
+    assert_eq!(rt; (state.waiting(1), state.quiet()), (None, false));
     Ok(())
 }
 

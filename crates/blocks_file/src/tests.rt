@@ -1,5 +1,6 @@
 use crate::{BlockModel, BlocksFault, Place, read_blocks};
 use std::alloc::Global;
+use std::process::Abort;
 use std::test::Fail;
 
 const THREE: &[u8] =
@@ -29,86 +30,112 @@ fn value(blocks: &BlockModel, i: u32, block: u32) -> Option<i64> {
     }
 }
 
+// What the first three columns say of a block.
+fn values(blocks: &BlockModel, block: u32) -> [Option<i64>; 3] {
+    [
+        value(blocks, 0, block),
+        value(blocks, 1, block),
+        value(blocks, 2, block),
+    ]
+}
+
 #[test]
-fn three_blocks(rt: HostRuntime) -> Result<(), Fail> {
+fn places_of_three_blocks(rt: HostRuntime) -> Result<(), Fail> {
     let blocks = read_blocks(rt.alloc(), THREE, &[0, 1, 2])?;
     assert_eq!(rt; (blocks.len(), blocks.columns()), (3, 3));
-    assert_eq!(rt; place(&blocks, 0), Some(Place { x: 0, y: 0, z: 0 }));
-    assert_eq!(rt; place(&blocks, 1), Some(Place { x: 0, y: 0, z: 1 }));
-    assert_eq!(rt; place(&blocks, 2), Some(Place { x: 1, y: 0, z: 1 }));
-    assert_eq!(rt; value(&blocks, 0, 0), Some(10_000_000));
-    assert_eq!(rt; value(&blocks, 1, 0), Some(4_000_000));
-    assert_eq!(rt; value(&blocks, 2, 0), Some(100_000_000));
-    assert_eq!(rt; value(&blocks, 0, 1), Some(0));
-    assert_eq!(rt; value(&blocks, 1, 1), Some(5_000_000));
-    assert_eq!(rt; value(&blocks, 2, 1), Some(80_500_000));
-    assert_eq!(rt; value(&blocks, 0, 2), Some(4_000_000));
-    assert_eq!(rt; value(&blocks, 1, 2), Some(1_000_000));
-    assert_eq!(rt; value(&blocks, 2, 2), Some(60_000_000));
+    for (block, x, y, z) in [(0, 0, 0, 0), (1, 0, 0, 1), (2, 1, 0, 1)] {
+        assert_eq!(rt; place(&blocks, block), Some(Place { x, y, z }));
+    }
     Ok(())
 }
 
 #[test]
-fn chosen_columns(rt: HostRuntime) -> Result<(), Fail> {
-    let alloc: Global = rt.alloc();
-    let none = read_blocks(alloc, THREE, &[])?;
+fn columns_of_three_blocks(rt: HostRuntime) -> Result<(), Fail> {
+    let blocks = read_blocks(rt.alloc(), THREE, &[0, 1, 2])?;
+    for (block, tonnage, rock, grade) in [
+        (0, 10_000_000, 4_000_000, 100_000_000),
+        (1, 0, 5_000_000, 80_500_000),
+        (2, 4_000_000, 1_000_000, 60_000_000),
+    ] {
+        let wanted = [Some(tonnage), Some(rock), Some(grade)];
+        assert_eq!(rt; values(&blocks, block), wanted);
+    }
+    Ok(())
+}
+
+#[test]
+fn no_columns(rt: HostRuntime) -> Result<(), Fail> {
+    let none = read_blocks(rt.alloc(), THREE, &[])?;
     assert_eq!(rt; (none.len(), none.columns()), (3, 0));
     assert_eq!(rt; place(&none, 2), Some(Place { x: 1, y: 0, z: 1 }));
-    let twice = read_blocks(alloc, THREE, &[2, 0, 2])?;
-    assert_eq!(rt; value(&twice, 0, 1), Some(80_500_000));
-    assert_eq!(rt; value(&twice, 1, 1), Some(0));
-    assert_eq!(rt; value(&twice, 2, 1), Some(80_500_000));
-    let text = b"1 0 0 1 1 2 3 4 5 6 7 8\n0 0 0 0 9 10 11 12 13 14 15 16".as_slice();
-    let eight = read_blocks(alloc, text, &[7, 6, 5, 4, 3, 2, 1, 0])?;
+    Ok(())
+}
+
+#[test]
+fn a_column_chosen_twice(rt: HostRuntime) -> Result<(), Fail> {
+    let twice = read_blocks(rt.alloc(), THREE, &[2, 0, 2])?;
+    let wanted = [Some(80_500_000), Some(0), Some(80_500_000)];
+    assert_eq!(rt; values(&twice, 1), wanted);
+    Ok(())
+}
+
+#[test]
+fn eight_columns(rt: HostRuntime) -> Result<(), Fail> {
+    let text = b"1 0 0 1 1 2 3 4 5 6 7 8\n0 0 0 0 9 10 11 12 13 14 15 16";
+    let eight = read_blocks(rt.alloc(), text.as_slice(), &[7, 6, 5, 4, 3, 2, 1, 0])?;
     assert_eq!(rt; (eight.len(), eight.columns()), (2, 8));
-    assert_eq!(rt; value(&eight, 0, 0), Some(16_000_000));
-    assert_eq!(rt; value(&eight, 7, 0), Some(9_000_000));
-    assert_eq!(rt; value(&eight, 0, 1), Some(8_000_000));
-    assert_eq!(rt; value(&eight, 6, 1), Some(2_000_000));
+    for (i, block, wanted) in [
+        (0, 0, 16_000_000),
+        (7, 0, 9_000_000),
+        (0, 1, 8_000_000),
+        (6, 1, 2_000_000),
+    ] {
+        assert_eq!(rt; value(&eight, i, block), Some(wanted));
+    }
     Ok(())
 }
 
-#[test]
-fn faults_of_records(rt: HostRuntime) -> Result<(), Fail> {
-    let alloc: Global = rt.alloc();
-    assert_eq!(rt;
-        fault(alloc, b"0 0 0 0 7\n2 0 0 1 7", &[0]),
-        Some(BlocksFault::UnknownBlock(2))
-    );
-    assert_eq!(rt;
-        fault(alloc, b"0 0 0 0 7\n1 0 0 1", &[0]),
-        Some(BlocksFault::NoColumn(2))
-    );
-    assert_eq!(rt; fault(alloc, b"0 0 0", &[]), Some(BlocksFault::Text(1)));
-    assert_eq!(rt;
-        fault(alloc, b"0 0 0 0\n0 0 0 1", &[]),
-        Some(BlocksFault::Repeated(2))
-    );
-    assert_eq!(rt;
-        fault(alloc, b"0 0 0 0 x\n", &[0]),
-        Some(BlocksFault::Number(1))
-    );
-    assert_eq!(rt; fault(alloc, b"\n% x\n0 0 0 0 7 x", &[0]), None);
-    assert_eq!(rt; fault(alloc, b"", &[0]), None);
-    Ok(())
+// Each text has this fault, if any, where these columns are asked for.
+fn have_their_faults(
+    rt: &impl Abort,
+    alloc: Global,
+    rows: &[(&[u8], &[u32], Option<BlocksFault>)],
+) {
+    for (text, columns, wanted) in rows {
+        assert_eq!(rt; fault(alloc, text, columns), *wanted);
+    }
 }
 
 #[test]
-fn order_within_a_line(rt: HostRuntime) -> Result<(), Fail> {
-    let alloc: Global = rt.alloc();
-    assert_eq!(rt;
-        fault(alloc, b"5 0 0 0 x", &[0, 1]),
-        Some(BlocksFault::Number(1))
-    );
-    assert_eq!(rt;
-        fault(alloc, b"5 0 0 0 7", &[0, 1]),
-        Some(BlocksFault::NoColumn(1))
-    );
-    assert_eq!(rt;
-        fault(alloc, b"5 0 0 0 7\n0 0 0", &[0]),
-        Some(BlocksFault::UnknownBlock(1))
-    );
-    Ok(())
+fn faults_of_records(rt: HostRuntime) {
+    let rows: [(&[u8], &[u32], Option<BlocksFault>); 7] = [
+        (
+            b"0 0 0 0 7\n2 0 0 1 7",
+            &[0],
+            Some(BlocksFault::UnknownBlock(2)),
+        ),
+        (b"0 0 0 0 7\n1 0 0 1", &[0], Some(BlocksFault::NoColumn(2))),
+        (b"0 0 0", &[], Some(BlocksFault::Text(1))),
+        (b"0 0 0 0\n0 0 0 1", &[], Some(BlocksFault::Repeated(2))),
+        (b"0 0 0 0 x\n", &[0], Some(BlocksFault::Number(1))),
+        (b"\n% x\n0 0 0 0 7 x", &[0], None),
+        (b"", &[0], None),
+    ];
+    have_their_faults(&rt, rt.alloc(), &rows);
+}
+
+#[test]
+fn order_within_a_line(rt: HostRuntime) {
+    let rows: [(&[u8], &[u32], Option<BlocksFault>); 3] = [
+        (b"5 0 0 0 x", &[0, 1], Some(BlocksFault::Number(1))),
+        (b"5 0 0 0 7", &[0, 1], Some(BlocksFault::NoColumn(1))),
+        (
+            b"5 0 0 0 7\n0 0 0",
+            &[0],
+            Some(BlocksFault::UnknownBlock(1)),
+        ),
+    ];
+    have_their_faults(&rt, rt.alloc(), &rows);
 }
 
 #[test]
@@ -144,14 +171,11 @@ fn long_line_comes_first(rt: HostRuntime) -> Result<(), Fail> {
 
 #[test]
 fn printed_faults(rt: HostRuntime) -> Result<(), Fail> {
-    let alloc: Global = rt.alloc();
-    assert_eq!(rt;
-        format!(in alloc; "{}", BlocksFault::Text(4))?.as_str(),
-        "Text(4)"
-    );
-    assert_eq!(rt;
-        format!(in alloc; "{}", BlocksFault::NoMemory)?.as_str(),
-        "NoMemory"
-    );
+    for (fault, name) in [
+        (BlocksFault::Text(4), "Text(4)"),
+        (BlocksFault::NoMemory, "NoMemory"),
+    ] {
+        assert_eq!(rt; fault.to_string(rt.alloc())?.as_str(), name);
+    }
     Ok(())
 }

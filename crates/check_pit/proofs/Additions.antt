@@ -1,12 +1,13 @@
 -- What a line adds to what is gathered.
 use Rattle.std.proofs.Common.{◌≡◌, ◌≢◌, ℕ, zero, suc, get_or, set, ◌<◌, Bool, true, false, cond, eqb, ltb, inl, inr, List, [], ◌∷◌, length, map, refl, sym, ap, ◌∙◌, subst, arith, append-nil, get_or-set_same, get_or-set_other}
 use Rattle.std.proofs.lemmas.Bool.{ltb-true}
-use Rattle.std.specs.Prelude.{◌&&◌, Contains}
+use Rattle.std.specs.Prelude.{Contains}
 use Rattle.std.proofs.lemmas.List.{map-set, length-set}
 use Rattle.std.proofs.lemmas.Bool.Decides.{nat_tests}
 use Rattle.ordered_group.specs.Amount.{Amount, zero_amount}
 use Rattle.ordered_group.specs.Sums.{amount_at}
 use Rattle.prec_file.specs.Rests.{IsRising}
+use Rattle.prec_file.proofs.Pairs.{is_pair, tells_pair, pair_told}
 use Rattle.closure_net.specs.Network.{flow_view}
 use Rattle.check_pit.specs.declared.lines_of_body.Kind.TheVariants.{Rest}
 use Rattle.check_pit.specs.declared.lines_of_body.BodyLine.{BodyLine}
@@ -26,23 +27,11 @@ sink_set f pit ss ts rs b x g is =
     ap (λ (xs : List Amount). record { pit = pit; flow = flow_view (map f ss) rs xs }) (map-set f ts b x) ∙ ap (with_sink b (f x)) is
 
 -- Whether a pair is among the model's.
-abbrev is_pair : ℕ → ℕ → ℕ × ℕ → Bool
-is_pair b p q = eqb q.0 b && eqb q.1 p
-
-pair_same : (b p : ℕ) (q : ℕ × ℕ) → is_pair b p q ≡ true → q ≡ (b, p)
-pair_same b p q h =
-    let e : q.0 ≡ b = grind (arith, nat_tests) in
-    let f : q.1 ≡ p = grind (arith, nat_tests) in
-    λ i. (e i, f i)
-
-pair_itself : (b p : ℕ) → is_pair b p (b, p) ≡ true
-pair_itself b p = grind (arith, nat_tests)
-
 tail_holds : (q : ℕ × ℕ) (qs : List (ℕ × ℕ)) (x : ℕ × ℕ) → Contains qs x → Contains (q ∷ qs) x
 tail_holds q qs x h = (suc h.0, omega (arith, h.1), h.2)
 
 absent_at : (b p : ℕ) (q : ℕ × ℕ) (qs : List (ℕ × ℕ)) (t : Bool) → is_pair b p q ≡ t → (Contains (q ∷ qs) (b, p) → ⊥) → has_pair qs b p ≡ false → has_pair (q ∷ qs) b p ≡ false
-absent_at b p q qs true e out ih = absurd (out (zero, omega arith, pair_same b p q e))
+absent_at b p q qs true e out ih = absurd (out (zero, omega arith, pair_told b p q e))
 absent_at b p q qs false e out ih = rw e ih
 
 pub absent : (b p : ℕ) (qs : List (ℕ × ℕ)) → (Contains qs (b, p) → ⊥) → has_pair qs b p ≡ false
@@ -56,7 +45,7 @@ present_at b p q qs false e ih = rw e ih
 pub present : (b p : ℕ) (qs : List (ℕ × ℕ)) (k : ℕ) → k < length qs → get_or qs k (0, 0) ≡ (b, p) → has_pair qs b p ≡ true
 present b p [] k h e = absurd (omega arith)
 present b p (q ∷ qs) zero h e =
-    let t : is_pair b p q ≡ true = ap (is_pair b p) e ∙ pair_itself b p in
+    let t = tells_pair b p q e in
     rw t refl
 present b p (q ∷ qs) (suc k) h e = present_at b p q qs (is_pair b p q) refl (present b p qs k (omega arith) e)
 
@@ -81,9 +70,6 @@ one_place ps i j q r h l e f true u x y = absurd (apart ps i j q r (ltb-true i j
 one_place ps i j q r h l e f false true x y = absurd (apart ps j i q r (ltb-true j i y) h f e)
 one_place ps i j q r h l e f false false x y = ltb_neither i j x y
 
-same_pair : (q : ℕ × ℕ) (b p : ℕ) → q ≡ (b, p) → (eqb q.0 b && eqb q.1 p) ≡ true
-same_pair q b p e = ap (is_pair b p) e ∙ pair_itself b p
-
 -- At place j, where a line gives an amount to the pair at k.
 rest_at : (ps : List (ℕ × ℕ)) (xs : List Amount) (line : BodyLine) (k j : ℕ) → IsRising ps → line.kind ≡ Rest → length xs ≡ length ps → k < length ps → get_or ps k (0, 0) ≡ (line.block, line.other) → j < length ps → (t : Bool) → eqb j k ≡ t
     → (u : Bool) → is_pair line.block line.other (get_or ps j (0, 0)) ≡ u → amount_at (set xs k (amount_of line)) j ≡ cond u (amount_of line) (amount_at xs j)
@@ -92,10 +78,10 @@ rest_at ps xs line k j r is n h e l true s true v =
     subst (λ (i : ℕ). amount_at (set xs k (amount_of line)) i ≡ amount_of line) (sym same) (get_or-set_same xs k (amount_of line) zero_amount (omega arith))
 rest_at ps xs line k j r is n h e l true s false v =
     let same : j ≡ k = grind (arith, nat_tests) in
-    let w : is_pair line.block line.other (get_or ps j (0, 0)) ≡ true = same_pair (get_or ps j (0, 0)) line.block line.other (ap (λ (i : ℕ). get_or ps i (0, 0)) same ∙ e) in
+    let w : is_pair line.block line.other (get_or ps j (0, 0)) ≡ true = tells_pair line.block line.other (get_or ps j (0, 0)) (ap (λ (i : ℕ). get_or ps i (0, 0)) same ∙ e) in
     absurd (let z : true ≡ false = sym w ∙ v in cc)
 rest_at ps xs line k j r is n h e l false s true v =
-    let at_j : get_or ps j (0, 0) ≡ (line.block, line.other) = pair_same line.block line.other (get_or ps j (0, 0)) v in
+    let at_j : get_or ps j (0, 0) ≡ (line.block, line.other) = pair_told line.block line.other (get_or ps j (0, 0)) v in
     let same : j ≡ k = one_place ps j k (line.block, line.other) r l h at_j e (ltb j k) (ltb k j) refl refl in
     absurd (grind (arith, nat_tests))
 rest_at ps xs line k j r is n h e l false s false v =

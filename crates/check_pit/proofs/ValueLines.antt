@@ -7,9 +7,10 @@ use Rattle.std.specs.Cmp.{nat_cmp_is}
 use Rattle.std.specs.Ordering.{int_eq, nat_cmp, ordering_then, is_lt}
 use Rattle.std.specs.declared.cmp.Ordering.{Ordering}
 use Rattle.std.specs.declared.cmp.Ordering.TheVariants.{Less, Equal}
-use Rattle.std.proofs.lemmas.Bool.Decides.{nat_tests, Decides-int_eq}
+use Rattle.std.proofs.lemmas.Bool.Decides.{Decides-int_eq}
 use Rattle.ordered_group.specs.Amount.{Amount, zero_amount, Amount_eq}
 use Rattle.ordered_group.specs.Sums.{amount_at}
+use Rattle.prec_file.proofs.Pairs.{tells_pair, pair_told}
 use Rattle.prec_file.specs.Rests.{IsRising, IsKnown}
 use Rattle.closure_net.specs.Network.{FlowView, IsAscending}
 use Rattle.check_pit.specs.declared.lines_of_body.Kind.{Kind}
@@ -223,22 +224,13 @@ owns_source n b = record { mine = λ x. eq-eqb b b refl; others = λ j x h l. ne
 owns_sink : (n b : ℕ) → Owns (gives_sink b) (block_at Sink) n b
 owns_sink n b = record { mine = λ x. eq-eqb b b refl; others = λ j x h l. ne_eqb j b h; same = λ j x. refl }
 
-pair_itself : (q : ℕ × ℕ) → (eqb q.0 q.0 && eqb q.1 q.1) ≡ true
-pair_itself q = grind (arith, nat_tests)
-
-pairs_same : (q r : ℕ × ℕ) → (eqb q.0 r.0 && eqb q.1 r.1) ≡ true → q ≡ r
-pairs_same q r h =
-    let e : q.0 ≡ r.0 = grind (arith, nat_tests) in
-    let f : q.1 ≡ r.1 = grind (arith, nat_tests) in
-    λ i. (e i, f i)
-
 other_pair : (ps : List (ℕ × ℕ)) (i j : ℕ) → IsRising ps → i < length ps → j < length ps → j ≢ i → (t : Bool) → (eqb (get_or ps i (0, 0)).0 (get_or ps j (0, 0)).0 && eqb (get_or ps i (0, 0)).1 (get_or ps j (0, 0)).1) ≡ t → t ≡ false
 other_pair ps i j r h l ne false e = refl
-other_pair ps i j r h l ne true e = absurd (ne (one_place ps j i (get_or ps j (0, 0)) r l h refl (pairs_same (get_or ps i (0, 0)) (get_or ps j (0, 0)) e) (ltb j i) (ltb i j) refl refl))
+other_pair ps i j r h l ne true e = absurd (ne (one_place ps j i (get_or ps j (0, 0)) r l h refl (pair_told (get_or ps j (0, 0)).0 (get_or ps j (0, 0)).1 (get_or ps i (0, 0)) e) (ltb j i) (ltb i j) refl refl))
 
 owns_pair : (pairs : List (ℕ × ℕ)) (i : ℕ) → IsRising pairs → i < length pairs → Owns (gives_rest (get_or pairs i (0, 0))) (pair_at pairs) (length pairs) i
 owns_pair pairs i r h = record {
-  mine = λ x. pair_itself (get_or pairs i (0, 0));
+  mine = λ x. let q = get_or pairs i (0, 0) in tells_pair q.0 q.1 q refl;
   others = λ j x ne l. other_pair pairs i j r h l ne _ refl;
   same = λ j x. refl;
 }

@@ -42,6 +42,27 @@ fn pit_of(alloc: Global, blocks: &[u32]) -> Result<Pit, Fail> {
     Ok(Pit::new(Vec::from_slice(alloc, blocks)?).ok_or("pit")?)
 }
 
+// A net, a pit and a flow: what each block gets from the source, each pair carries, and each block
+// gives to the sink.
+#[derive(Drop)]
+struct Case<'a, G> {
+    pairs: &'a [(u32, u32)],
+    worths: &'a [G],
+    pit: &'a [u32],
+    source: &'a [G],
+    rest: &'a [G],
+    sink: &'a [G],
+}
+
+fn fault_of<G: OrderedGroup>(alloc: Global, case: &Case<'_, G>) -> Result<Option<PitFault>, Fail>
+    requires { length case.now.worths.now ≤ 2 ^ 24 }
+{
+    let net = net_of(alloc, case.pairs, case.worths)?;
+    let pit = pit_of(alloc, case.pit)?;
+    let flow = flow_of(alloc, case.source, case.rest, case.sink)?;
+    Ok(check(&net, &pit, &flow).err())
+}
+
 fn size(nanos: i128, size: i128) -> WorthSize {
     WorthSize { nanos, size }
 }
@@ -84,128 +105,130 @@ fn greatest_pit_is_accepted(rt: HostRuntime) -> Result<(), Fail> {
 
 #[test]
 fn open_pit_is_refused(rt: HostRuntime) -> Result<(), Fail> {
-    let alloc = rt.alloc();
-    let net = three_blocks(alloc)?;
-    let pit = pit_of(alloc, &[0, 1])?;
-    let flow = full_flow(alloc)?;
-    assert_eq!(rt;
-        check(&net, &pit, &flow).err(),
-        Some(PitFault::NotClosed(0, 2))
-    );
+    let case = Case {
+        pairs: &[(0, 2), (1, 2)],
+        worths: &[size(6, -1), size(5, -1), size(-10, -1)],
+        pit: &[0, 1],
+        source: &[size(6, -1), size(4, 2), size(0, 0)],
+        rest: &[size(6, -1), size(4, 2)],
+        sink: &[size(0, 0), size(0, 0), size(10, 1)],
+    };
+    let open = Some(PitFault::NotClosed(0, 2));
+    assert_eq!(rt; fault_of(rt.alloc(), &case)?, open);
     Ok(())
 }
 
 #[test]
-fn wrong_sizes_are_refused(rt: HostRuntime) -> Result<(), Fail> {
-    let alloc = rt.alloc();
-    let net = three_blocks(alloc)?;
-    let short = flow_of(
-        alloc,
-        &[size(6, -1), size(4, 2), size(0, 0)],
-        &[size(6, -1)],
-        &[size(0, 0), size(0, 0), size(10, 1)],
-    )?;
-    let pit = pit_of(alloc, &[0, 1, 2])?;
-    assert_eq!(rt; check(&net, &pit, &short).err(), Some(PitFault::WrongSize));
-    let flow = full_flow(alloc)?;
-    let stranger = pit_of(alloc, &[0, 1, 2, 3])?;
-    assert_eq!(rt;
-        check(&net, &stranger, &flow).err(),
-        Some(PitFault::WrongSize)
-    );
+fn short_flow_is_refused(rt: HostRuntime) -> Result<(), Fail> {
+    let case = Case {
+        pairs: &[(0, 2), (1, 2)],
+        worths: &[size(6, -1), size(5, -1), size(-10, -1)],
+        pit: &[0, 1, 2],
+        source: &[size(6, -1), size(4, 2), size(0, 0)],
+        rest: &[size(6, -1)],
+        sink: &[size(0, 0), size(0, 0), size(10, 1)],
+    };
+    assert_eq!(rt; fault_of(rt.alloc(), &case)?, Some(PitFault::WrongSize));
+    Ok(())
+}
+
+#[test]
+fn stranger_to_the_net_is_refused(rt: HostRuntime) -> Result<(), Fail> {
+    let case = Case {
+        pairs: &[(0, 2), (1, 2)],
+        worths: &[size(6, -1), size(5, -1), size(-10, -1)],
+        pit: &[0, 1, 2, 3],
+        source: &[size(6, -1), size(4, 2), size(0, 0)],
+        rest: &[size(6, -1), size(4, 2)],
+        sink: &[size(0, 0), size(0, 0), size(10, 1)],
+    };
+    assert_eq!(rt; fault_of(rt.alloc(), &case)?, Some(PitFault::WrongSize));
     Ok(())
 }
 
 #[test]
 fn negative_flow_is_refused(rt: HostRuntime) -> Result<(), Fail> {
-    let alloc = rt.alloc();
-    let net = net_of(alloc, &[(0, 1)], &[worth(-5), worth(5)])?;
-    let flow = flow_of(
-        alloc,
-        &[worth(0), worth(0)],
-        &[worth(-5)],
-        &[worth(0), worth(0)],
-    )?;
-    let pit = pit_of(alloc, &[1])?;
-    assert_eq!(rt; check(&net, &pit, &flow).err(), Some(PitFault::Negative));
+    let case = Case {
+        pairs: &[(0, 1)],
+        worths: &[worth(-5), worth(5)],
+        pit: &[1],
+        source: &[worth(0), worth(0)],
+        rest: &[worth(-5)],
+        sink: &[worth(0), worth(0)],
+    };
+    assert_eq!(rt; fault_of(rt.alloc(), &case)?, Some(PitFault::Negative));
     Ok(())
 }
 
 #[test]
 fn sink_beyond_a_capacity_is_refused(rt: HostRuntime) -> Result<(), Fail> {
-    let alloc = rt.alloc();
-    let net = three_blocks(alloc)?;
-    let flow = flow_of(
-        alloc,
-        &[size(6, -1), size(5, -1), size(0, 0)],
-        &[size(6, -1), size(5, -1)],
-        &[size(0, 0), size(0, 0), size(11, -2)],
-    )?;
-    let pit = pit_of(alloc, &[0, 1, 2])?;
-    assert_eq!(rt;
-        check(&net, &pit, &flow).err(),
-        Some(PitFault::OverCapacity(2))
-    );
+    let case = Case {
+        pairs: &[(0, 2), (1, 2)],
+        worths: &[size(6, -1), size(5, -1), size(-10, -1)],
+        pit: &[0, 1, 2],
+        source: &[size(6, -1), size(5, -1), size(0, 0)],
+        rest: &[size(6, -1), size(5, -1)],
+        sink: &[size(0, 0), size(0, 0), size(11, -2)],
+    };
+    let over = Some(PitFault::OverCapacity(2));
+    assert_eq!(rt; fault_of(rt.alloc(), &case)?, over);
     Ok(())
 }
 
 #[test]
 fn unbalanced_block_is_refused(rt: HostRuntime) -> Result<(), Fail> {
-    let alloc = rt.alloc();
-    let net = net_of(alloc, &[], &[worth(5), worth(-5)])?;
-    let flow = flow_of(alloc, &[worth(5), worth(0)], &[], &[worth(0), worth(5)])?;
-    let pit = pit_of(alloc, &[])?;
-    assert_eq!(rt;
-        check(&net, &pit, &flow).err(),
-        Some(PitFault::Unbalanced(0))
-    );
+    let case = Case {
+        pairs: &[],
+        worths: &[worth(5), worth(-5)],
+        pit: &[],
+        source: &[worth(5), worth(0)],
+        rest: &[],
+        sink: &[worth(0), worth(5)],
+    };
+    let unbalanced = Some(PitFault::Unbalanced(0));
+    assert_eq!(rt; fault_of(rt.alloc(), &case)?, unbalanced);
     Ok(())
 }
 
 #[test]
 fn sums_that_do_not_fit_are_refused(rt: HostRuntime) -> Result<(), Fail> {
-    let alloc = rt.alloc();
-    let net = net_of(alloc, &[(0, 1), (0, 2)], &[worth(1), worth(-1), worth(-1)])?;
-    let flow = flow_of(
-        alloc,
-        &[worth(0), worth(0), worth(0)],
-        &[worth(i128::MAX), worth(i128::MAX)],
-        &[worth(0), worth(0), worth(0)],
-    )?;
-    let pit = pit_of(alloc, &[])?;
-    assert_eq!(rt; check(&net, &pit, &flow).err(), Some(PitFault::TooLarge));
+    let case = Case {
+        pairs: &[(0, 1), (0, 2)],
+        worths: &[worth(1), worth(-1), worth(-1)],
+        pit: &[],
+        source: &[worth(0), worth(0), worth(0)],
+        rest: &[worth(i128::MAX), worth(i128::MAX)],
+        sink: &[worth(0), worth(0), worth(0)],
+    };
+    assert_eq!(rt; fault_of(rt.alloc(), &case)?, Some(PitFault::TooLarge));
     Ok(())
 }
 
 #[test]
 fn pit_of_no_use_is_not_tight(rt: HostRuntime) -> Result<(), Fail> {
-    let alloc = rt.alloc();
-    let net = net_of(alloc, &[(0, 1)], &[size(10, -1), size(-10, -1)])?;
-    let flow = flow_of(
-        alloc,
-        &[size(10, -1), size(0, 0)],
-        &[size(10, -1)],
-        &[size(0, 0), size(10, -1)],
-    )?;
-    let pit = pit_of(alloc, &[0, 1])?;
-    assert_eq!(rt; check(&net, &pit, &flow).err(), Some(PitFault::NotTight));
+    let case = Case {
+        pairs: &[(0, 1)],
+        worths: &[size(10, -1), size(-10, -1)],
+        pit: &[0, 1],
+        source: &[size(10, -1), size(0, 0)],
+        rest: &[size(10, -1)],
+        sink: &[size(0, 0), size(10, -1)],
+    };
+    assert_eq!(rt; fault_of(rt.alloc(), &case)?, Some(PitFault::NotTight));
     Ok(())
 }
 
 #[test]
 fn faults_are_printed_by_name(rt: HostRuntime) -> Result<(), Fail> {
-    let alloc = rt.alloc();
-    let open = PitFault::NotClosed(0, 2);
-    assert_eq!(rt; format!(in alloc; "{open}")?.as_str(), "NotClosed(0, 2)");
-    let over = PitFault::OverCapacity(2);
-    assert_eq!(rt; format!(in alloc; "{over}")?.as_str(), "OverCapacity(2)");
-    let unbalanced = PitFault::Unbalanced(1);
-    assert_eq!(rt;
-        format!(in alloc; "{unbalanced}")?.as_str(),
-        "Unbalanced(1)"
-    );
-    let negative = PitFault::Negative;
-    assert_eq!(rt; format!(in alloc; "{negative}")?.as_str(), "Negative");
+    let names = [
+        (PitFault::NotClosed(0, 2), "NotClosed(0, 2)"),
+        (PitFault::OverCapacity(2), "OverCapacity(2)"),
+        (PitFault::Unbalanced(1), "Unbalanced(1)"),
+        (PitFault::Negative, "Negative"),
+    ];
+    for (fault, name) in names {
+        assert_eq!(rt; fault.to_string(rt.alloc())?.as_str(), name);
+    }
     Ok(())
 }
 

@@ -1,11 +1,11 @@
 -- Ascending lists, and what a binary search among one finds.
-use Rattle.std.proofs.Common.{◌≡◌, ℕ, zero, suc, ◌+◌, ◌-◌, ◌<◌, ◌≤◌, false, List, length, get_or, take, drop, slice_range, arith, inl, inr, Result, Ok, Err, MatchResult, subst, sym, ap, ◌∙◌, length-drop}
+use Rattle.std.proofs.Common.{◌≡◌, ℕ, zero, suc, ◌+◌, ◌-◌, ◌<◌, ◌≤◌, false, List, length, get_or, take, drop, slice_range, arith, inl, inr, Result, Ok, Err, MatchResult, subst, sym, ap, ◌∙◌}
 use Rattle.std.specs.List.Sorted.{IsBinarySearchResult}
 use Rattle.std.specs.Ordering.{nat_cmp}
 use Rattle.std.specs.Result.{is_ok}
 use Rattle.std.proofs.lemmas.Bool.{cases_eq, cases_lt, cases_Bool}
 use Rattle.std.proofs.lemmas.List.Sorted.{searched}
-use Rattle.std.proofs.lemmas.List.{get_or-take, get_or-drop, length-take-le}
+use Rattle.prec_file.proofs.Parts.{length-part, get_or-part}
 use Rattle.closure_net.specs.Network.{IsAscending, holds_of}
 use Rattle.closure_net.specs.Places.{StandsFrom, StandsBelow}
 use Rattle.closure_net.proofs.Holding.{holds_at, place_of}
@@ -31,12 +31,6 @@ not_falling xs a i j h l = elim (cases_eq i j) [
   | inl e ↦ let P : ℕ → Type 0 = λ k. get_or xs i 0 ≤ get_or xs k 0 in subst P e (omega arith)
   | inr d ↦ omega (arith, a i j (omega arith) l)
 ]
-
-length-part : (xs : List ℕ) (i k : ℕ) → i + k ≤ length xs → length (take k (drop i xs)) ≡ k
-length-part xs i k h = length-take-le k (drop i xs) (omega (arith, length-drop i xs))
-
-get_or-part : (xs : List ℕ) (i k j : ℕ) → j < k → get_or (take k (drop i xs)) j 0 ≡ get_or xs (i + j) 0
-get_or-part xs i k j h = get_or-take k (drop i xs) j 0 h ∙ get_or-drop i xs j 0
 
 -- blocks lie at least as far apart as their places
 pub apart_by_places : (xs : List ℕ) → IsAscending xs → (i k : ℕ) → i + k < length xs → get_or xs i 0 + k ≤ get_or xs (i + k) 0

@@ -59,6 +59,12 @@ fn all_blocks_are_reached(rt: HostRuntime) -> Result<(), Fail> {
     let sink = [amount(0, 0), amount(0, 0), amount(10, 1)];
     let pit = reached(&rt, alloc, &net, &source, &rest, &sink)?;
     assert!(rt; pit.blocks() == [0, 1, 2].as_slice());
+    Ok(())
+}
+
+#[test]
+fn a_pit_tells_its_blocks(rt: HostRuntime) -> Result<(), Fail> {
+    let pit = Pit::new(Vec::from_slice(rt.alloc(), &[0, 1, 2])?).ok_or("pit")?;
     assert!(rt; pit.holds(1) && !pit.holds(3) && !pit.is_empty());
     assert_eq!(rt; pit.len(), 3);
     assert_eq!(rt; pit.at(2), 2);
@@ -82,8 +88,7 @@ fn no_block_is_reached(rt: HostRuntime) -> Result<(), Fail> {
 // Any place gives the same answer.
 #[test]
 fn blocks_are_found_from_any_place(rt: HostRuntime) -> Result<(), Fail> {
-    let alloc = rt.alloc();
-    let pit = Pit::new(Vec::from_slice(alloc, &[1, 2, 5, 9])?).ok_or("pit")?;
+    let pit = Pit::new(Vec::from_slice(rt.alloc(), &[1, 2, 5, 9])?).ok_or("pit")?;
     for start in 0..7 {
         for b in 0..12 {
             let mut place = start;
@@ -93,6 +98,12 @@ fn blocks_are_found_from_any_place(rt: HostRuntime) -> Result<(), Fail> {
             );
         }
     }
+    Ok(())
+}
+
+#[test]
+fn a_search_leaves_the_place_behind_the_block(rt: HostRuntime) -> Result<(), Fail> {
+    let pit = Pit::new(Vec::from_slice(rt.alloc(), &[1, 2, 5, 9])?).ok_or("pit")?;
     let mut place = 0;
     assert!(rt; pit.holds_near(&mut place, 5));
     assert_eq!(rt; place, 3);
@@ -101,34 +112,36 @@ fn blocks_are_found_from_any_place(rt: HostRuntime) -> Result<(), Fail> {
 
 #[test]
 fn few_pairs_carry_something(rt: HostRuntime) -> Result<(), Fail> {
-    let alloc = rt.alloc();
-    let mut carried: Carried<WorthSize> = Carried::nothing(alloc, 3)?;
+    let mut carried: Carried<WorthSize> = Carried::nothing(rt.alloc(), 3)?;
     carried.set(1, amount(5, -1))?;
     carried.set(2, amount(7, -2))?;
     carried.set(1, amount(6, -1))?;
     assert_eq!(rt; carried.len(), 3);
-    assert_eq!(rt; carried.at(0), amount(0, 0));
-    assert_eq!(rt; carried.at(1), amount(6, -1));
-    assert_eq!(rt; carried.at(2), amount(7, -2));
-    let mut all = Carried::from_list(Vec::from_slice(alloc, &[amount(1, 0), amount(2, 0)])?);
-    all.set(0, amount(3, 0))?;
-    assert_eq!(rt; all.len(), 2);
-    assert_eq!(rt; all.at(0), amount(3, 0));
-    assert_eq!(rt; all.at(1), amount(2, 0));
+    let carries = [carried.at(0), carried.at(1), carried.at(2)];
+    assert!(rt; carries == [amount(0, 0), amount(6, -1), amount(7, -2)]);
+    Ok(())
+}
+
+#[test]
+fn all_pairs_carry_something(rt: HostRuntime) -> Result<(), Fail> {
+    let amounts = Vec::from_slice(rt.alloc(), &[amount(1, 0), amount(2, 0)])?;
+    let mut carried = Carried::from_list(amounts);
+    carried.set(0, amount(3, 0))?;
+    assert_eq!(rt; carried.len(), 2);
+    assert!(rt; [carried.at(0), carried.at(1)] == [amount(3, 0), amount(2, 0)]);
     Ok(())
 }
 
 #[test]
 fn a_net_tells_its_parts(rt: HostRuntime) -> Result<(), Fail> {
     let net = two_on_waste(rt.alloc(), &[6, 5, -10])?;
-    assert_eq!(rt; net.len(), 3);
+    assert_eq!(rt;
+        (net.len(), net.worths().len(), net.rests().pairs()),
+        (3, 3, 2)
+    );
     assert_eq!(rt; net.worth(2), amount(-10, -1));
-    assert_eq!(rt; net.positive(0), amount(6, -1));
-    assert_eq!(rt; net.positive(2), amount(0, 0));
-    assert_eq!(rt; net.negative(2), amount(10, 1));
-    assert_eq!(rt; net.negative(0), amount(0, 0));
-    assert_eq!(rt; net.worths().len(), 3);
-    assert_eq!(rt; net.rests().pairs(), 2);
+    assert!(rt; [net.positive(0), net.positive(2)] == [amount(6, -1), amount(0, 0)]);
+    assert!(rt; [net.negative(0), net.negative(2)] == [amount(0, 0), amount(10, 1)]);
     Ok(())
 }
 
@@ -139,35 +152,68 @@ fn a_copy_is_the_same(rt: HostRuntime) -> Result<(), Fail> {
     let copy = net.copy(alloc)?;
     assert!(rt; net.same_as(&copy));
     assert!(rt; !net.same_as(&two_on_waste(alloc, &[6, 5, -9])?));
-    let rests = copy.into_rests();
-    assert_eq!(rt; rests.len(), 3);
-    assert_eq!(rt; rests.pairs(), 2);
-    assert_eq!(rt; rests.pair(0), (0, 2));
-    assert_eq!(rt; rests.pair(1), (1, 2));
+    Ok(())
+}
+
+#[test]
+fn a_net_gives_its_pairs_back(rt: HostRuntime) -> Result<(), Fail> {
+    let rests = two_on_waste(rt.alloc(), &[6, 5, -10])?.into_rests();
+    assert_eq!(rt; (rests.len(), rests.pairs()), (3, 2));
+    assert_eq!(rt; (rests.pair(0), rests.pair(1)), ((0, 2), (1, 2)));
     Ok(())
 }
 
 #[test]
 fn refused(rt: HostRuntime) -> Result<(), Fail> {
-    let alloc = rt.alloc();
-    let short = refusal(alloc, &[amount(1, -1)])?;
-    assert_eq!(rt; short, Some(NetFault::WrongLength));
-    let no_opposite = refusal(alloc, &[amount(i128::MIN, -1), amount(0, -1)])?;
-    assert_eq!(rt; no_opposite, Some(NetFault::TooLarge));
-    let no_sum = refusal(alloc, &[amount(i128::MAX, -1), amount(1, -1)])?;
-    assert_eq!(rt; no_sum, Some(NetFault::TooLarge));
-    assert_eq!(rt;
-        refusal(alloc, &[amount(i128::MAX, -1), amount(0, -1)])?,
-        None
-    );
-    assert!(rt; !is_pit(alloc, &[0, 2, 2])? && !is_pit(alloc, &[1, 0])?);
-    assert!(rt; is_pit(alloc, &[0, 2, 5])?);
-    assert!(rt; NetFault::TooLarge.to_string(alloc)?.as_str() == "TooLarge");
+    let rows: [(&[WorthSize], Option<NetFault>); 4] = [
+        (&[amount(1, -1)], Some(NetFault::WrongLength)),
+        (
+            &[amount(i128::MIN, -1), amount(0, -1)],
+            Some(NetFault::TooLarge),
+        ),
+        (
+            &[amount(i128::MAX, -1), amount(1, -1)],
+            Some(NetFault::TooLarge),
+        ),
+        (&[amount(i128::MAX, -1), amount(0, -1)], None),
+    ];
+    for (worths, fault) in rows {
+        assert_eq!(rt; refusal(rt.alloc(), worths)?, fault);
+    }
+    Ok(())
+}
+
+#[test]
+fn a_pit_goes_up(rt: HostRuntime) -> Result<(), Fail> {
+    let rows: [(&[u32], bool); 3] = [(&[0, 2, 2], false), (&[1, 0], false), (&[0, 2, 5], true)];
+    for (blocks, wanted) in rows {
+        assert_eq!(rt; is_pit(rt.alloc(), blocks)?, wanted);
+    }
+    Ok(())
+}
+
+#[test]
+fn faults_are_printed(rt: HostRuntime) -> Result<(), Fail> {
+    let text = NetFault::TooLarge.to_string(rt.alloc())?;
+    assert_eq!(rt; text.as_str(), "TooLarge");
     Ok(())
 }
 
 fn port(kind: PortKind, other: u32, slot: u32) -> Port {
     Port { kind, other, slot }
+}
+
+// Whether a block has these ports, in this order.
+fn has_ports(net: &Net<Worth>, block: u32, wanted: &[Port]) -> bool {
+    if block >= net.len() || net.ports(block) as usize != wanted.len() {
+        return false;
+    }
+    for i in 0..net.ports(block) {
+        if wanted.get(i as usize) != Some(&net.port(block, i)) {
+            return false;
+        }
+    }
+    true
 }
 
 // Block 1 is waste below the two blocks 0 and 2, which both rest on it.
@@ -178,16 +224,15 @@ fn a_net_tells_its_ports(rt: HostRuntime) -> Result<(), Fail> {
     let net: Net<Worth> = Net::of_worths(alloc, rests, &[4, -1, 4])
         .ok()
         .ok_or("worths")?;
-    assert_eq!(rt; net.len(), 3);
-    assert_eq!(rt; net.ports(0), 2);
-    assert_eq!(rt; net.port(0, 0), port(PortKind::Forward, 1, 0));
-    assert_eq!(rt; net.port(0, 1), port(PortKind::Source, 0, 0));
-    assert_eq!(rt; net.ports(1), 3);
-    assert_eq!(rt; net.port(1, 0), port(PortKind::Sink, 1, 0));
-    assert_eq!(rt; net.port(1, 1), port(PortKind::Backward, 0, 0));
-    assert_eq!(rt; net.port(1, 2), port(PortKind::Backward, 2, 1));
-    assert_eq!(rt; net.ports(2), 2);
-    assert_eq!(rt; net.port(2, 0), port(PortKind::Forward, 1, 1));
-    assert_eq!(rt; net.port(2, 1), port(PortKind::Source, 2, 0));
+    let left = [port(PortKind::Forward, 1, 0), port(PortKind::Source, 0, 0)];
+    assert!(rt; has_ports(&net, 0, &left));
+    let waste = [
+        port(PortKind::Sink, 1, 0),
+        port(PortKind::Backward, 0, 0),
+        port(PortKind::Backward, 2, 1),
+    ];
+    assert!(rt; has_ports(&net, 1, &waste));
+    let right = [port(PortKind::Forward, 1, 1), port(PortKind::Source, 2, 0)];
+    assert!(rt; has_ports(&net, 2, &right));
     Ok(())
 }

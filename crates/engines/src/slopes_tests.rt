@@ -152,10 +152,14 @@ fn the_blocks_come_before_the_pattern_and_that_before_the_places(rt: HostRuntime
 }
 
 #[test]
-fn words_name_patterns_and_directions(rt: HostRuntime) {
+fn words_name_patterns(rt: HostRuntime) {
     assert!(rt; pattern_named(b"five") == Some(PatternChoice::Five));
     assert!(rt; pattern_named(b"nine") == Some(PatternChoice::Nine));
     assert!(rt; pattern_named(b"cone:1000:01000:1") == Some(WIDE_CONE));
+}
+
+#[test]
+fn other_words_name_no_pattern(rt: HostRuntime) {
     let none: [&[u8]; 9] = [
         b"",
         b"Five",
@@ -170,6 +174,10 @@ fn words_name_patterns_and_directions(rt: HostRuntime) {
     for word in none {
         assert!(rt; pattern_named(word).is_none());
     }
+}
+
+#[test]
+fn words_name_directions(rt: HostRuntime) {
     assert!(rt; up_named(b"plus") == Some(Up::PlusZ));
     assert!(rt; up_named(b"minus") == Some(Up::MinusZ));
     assert!(rt; up_named(b"down").is_none());

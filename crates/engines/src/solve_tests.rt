@@ -40,82 +40,128 @@ fn solved<R: AllocGlobal + Threads + Wait + Sync>(
     (answer, out.into_inner())
 }
 
+// Whether the engine writes this certificate.
+fn writes<R: AllocGlobal + Threads + Wait + Sync>(
+    rt: &R,
+    upit: &[u8],
+    prec: &[u8],
+    group: Group,
+    certificate: &[u8],
+) -> bool {
+    let (answer, text) = solved(rt, upit, prec, group, 1_000);
+    answer == Ok(Verdict::Done) && text.as_slice() == certificate
+}
+
 #[test]
 fn a_mine_of_no_blocks(rt: HostRuntime) {
     let upit = b"NBLOCKS: 0\nOBJECTIVE_FUNCTION:\n";
-    let (answer, text) = solved(&rt, upit.as_slice(), b"".as_slice(), Group::Pair, 1);
-    assert!(rt; answer == Ok(Verdict::Done));
     let certificate = b"PITCERT 1\nBLOCKS 0\nPRICE OBJECTIVE\nGROUP PAIR\nEND\n";
-    assert!(rt; text.as_slice() == certificate.as_slice());
+    assert!(rt; writes(&rt, upit, b"", Group::Pair, certificate));
 }
 
 #[test]
 fn a_block_worth_nothing(rt: HostRuntime) {
     let upit = b"NBLOCKS: 1\nOBJECTIVE_FUNCTION:\n0 0\n";
-    let (answer, text) = solved(&rt, upit.as_slice(), b"".as_slice(), Group::Pair, 100);
-    assert!(rt; answer == Ok(Verdict::Done));
     let certificate = b"PITCERT 1\nBLOCKS 1\nPRICE OBJECTIVE\nGROUP PAIR\nEND\n";
-    assert!(rt; text.as_slice() == certificate.as_slice());
+    assert!(rt; writes(&rt, upit, b"", Group::Pair, certificate));
 }
 
 #[test]
 fn a_block_by_itself(rt: HostRuntime) {
-    let (answer, text) = solved(&rt, ONE, b"".as_slice(), Group::Pair, 100);
-    assert!(rt; answer == Ok(Verdict::Done));
     let certificate = b"PITCERT 1\nBLOCKS 1\nPRICE OBJECTIVE\nGROUP PAIR\nPIT 0\nEND\n";
-    assert!(rt; text.as_slice() == certificate.as_slice());
+    assert!(rt; writes(&rt, ONE, b"", Group::Pair, certificate));
 }
 
 #[test]
 fn a_block_worth_what_it_rests_on_costs(rt: HostRuntime) {
-    let (answer, text) = solved(&rt, TWO, b"0 1 1\n".as_slice(), Group::Pair, 1_000);
-    assert!(rt; answer == Ok(Verdict::Done));
     let certificate =
         b"PITCERT 1\nBLOCKS 2\nPRICE OBJECTIVE\nGROUP PAIR\nSOURCE 0 10000000000 -1\nREST 0 1 10000000000 -1\nSINK 1 10000000000 -1\nEND\n";
-    assert!(rt; text.as_slice() == certificate.as_slice());
+    assert!(rt; writes(&rt, TWO, b"0 1 1\n", Group::Pair, certificate));
 }
 
 #[test]
 fn worth_alone_where_it_is_asked_for(rt: HostRuntime) {
-    let (answer, text) = solved(&rt, ONE, b"".as_slice(), Group::Worth, 100);
-    assert!(rt; answer == Ok(Verdict::Done));
     let certificate = b"PITCERT 1\nBLOCKS 1\nPRICE OBJECTIVE\nGROUP WORTH\nPIT 0\nEND\n";
-    assert!(rt; text.as_slice() == certificate.as_slice());
+    assert!(rt; writes(&rt, ONE, b"", Group::Worth, certificate));
+}
+
+// Without blocks one step is enough, and a block worth nothing takes less than a hundred.
+#[test]
+fn few_steps(rt: HostRuntime) {
+    let none = b"NBLOCKS: 0\nOBJECTIVE_FUNCTION:\n";
+    let (answer, _text) = solved(&rt, none, b"", Group::Pair, 1);
+    assert!(rt; answer == Ok(Verdict::Done));
+    let nothing = b"NBLOCKS: 1\nOBJECTIVE_FUNCTION:\n0 0\n";
+    let (answer, _text) = solved(&rt, nothing, b"", Group::Pair, 100);
+    assert!(rt; answer == Ok(Verdict::Done));
 }
 
 #[test]
 fn too_few_steps(rt: HostRuntime) {
-    let (answer, text) = solved(&rt, ONE, b"".as_slice(), Group::Pair, 9);
+    let (answer, text) = solved(&rt, ONE, b"", Group::Pair, 9);
     assert!(rt; answer == Ok(Verdict::No));
     assert!(rt; text.as_slice() == b"UNSETTLED\n".as_slice());
-    let (answer, _text) = solved(&rt, ONE, b"".as_slice(), Group::Pair, 10);
+}
+
+#[test]
+fn steps_enough(rt: HostRuntime) {
+    let (answer, _text) = solved(&rt, ONE, b"", Group::Pair, 10);
     assert!(rt; answer == Ok(Verdict::Done));
+}
+
+// Whether the engine answers this fault, and writes nothing.
+fn fails<R: AllocGlobal + Threads + Wait + Sync>(
+    rt: &R,
+    upit: &[u8],
+    prec: &[u8],
+    fault: EngineFault,
+) -> bool {
+    let (answer, text) = solved(rt, upit, prec, Group::Pair, 9);
+    answer == Err(fault) && text.is_empty()
 }
 
 #[test]
 fn faults_of_the_texts_write_nothing(rt: HostRuntime) {
-    let (answer, text) = solved(&rt, b"".as_slice(), b"x".as_slice(), Group::Pair, 9);
-    assert!(rt; answer == Err(EngineFault::Upit(Problem::Fault(UpitFault::NoObjective(0)))));
-    assert!(rt; text.is_empty());
-    let (answer, text) = solved(&rt, ONE, b"0 1".as_slice(), Group::Pair, 9);
-    assert!(rt; answer == Err(EngineFault::Prec(Problem::Fault(PrecFault::WrongCount(1)))));
-    assert!(rt; text.is_empty());
+    let upit = EngineFault::Upit(Problem::Fault(UpitFault::NoObjective(0)));
+    assert!(rt; fails(&rt, b"", b"x", upit));
+    let prec = EngineFault::Prec(Problem::Fault(PrecFault::WrongCount(1)));
+    assert!(rt; fails(&rt, ONE, b"0 1", prec));
 }
 
 #[test]
-fn words_of_a_request(rt: HostRuntime) {
-    assert_eq!(rt; group_named(b"worth".as_slice()), Some(Group::Worth));
-    assert_eq!(rt; group_named(b"pair".as_slice()), Some(Group::Pair));
-    assert_eq!(rt; group_named(b"PAIR".as_slice()), None);
-    assert_eq!(rt;
-        steps_named(b"1099511627776".as_slice()),
-        Some(1_099_511_627_776)
-    );
-    assert_eq!(rt; steps_named(b"1099511627777".as_slice()), None);
-    assert_eq!(rt; steps_named(b"0".as_slice()), None);
-    assert_eq!(rt; steps_named(b"x".as_slice()), None);
-    assert_eq!(rt; workers_named(b"1".as_slice()), Some(1));
-    assert_eq!(rt; workers_named(b"64".as_slice()), Some(64));
-    assert_eq!(rt; workers_named(b"0".as_slice()), None);
-    assert_eq!(rt; workers_named(b"65".as_slice()), None);
+fn words_of_groups(rt: HostRuntime) {
+    let rows: [(&[u8], Option<Group>); 3] = [
+        (b"worth", Some(Group::Worth)),
+        (b"pair", Some(Group::Pair)),
+        (b"PAIR", None),
+    ];
+    for (word, group) in rows {
+        assert_eq!(rt; group_named(word), group);
+    }
+}
+
+#[test]
+fn words_of_steps(rt: HostRuntime) {
+    let rows: [(&[u8], Option<u64>); 4] = [
+        (b"1099511627776", Some(1_099_511_627_776)),
+        (b"1099511627777", None),
+        (b"0", None),
+        (b"x", None),
+    ];
+    for (word, steps) in rows {
+        assert_eq!(rt; steps_named(word), steps);
+    }
+}
+
+#[test]
+fn words_of_workers(rt: HostRuntime) {
+    let rows: [(&[u8], Option<u32>); 4] = [
+        (b"1", Some(1)),
+        (b"64", Some(64)),
+        (b"0", None),
+        (b"65", None),
+    ];
+    for (word, workers) in rows {
+        assert_eq!(rt; workers_named(word), workers);
+    }
 }

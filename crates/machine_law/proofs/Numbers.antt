@@ -45,7 +45,7 @@ not_below_by x y Less h e = absurd cc
 not_below_by x y Equal h e = let s = same h in record { worths = omega (arith, ints, s); counts = λ i. omega (arith, ints, s, i) }
 not_below_by x y Greater h e = Below-most y x h
 
-tells_below : (x y : Amount) (o : Ordering) → MatchOrdering o (Below x y) (x ≡ y) (Below y x) → Below x y → is_lt o ≡ true
+pub tells_below : (x y : Amount) (o : Ordering) → MatchOrdering o (Below x y) (x ≡ y) (Below y x) → Below x y → is_lt o ≡ true
 tells_below x y Less h k = refl
 tells_below x y Equal h k = let s = same h in absurd (omega (arith, ints, s, k))
 tells_below x y Greater h k = absurd (omega (arith, ints, h, k))

@@ -19,28 +19,53 @@ fn pair(nanos: i128, size: i128) -> WorthSize {
 }
 
 #[test]
-fn worths_at_the_ends(rt: HostRuntime) {
-    assert_eq!(rt; worth(MOST - 1).try_add(worth(1)), Some(worth(MOST)));
-    assert_eq!(rt; worth(MOST).try_add(worth(1)), None);
-    assert_eq!(rt; worth(LEAST).try_add(worth(-1)), None);
-    assert_eq!(rt; worth(LEAST + 1).try_sub(worth(1)), Some(worth(LEAST)));
-    assert_eq!(rt; worth(LEAST).try_sub(worth(1)), None);
-    assert_eq!(rt; worth(0).try_sub(worth(LEAST)), None);
-    assert_eq!(rt; worth(-1).try_sub(worth(LEAST)), Some(worth(MOST)));
+fn sums_of_worths_at_the_ends(rt: HostRuntime) {
+    for (one, other, sum) in [
+        (MOST - 1, 1, Some(worth(MOST))),
+        (MOST, 1, None),
+        (LEAST, -1, None),
+    ] {
+        assert_eq!(rt; worth(one).try_add(worth(other)), sum);
+    }
 }
 
 #[test]
-fn pairs_at_the_ends(rt: HostRuntime) {
-    assert_eq!(rt; pair(MOST, 0).try_add(pair(1, 0)), None);
-    assert_eq!(rt; pair(0, MOST).try_add(pair(0, 1)), None);
-    assert_eq!(rt; pair(0, LEAST).try_add(pair(0, -1)), None);
-    assert_eq!(rt;
-        pair(MOST, LEAST).try_add(pair(-1, 1)),
-        Some(pair(MOST - 1, LEAST + 1))
-    );
-    assert_eq!(rt; pair(LEAST, 0).try_sub(pair(1, 0)), None);
-    assert_eq!(rt; pair(5, MOST).try_sub(pair(4, -MOST)), None);
-    assert_eq!(rt; pair(5, MOST).try_sub(pair(4, MOST)), Some(pair(1, 0)));
+fn differences_of_worths_at_the_ends(rt: HostRuntime) {
+    for (one, other, difference) in [
+        (LEAST + 1, 1, Some(worth(LEAST))),
+        (LEAST, 1, None),
+        (0, LEAST, None),
+        (-1, LEAST, Some(worth(MOST))),
+    ] {
+        assert_eq!(rt; worth(one).try_sub(worth(other)), difference);
+    }
+}
+
+#[test]
+fn sums_of_pairs_at_the_ends(rt: HostRuntime) {
+    for (one, other, sum) in [
+        (pair(MOST, 0), pair(1, 0), None),
+        (pair(0, MOST), pair(0, 1), None),
+        (pair(0, LEAST), pair(0, -1), None),
+        (
+            pair(MOST, LEAST),
+            pair(-1, 1),
+            Some(pair(MOST - 1, LEAST + 1)),
+        ),
+    ] {
+        assert_eq!(rt; one.try_add(other), sum);
+    }
+}
+
+#[test]
+fn differences_of_pairs_at_the_ends(rt: HostRuntime) {
+    for (one, other, difference) in [
+        (pair(LEAST, 0), pair(1, 0), None),
+        (pair(5, MOST), pair(4, -MOST), None),
+        (pair(5, MOST), pair(4, MOST), Some(pair(1, 0))),
+    ] {
+        assert_eq!(rt; one.try_sub(other), difference);
+    }
 }
 
 #[test]

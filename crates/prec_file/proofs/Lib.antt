@@ -1,4 +1,6 @@
 pub mod Passing
+pub mod Parts
+pub mod Pairs
 pub mod Slots
 pub mod Starts
 pub mod Below

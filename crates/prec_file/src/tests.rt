@@ -2,18 +2,26 @@ use crate::{PrecFault, Rests, RestsFault, read_prec};
 use std::alloc::Global;
 use std::test::Fail;
 
+fn three_blocks(alloc: Global) -> Result<Rests, Fail> {
+    Ok(Rests::from_pairs(alloc, 3, &[(2, 0), (0, 0), (2, 0), (1, 2)])?)
+}
+
 #[test]
 fn index_of_pairs(rt: HostRuntime) -> Result<(), Fail> {
-    let alloc: Global = rt.alloc();
-    let rests = Rests::from_pairs(alloc, 3, &[(2, 0), (0, 0), (2, 0), (1, 2)])?;
+    let rests = three_blocks(rt.alloc())?;
     assert_eq!(rt; (rests.len(), rests.pairs()), (3, 2));
     assert_eq!(rt; (rests.pair(0), rests.pair(1)), ((1, 2), (2, 0)));
-    assert_eq!(rt; rests.above(2), [0].as_slice());
-    assert_eq!(rt; rests.first(2), 1);
+    assert_eq!(rt; (rests.above(2), rests.first(2)), ([0].as_slice(), 1));
     assert_eq!(rt; rests.below(0), [1].as_slice());
-    assert_eq!(rt; rests.find(1, 2), Some(0));
-    assert_eq!(rt; rests.find(2, 0), Some(1));
-    assert_eq!(rt; rests.find(0, 0), None);
+    Ok(())
+}
+
+#[test]
+fn pairs_are_found(rt: HostRuntime) -> Result<(), Fail> {
+    let rests = three_blocks(rt.alloc())?;
+    assert_eq!(rt; rests.len(), 3);
+    let found = (rests.find(1, 2), rests.find(2, 0), rests.find(0, 0));
+    assert_eq!(rt; found, (Some(0), Some(1), None));
     Ok(())
 }
 
@@ -41,14 +49,17 @@ fn fault(alloc: Global, text: &[u8]) -> Option<PrecFault> {
 }
 
 #[test]
-fn faults_of_files(rt: HostRuntime) -> Result<(), Fail> {
-    let alloc: Global = rt.alloc();
-    assert_eq!(rt; fault(alloc, b"3 2 1"), Some(PrecFault::WrongCount(1)));
-    assert_eq!(rt; fault(alloc, b"3 1 1\n3 0"), Some(PrecFault::Repeated(2)));
-    assert_eq!(rt; fault(alloc, b"3 1 4"), Some(PrecFault::UnknownBlock(1)));
-    assert_eq!(rt; fault(alloc, b"3"), Some(PrecFault::Text(1)));
-    assert_eq!(rt; fault(alloc, b"% first\n\n3 x"), Some(PrecFault::Number(3)));
-    Ok(())
+fn faults_of_files(rt: HostRuntime) {
+    let rows: [(&[u8], PrecFault); 5] = [
+        (b"3 2 1", PrecFault::WrongCount(1)),
+        (b"3 1 1\n3 0", PrecFault::Repeated(2)),
+        (b"3 1 4", PrecFault::UnknownBlock(1)),
+        (b"3", PrecFault::Text(1)),
+        (b"% first\n\n3 x", PrecFault::Number(3)),
+    ];
+    for (text, wanted) in rows {
+        assert_eq!(rt; fault(rt.alloc(), text), Some(wanted));
+    }
 }
 
 #[test]
@@ -64,18 +75,13 @@ fn files_without_fault(rt: HostRuntime) -> Result<(), Fail> {
 
 #[test]
 fn printed_faults(rt: HostRuntime) -> Result<(), Fail> {
-    let alloc: Global = rt.alloc();
-    assert_eq!(rt;
-        format!(in alloc; "{}", PrecFault::Text(4))?.as_str(),
-        "Text(4)"
-    );
-    assert_eq!(rt;
-        format!(in alloc; "{}", PrecFault::NoMemory)?.as_str(),
-        "NoMemory"
-    );
-    assert_eq!(rt;
-        format!(in alloc; "{}", RestsFault::UnknownBlock(2))?.as_str(),
-        "UnknownBlock(2)"
-    );
+    for (fault, name) in [
+        (PrecFault::Text(4), "Text(4)"),
+        (PrecFault::NoMemory, "NoMemory"),
+    ] {
+        assert_eq!(rt; fault.to_string(rt.alloc())?.as_str(), name);
+    }
+    let unknown = RestsFault::UnknownBlock(2).to_string(rt.alloc())?;
+    assert_eq!(rt; unknown.as_str(), "UnknownBlock(2)");
     Ok(())
 }

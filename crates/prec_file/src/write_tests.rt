@@ -83,13 +83,17 @@ fn a_block_with_7001_predecessors_is_too_wide(rt: HostRuntime) -> Result<(), Fai
     Ok(())
 }
 
+// The text of these pairs.
+fn written(alloc: Global, rests: &Rests) -> Result<Vec<u8>, Fail> {
+    let mut out = Counted::new(Vec::new(alloc));
+    write_prec(rests, &mut out).ok().ok_or("written")?;
+    Ok(out.into_inner())
+}
+
 #[test]
 fn a_block_with_7000_predecessors_is_written(rt: HostRuntime) -> Result<(), Fail> {
     let alloc: Global = rt.alloc();
-    let rests = on_all_others(alloc, 7001)?;
-    let mut out = Counted::new(Vec::new(alloc));
-    assert_eq!(rt; write_prec(&rests, &mut out), Ok(()));
-    let text = out.into_inner();
+    let text = written(alloc, &on_all_others(alloc, 7001)?)?;
     assert!(rt; text.starts_with(b"0 0\n1 7000 0 2 3 4"));
     assert!(rt; text.ends_with(b"\n6999 0\n7000 0\n"));
     let again = read_prec(alloc, &text, 7001)?;
@@ -119,14 +123,11 @@ fn a_failing_writer_has_a_prefix(rt: HostRuntime) -> Result<(), Fail> {
 
 #[test]
 fn printed_write_faults(rt: HostRuntime) -> Result<(), Fail> {
-    let alloc: Global = rt.alloc();
-    assert_eq!(rt;
-        format!(in alloc; "{}", PrecWriteFault::TooWide(3))?.as_str(),
-        "TooWide(3)"
-    );
-    assert_eq!(rt;
-        format!(in alloc; "{}", PrecWriteFault::Device)?.as_str(),
-        "Device"
-    );
+    for (fault, name) in [
+        (PrecWriteFault::TooWide(3), "TooWide(3)"),
+        (PrecWriteFault::Device, "Device"),
+    ] {
+        assert_eq!(rt; fault.to_string(rt.alloc())?.as_str(), name);
+    }
     Ok(())
 }

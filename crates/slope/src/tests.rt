@@ -245,87 +245,81 @@ fn pairs_are_those_of_the_definition(rt: HostRuntime) -> Result<(), Fail> {
     Ok(())
 }
 
+// The number of pairs of a model by one offset.
+fn pairs_at(
+    alloc: Global,
+    model: &BlockModel,
+    offset: (i32, i32, i32),
+    up: Up,
+) -> Result<u32, Fail> {
+    let pattern = Pattern::custom(alloc, &[offset])?;
+    Ok(rests_of(alloc, model, &pattern, up)?.pairs())
+}
+
 #[test]
 fn no_offset_goes_round(rt: HostRuntime) -> Result<(), Fail> {
     let alloc: Global = rt.alloc();
     let ends = model(alloc, b"0 2147483647 0 0\n1 -2147483648 0 1\n")?;
-    let sideways = Pattern::custom(alloc, &[(1, 0, 1)])?;
-    assert_eq!(rt; rests_of(alloc, &ends, &sideways, Up::PlusZ)?.pairs(), 0);
+    assert_eq!(rt; pairs_at(alloc, &ends, (1, 0, 1), Up::PlusZ)?, 0);
     let heights = model(alloc, b"0 0 0 2147483647\n1 0 0 -2147483648\n")?;
-    let above = Pattern::custom(alloc, &[(0, 0, 1)])?;
-    assert_eq!(rt; rests_of(alloc, &heights, &above, Up::PlusZ)?.pairs(), 0);
-    assert_eq!(rt; rests_of(alloc, &heights, &above, Up::MinusZ)?.pairs(), 0);
     // the differences of the ends, too, are no offset
-    let across = Pattern::custom(alloc, &[(0, 0, 2_147_483_647)])?;
-    assert_eq!(rt; rests_of(alloc, &heights, &across, Up::MinusZ)?.pairs(), 0);
+    for (up, rise) in [(Up::PlusZ, 1), (Up::MinusZ, 1), (Up::MinusZ, 2_147_483_647)] {
+        assert_eq!(rt; pairs_at(alloc, &heights, (0, 0, rise), up)?, 0);
+    }
     Ok(())
+}
+
+// Whether two blocks of a text, the first two that are met, are at one place.
+fn at_one_place(alloc: Global, text: &[u8], first: u32, second: u32) -> Result<bool, Fail> {
+    let five = Pattern::five(alloc)?;
+    let answer = rests_of(alloc, &model(alloc, text)?, &five, Up::PlusZ);
+    Ok(answer.err() == Some(SlopeFault::SamePlace(first, second)))
 }
 
 #[test]
 fn same_place(rt: HostRuntime) -> Result<(), Fail> {
     let alloc: Global = rt.alloc();
-    let five = Pattern::five(alloc)?;
-    let two = model(alloc, b"0 1 2 3\n1 1 2 3\n")?;
-    assert!(rt;
-        matches!(
-            rests_of(alloc, &two, &five, Up::PlusZ),
-            Err(SlopeFault::SamePlace(0, 1))
-        )
-    );
+    let two = b"0 1 2 3\n1 1 2 3\n";
+    assert!(rt; at_one_place(alloc, two.as_slice(), 0, 1)?);
     // the second repeat begins earlier, and is met later
-    let more = model(alloc, b"0 0 0 0\n1 1 0 0\n2 2 0 0\n3 2 0 0\n4 0 0 0\n")?;
-    assert!(rt;
-        matches!(
-            rests_of(alloc, &more, &five, Up::PlusZ),
-            Err(SlopeFault::SamePlace(2, 3))
-        )
-    );
+    let more = b"0 0 0 0\n1 1 0 0\n2 2 0 0\n3 2 0 0\n4 0 0 0\n";
+    assert!(rt; at_one_place(alloc, more.as_slice(), 2, 3)?);
     Ok(())
 }
 
 #[test]
-fn no_offsets_or_no_blocks(rt: HostRuntime) -> Result<(), Fail> {
+fn no_offsets(rt: HostRuntime) -> Result<(), Fail> {
     let alloc: Global = rt.alloc();
-    let cube = model(alloc, CUBE)?;
     let none = Pattern::custom(alloc, &[])?;
-    let free = rests_of(alloc, &cube, &none, Up::PlusZ)?;
+    let free = rests_of(alloc, &model(alloc, CUBE)?, &none, Up::PlusZ)?;
     assert_eq!(rt; (free.len(), free.pairs()), (18, 0));
-    let empty = rests_of(
-        alloc,
-        &model(alloc, b"")?,
-        &Pattern::nine(alloc)?,
-        Up::PlusZ,
-    )?;
+    Ok(())
+}
+
+#[test]
+fn no_blocks(rt: HostRuntime) -> Result<(), Fail> {
+    let alloc: Global = rt.alloc();
+    let nine = Pattern::nine(alloc)?;
+    let empty = rests_of(alloc, &model(alloc, b"")?, &nine, Up::PlusZ)?;
     assert_eq!(rt; (empty.len(), empty.pairs()), (0, 0));
     Ok(())
 }
 
 #[test]
 fn printed_faults(rt: HostRuntime) -> Result<(), Fail> {
-    let alloc: Global = rt.alloc();
-    assert_eq!(rt;
-        format!(in alloc; "{}", PatternFault::NotUpward(1))?.as_str(),
-        "NotUpward(1)"
-    );
-    assert_eq!(rt;
-        format!(in alloc; "{}", PatternFault::TooMany)?.as_str(),
-        "TooMany"
-    );
-    assert_eq!(rt;
-        format!(in alloc; "{}", PatternFault::NoMemory)?.as_str(),
-        "NoMemory"
-    );
-    assert_eq!(rt;
-        format!(in alloc; "{}", SlopeFault::SamePlace(0, 1))?.as_str(),
-        "SamePlace(0, 1)"
-    );
-    assert_eq!(rt;
-        format!(in alloc; "{}", SlopeFault::TooMany)?.as_str(),
-        "TooMany"
-    );
-    assert_eq!(rt;
-        format!(in alloc; "{}", SlopeFault::NoMemory)?.as_str(),
-        "NoMemory"
-    );
+    for (fault, name) in [
+        (PatternFault::NotUpward(1), "NotUpward(1)"),
+        (PatternFault::TooMany, "TooMany"),
+        (PatternFault::NoMemory, "NoMemory"),
+    ] {
+        assert_eq!(rt; fault.to_string(rt.alloc())?.as_str(), name);
+    }
+    for (fault, name) in [
+        (SlopeFault::SamePlace(0, 1), "SamePlace(0, 1)"),
+        (SlopeFault::TooMany, "TooMany"),
+        (SlopeFault::NoMemory, "NoMemory"),
+    ] {
+        assert_eq!(rt; fault.to_string(rt.alloc())?.as_str(), name);
+    }
     Ok(())
 }

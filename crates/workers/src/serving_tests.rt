@@ -11,6 +11,12 @@ use std::process::Abort;
 use std::sync::{Mutex, Wait};
 use std::test::Fail;
 
+// The first step of block 1: the operation that it begins goes on.
+const BEGUN: Turn = Turn::Stepped {
+    block: 1,
+    more: true,
+};
+
 // What a worker asks for.
 #[derive(Clone, Copy, Debug, PartialEq, Eq)]
 struct Question {
@@ -140,21 +146,26 @@ fn a_worker_of_no_blocks_asks_from_the_first(rt: HostRuntime) {
 }
 
 // A turn under the lock makes one step on the board, of the block that is asked for.
-fn makes_steps<G: OrderedGroup, R: Abort + Wait>(rt: &R, alloc: Global) -> Result<(), Fail>
+fn makes_a_step<G: OrderedGroup, R: Abort + Wait>(rt: &R, alloc: Global) -> Result<(), Fail>
 where
     Locked<Board<G>>: Shared,
 {
     let net: Net<G> = two_on_dear_waste(alloc)?;
-    let begun = Turn::Stepped {
-        block: 1,
-        more: true,
-    };
     let shared = Locked::new(Board::open(alloc, &net)?);
-    assert_eq!(rt; shared.act(rt, None, 1, 10), begun);
+    assert_eq!(rt; shared.act(rt, None, 1, 10), BEGUN);
     assert_eq!(rt; shared.into_inner().count(), 1);
+    Ok(())
+}
+
+// Turns under the lock make steps of a worker's own block, up to the limit.
+fn makes_two_steps<G: OrderedGroup, R: Abort + Wait>(rt: &R, alloc: Global) -> Result<(), Fail>
+where
+    Locked<Board<G>>: Shared,
+{
+    let net: Net<G> = two_on_dear_waste(alloc)?;
     let shared = Locked::new(Board::open(alloc, &net)?);
-    assert_eq!(rt; shared.act(rt, None, 1, 2), begun);
-    assert_eq!(rt; shared.act(rt, Some(1), 0, 2), begun);
+    assert_eq!(rt; shared.act(rt, None, 1, 2), BEGUN);
+    assert_eq!(rt; shared.act(rt, Some(1), 0, 2), BEGUN);
     assert_eq!(rt; shared.act(rt, Some(1), 0, 2), Turn::Ended(End::Limit));
     assert_eq!(rt; shared.into_inner().count(), 2);
     Ok(())
@@ -162,6 +173,12 @@ where
 
 #[test]
 fn a_turn_under_the_lock_makes_a_step(rt: HostRuntime) -> Result<(), Fail> {
-    makes_steps::<Worth, _>(&rt, rt.alloc())?;
-    makes_steps::<WorthSize, _>(&rt, rt.alloc())
+    makes_a_step::<Worth, _>(&rt, rt.alloc())?;
+    makes_a_step::<WorthSize, _>(&rt, rt.alloc())
+}
+
+#[test]
+fn turns_under_the_lock_end_at_the_limit(rt: HostRuntime) -> Result<(), Fail> {
+    makes_two_steps::<Worth, _>(&rt, rt.alloc())?;
+    makes_two_steps::<WorthSize, _>(&rt, rt.alloc())
 }

@@ -8,7 +8,8 @@ use prec_file::Rests;
 use std::alloc::Global;
 use std::test::Fail;
 
-fn net_of<G: OrderedGroup>(
+/// A net of so many blocks, of these pairs and these worths in billionths.
+pub fn net_of<G: OrderedGroup>(
     alloc: Global,
     n: u32,
     pairs: &[(u32, u32)],

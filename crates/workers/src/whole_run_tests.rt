@@ -22,7 +22,7 @@ fn leaves_the_pit<G: OrderedGroup, R: Abort + Threads + Wait + Sync>(
 where
     Locked<Board<G>>: Shared,
 {
-    for workers in [2, 4, 64] {
+    for workers in [1, 2, 4, 64] {
         for _run in 0..20 {
             let solved = solve(rt, alloc, net, workers, 100_000, &OpenGate).ok();
             let flow = solved.ok_or("solved")?.flow;

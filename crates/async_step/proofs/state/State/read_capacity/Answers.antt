@@ -8,7 +8,8 @@ use Rattle.async_step.specs.Views.{StateView, state_of}
 use Rattle.async_step.specs.Scans.{seen_by}
 use Rattle.async_step.specs.Answers.{GoesTo}
 use Rattle.async_step.specs.declared.saw.Saw.TheVariants.{Capacity}
-use Rattle.async_step.proofs.Becoming.{not_full, goes_alone}
+use Rattle.async_step.proofs.Becoming.{not_full, goes}
+use Rattle.async_step.specs.declared.changing.Change.TheVariants.{Nothing}
 use Rattle.async_step.proofs.state.State.read_capacity.Goals as goal
 
 pub returns : goal.returns
@@ -19,6 +20,6 @@ returns g c =
     let next : ℕ → Amount → Operation Amount = λ n x. seen_by n ((state_of v).label b) x ((state_of v).operation b) in
     let o : Operation Amount = next (length (ports net b)) (capacity net (state_of v) b c.args.port) in
     let few : v.steps < 2 ^ 40 = not_full c.is_full.result v.steps (2 ^ 40) c.is_full.ensures c.if-is_full.false in (
-      subst (GoesTo net v (becomes (state_of v) b o)) (sym (c.see.ensures ∙ ap₂ (λ n x. record v { operation = set v.operation b (next n x); steps = v.steps + 1 }) c.ports.ensures c.capacity-seen.ensures)) (goes_alone net v c.requires.over b c.requires.block o few),
+      subst (GoesTo net v (becomes (state_of v) b o)) (sym (c.see.ensures ∙ ap₂ (λ n x. record v { operation = set v.operation b (next n x); steps = v.steps + 1 }) c.ports.ensures c.capacity-seen.ensures)) (goes net v c.requires.over b c.requires.block o few c.len-sized.ensures.sized Nothing tt),
       ap Capacity c.capacity-seen.ensures,
     )
