@@ -1,5 +1,5 @@
 -- What a board keeps at the end of a run.
-use Rattle.std.proofs.Common.{◌≡◌, ℕ, ◌≤◌, refl, ap, subst, arith, inl, inr, true, Option, Result, Ok, Err, ◌^◌, ◌≢◌}
+use Rattle.std.proofs.Common.{◌≡◌, ◌↔◌, ℕ, ◌<◌, ◌≤◌, IsTrue, Bool, refl, sym, ap, subst, ◌∙◌, arith, inl, inr, true, false, Option, Result, Ok, Err, ◌^◌, ◌≢◌}
 use Rattle.closure_net.specs.Network.{NetView, FlowView, IsNet}
 use Rattle.machine_law.specs.States.{IsQuiet}
 use Rattle.machine_law.specs.Steps.{advance}
@@ -24,6 +24,14 @@ settled board flow is net quiet amounts = record {
   amounts = amounts;
   solved = quiet_solves board.net is.over.reached.events (shown board) flow net.rests.known is.over.reached.run quiet amounts;
 }
+
+-- what a test for quiet tells of a board that isn't
+pub unquiet : (quiet : Bool) (claim : Type 0) → IsTrue quiet ↔ claim → quiet ≡ false → ¬ claim
+unquiet quiet claim tells isnt q = let z : true ≡ false = sym (tells.1 q) ∙ isnt in cc
+
+-- the run of a board that isn't quiet, isn't stuck, and has made fewer steps than it may
+pub goes : (board : BoardView) (steps count : ℕ) (quiet : Bool) → IsTrue quiet ↔ IsQuiet board.net (shown board) → quiet ≡ false → board.stuck ≡ false → count ≡ board.state.steps → count < steps → IsGoing board steps
+goes board steps count quiet tells isnt free is room = record { unquiet = unquiet quiet (IsQuiet board.net (shown board)) tells isnt; free = free; room = subst (λ k. k < steps) is room }
 
 -- a board whose picked step doesn't fit is marked
 pub sticks : (board : BoardView) (own : Option ℕ) (from steps block : ℕ) (state : StateView) → IsGoing board steps → IsPicked board own from block → state ≡ board.state
