@@ -16,31 +16,28 @@ import sys
 import tempfile
 from pathlib import Path
 
-from common import MODELS, PIT, adopt_orphans, arguments, best, files_of, model, peer, rounds, size_of, table
+from common import PIT, adopt_orphans, arguments, best, files_of, model, peer, rounds, size_of, table
 
 
-def certificate_of(mine, group):
-    """A certificate for the model, made once."""
-    cert = MODELS / f"{mine.name}.{group}.cert"
-    if cert.exists():
-        return str(cert)
-    MODELS.mkdir(exist_ok=True)
+def certificate_of(mine, group, folder):
+    cert = os.path.join(folder, f"{mine.name}.cert")
     if group == "worth":
-        subprocess.run([peer("boost_bk"), mine.prec, mine.upit, str(cert)], check=True, stdout=subprocess.DEVNULL)
-        return str(cert)
-    solved = subprocess.run([str(PIT), "solve"] + files_of(mine), stdout=subprocess.PIPE)
+        subprocess.run([peer("boost_bk"), mine.prec, mine.upit, cert], check=True, stdout=subprocess.DEVNULL)
+        return cert
+    with open(cert, "wb") as out:
+        solved = subprocess.run([str(PIT), "solve"] + files_of(mine), stdout=out)
     if solved.returncode != 0:
         sys.exit(f"bench: pit solve has no certificate for {mine.name}; --group worth takes Boost's")
-    cert.write_bytes(solved.stdout)
-    return str(cert)
+    return cert
 
 
 def check(models, given):
     rows = []
     for mine in models:
-        cert = certificate_of(mine, given.group)
-        ours, theirs = rounds([[str(PIT), "check"] + files_of(mine) + [cert],
-                               [peer("checker"), mine.prec, mine.upit, cert]], given.rounds, given.core)
+        with tempfile.TemporaryDirectory() as folder:
+            cert = certificate_of(mine, given.group, folder)
+            ours, theirs = rounds([[str(PIT), "check"] + files_of(mine) + [cert],
+                                   [peer("checker"), mine.prec, mine.upit, cert]], given.rounds, given.core)
         if len({r.output for r in ours + theirs}) != 1 or not ours[0].output.startswith("ACCEPTED"):
             sys.exit(f"bench: {mine.name}: the programs disagree or refuse:\n{ours[-1].output}\n{theirs[-1].output}")
         blocks, pairs = size_of(mine.prec)

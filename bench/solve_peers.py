@@ -3,7 +3,7 @@
 
     bench/solve_peers.py                                 beside Boost's boykov_kolmogorov_max_flow (bench/peers/boost_bk)
     bench/solve_peers.py --peer PROGRAM                  beside PROGRAM PREC UPIT, which prints the pit's blocks and worth
-    bench/solve_peers.py --words "--method pseudoflow"   with more words for `pit solve`
+    bench/solve_peers.py --words="--method pseudoflow"   with more words for `pit solve`
 
 A run of `pit` reads the model, solves it, checks its answer and writes the certificate; one of the peer reads the model, builds
 its network and solves it. Both run on one core, in turns; of the rounds the fewest seconds and the least peak count. The
