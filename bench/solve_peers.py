@@ -7,8 +7,8 @@
 
 A run of `pit` reads the model, solves it, checks its answer and writes the certificate; one of the peer reads the model, builds
 its network and solves it. Both run on one core, in turns; of the rounds the fewest seconds and the least peak count. The
-certificate is checked by bench/peers/checker, and the pits are compared: where they differ, the row says so. This is a
-measurement and no test: it holds no time against a limit.
+certificate is checked by bench/peers/checker, and the pits are compared: where they differ, the row says so and has no
+ratio. This is a measurement and no test: it holds no time against a limit.
 """
 import tempfile
 
@@ -32,9 +32,10 @@ def row(mine, program, more, checker, given):
     answer, other = answer_of(checker, mine, ours[-1], given.core), theirs[-1].output
     blocks, pairs = size_of(mine.prec)
     (cpu, peak), (their_cpu, their_peak) = best(ours), best(theirs)
-    return [mine.name, f"{blocks:,}", f"{pairs:,}", answer if answer == other else f"{answer}, PEER {other}",
-            f"{cpu:.3f}", f"{their_cpu:.3f}", f"{cpu / their_cpu:.2f}",
-            f"{peak:.1f}", f"{their_peak:.1f}", f"{peak / their_peak:.2f}"]
+    agree = answer == other
+    return [mine.name, f"{blocks:,}", f"{pairs:,}", answer if agree else f"{answer}, PEER {other}",
+            f"{cpu:.3f}", f"{their_cpu:.3f}", f"{cpu / their_cpu:.2f}" if agree else "-",
+            f"{peak:.1f}", f"{their_peak:.1f}", f"{peak / their_peak:.2f}" if agree else "-"]
 
 
 def main():
