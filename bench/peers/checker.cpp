@@ -209,7 +209,8 @@ class Check {
     }
 
     bool read_amount(const Field *f, Amount &amount) const {
-        return f[0].read(amount.worth) && f[1].read(amount.count) && !amount.is_zero() && (header.with_counts || amount.count == 0);
+        bool read = f[0].read(amount.worth) && f[1].read(amount.count);
+        return read && !amount.is_zero() && (header.with_counts || amount.count == 0);
     }
 
     void in_order(Kind kind, uint64_t key) {
@@ -249,7 +250,8 @@ class Check {
         }
         if (!room.subtract(from_source) || !fits) refuse("TooLarge");
         if (room < worth || worth < room) refuse("NotTight");
-        printf("ACCEPTED %llu %s%s\n", (unsigned long long)size, decimal(worth.worth).c_str(), header.with_counts ? "" : " GROUP WORTH");
+        const char *group = header.with_counts ? "" : " GROUP WORTH";
+        printf("ACCEPTED %llu %s%s\n", (unsigned long long)size, decimal(worth.worth).c_str(), group);
     }
 
     void refuse_unless_closed() const {

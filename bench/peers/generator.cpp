@@ -185,7 +185,8 @@ static double write_values(const Mine &mine, const std::string &prefix) {
         int tonnes = 8000 + (int)(200 * uniform(mine.seed * 8 + 6 + ((uint64_t)b << 20)));
         int64_t value = mine.cents(c, tonnes, grade / 1000.0);
         positive += value > 0;
-        fprintf(blocks, "%zu %d %d %d %d %lld.%03lld\n", b, c.x, c.y, c.z, tonnes, (long long)grade / 1000, (long long)grade % 1000);
+        fprintf(blocks, "%zu %d %d %d %d %lld.%03lld\n", b, c.x, c.y, c.z, tonnes, (long long)grade / 1000,
+                (long long)grade % 1000);
         fprintf(upit, "%zu %s%lld.%02lld\n", b, value < 0 ? "-" : "", llabs(value) / 100, llabs(value) % 100);
     }
     fputs("EOF\n", upit);
@@ -220,7 +221,8 @@ static bool is_one_of(const char *word, std::vector<std::string> words) {
 }
 
 int main(int count, char **words) {
-    if (count != 10 || !is_one_of(words[6], {"five", "nine", "knight", "cone2", "cone29"}) || !is_one_of(words[9], {"cone", "box"})) {
+    if (count != 10 || !is_one_of(words[6], {"five", "nine", "knight", "cone2", "cone29"})
+        || !is_one_of(words[9], {"cone", "box"})) {
         fputs("generator PREFIX BLOCKS NX NY NZ five|nine|knight|cone2|cone29 SEED GRADE cone|box\n", stderr);
         return 2;
     }
