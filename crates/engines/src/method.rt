@@ -6,7 +6,8 @@ ghost use Rattle.engines.specs.Methods.{method_of, begins_with_pseudoflow, metho
 /// Which engine makes the flow of a mine. Whatever makes it, a check decides before anything is written.
 #[derive(Clone, Copy, Debug, PartialEq, Eq)]
 pub enum Method {
-    /// The push-relabel machine for a mine of at most 1,000 blocks; for a larger one pseudoflow, and the machine where that gives no certificate.
+    /// The push-relabel machine for a mine of at most 1,000 blocks, and pseudoflow where a number of its run doesn't fit;
+    /// for a larger one pseudoflow, and the machine where that gives no certificate.
     Auto,
     /// Highest-label pseudoflow alone (Hochbaum 2008).
     Pseudoflow,

@@ -99,6 +99,33 @@ where
     }
 }
 
+// The same, and under `Auto` pseudoflow's where a number of the run doesn't fit: the counts of blocks in the machine's
+// amounts grow from push to push, also on small mines.
+fn by_machine_first<G: OrderedGroup, R: Threads + Wait + Sync, T: Gate + Progress>(
+    rt: &R,
+    alloc: Global,
+    net: &Net<G>,
+    effort: Effort,
+    gate: &T,
+) -> Result<Certificate<G>, Unsolved>
+where
+    Locked<Board<G>>: Shared,
+    ensures { MatchResult result
+        (λ c. IsSolution net.now c.blocks c.price c.pit c.flow)
+        (λ unsolved. MachineStands net.now effort.steps unsolved) }
+{
+    match by_machine(rt, alloc, net, effort, gate) {
+        Err(Unsolved::TooLarge) if effort.method == Method::Auto => {
+            match by_pseudoflow(alloc, net, effort.steps, gate) {
+                Ok(Some(certificate)) => Ok(certificate),
+                Ok(None) => Err(Unsolved::TooLarge),
+                Err(_) => Err(Unsolved::NoMemory),
+            }
+        }
+        answer => answer,
+    }
+}
+
 /// The certificate of a net, made by the effort's method.
 pub fn solution_of<G: OrderedGroup, R: Threads + Wait + Sync, T: Gate + Progress>(
     rt: &R,
@@ -113,15 +140,15 @@ where
         (λ c. IsSolution net.now c.blocks c.price c.pit c.flow)
         (λ unsolved. UnsolvedStands net.now effort.method effort.steps unsolved) }
 {
-    if effort.method.begins_with_pseudoflow(net.len()) {
-        match by_pseudoflow(alloc, net, effort.steps, gate) {
-            Ok(Some(certificate)) => return Ok(certificate),
-            Ok(None) if effort.method == Method::Pseudoflow => return Err(Unsolved::GaveUp),
-            Ok(None) => {}
-            Err(_) => return Err(Unsolved::NoMemory),
-        }
+    if !effort.method.begins_with_pseudoflow(net.len()) {
+        return by_machine_first(rt, alloc, net, effort, gate);
     }
-    by_machine(rt, alloc, net, effort, gate)
+    match by_pseudoflow(alloc, net, effort.steps, gate) {
+        Ok(Some(certificate)) => Ok(certificate),
+        Ok(None) if effort.method == Method::Pseudoflow => Err(Unsolved::GaveUp),
+        Ok(None) => by_machine(rt, alloc, net, effort, gate),
+        Err(_) => Err(Unsolved::NoMemory),
+    }
 }
 
 /// Writes the certificate of a net, or a line that says why there is none.
