@@ -1,4 +1,4 @@
--- What one line is to the reader of the body.
+-- What only the functions of this crate say to one another: what one line is to the reader of the body.
 use Rattle.std.specs.Prelude.{◌≡◌, ℕ, true, false, List, None, IsTrue}
 use Rattle.upit_file.specs.declared.record.Record.{Record}
 use Rattle.upit_file.specs.declared.record.Record.TheVariants.{Skipped, End, Value}

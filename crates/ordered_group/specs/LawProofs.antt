@@ -1,8 +1,7 @@
--- What the sums of sets say, by the kind of one block's amount. The implementations cite these proofs as their laws,
--- so they stand here; the laws themselves are in `Laws`.
+-- Proofs that the implementations cite as their laws, so that they stand here; the laws themselves are in `Laws`.
 use Rattle.std.proofs.Common.{◌≡◌, ◌↔◌, ℕ, zero, suc, ◌+◌, ◌<◌, Bool, true, false, cond, refl, arith, ℤ, pos, negsuc, ◌+ℤ◌, ◌<ℤ◌, ◌⊎◌, inl, inr, Ordering}
 use Rattle.std.specs.declared.cmp.Ordering.TheVariants.{Less, Equal, Greater}
-use Rattle.std.specs.Ordering.{MatchOrdering, int_cmp}
+use Rattle.std.specs.Ordering.{MatchOrdering, int_cmp, ordering_then}
 use Rattle.std.specs.Cmp.{int_ranks}
 use Rattle.std.proofs.lemmas.Int.{ints}
 use Rattle.ordered_group.specs.Amount.{Amount, plus, Below}
@@ -53,3 +52,13 @@ ordered x y p q k l a b c d = (
 -- with counts, sums are ordered as the sets are
 pub counted_orders : (v : ℕ → ℤ) (e c : ℕ → Bool) (n : ℕ) → Below (group_sum counted_block v e n) (group_sum counted_block v c n) ↔ IsBefore v n e c
 counted_orders v e c n = ordered _ _ _ _ _ _ (counted_told v e n) (counted_told v c n) (count_sum v e n) (count_sum v c n)
+
+-- equal counts decide nothing
+pub then_equal : (o : Ordering) → o ≡ ordering_then o Equal
+then_equal Less = refl
+then_equal Equal = refl
+then_equal Greater = refl
+
+-- a kind with counts isn't one without
+pub true_not_false : {P : Type 0} → true ≡ false → P
+true_not_false h = absurd cc
