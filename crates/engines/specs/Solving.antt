@@ -41,7 +41,7 @@ pub record CheckLeaves (net : NetView) (limit : ℕ) : Type 0 where
 
 -- a step of a run, or the check of what it leaves, needs a number that doesn't fit
 abbrev pub SomeNumberLeaves : NetView → ℕ → Type 0
-SomeNumberLeaves net limit = SomeStepLeaves net ⊎ CheckLeaves net limit
+SomeNumberLeaves net limit = SomeStepLeaves net limit ⊎ CheckLeaves net limit
 
 -- a certificate for the net at the objective, whose flow proves its pit
 pub record IsSolution (net : NetView) (blocks : ℕ) (price : Price) (pit : List ℕ) (flow : FlowView) : Type 0 where

@@ -15,7 +15,7 @@ use ordered_group::OrderedGroup;
 use std::alloc::Global;
 use std::sync::Wait;
 use std::thread::Threads;
-use workers::{Board, Gate, Locked, Shared, SolveFault, solve};
+use workers::{Gate, Locked, Shared, SolveFault, TurnBoard, solve};
 
 /// Why there is no certificate of a net.
 #[derive(Clone, Copy, Debug, PartialEq, Eq)]
@@ -54,7 +54,7 @@ pub fn solution_of<G: OrderedGroup, R: Threads + Wait + Sync, T: Gate>(
     gate: &T,
 ) -> Result<Certificate<G>, Unsolved>
 where
-    Locked<Board<G>>: Shared,
+    Locked<TurnBoard<G>>: Shared,
     ensures { MatchResult result
         (λ c. IsSolution net.now c.blocks c.price c.pit c.flow)
         (λ unsolved. UnsolvedStands net.now effort.steps unsolved) }
@@ -92,7 +92,7 @@ pub fn solve_net<G: OrderedGroup, R: Threads + Wait + Sync, T: Gate, W: CountedW
     out: &mut W,
 ) -> Result<Verdict, EngineFault>
 where
-    Locked<Board<G>>: Shared,
+    Locked<TurnBoard<G>>: Shared,
     requires { W.failed out.old < 2 ^ 64 - 1 }
     ensures answer { SolvesNet G.counts G.name net.now effort.steps (W.contents out.old) (W.contents out.new) result }
     ensures device { IsErrOf result EngineFault.Device ↔ (W.failed out.new ≡ W.failed out.old + 1) }
