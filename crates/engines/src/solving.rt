@@ -109,7 +109,7 @@ fn by_machine_first<G: OrderedGroup, R: Threads + Wait + Sync, T: Gate + Progres
     gate: &T,
 ) -> Result<Certificate<G>, Unsolved>
 where
-    Locked<Board<G>>: Shared,
+    Locked<TurnBoard<G>>: Shared,
     ensures { MatchResult result
         (λ c. IsSolution net.now c.blocks c.price c.pit c.flow)
         (λ unsolved. MachineStands net.now effort.steps unsolved) }
@@ -135,7 +135,7 @@ pub fn solution_of<G: OrderedGroup, R: Threads + Wait + Sync, T: Gate + Progress
     gate: &T,
 ) -> Result<Certificate<G>, Unsolved>
 where
-    Locked<Board<G>>: Shared,
+    Locked<TurnBoard<G>>: Shared,
     ensures { MatchResult result
         (λ c. IsSolution net.now c.blocks c.price c.pit c.flow)
         (λ unsolved. UnsolvedStands net.now effort.method effort.steps unsolved) }
