@@ -1,5 +1,5 @@
 use Rattle.std.proofs.Common.{◌≡◌, ◌<◌, ◌≤◌, IfSome}
-use Rattle.pseudoflow.proofs.recovery.cancel_at.Given as goal
+use Rattle.pseudoflow.proofs.recovery.cancel_at_children.Given as goal
 
 abbrev pub invariant-loop-next : goal.invariant-loop-next
 invariant-loop-next g l = record {

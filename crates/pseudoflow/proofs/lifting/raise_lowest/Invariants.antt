@@ -1,11 +1,12 @@
 use Rattle.std.proofs.Common.{◌≡◌, ◌≤◌}
-use Rattle.pseudoflow.proofs.search.Search.raise_unlabelled.Given as goal
+use Rattle.pseudoflow.proofs.lifting.raise_lowest.Given as goal
 
 abbrev pub invariant-loop-root : goal.invariant-loop-root
-invariant-loop-root g l = record {
-  same : l.self ≡ l.fn.self;
+invariant-loop-root l = record {
+  forest : l.forest ≡ l.fn.forest;
+  labels : l.labels ≡ l.fn.labels;
   spent : l.budget.left ≤ l.fn.budget.left;
 }
 
 abbrev pub decreases-loop-root : goal.decreases-loop-root
-decreases-loop-root g l = l.budget.left
+decreases-loop-root l = l.budget.left

@@ -1,5 +1,5 @@
 use Rattle.std.proofs.Common.{◌<◌, ◌≤◌}
-use Rattle.pseudoflow.proofs.forest.Forest.next_in_preorder.Given as goal
+use Rattle.pseudoflow.proofs.forest.Forest.next_beyond.Given as goal
 
 abbrev pub invariant-loop-parent : goal.invariant-loop-parent
 invariant-loop-parent l = record {
