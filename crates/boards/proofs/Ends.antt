@@ -1,18 +1,16 @@
 -- What turns leave of a board, and how they end its run.
-use Rattle.std.proofs.Common.{◌≡◌, ◌↔◌, ℕ, ◌<◌, ◌≤◌, ◌^◌, IsTrue, Bool, refl, sym, ap, subst, ◌∙◌, arith, inl, inr, true, false, Option, Some, None, ◌∷◌, [], ◌++◌}
-use Rattle.ordered_group.specs.Amount.{Amount, zero_amount}
+use Rattle.std.proofs.Common.{◌≡◌, ◌↔◌, ℕ, ◌≤◌, ◌^◌, IsTrue, Bool, refl, sym, ap, subst, ◌∙◌, arith, inl, inr, true, false, Option, ◌∷◌, [], ◌++◌}
+use Rattle.ordered_group.specs.Amount.{zero_amount}
 use Rattle.ordered_group.proofs.Order.{AtMost-same, Below-not}
 use Rattle.closure_net.specs.Network.{NetView, FlowView, IsNet}
-use Rattle.machine_law.specs.declared.events.Kind.{Kind}
-use Rattle.machine_law.specs.declared.events.Kind.TheVariants.{ReadExcess}
-use Rattle.machine_law.specs.States.{State, opening, IsQuiet}
-use Rattle.machine_law.specs.Steps.{next_event, ReadsNoZero, IsStateOfActiveRun}
+use Rattle.machine_law.specs.States.{opening, IsQuiet}
+use Rattle.machine_law.specs.Steps.{next_event, ReadsNoZero}
 use Rattle.machine_law.specs.Quiet.{IsFlowOf}
 use Rattle.machine_law.proofs.Quiet.{quiet_solves}
 use Rattle.machine_law.proofs.ActiveRuns.{active_more, excess_read_idle}
 use Rattle.async_step.specs.Answers.{Fits}
 use Rattle.boards.specs.Runs.{SomeNextLeaves, IsMadeByTurns}
-use Rattle.boards.specs.Boards.{BoardView, shown, blocks_of, IsBoard, IsTurnBoard, IsOpened, HasSettled}
+use Rattle.boards.specs.Boards.{BoardView, shown, IsBoard, IsTurnBoard, IsOpened, HasSettled}
 use Rattle.boards.specs.Turns.{IsPicked, IsDue, HasNoneDue, HasServed, Sticks, IsStepOf, IsEnd, IsTurn}
 use Rattle.boards.specs.Ends.{HasEnded, GoesOn}
 use Rattle.boards.specs.declared.turn.Turn.{Turn}

@@ -1,5 +1,5 @@
 use Rattle.std.proofs.Common.{subst}
-use Rattle.boards.specs.Boards.{BoardView, IsTurnBoard}
+use Rattle.boards.specs.Boards.{BoardView}
 use Rattle.boards.specs.Turns.{IsTurn}
 use Rattle.boards.proofs.Ends.{turned}
 use Rattle.boards.proofs.turn_board.TurnBoard.turn.Goals as goal
