@@ -1,6 +1,7 @@
 //! Reading the inputs of an engine, each whole and with its own fault.
 
-ghost use Rattle.std.specs.Prelude.{◌≡◌, ◌+◌, ◌-◌, ◌^◌, ◌<◌, ◌≤◌, ◌↔◌, ℕ, ◌⊎◌, length, IfSome, MatchResult, IsErrOf};
+ghost use Rattle.std.specs.Prelude.{◌≡◌, ◌+◌, ◌-◌, ◌^◌, ◌<◌, ◌≤◌, ◌↔◌, ℕ, ◌⊎◌, length, IfOk, IfSome, MatchResult, IsErrOf};
+ghost use Rattle.engines.specs.Limits.{IsWithinLimit};
 ghost use Rattle.engines.specs.Slopes.{ReadsBlocks, BlocksReadFails};
 ghost use Rattle.engines.specs.Inputs.{ReadsUpit, ListsPrec, ReadsPrec, UpitReadFails, PrecReadFails, TextReadFails};
 
@@ -52,6 +53,7 @@ pub fn upit_from<R: CountedRead>(alloc: Global, from: &mut R) -> Result<Upit, En
 
 // The values that a text gives to the blocks that it declares.
 fn upit_of(alloc: Global, text: &[u8]) -> Result<Upit, EngineFault>
+    requires { IsWithinLimit text.now }
     ensures read { MatchResult result (ReadsUpit text.now) (UpitReadFails text.now) }
     ensures no_device { ¬ IsErrOf result EngineFault.Device }
 {
@@ -107,6 +109,7 @@ pub fn rests_from<R: CountedRead>(alloc: Global, from: &mut R, n: u32) -> Result
 pub fn certificate_from<R: CountedRead>(alloc: Global, from: &mut R) -> Result<Vec<u8>, EngineFault>
     requires { R.failed from.old < 2 ^ 64 - 1 }
     ensures read { IfSome (R.remaining from.old) (λ text. MatchResult result (λ v. v.items ≡ text) (TextReadFails text)) }
+    ensures within { IfOk result (λ v. IsWithinLimit v.items) }
     ensures device { IsErrOf result EngineFault.Device ↔ (R.failed from.new ≡ R.failed from.old + 1) }
     ensures kept { ¬ IsErrOf result EngineFault.Device → R.failed from.new ≡ R.failed from.old }
 {
