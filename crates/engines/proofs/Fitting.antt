@@ -1,5 +1,5 @@
 -- Where there is a net of a mine, its worths fit.
-use Rattle.std.proofs.Common.{◌≡◌, ℕ, ◌<◌, ℤ, pos, List, length, map, get_or, sym, ap, ◌∙◌, subst, arith, inl, inr, FitsSigned}
+use Rattle.std.proofs.Common.{◌≡◌, ℕ, ◌<◌, ℤ, pos, List, length, map, sym, ap, ◌∙◌, subst, arith, inl, inr, FitsSigned}
 use Rattle.std.specs.Int.{w128}
 use Rattle.std.proofs.lemmas.Int.{ints}
 use Rattle.std.proofs.lemmas.List.{length-map, get_or-map}

@@ -1,5 +1,5 @@
 -- What reading each input of an engine gives, and when it answers a fault.
-use Rattle.std.specs.Prelude.{◌≡◌, ℕ, List, length, None}
+use Rattle.std.specs.Prelude.{◌≡◌, ◌⊎◌, ℕ, List, length, None}
 use Rattle.prec_file.specs.Rests.{RestsView, ArePairsOf}
 use Rattle.prec_file.specs.Records as prec
 use Rattle.upit_file.specs.Records as upit
@@ -8,6 +8,10 @@ use Rattle.engines.specs.declared.engine_faults.EngineFault.TheVariants as engin
 use Rattle.engines.specs.declared.engine_faults.CertificateProblem.TheVariants as certificate
 use Rattle.engines.specs.Limits.{IsTooLong, IsWithinLimit}
 use Rattle.engines.specs.Faults.{UpitFails, PrecFails, ValuesRead}
+
+-- why a text isn't read: for want of memory or by a failing device, or it is too long, which is told by a fault of its own
+abbrev pub TextFails : EngineFault → List ℕ → EngineFault → Type 0
+TextFails too_long text fault = (fault ≡ engine.Memory) ⊎ (fault ≡ engine.Device) ⊎ ((fault ≡ too_long) × IsTooLong text)
 
 -- the values are those of the text, for the blocks that it declares
 abbrev pub ReadsUpit : List ℕ → upit.UpitView → Type 0

@@ -85,7 +85,11 @@ fn judge_for<G: OrderedGroup>(
         Ok(accepted) => {
             let count = size_of(&accepted);
             let worth = worth_of(&accepted, count);
-            Ok(Judgement::Accepted(G::group(), count, worth))
+            Ok(Judgement::Accepted {
+                group: G::group(),
+                count,
+                worth,
+            })
         }
         Err(fault) => Ok(Judgement::Refused(fault)),
     }
