@@ -11,7 +11,7 @@ import sys
 import tempfile
 import time
 
-from check import PIT, adopt_orphans, run, table
+from common import PIT, adopt_orphans, run, table
 
 SIDE = 100
 

@@ -1,28 +1,30 @@
 #!/usr/bin/env python3
-"""Measures `pit solve`: a model of 1,060 blocks to its end, steps per second on one of 9,400 blocks, and by several workers.
+"""Measures the push-relabel machine of `pit solve`: a model of 1,060 blocks to its end, steps per second on one of 9,400
+blocks, and by several workers.
 
-    PEERS=FOLDER bench/solve.py [--unlocked PROGRAM]
+    bench/solve.py [--unlocked PROGRAM]
 
-PEERS is the folder of bench/README.md. The answer for the first model is compared with that of the peer's solver, a
-pseudoflow in C++. PROGRAM is a build of `pit` that makes the same steps on one thread without a lock: that of commit
-c157f2b. Its steps are timed beside those of one worker. This is a measurement and no test: it holds no time against a limit.
+The answer for the first model is compared with that of Boost's solver (bench/peers/boost_bk). PROGRAM is a build of `pit` that
+makes the same steps on one thread without a lock: that of commit c157f2b. Its steps are timed beside those of one worker. Whole
+runs beside a peer, at the sizes of real mines, are measured by bench/solve_peers.py. This is a measurement and no test: it
+holds no time against a limit.
 """
 import argparse
-import os
 import subprocess
 import sys
 import tempfile
 import time
 from pathlib import Path
 
-from check import PIT, adopt_orphans, run, table, verdict
+from common import PIT, adopt_orphans, files_of, model, peer, run, table
 
 LIMIT = 20_000_000
 PART = 10_000_000  # of the smaller model's steps, so that a run of any number of workers makes just so many
 
 
-def solve_words(prefix, steps, program=PIT):
-    return [str(program), "solve", "--prec", f"{prefix}.prec", "--upit", f"{prefix}.upit", "--steps", str(steps)]
+def solve_words(mine, steps, program=PIT):
+    """A limit of steps asks for the machine."""
+    return [str(program), "solve"] + files_of(mine) + ["--steps", str(steps)]
 
 
 def least(words, count, core, status):
@@ -33,25 +35,24 @@ def least(words, count, core, status):
     return min(runs, key=lambda r: r.cpu)
 
 
-def whole_run(peers, count, core):
-    prefix = peers / "data" / "newman"
-    own = least(solve_words(prefix, 1_000_000_000), count, core, 0)
+def whole_run(count, core):
+    mine = model("newman")
+    own = least(solve_words(mine, 1_000_000_000), count, core, 0)
     with tempfile.NamedTemporaryFile("w", suffix=".cert") as certificate:
         certificate.write(own.output + "\n")
         certificate.flush()
-        check = run([str(PIT), "check", "--prec", f"{prefix}.prec", "--upit", f"{prefix}.upit", certificate.name], core)
-    peer = run(["bin/own", "pff", "p128", "data/newman"], core)
-    found = verdict(check.output)
-    if found is None or f" pit={found[0]} worth={found[1]:.6f} " not in peer.output:
-        sys.exit(f"bench: newman: {check.output} and {peer.output}")
+        check = run([str(PIT), "check"] + files_of(mine) + [certificate.name], core)
+    other = least([peer("boost_bk"), mine.prec, mine.upit], count, core, 0)
+    if check.output != "ACCEPTED " + other.output:
+        sys.exit(f"bench: newman: {check.output} and {other.output}")
     table(["model", "blocks", "blocks of the pit", "pit s", "peer s", "pit peak MB"],
-          [["newman", "1,060", str(found[0]), f"{own.cpu:.2f}", f"{peer.cpu:.3f}", f"{own.peak:.1f}"]])
+          [["newman", "1,060", other.output.split()[0], f"{own.cpu:.2f}", f"{other.cpu:.3f}", f"{own.peak:.1f}"]])
 
 
-def steps_a_second(peers, count, core):
-    prefix = peers / "data" / "zuck"
-    reading = least(solve_words(prefix, 1), count, core, 1)
-    running = least(solve_words(prefix, LIMIT), count, core, 1)
+def steps_a_second(count, core):
+    mine = model("zuck")
+    reading = least(solve_words(mine, 1), count, core, 1)
+    running = least(solve_words(mine, LIMIT), count, core, 1)
     seconds = running.cpu - reading.cpu
     table(["model", "blocks", "steps", "s", "steps a second"],
           [["zuck", "9,400", f"{LIMIT:,}", f"{seconds:.2f}", f"{LIMIT / seconds:,.0f}"]])
@@ -65,14 +66,14 @@ def elapsed(words):
     return time.monotonic() - begun
 
 
-def steps_by_workers(peers, count, unlocked):
-    prefix = peers / "data" / "newman"
+def steps_by_workers(count, unlocked):
+    mine = model("newman")
     programs = [("no lock", unlocked, [])] if unlocked else []
     programs += [(f"{n} worker{'s' * (n > 1)}", PIT, ["--workers", str(n)]) for n in (1, 2, 4)]
     seconds = {name: [] for name, _, _ in programs}
     for _ in range(count):
         for name, program, more in programs:
-            run_of = [elapsed(solve_words(prefix, steps, program) + more) for steps in (PART, 1)]
+            run_of = [elapsed(solve_words(mine, steps, program) + more) for steps in (PART, 1)]
             seconds[name].append(run_of[0] - run_of[1])
     first = min(seconds[programs[0][0]])
     table(["run", "steps", "s passed", "steps a second", f"times {programs[0][0]}"],
@@ -86,17 +87,12 @@ def main():
     words.add_argument("--core", type=int, default=0, metavar="N")
     words.add_argument("--unlocked", type=Path, metavar="PROGRAM")
     given = words.parse_args()
-    unlocked = given.unlocked.resolve() if given.unlocked else None
-    if "PEERS" not in os.environ:
-        sys.exit("bench: PEERS must name a folder with the peer programs and models; see bench/README.md")
-    peers = Path(os.environ["PEERS"]).resolve()
-    os.chdir(peers)  # the peer's solver knows no other folder
     adopt_orphans()
-    whole_run(peers, given.rounds, given.core)
+    whole_run(given.rounds, given.core)
     print()
-    steps_a_second(peers, given.rounds, given.core)
+    steps_a_second(given.rounds, given.core)
     print()
-    steps_by_workers(peers, given.rounds, unlocked)
+    steps_by_workers(given.rounds, given.unlocked.resolve() if given.unlocked else None)
 
 
 if __name__ == "__main__":

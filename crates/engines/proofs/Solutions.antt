@@ -9,13 +9,12 @@ use Rattle.ordered_group.specs.declared.groups.Group.{Group}
 use Rattle.prec_file.specs.Rests.{RestsView}
 use Rattle.upit_file.specs.Records as upit
 use Rattle.closure_net.specs.Network.{NetView, FlowView, net_view, IsNet, FlowFits, holds_of}
-use Rattle.closure_net.specs.Reached.{IsReached}
 use Rattle.closure_net.specs.Mine.{IsNetOf}
 use Rattle.closure_net.specs.Faults.{WorthsFaultStands}
 use Rattle.closure_net.specs.declared.networks.NetFault.{NetFault}
 use Rattle.closure_net.specs.declared.networks.NetFault.TheVariants as net_fault
 use Rattle.workers.specs.Runs.{Settles}
-use Rattle.check_pit.specs.Checks.{IsOfNet, FaultStands}
+use Rattle.check_pit.specs.Checks.{FaultStands}
 use Rattle.check_pit.specs.Certificate.{Covers}
 use Rattle.check_pit.specs.ReadBack.{IsPrice, IsReadBack}
 use Rattle.check_pit.specs.Written.{header_with, text_of}
@@ -32,25 +31,29 @@ use Rattle.engines.specs.declared.engine_faults.EngineFault.TheVariants as engin
 use Rattle.engines.specs.Inputs.{ReadsUpit, ReadsPrec}
 use Rattle.engines.specs.Judging.{AreRead, IsGroupNamed, of_model}
 use Rattle.engines.specs.Mines.{mine_of, DenoteMine}
-use Rattle.engines.specs.Solving.{CheckLeaves, IsSolution, IsNoOf, IsCertificateOf, AnswersNet, SolvesNet, IsCertificate, IsNetBy, AnswersMine, Solves}
+use Rattle.engines.specs.Certifying.{IsSolution, IsRefusedFlow}
+use Rattle.engines.specs.declared.method.Method.{Method}
+use Rattle.engines.specs.Solving.{CheckLeaves, IsNoOf, IsCertificateOf, AnswersNet, SolvesNet, IsCertificate, IsNetBy, AnswersMine, Solves}
 use Rattle.engines.proofs.Answered.{read_both, keeps_self}
 use Rattle.engines.proofs.Judged.{HasRead, reads, net_made, worths_fail}
 use Rattle.engines.proofs.Lone.{header_alone}
 
 -- ---- the check of a run's pit
 
--- what the source reaches is refused for sums that don't fit, and nothing else
-pub check_leaves : (net : NetView) (limit : ℕ) (flow : FlowView) (steps : ℕ) (pit : List ℕ) (fault : PitFault) → Settles net limit flow steps → IsReached net flow (holds_of pit) → IsOfNet net pit → FaultStands net flow pit fault → CheckLeaves net limit
-check_leaves net limit flow steps pit fault settles reached of_net stands =
-    let e = refused_for_size_only net flow pit fault settles.solved.greatest.is_flow of_net (settles.solved.closed (holds_of pit) reached) (settles.solved.tight (holds_of pit) reached) stands in
+-- what the source reaches in the flow of a settled run is refused for sums that don't fit, and nothing else
+pub check_leaves : (net : NetView) (limit : ℕ) (flow : FlowView) (steps : ℕ) (fault : PitFault) → Settles net limit flow steps → FlowFits net flow → IsRefusedFlow net flow fault → CheckLeaves net limit
+check_leaves net limit flow steps fault settles fits refused =
+    let reached = refused.reached fits in
+    let of_net = refused.of_net fits in
+    let e = refused_for_size_only net flow refused.pit fault settles.solved.greatest.is_flow of_net (settles.solved.closed (holds_of refused.pit) reached) (settles.solved.tight (holds_of refused.pit) reached) refused.stands in
     record {
       flow = flow;
       steps = steps;
       settles = settles;
-      pit = pit;
+      pit = refused.pit;
       reached = reached;
       of_net = of_net;
-      stands = subst (λ (f : PitFault). FaultStands net flow pit f) e stands;
+      stands = subst (λ (f : PitFault). FaultStands net flow refused.pit f) e refused.stands;
     }
 
 -- ---- what is written
@@ -69,23 +72,23 @@ back_moved counts name n m ps qs text price pit flow e f g h =
     subst R g (subst Q f (subst P e h))
 
 -- what was to be written of a solution
-module _ (counts : Bool) (name : Group) (net : NetView) (limit blocks : ℕ) (price : Price) (pit : List ℕ) (flow : FlowView) (n : ℕ) (ps : List (ℕ × ℕ)) (s : IsSolution net blocks price pit flow) (e : n ≡ length net.worths) (f : ps ≡ net.pairs) where
+module _ (counts : Bool) (name : Group) (net : NetView) (method : Method) (limit blocks : ℕ) (price : Price) (pit : List ℕ) (flow : FlowView) (n : ℕ) (ps : List (ℕ × ℕ)) (s : IsSolution net blocks price pit flow) (e : n ≡ length net.worths) (f : ps ≡ net.pairs) where
   abbrev text : List ℕ
   text = text_of (header_with blocks price name) ps pit flow
 
-  pub certified : (old new : Option (List ℕ)) → (blocks ≡ n → IsPrice price → All (λ b. b < n) pit → IsReadBack counts name n ps text price pit flow) → Appends old new text → SolvesNet counts name net limit old new (Ok Done)
+  pub certified : (old new : Option (List ℕ)) → (blocks ≡ n → IsPrice price → All (λ b. b < n) pit → IsReadBack counts name n ps text price pit flow) → Appends old new text → SolvesNet counts name net method limit old new (Ok Done)
   certified old new back sent =
       let below : All (λ b. b < n) pit = subst (λ (k : ℕ). All (λ b. b < k) pit) (sym e) s.sound.of_net in
       let read = back_moved counts name n (length net.worths) ps net.pairs text price pit flow e f s.objective (back (s.same_blocks ∙ sym e) (price_is price s.objective) below) in
       (text, record { pit = pit; flow = flow; read = read; sound = s.sound }, sent)
 
-  pub cut_short : (old new : Option (List ℕ)) → ReceivedPrefix old new text → SolvesNet counts name net limit old new (Err engine.Device)
+  pub cut_short : (old new : Option (List ℕ)) → ReceivedPrefix old new text → SolvesNet counts name net method limit old new (Err engine.Device)
   cut_short old new prefix = (text, inl (record { pit = pit; flow = flow; sound = s.sound; spelled = λ i. text_of (header_with (s.same_blocks i) (s.objective i) name) (f i) pit flow }), prefix)
 
-pub said_no : (counts : Bool) (name : Group) (net : NetView) (limit : ℕ) (line : List ℕ) (old new : Option (List ℕ)) (r : Result Verdict EngineFault) → IsNoOf net limit line
-    → MatchResult r (λ v. (v ≡ No) × Appends old new line) (λ e. (e ≡ engine.Device) × ReceivedPrefix old new line) → SolvesNet counts name net limit old new r
-said_no counts name net limit line old new (Ok v) h a = subst (λ (w : Verdict). SolvesNet counts name net limit old new (Ok w)) (sym a.0) (line, h, a.1)
-said_no counts name net limit line old new (Err e) h a = subst (λ (w : EngineFault). SolvesNet counts name net limit old new (Err w)) (sym a.0) (line, inr h, a.1)
+pub said_no : (counts : Bool) (name : Group) (net : NetView) (method : Method) (limit : ℕ) (line : List ℕ) (old new : Option (List ℕ)) (r : Result Verdict EngineFault) → IsNoOf net method limit line
+    → MatchResult r (λ v. (v ≡ No) × Appends old new line) (λ e. (e ≡ engine.Device) × ReceivedPrefix old new line) → SolvesNet counts name net method limit old new r
+said_no counts name net method limit line old new (Ok v) h a = subst (λ (w : Verdict). SolvesNet counts name net method limit old new (Ok w)) (sym a.0) (line, h, a.1)
+said_no counts name net method limit line old new (Err e) h a = subst (λ (w : EngineFault). SolvesNet counts name net method limit old new (Err w)) (sym a.0) (line, inr h, a.1)
 
 -- ---- the mine of two texts
 
@@ -99,7 +102,7 @@ net_by block counts values precedence name read rests worths slice net a named i
     let B : (ℤ → ℕ → Amount) → Type 0 = λ b. IsNetOf b (mine_of (length net.worths) values precedence) net in
     record { mine = subst D size a.mine; is_net = is_net; of_mine = subst B (sym named.block_is) (subst M size (subst N (sym is) made)) }
 
-module _ (block : ℤ → ℕ → Amount) (counts : Bool) (values precedence : List ℕ) (name : Group) (net : NetView) (limit : ℕ) (named : IsGroupNamed name block counts) (by : IsNetBy values precedence name net) where
+module _ (block : ℤ → ℕ → Amount) (counts : Bool) (values precedence : List ℕ) (name : Group) (net : NetView) (method : Method) (limit : ℕ) (named : IsGroupNamed name block counts) (by : IsNetBy values precedence name net) where
   certificate_is : (text : List ℕ) → IsCertificateOf counts name net text → IsCertificate values precedence name text
   certificate_is text c =
       let B : (ℤ → ℕ → Amount) → Type 0 = λ b. IsNetOf b (mine_of (length net.worths) values precedence) net in
@@ -123,11 +126,11 @@ module _ (block : ℤ → ℕ → Amount) (counts : Bool) (values precedence : L
         proved = named.proves (mine_of (length net.worths) values precedence) net (holds_of c.pit) of_mine greatest;
       }
 
-  answers : (verdict : Verdict) (text : List ℕ) → AnswersNet counts name net limit verdict text → AnswersMine values precedence name limit verdict text
+  answers : (verdict : Verdict) (text : List ℕ) → AnswersNet counts name net method limit verdict text → AnswersMine values precedence name method limit verdict text
   answers Done written h = certificate_is written h
   answers No written h = (net, by, h)
 
-  pub solved : (old new : Option (List ℕ)) (result : Result Verdict EngineFault) → SolvesNet counts name net limit old new result → Solves values precedence name limit old new result
+  pub solved : (old new : Option (List ℕ)) (result : Result Verdict EngineFault) → SolvesNet counts name net method limit old new result → Solves values precedence name method limit old new result
   solved old new (Ok verdict) h = (h.0, answers verdict h.0 h.1, h.2)
   solved old new (Err (engine.Upit q)) h = absurd h
   solved old new (Err (engine.Prec q)) h = absurd h
@@ -141,13 +144,13 @@ module _ (block : ℤ → ℕ → Amount) (counts : Bool) (values precedence : L
   solved old new (Err engine.Device) h = (tt, inr (net, by, h.0, h.1, h.2))
 
 -- there is no net of the mine
-pub unmade : (block : ℤ → ℕ → Amount) (counts : Bool) (values precedence : List ℕ) (name : Group) (read : upit.UpitView) (rests : RestsView) (worths : List ℤ) (limit : ℕ) (w : Option (List ℕ)) (fault : NetFault) → AreRead values precedence read rests → IsGroupNamed name block counts → worths ≡ map (λ x. pos 1000 *ℤ x) read.values → WorthsFaultStands block rests.blocks worths fault → Solves values precedence name limit w w (Err (of_model fault))
-unmade block counts values precedence name read rests worths limit w net_fault.WrongLength a named e f = ((rests.blocks, a.mine, worths_fail name block counts values read rests.blocks worths net_fault.WrongLength a.denotes named e f), keeps_self w)
-unmade block counts values precedence name read rests worths limit w net_fault.TooLarge a named e f = ((rests.blocks, a.mine, worths_fail name block counts values read rests.blocks worths net_fault.TooLarge a.denotes named e f), keeps_self w)
-unmade block counts values precedence name read rests worths limit w net_fault.NoMemory a named e f = (tt, keeps_self w)
+pub unmade : (block : ℤ → ℕ → Amount) (counts : Bool) (values precedence : List ℕ) (name : Group) (read : upit.UpitView) (rests : RestsView) (worths : List ℤ) (method : Method) (limit : ℕ) (w : Option (List ℕ)) (fault : NetFault) → AreRead values precedence read rests → IsGroupNamed name block counts → worths ≡ map (λ x. pos 1000 *ℤ x) read.values → WorthsFaultStands block rests.blocks worths fault → Solves values precedence name method limit w w (Err (of_model fault))
+unmade block counts values precedence name read rests worths method limit w net_fault.WrongLength a named e f = ((rests.blocks, a.mine, worths_fail name block counts values read rests.blocks worths net_fault.WrongLength a.denotes named e f), keeps_self w)
+unmade block counts values precedence name read rests worths method limit w net_fault.TooLarge a named e f = ((rests.blocks, a.mine, worths_fail name block counts values read rests.blocks worths net_fault.TooLarge a.denotes named e f), keeps_self w)
+unmade block counts values precedence name read rests worths method limit w net_fault.NoMemory a named e f = (tt, keeps_self w)
 
 -- what holds of any two texts of what was read holds where the readers tell their bytes
-pub solve_answer : (o r old new : Option (List ℕ)) (values : upit.UpitView) (rests : RestsView) (n : ℕ) (name : Group) (limit : ℕ) (result : Result Verdict EngineFault) → n ≡ length values.values → IfSome o (λ u. ReadsUpit u values) → IfSome r (λ p. ReadsPrec n p rests) → ((u p : List ℕ) → AreRead u p values rests → Solves u p name limit old new result) → IfSome o (λ u. IfSome r (λ p. Solves u p name limit old new result))
-solve_answer None r old new values rests n name limit result e a b h = tt
-solve_answer (Some u) None old new values rests n name limit result e a b h = tt
-solve_answer (Some u) (Some p) old new values rests n name limit result e a b h = h u p (read_both u p values rests n e a b)
+pub solve_answer : (o r old new : Option (List ℕ)) (values : upit.UpitView) (rests : RestsView) (n : ℕ) (name : Group) (method : Method) (limit : ℕ) (result : Result Verdict EngineFault) → n ≡ length values.values → IfSome o (λ u. ReadsUpit u values) → IfSome r (λ p. ReadsPrec n p rests) → ((u p : List ℕ) → AreRead u p values rests → Solves u p name method limit old new result) → IfSome o (λ u. IfSome r (λ p. Solves u p name method limit old new result))
+solve_answer None r old new values rests n name method limit result e a b h = tt
+solve_answer (Some u) None old new values rests n name method limit result e a b h = tt
+solve_answer (Some u) (Some p) old new values rests n name method limit result e a b h = h u p (read_both u p values rests n e a b)

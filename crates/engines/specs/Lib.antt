@@ -13,3 +13,5 @@ pub mod Slopes
 pub mod PatternWords
 pub mod Solving
 pub mod SolveWords
+pub mod Certifying
+pub mod Methods

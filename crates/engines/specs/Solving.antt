@@ -13,7 +13,6 @@ use Rattle.check_pit.specs.Checks.{IsOfNet, IsSound, FaultStands}
 use Rattle.check_pit.specs.ReadBack.{IsReadBack}
 use Rattle.check_pit.specs.Written.{header_with, text_of}
 use Rattle.check_pit.specs.declared.faults.PitFault.TheVariants as pit_fault
-use Rattle.check_pit.specs.declared.headers.Price.{Price}
 use Rattle.check_pit.specs.declared.headers.Price.TheVariants.{Objective}
 use Rattle.engines.specs.declared.judgements.Judgement.TheVariants.{Refused}
 use Rattle.engines.specs.declared.judgements.Verdict.{Verdict}
@@ -21,7 +20,9 @@ use Rattle.engines.specs.declared.judgements.Verdict.TheVariants.{Done, No}
 use Rattle.engines.specs.declared.engine_faults.EngineFault.{EngineFault}
 use Rattle.engines.specs.declared.engine_faults.EngineFault.TheVariants as engine
 use Rattle.engines.specs.declared.solving.Unsolved.{Unsolved}
-use Rattle.engines.specs.declared.solving.Unsolved.TheVariants.{Unsettled, TooLarge, NoMemory, NoThread, Stranger}
+use Rattle.engines.specs.declared.solving.Unsolved.TheVariants.{Unsettled, TooLarge, GaveUp, NoMemory, NoThread, Stranger}
+use Rattle.engines.specs.declared.method.Method.{Method}
+use Rattle.engines.specs.declared.method.Method.TheVariants.{Pseudoflow}
 use Rattle.engines.specs.Faults.{UpitFails, PrecFails, ModelFails, ValuesRead}
 use Rattle.engines.specs.Mines.{mine_of, DenoteMine}
 use Rattle.engines.specs.OutputLines.{judgement_line}
@@ -43,19 +44,19 @@ pub record CheckLeaves (net : NetView) (limit : ℕ) : Type 0 where
 abbrev pub SomeNumberLeaves : NetView → ℕ → Type 0
 SomeNumberLeaves net limit = SomeStepLeaves net ⊎ CheckLeaves net limit
 
--- a certificate for the net at the objective, whose flow proves its pit
-pub record IsSolution (net : NetView) (blocks : ℕ) (price : Price) (pit : List ℕ) (flow : FlowView) : Type 0 where
-  pub same_blocks : blocks ≡ length net.worths
-  pub objective : price ≡ Objective
-  pub sound : IsSound net flow pit
+-- why the machine's run gives none
+abbrev pub MachineStands : NetView → ℕ → Unsolved → Type 0
+MachineStands net limit Unsettled = IsCutOff net limit
+MachineStands net limit TooLarge = SomeNumberLeaves net limit
+MachineStands net limit GaveUp = ⊥
+MachineStands net limit NoMemory = Unit {0}
+MachineStands net limit NoThread = Unit {0}
+MachineStands net limit Stranger = Unit {0}
 
--- why there is none
-abbrev pub UnsolvedStands : NetView → ℕ → Unsolved → Type 0
-UnsolvedStands net limit Unsettled = IsCutOff net limit
-UnsolvedStands net limit TooLarge = SomeNumberLeaves net limit
-UnsolvedStands net limit NoMemory = Unit {0}
-UnsolvedStands net limit NoThread = Unit {0}
-UnsolvedStands net limit Stranger = Unit {0}
+-- why there is none: pseudoflow gives up only where it alone was asked for, and then nothing is said of the net
+abbrev pub UnsolvedStands : NetView → Method → ℕ → Unsolved → Type 0
+UnsolvedStands net method limit GaveUp = method ≡ Pseudoflow
+UnsolvedStands net method limit unsolved = MachineStands net limit unsolved
 
 -- what a fault of a run means; the number of workers is always right
 abbrev pub unsolved_by : SolveFault → Unsolved
@@ -80,14 +81,14 @@ unsettled_line = codes "UNSETTLED" ++ 10 ∷ []
 abbrev pub too_large_line : List ℕ
 too_large_line = judgement_line (Refused pit_fault.TooLarge)
 
--- such a line, and why it is answered
-abbrev pub IsNoOf : NetView → ℕ → List ℕ → Type 0
-IsNoOf net limit text = (IsCutOff net limit × (text ≡ unsettled_line)) ⊎ (SomeNumberLeaves net limit × (text ≡ too_large_line))
+-- such a line, and why it is answered: but for pseudoflow alone, which may give up on any net, it is by the machine's run
+abbrev pub IsNoOf : NetView → Method → ℕ → List ℕ → Type 0
+IsNoOf net method limit text = ((method ≡ Pseudoflow) × (text ≡ unsettled_line)) ⊎ (IsCutOff net limit × (text ≡ unsettled_line)) ⊎ (SomeNumberLeaves net limit × (text ≡ too_large_line))
 
 -- the text that answers for a net
-abbrev pub AnswersNet : Bool → Group → NetView → ℕ → Verdict → List ℕ → Type 0
-AnswersNet counts name net limit Done text = IsCertificateOf counts name net text
-AnswersNet counts name net limit No text = IsNoOf net limit text
+abbrev pub AnswersNet : Bool → Group → NetView → Method → ℕ → Verdict → List ℕ → Type 0
+AnswersNet counts name net method limit Done text = IsCertificateOf counts name net text
+AnswersNet counts name net method limit No text = IsNoOf net method limit text
 
 -- the text of a pit and a flow of the net, in which the flow proves the pit
 pub record IsTextOf (name : Group) (net : NetView) (text : List ℕ) : Type 0 where
@@ -97,17 +98,17 @@ pub record IsTextOf (name : Group) (net : NetView) (text : List ℕ) : Type 0 wh
   pub spelled : text ≡ text_of (header_with (length net.worths) Objective name) net.pairs pit flow
 
 -- a text that was to be written for a net
-abbrev pub IsDueFor : Group → NetView → ℕ → List ℕ → Type 0
-IsDueFor name net limit text = IsTextOf name net text ⊎ IsNoOf net limit text
+abbrev pub IsDueFor : Group → NetView → Method → ℕ → List ℕ → Type 0
+IsDueFor name net method limit text = IsTextOf name net text ⊎ IsNoOf net method limit text
 
 -- what is written with it: all of it, or nothing where memory or a thread is wanted, or a front of it where a device fails
-abbrev pub SolvesNet : Bool → Group → NetView → ℕ → Option (List ℕ) → Option (List ℕ) → Result Verdict EngineFault → Type 0
-SolvesNet counts name net limit old new (Ok verdict) = (text : List ℕ) × AnswersNet counts name net limit verdict text × Appends old new text
-SolvesNet counts name net limit old new (Err engine.Memory) = Keeps old new
-SolvesNet counts name net limit old new (Err engine.Thread) = Keeps old new
-SolvesNet counts name net limit old new (Err engine.Stranger) = Keeps old new
-SolvesNet counts name net limit old new (Err engine.Device) = (text : List ℕ) × IsDueFor name net limit text × ReceivedPrefix old new text
-SolvesNet counts name net limit old new (Err _) = ⊥
+abbrev pub SolvesNet : Bool → Group → NetView → Method → ℕ → Option (List ℕ) → Option (List ℕ) → Result Verdict EngineFault → Type 0
+SolvesNet counts name net method limit old new (Ok verdict) = (text : List ℕ) × AnswersNet counts name net method limit verdict text × Appends old new text
+SolvesNet counts name net method limit old new (Err engine.Memory) = Keeps old new
+SolvesNet counts name net method limit old new (Err engine.Thread) = Keeps old new
+SolvesNet counts name net method limit old new (Err engine.Stranger) = Keeps old new
+SolvesNet counts name net method limit old new (Err engine.Device) = (text : List ℕ) × IsDueFor name net method limit text × ReceivedPrefix old new text
+SolvesNet counts name net method limit old new (Err _) = ⊥
 
 -- ---- two texts
 
@@ -125,9 +126,9 @@ pub record IsNetBy (values precedence : List ℕ) (name : Group) (net : NetView)
   pub of_mine : IsNetOf (block_by name) (mine_of (length net.worths) values precedence) net
 
 -- the text that answers for two texts
-abbrev pub AnswersMine : List ℕ → List ℕ → Group → ℕ → Verdict → List ℕ → Type 0
-AnswersMine values precedence name limit Done text = IsCertificate values precedence name text
-AnswersMine values precedence name limit No text = (net : NetView) × IsNetBy values precedence name net × IsNoOf net limit text
+abbrev pub AnswersMine : List ℕ → List ℕ → Group → Method → ℕ → Verdict → List ℕ → Type 0
+AnswersMine values precedence name method limit Done text = IsCertificate values precedence name text
+AnswersMine values precedence name method limit No text = (net : NetView) × IsNetBy values precedence name net × IsNoOf net method limit text
 
 -- Why the engine answers a fault: it stands, and none before it does. Want of memory, of a thread, a failing device and a board that
 -- comes back as another's say nothing of the texts.
@@ -142,15 +143,15 @@ SolveFails values precedence name engine.Device = Unit {0}
 SolveFails values precedence name _ = ⊥
 
 -- nothing was written, or a front of an answer
-abbrev pub WritesSolveFront : List ℕ → List ℕ → Group → ℕ → Option (List ℕ) → Option (List ℕ) → Type 0
-WritesSolveFront values precedence name limit old new = Keeps old new ⊎ ((net : NetView) × IsNetBy values precedence name net × (text : List ℕ) × IsDueFor name net limit text × ReceivedPrefix old new text)
+abbrev pub WritesSolveFront : List ℕ → List ℕ → Group → Method → ℕ → Option (List ℕ) → Option (List ℕ) → Type 0
+WritesSolveFront values precedence name method limit old new = Keeps old new ⊎ ((net : NetView) × IsNetBy values precedence name net × (text : List ℕ) × IsDueFor name net method limit text × ReceivedPrefix old new text)
 
 -- what is in the writer at a fault: what was there before, unless a device failed
-abbrev pub SolveAtFault : List ℕ → List ℕ → Group → ℕ → Option (List ℕ) → Option (List ℕ) → EngineFault → Type 0
-SolveAtFault values precedence name limit old new engine.Device = WritesSolveFront values precedence name limit old new
-SolveAtFault values precedence name limit old new _ = Keeps old new
+abbrev pub SolveAtFault : List ℕ → List ℕ → Group → Method → ℕ → Option (List ℕ) → Option (List ℕ) → EngineFault → Type 0
+SolveAtFault values precedence name method limit old new engine.Device = WritesSolveFront values precedence name method limit old new
+SolveAtFault values precedence name method limit old new _ = Keeps old new
 
 -- the answer, and what was written with it
-abbrev pub Solves : List ℕ → List ℕ → Group → ℕ → Option (List ℕ) → Option (List ℕ) → Result Verdict EngineFault → Type 0
-Solves values precedence name limit old new (Ok verdict) = (text : List ℕ) × AnswersMine values precedence name limit verdict text × Appends old new text
-Solves values precedence name limit old new (Err fault) = SolveFails values precedence name fault × SolveAtFault values precedence name limit old new fault
+abbrev pub Solves : List ℕ → List ℕ → Group → Method → ℕ → Option (List ℕ) → Option (List ℕ) → Result Verdict EngineFault → Type 0
+Solves values precedence name method limit old new (Ok verdict) = (text : List ℕ) × AnswersMine values precedence name method limit verdict text × Appends old new text
+Solves values precedence name method limit old new (Err fault) = SolveFails values precedence name fault × SolveAtFault values precedence name method limit old new fault

@@ -1,10 +1,15 @@
-//! How much a run may use.
+//! How a mine is solved, and how much that may use.
 
 ghost use Rattle.std.specs.Prelude.{◌≡◌, ℕ, ◌≤◌, ◌^◌};
 
-/// The threads of a run, and the most steps that they make together.
+use crate::method::Method;
+
+/// The engine that makes the flow, the threads of the machine's run and the most steps that they make together,
+/// which are the most turns of pseudoflow too.
 #[derive(Clone, Copy)]
 pub struct Effort {
+    /// The engine.
+    pub method: Method,
     /// The threads.
     pub workers: u32,
     /// The most steps.
@@ -14,13 +19,18 @@ pub struct Effort {
 }
 
 impl Effort {
-    /// So many workers, from 1 to 64, and so many steps.
-    pub fn new(workers: u32, steps: u64) -> Effort
+    /// This method, with `workers` threads, from 1 to 64, and at most `steps` steps.
+    pub fn new(method: Method, workers: u32, steps: u64) -> Effort
         requires some { 1 ≤ workers }
         requires few { workers ≤ 64 }
+        ensures method { result.method ≡ method }
         ensures workers { result.workers ≡ workers }
         ensures steps { result.steps ≡ steps }
     {
-        Effort { workers, steps }
+        Effort {
+            method,
+            workers,
+            steps,
+        }
     }
 }

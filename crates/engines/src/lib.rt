@@ -7,6 +7,7 @@
 //! opens the files that the words name, and hands them on.
 #![tactic(auto)]
 
+mod certify;
 mod checks;
 mod efforts;
 mod engine_faults;
@@ -14,6 +15,7 @@ mod fault_lines;
 mod inputs;
 mod judgements;
 mod judging;
+mod method;
 mod pattern_choice;
 mod pattern_words;
 mod slope_pairs;
@@ -22,6 +24,7 @@ mod solve_words;
 mod solves;
 mod solving;
 mod stored_run;
+mod unwatched;
 mod verdict_lines;
 
 pub use checks::check_engine;
@@ -29,13 +32,17 @@ pub use efforts::Effort;
 pub use engine_faults::{CertificateProblem, EngineFault, Problem, SlopeProblem};
 pub use fault_lines::{status, write_fault};
 pub use judgements::Verdict;
+pub use method::{Method, method_named};
 pub use pattern_choice::PatternChoice;
 pub use pattern_words::{pattern_named, up_named};
 pub use slopes::slopes_engine;
 pub use solve_words::{group_named, steps_named, workers_named};
 pub use solves::solve_engine;
 pub use stored_run::stored_check;
+pub use unwatched::Unwatched;
 
+#[cfg(test)]
+mod nets_tests;
 #[cfg(test)]
 mod slopes_tests;
 #[cfg(test)]

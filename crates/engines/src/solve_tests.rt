@@ -3,19 +3,100 @@
 use crate::efforts::Effort;
 use crate::engine_faults::{EngineFault, Problem};
 use crate::judgements::Verdict;
+use crate::method::{Method, method_named};
 use crate::solve_words::{group_named, steps_named, workers_named};
 use crate::solves::solve_engine;
+use crate::unwatched::Unwatched;
 use fixed_worth::Counted;
 use ordered_group::Group;
 use prec_file::PrecFault;
+use pseudoflow::Progress;
 use std::sync::Wait;
+use std::sync::atomic::{AtomicU64, Ordering};
 use std::thread::Threads;
 use upit_file::UpitFault;
-use workers::OpenGate;
+use workers::Gate;
 
 const TWO: &[u8] = b"NBLOCKS: 2\nOBJECTIVE_FUNCTION:\n0 10\n1 -10\n";
 
 const ONE: &[u8] = b"NBLOCKS: 1\nOBJECTIVE_FUNCTION:\n0 5\n";
+
+// Counts the turns of the first two workers, and the reports of pseudoflow.
+#[derive(Drop)]
+struct Watch {
+    turns: [AtomicU64; 2],
+    reports: AtomicU64,
+}
+
+impl Watch {
+    fn new() -> Watch {
+        Watch {
+            turns: [AtomicU64::new(0), AtomicU64::new(0)],
+            reports: AtomicU64::new(0),
+        }
+    }
+
+    // Whether the first worker, the second and pseudoflow were at work.
+    fn seen(&self) -> (bool, bool, bool) {
+        let [first, second] = &self.turns;
+        let is_some = |count: &AtomicU64| count.load(Ordering::SeqCst) > 0;
+        (is_some(first), is_some(second), is_some(&self.reports))
+    }
+}
+
+impl Gate for Watch {
+    fn turn(&self, worker: u32, _turn: u64) {
+        let [first, second] = &self.turns;
+        let count = if worker == 0 { first } else { second };
+        let _ = count.fetch_add(1, Ordering::SeqCst);
+    }
+}
+
+impl Progress for Watch {
+    fn report(&self, _settled: u32, _blocks: u32) {
+        let _ = self.reports.fetch_add(1, Ordering::SeqCst);
+    }
+}
+
+// What the engine answers for a mine of three blocks, and who was at work.
+fn watched<R: AllocGlobal + Threads + Wait + Sync>(
+    rt: &R,
+    effort: Effort,
+) -> (Result<Verdict, EngineFault>, (bool, bool, bool)) {
+    let alloc = rt.alloc();
+    let watch = Watch::new();
+    let answer = solve_engine(
+        rt,
+        alloc,
+        &mut Counted::new(TWO),
+        &mut Counted::new(b"0 1 1\n".as_slice()),
+        Group::Pair,
+        effort,
+        &watch,
+        &mut Counted::new(Vec::new(alloc)),
+    );
+    (answer, watch.seen())
+}
+
+#[test]
+fn the_effort_and_the_gate_are_handed_on(rt: HostRuntime) {
+    let rows = [
+        (
+            Effort::new(Method::PushRelabel, 2, 1_000),
+            (true, true, false),
+        ),
+        (Effort::new(Method::Auto, 1, 1_000), (true, false, false)),
+        (
+            Effort::new(Method::Pseudoflow, 1, 1_000),
+            (false, false, true),
+        ),
+    ];
+    for (effort, seen) in rows {
+        let (answer, who) = watched(&rt, effort);
+        assert!(rt; answer == Ok(Verdict::Done));
+        assert!(rt; who == seen);
+    }
+}
 
 // What the engine answers, and what it writes.
 fn solved<R: AllocGlobal + Threads + Wait + Sync>(
@@ -33,8 +114,8 @@ fn solved<R: AllocGlobal + Threads + Wait + Sync>(
         &mut Counted::new(upit),
         &mut Counted::new(prec),
         group,
-        Effort::new(1, steps),
-        &OpenGate,
+        Effort::new(Method::PushRelabel, 1, steps),
+        &Unwatched,
         &mut out,
     );
     (answer, out.into_inner())
@@ -163,5 +244,18 @@ fn words_of_workers(rt: HostRuntime) {
     ];
     for (word, workers) in rows {
         assert_eq!(rt; workers_named(word), workers);
+    }
+}
+
+#[test]
+fn words_of_methods(rt: HostRuntime) {
+    let rows: [(&[u8], Option<Method>); 4] = [
+        (b"auto", Some(Method::Auto)),
+        (b"pseudoflow", Some(Method::Pseudoflow)),
+        (b"push-relabel", Some(Method::PushRelabel)),
+        (b"push_relabel", None),
+    ];
+    for (word, method) in rows {
+        assert_eq!(rt; method_named(word), method);
     }
 }

@@ -14,6 +14,7 @@ use closure_net::{Net, laws};
 use fixed_worth::{CountedRead, CountedWrite};
 use ordered_group::{Group, OrderedGroup, Worth, WorthSize};
 use prec_file::Rests;
+use pseudoflow::Progress;
 use std::alloc::Global;
 use std::sync::Wait;
 use std::thread::Threads;
@@ -22,12 +23,16 @@ use workers::{Board, Gate, Locked, Shared};
 
 /// Finds the best pit of the mine of two texts, and writes its certificate.
 ///
-/// `Done` where it wrote a certificate, which a check has accepted: its pit holds every block that a
-/// block of it rests on, and no such pit is worth more; and with `Group::Pair` every other that is
-/// worth the same has more blocks (Picard 1976). `No` where it wrote `UNSETTLED`, since a run of
-/// the effort's steps wasn't enough, or `REFUSED TooLarge`, since a number of the run or of the check
-/// doesn't fit. The inputs are read in the order of the arguments, each to its end, and nothing is
-/// written before the answer is known. Each worker of the run passes the gate before each of its turns.
+/// `Done` where it wrote a certificate, which a check has accepted: with each block its pit holds all predecessors, and
+/// no such pit is worth more; and with `Group::Pair` every other that is worth the same has more blocks (Picard 1976).
+/// That rests on the check alone, whatever engine the effort's method chose.
+///
+/// `No` where it wrote `UNSETTLED`, since the machine's run needs more than the effort's steps, or `REFUSED TooLarge`,
+/// since a number of the run or of the check of its flow doesn't fit. With `Method::Pseudoflow` it writes `UNSETTLED`
+/// where pseudoflow gives no flow that a check accepts, which says nothing of the mine.
+///
+/// The inputs are read in the order of the arguments, each to its end, and nothing is written before the answer is
+/// known. Each worker of the machine passes the gate before each of its turns, and pseudoflow reports to it how far it is.
 ///
 /// # Errors
 /// In this order: `Upit` and `Prec` for a fault of these texts; `Model` where the net's amounts don't
@@ -40,7 +45,7 @@ pub fn solve_engine<
     R: Threads + Wait + Sync,
     U: CountedRead,
     P: CountedRead,
-    T: Gate,
+    T: Gate + Progress,
     W: CountedWrite,
 >(
     rt: &R,
@@ -58,7 +63,7 @@ pub fn solve_engine<
 
     // What it answers and writes, where the readers tell their bytes.
     ensures answer { IfSome (U.remaining upit.old) (λ u. IfSome (P.remaining prec.old) (λ p.
-        Solves u p group effort.steps (W.contents out.old) (W.contents out.new) result)) }
+        Solves u p group effort.method effort.steps (W.contents out.old) (W.contents out.new) result)) }
 
     // A device is named exactly where one failed.
     ensures device { IsErrOf result EngineFault.Device → U.failed upit.new + P.failed prec.new + W.failed out.new ≡ U.failed upit.old + P.failed prec.old + W.failed out.old + 1 }
@@ -70,7 +75,7 @@ pub fn solve_engine<
 }
 
 // The same, where the mine is read.
-fn solve_mine<R: Threads + Wait + Sync, T: Gate, W: CountedWrite>(
+fn solve_mine<R: Threads + Wait + Sync, T: Gate + Progress, W: CountedWrite>(
     rt: &R,
     alloc: Global,
     upit: &Upit,
@@ -81,7 +86,7 @@ fn solve_mine<R: Threads + Wait + Sync, T: Gate, W: CountedWrite>(
     out: &mut W,
 ) -> Result<Verdict, EngineFault>
     requires { W.failed out.old < 2 ^ 64 - 1 }
-    ensures answer { (values precedence : List ℕ) → AreRead values precedence upit.now rests → Solves values precedence group effort.steps (W.contents out.old) (W.contents out.new) result }
+    ensures answer { (values precedence : List ℕ) → AreRead values precedence upit.now rests → Solves values precedence group effort.method effort.steps (W.contents out.old) (W.contents out.new) result }
     ensures device { IsErrOf result EngineFault.Device ↔ (W.failed out.new ≡ W.failed out.old + 1) }
     ensures kept { ¬ IsErrOf result EngineFault.Device → W.failed out.new ≡ W.failed out.old }
 {
@@ -94,7 +99,7 @@ fn solve_mine<R: Threads + Wait + Sync, T: Gate, W: CountedWrite>(
 }
 
 // The same, in amounts of the group G.
-fn solve_by<G: OrderedGroup, R: Threads + Wait + Sync, T: Gate, W: CountedWrite>(
+fn solve_by<G: OrderedGroup, R: Threads + Wait + Sync, T: Gate + Progress, W: CountedWrite>(
     rt: &R,
     alloc: Global,
     upit: &Upit,
@@ -107,7 +112,7 @@ where
     Locked<Board<G>>: Shared,
     requires { W.failed out.old < 2 ^ 64 - 1 }
     ensures answer { (values precedence : List ℕ) → AreRead values precedence upit.now rests → IsGroupNamed G.name G.block_parts G.counts
-        → Solves values precedence G.name effort.steps (W.contents out.old) (W.contents out.new) result }
+        → Solves values precedence G.name effort.method effort.steps (W.contents out.old) (W.contents out.new) result }
     ensures device { IsErrOf result EngineFault.Device ↔ (W.failed out.new ≡ W.failed out.old + 1) }
     ensures kept { ¬ IsErrOf result EngineFault.Device → W.failed out.new ≡ W.failed out.old }
 {

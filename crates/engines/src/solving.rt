@@ -1,18 +1,22 @@
-//! Solving a net: a run, the blocks that the source reaches in what it leaves, and their check.
+//! Solving a net: an engine makes a flow, a check decides, and the certificate or a refusal is written.
 
-ghost use Rattle.std.specs.Prelude.{◌≡◌, ◌+◌, ◌-◌, ◌^◌, ◌<◌, ◌↔◌, MatchResult, OnOk, IfErr, Ok, Err, IsErrOf};
+ghost use Rattle.std.specs.Prelude.{◌≡◌, ◌+◌, ◌-◌, ◌^◌, ◌<◌, ◌↔◌, IfSome, MatchResult, OnOk, IfErr, IfOk, Ok, Err, IsErrOf};
 ghost use Rattle.std.specs.Io.KnownBytes.{Appends};
 ghost use Rattle.fixed_worth.specs.Device.{ReceivedPrefix};
-ghost use Rattle.engines.specs.Solving.{IsSolution, UnsolvedStands, SolvesNet, unsolved_by};
+ghost use Rattle.engines.specs.Certifying.{IsSolution};
+ghost use Rattle.engines.specs.Solving.{UnsolvedStands, MachineStands, SolvesNet, unsolved_by};
 
+use crate::certify::{Uncertified, certified};
 use crate::efforts::Effort;
 use crate::engine_faults::EngineFault;
 use crate::judgements::Verdict;
-use check_pit::{Certificate, Price, check, laws, write_certificate};
-use closure_net::{Net, pit_of};
+use crate::method::Method;
+use check_pit::{Certificate, laws, write_certificate};
+use closure_net::Net;
 use fixed_worth::{CountedWrite, WriteFault, write_text};
 use ordered_group::OrderedGroup;
-use std::alloc::Global;
+use pseudoflow::{Progress, PseudoflowFault};
+use std::alloc::{AllocError, Global};
 use std::sync::Wait;
 use std::thread::Threads;
 use workers::{Board, Gate, Locked, Shared, SolveFault, solve};
@@ -20,10 +24,12 @@ use workers::{Board, Gate, Locked, Shared, SolveFault, solve};
 /// Why there is no certificate of a net.
 #[derive(Clone, Copy, Debug, PartialEq, Eq)]
 pub enum Unsolved {
-    /// The run made all its steps and some block isn't done.
+    /// The machine's run made all its steps and some block isn't done.
     Unsettled,
-    /// A number of a step or of the check doesn't fit.
+    /// A number of a step of the machine's run, or of the check of its flow, doesn't fit.
     TooLarge,
+    /// Pseudoflow alone was asked for, and gave no flow that a check accepts.
+    GaveUp,
     /// Memory was refused.
     NoMemory,
     /// A worker couldn't be started.
@@ -45,8 +51,29 @@ fn unsolved_by(fault: SolveFault) -> Unsolved
     }
 }
 
-/// The certificate that a run gives, once a check accepts it.
-pub fn solution_of<G: OrderedGroup, R: Threads + Wait + Sync, T: Gate>(
+/// The certificate that pseudoflow's flow gives. None where it gives no flow, or one that the check refuses.
+pub fn by_pseudoflow<G: OrderedGroup, P: Progress>(
+    alloc: Global,
+    net: &Net<G>,
+    turns: u64,
+    progress: &P,
+) -> Result<Option<Certificate<G>>, AllocError>
+    ensures { IfOk result (λ found. IfSome found (λ c. IsSolution net.now c.blocks c.price c.pit c.flow)) }
+{
+    let flow = match pseudoflow::solve(alloc, net, turns, progress) {
+        Ok(flow) => flow,
+        Err(PseudoflowFault::NoMemory) => return Err(AllocError),
+        Err(_) => return Ok(None),
+    };
+    match certified(alloc, net, flow) {
+        Ok(certificate) => Ok(Some(certificate)),
+        Err(Uncertified::NoMemory) => Err(AllocError),
+        Err(Uncertified::Refused(_)) => Ok(None),
+    }
+}
+
+/// The certificate that a run of the push-relabel machine gives.
+pub fn by_machine<G: OrderedGroup, R: Threads + Wait + Sync, T: Gate>(
     rt: &R,
     alloc: Global,
     net: &Net<G>,
@@ -57,33 +84,75 @@ where
     Locked<Board<G>>: Shared,
     ensures { MatchResult result
         (λ c. IsSolution net.now c.blocks c.price c.pit c.flow)
-        (λ unsolved. UnsolvedStands net.now effort.steps unsolved) }
+        (λ unsolved. MachineStands net.now effort.steps unsolved) }
 {
     laws::tight_closed_pit_is_refused_for_size_only();
-    let blocks = net.len();
     let flow = match solve(rt, alloc, net, effort.workers, effort.steps, gate) {
         Ok(solved) => solved.flow,
         Err(fault) => return Err(unsolved_by(fault)),
     };
-    let pit = match pit_of(alloc, net, &flow) {
-        Ok(pit) => pit,
-        Err(_) => return Err(Unsolved::NoMemory),
-    };
-    match check(net, &pit, &flow) {
-        Ok(_) => {}
-        // what the source reaches in a greatest flow is closed and tight
-        Err(_) => return Err(Unsolved::TooLarge),
+    match certified(alloc, net, flow) {
+        Ok(certificate) => Ok(certificate),
+        Err(Uncertified::NoMemory) => Err(Unsolved::NoMemory),
+        // what the source reaches in a greatest flow is closed and tight, so only sums that overflow are left
+        Err(Uncertified::Refused(_)) => Err(Unsolved::TooLarge),
     }
-    Ok(Certificate {
-        blocks,
-        price: Price::Objective,
-        pit,
-        flow,
-    })
+}
+
+// The same, and under `Auto` pseudoflow's where a number of the run doesn't fit: the counts of blocks in the machine's
+// amounts grow from push to push, also on small mines.
+fn by_machine_first<G: OrderedGroup, R: Threads + Wait + Sync, T: Gate + Progress>(
+    rt: &R,
+    alloc: Global,
+    net: &Net<G>,
+    effort: Effort,
+    gate: &T,
+) -> Result<Certificate<G>, Unsolved>
+where
+    Locked<Board<G>>: Shared,
+    ensures { MatchResult result
+        (λ c. IsSolution net.now c.blocks c.price c.pit c.flow)
+        (λ unsolved. MachineStands net.now effort.steps unsolved) }
+{
+    match by_machine(rt, alloc, net, effort, gate) {
+        Err(Unsolved::TooLarge) if effort.method == Method::Auto => {
+            match by_pseudoflow(alloc, net, effort.steps, gate) {
+                Ok(Some(certificate)) => Ok(certificate),
+                Ok(None) => Err(Unsolved::TooLarge),
+                Err(_) => Err(Unsolved::NoMemory),
+            }
+        }
+        answer => answer,
+    }
+}
+
+/// The certificate of a net, made by the effort's method.
+pub fn solution_of<G: OrderedGroup, R: Threads + Wait + Sync, T: Gate + Progress>(
+    rt: &R,
+    alloc: Global,
+    net: &Net<G>,
+    effort: Effort,
+    gate: &T,
+) -> Result<Certificate<G>, Unsolved>
+where
+    Locked<Board<G>>: Shared,
+    ensures { MatchResult result
+        (λ c. IsSolution net.now c.blocks c.price c.pit c.flow)
+        (λ unsolved. UnsolvedStands net.now effort.method effort.steps unsolved) }
+{
+    if !effort.method.begins_with_pseudoflow(net.len()) {
+        return by_machine_first(rt, alloc, net, effort, gate);
+    }
+    match by_pseudoflow(alloc, net, effort.steps, gate) {
+        Ok(Some(certificate)) => Ok(certificate),
+        Ok(None) if effort.method == Method::Pseudoflow => Err(Unsolved::GaveUp),
+        Ok(None) => by_machine(rt, alloc, net, effort, gate),
+        Err(_) => Err(Unsolved::NoMemory),
+    }
 }
 
 /// Writes the certificate of a net, or a line that says why there is none.
-pub fn solve_net<G: OrderedGroup, R: Threads + Wait + Sync, T: Gate, W: CountedWrite>(
+pub fn solve_net<G: OrderedGroup, R: Threads + Wait + Sync, T: Gate + Progress, W: CountedWrite>(
     rt: &R,
     alloc: Global,
     net: &Net<G>,
@@ -94,7 +163,7 @@ pub fn solve_net<G: OrderedGroup, R: Threads + Wait + Sync, T: Gate, W: CountedW
 where
     Locked<Board<G>>: Shared,
     requires { W.failed out.old < 2 ^ 64 - 1 }
-    ensures answer { SolvesNet G.counts G.name net.now effort.steps (W.contents out.old) (W.contents out.new) result }
+    ensures answer { SolvesNet G.counts G.name net.now effort.method effort.steps (W.contents out.old) (W.contents out.new) result }
     ensures device { IsErrOf result EngineFault.Device ↔ (W.failed out.new ≡ W.failed out.old + 1) }
     ensures kept { ¬ IsErrOf result EngineFault.Device → W.failed out.new ≡ W.failed out.old }
 {
@@ -102,6 +171,7 @@ where
     let certificate = match solution_of(rt, alloc, net, effort, gate) {
         Ok(certificate) => certificate,
         Err(Unsolved::Unsettled) => return write_no(b"UNSETTLED\n", out),
+        Err(Unsolved::GaveUp) => return write_no(b"UNSETTLED\n", out),
         Err(Unsolved::TooLarge) => return write_no(b"REFUSED TooLarge\n", out),
         Err(Unsolved::NoMemory) => return Err(EngineFault::Memory),
         Err(Unsolved::NoThread) => return Err(EngineFault::Thread),

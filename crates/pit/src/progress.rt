@@ -2,6 +2,8 @@
 
 ghost use Rattle.std.specs.Prelude.{◌≡◌};
 
+use pseudoflow::Progress;
+use std::fmt;
 use std::rt::Clock;
 use std::sync::atomic::{AtomicU64, Ordering};
 use std::time::Instant;
@@ -10,11 +12,12 @@ use workers::Gate;
 // How many turns of a worker there are from one look at the clock to the next: some milliseconds.
 const STRIDE: u64 = 1 << 16;
 
-/// A gate that is always open and tells on standard error, at most once a second, how many steps were
-/// made, what share of the limit that is, and how many seconds have passed. It counts turns: those of
-/// one worker each make a step; of several workers some find nothing to do, and are counted too.
+/// Tells on standard error, at most once a second, how far an engine is, and how many seconds have passed: of
+/// pseudoflow the blocks that are settled; of the machine the steps that were made and what share of the limit that is.
+/// As a gate of the machine it is always open. It counts turns: those of one worker each make a step; of several
+/// workers some find nothing to do, and are counted too.
 #[derive(Drop)]
-pub struct Progress<'a, R> {
+pub struct Meter<'a, R> {
     rt: &'a R,
     limit: u64,
     began: Option<Instant>,
@@ -22,10 +25,10 @@ pub struct Progress<'a, R> {
     told: AtomicU64,
 }
 
-impl<'a, R: Clock + Eprint> Progress<'a, R> {
+impl<'a, R: Clock + Eprint> Meter<'a, R> {
     /// Begins to count the steps of a run with this limit.
-    pub fn new(rt: &'a R, limit: u64) -> Progress<'a, R> {
-        Progress {
+    pub fn new(rt: &'a R, limit: u64) -> Meter<'a, R> {
+        Meter {
             rt,
             limit,
             began: Instant::now(rt).ok(),
@@ -45,34 +48,45 @@ impl<'a, R: Clock + Eprint> Progress<'a, R> {
         }
     }
 
-    // Tells of so many steps, unless another worker has told of this second.
-    fn tell(&self, steps: u64, seconds: u64) {
+    // The second that has begun, if nothing was told in it yet: it is taken by the one who asks.
+    fn new_second(&self) -> Option<u64> {
+        let seconds = self.seconds()?;
         let told = self.told.load(Ordering::SeqCst);
-        if told < seconds
+        let is_mine = told < seconds
             && self
                 .told
                 .compare_exchange(told, seconds, Ordering::SeqCst, Ordering::SeqCst)
-                .is_ok()
-        {
-            let share = steps.saturating_mul(100) / self.limit.max(1);
-            // a run goes on where nobody can be told of it
-            let _ = self.rt.eprintln(format_args!(
-                "progress: {steps} steps, {share}% of the limit, {seconds} s"
-            ));
-        }
+                .is_ok();
+        if is_mine { Some(seconds) } else { None }
+    }
+
+    // A run goes on where nobody can be told of it.
+    fn tell(&self, line: fmt::Arguments<'_>) {
+        let _ = self.rt.eprintln(line);
     }
 }
 
-impl<R: Clock + Eprint + Sync> Gate for Progress<'_, R> {
+impl<R: Clock + Eprint + Sync> Gate for Meter<'_, R> {
     fn turn(&self, _worker: u32, turn: u64) {
         if turn % STRIDE == STRIDE - 1 {
             let steps = self
                 .turns
                 .fetch_add(STRIDE, Ordering::SeqCst)
                 .saturating_add(STRIDE);
-            if let Some(seconds) = self.seconds() {
-                self.tell(steps, seconds);
+            if let Some(seconds) = self.new_second() {
+                let share = steps.saturating_mul(100) / self.limit.max(1);
+                self.tell(format_args!(
+                    "progress: {steps} steps, {share}% of the limit, {seconds} s"
+                ));
             }
+        }
+    }
+}
+
+impl<R: Clock + Eprint> Progress for Meter<'_, R> {
+    fn report(&self, settled: u32, blocks: u32) {
+        if let Some(seconds) = self.new_second() {
+            self.tell(format_args!("progress: {settled} of {blocks} blocks settled, {seconds} s"));
         }
     }
 }

@@ -1,0 +1,100 @@
+#!/usr/bin/env python3
+"""What the gate costs, crate by crate: runs a command and adds up the processor seconds of the kit's processes below it.
+
+    python3 bench/gate_cost.py python3 tests/run
+
+Prints what the command prints, and then a row per crate: proof, the same once more with its tests, edits. The
+processes are looked at every half second, so what a process does in its last moments isn't counted: the sum is
+some percent below the whole, which the last line gives.
+"""
+import os
+import resource
+import subprocess
+import sys
+import threading
+import time
+
+TICK = os.sysconf("SC_CLK_TCK")
+KINDS = ("proof", "tests", "edits")
+
+
+def words_of(pid):
+    try:
+        with open("/proc/%d/cmdline" % pid, "rb") as it:
+            return it.read().decode(errors="replace").split("\0")
+    except OSError:
+        return []
+
+
+def task_of(pid):
+    """The crate and the kind of work of a process of the prover, or None."""
+    words = words_of(pid)
+    if "--crate-name" not in words:
+        return None
+    try:
+        is_edit = os.path.basename(os.readlink("/proc/%d/cwd" % pid)).startswith("rt-edit-")
+    except OSError:
+        return None
+    return words[words.index("--crate-name") + 1], "edits" if is_edit else "tests" if "--test" in words else "proof"
+
+
+def processes():
+    """Each process: its parent and its own processor seconds."""
+    found = {}
+    for name in filter(str.isdigit, os.listdir("/proc")):
+        try:
+            with open("/proc/%s/stat" % name) as it:
+                fields = it.read().rpartition(")")[2].split()
+        except OSError:
+            continue
+        found[int(name)] = int(fields[1]), (int(fields[11]) + int(fields[12])) / TICK, fields[19]
+    return found
+
+
+class Watcher(threading.Thread):
+    def __init__(self):
+        super().__init__(daemon=True)
+        self.tasks, self.seconds, self.is_over = {}, {}, False
+
+    def look(self):
+        found = processes()
+        for pid, (parent, seconds, began) in found.items():
+            key = pid, began
+            if key not in self.tasks:
+                task = task_of(pid)
+                above = found.get(parent)
+                self.tasks[key] = task or (self.tasks.get((parent, above[2])) if above else None)
+            if self.tasks[key]:
+                self.seconds[key] = seconds
+
+    def run(self):
+        while not self.is_over:
+            self.look()
+            time.sleep(0.5)
+
+    def table(self):
+        rows = {}
+        for key, seconds in self.seconds.items():
+            crate, kind = self.tasks[key]
+            rows.setdefault(crate, dict.fromkeys(KINDS, 0.0))[kind] += seconds
+        return rows
+
+
+def main():
+    began, watcher = time.monotonic(), Watcher()
+    watcher.start()
+    status = subprocess.run(sys.argv[1:]).returncode
+    watcher.is_over = True
+    watcher.join()
+    rows = watcher.table()
+    print("\n| Crate | Proof | With tests | Edits |\n|---|---|---|---|")
+    for crate in sorted(rows):
+        print("| `%s` | %s |" % (crate, " | ".join("%.0f s" % rows[crate][kind] for kind in KINDS)))
+    print("| all | %s |" % " | ".join("%.0f s" % sum(row[kind] for row in rows.values()) for kind in KINDS))
+    used = resource.getrusage(resource.RUSAGE_CHILDREN)
+    print("%.0f processor seconds in all, %.0f s by the clock" % (used.ru_utime + used.ru_stime, time.monotonic() - began))
+    return status
+
+
+if __name__ == "__main__":
+    sys.exit(main())

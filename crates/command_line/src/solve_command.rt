@@ -1,0 +1,93 @@
+//! The command `solve`.
+
+use crate::options::{PREC_HELP, STATUSES, UPIT_HELP, file_option, named_option, text_of};
+use clap::{Arg, ArgAction, ArgMatches, Command};
+use std::alloc::{AllocError, Global};
+
+const ABOUT: &str = "Finds the best pit and writes its certificate";
+
+const DETAILS: &str = "Finds the best pit and writes its certificate.
+
+Prints a PITCERT text, which `pit check` accepts: the pit, and a flow that proves it. Whatever engine made the flow, it is checked before anything is written. Prints UNSETTLED where the run needs more steps than --steps allows, and REFUSED TooLarge where a sum of the run or of its check doesn't fit the machine's numbers; both have the status 1.
+
+Methods:
+  auto          the push-relabel machine for a mine of at most 1000 blocks, or where --workers or --steps is given; else pseudoflow, and the machine where that gives no flow that proves a pit
+  pseudoflow    highest-label pseudoflow alone: quick on mines of millions of blocks; UNSETTLED where it gives up
+  push-relabel  the push-relabel machine alone: each step is proved, and it is slow beyond some thousand blocks";
+
+/// The words of a request to solve: the files, and where they were given the method, the kind of amount, the steps and
+/// the workers, and whether progress is shown.
+#[derive(Clone, Copy)]
+pub struct SolveWords<'a> {
+    pub prec: &'a str,
+    pub upit: &'a str,
+    pub method: Option<&'a str>,
+    pub group: Option<&'a str>,
+    pub steps: Option<&'a str>,
+    pub workers: Option<&'a str>,
+    pub progress: bool,
+}
+
+/// The command.
+pub fn solve_command<'a>(alloc: Global) -> Result<Command<'a>, AllocError> {
+    let command = Command::new(alloc, "solve")
+        .about(ABOUT)
+        .long_about(DETAILS)
+        .after_help(STATUSES)
+        .arg(file_option(alloc, "prec", PREC_HELP))?
+        .arg(file_option(alloc, "upit", UPIT_HELP))?;
+    with_limits(alloc, with_kinds(alloc, command)?)
+}
+
+// The options that say how it is solved.
+fn with_kinds<'a>(alloc: Global, command: Command<'a>) -> Result<Command<'a>, AllocError> {
+    command
+        .arg(named_option(
+            alloc,
+            "method",
+            "METHOD",
+            "Which engine makes the flow: auto (the default), pseudoflow or push-relabel",
+        ))?
+        .arg(named_option(
+            alloc,
+            "group",
+            "GROUP",
+            "What amounts count: pair, worth and then the fewer blocks (the default), or worth alone",
+        ))
+}
+
+// The options that bound the run or show it.
+fn with_limits<'a>(alloc: Global, command: Command<'a>) -> Result<Command<'a>, AllocError> {
+    command
+        .arg(named_option(
+            alloc,
+            "steps",
+            "STEPS",
+            "The most steps of the run, from 1 to 1099511627776 (1000000000 by default)",
+        ))?
+        .arg(named_option(
+            alloc,
+            "workers",
+            "WORKERS",
+            "The threads of the push-relabel machine, from 1 to 64 (1 by default); they share one lock",
+        ))?
+        .arg(
+            Arg::new(alloc, "progress")
+                .long("progress")
+                .action(ArgAction::SetTrue)
+                .help("Tells on standard error, once a second, how far the run is"),
+        )
+}
+
+/// The words that were given.
+pub fn solve_words<'a>(words: &ArgMatches<'a>) -> SolveWords<'a> {
+    SolveWords {
+        prec: text_of(words, "prec"),
+        upit: text_of(words, "upit"),
+        method: words.get_str("method"),
+        group: words.get_str("group"),
+        steps: words.get_str("steps"),
+        workers: words.get_str("workers"),
+        progress: words.get_flag("progress"),
+    }
+}

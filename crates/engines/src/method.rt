@@ -1,0 +1,57 @@
+//! Which engine makes the flow of a mine.
+
+ghost use Rattle.std.specs.Prelude.{◌≡◌};
+ghost use Rattle.engines.specs.Methods.{method_of, begins_with_pseudoflow, method_under};
+
+/// Which engine makes the flow of a mine. Whatever makes it, a check decides before anything is written.
+#[derive(Clone, Copy, Debug, PartialEq, Eq)]
+pub enum Method {
+    /// The push-relabel machine for a mine of at most 1,000 blocks, and pseudoflow where a number of its run doesn't fit;
+    /// for a larger one pseudoflow, and the machine where that gives no certificate.
+    Auto,
+    /// Highest-label pseudoflow alone (Hochbaum 2008).
+    Pseudoflow,
+    /// The push-relabel machine alone (Hong 2008).
+    PushRelabel,
+}
+
+// The most blocks of a mine that `Auto` gives to the machine at once: it settles these in a moment.
+const FEW_BLOCKS: u32 = 1_000;
+
+impl Method {
+    /// Whether pseudoflow is tried first on a mine of this many blocks.
+    pub fn begins_with_pseudoflow(self, blocks: u32) -> bool
+        ensures { result ≡ begins_with_pseudoflow self blocks }
+    {
+        match self {
+            Method::Auto => FEW_BLOCKS < blocks,
+            Method::Pseudoflow => true,
+            Method::PushRelabel => false,
+        }
+    }
+
+    /// The method where workers or steps are asked for by the user: these are the machine's, so `Auto` leaves the choice to it.
+    pub fn where_limits_are(self, are_asked: bool) -> Method
+        ensures { result ≡ method_under self are_asked }
+    {
+        match self {
+            Method::Auto if are_asked => Method::PushRelabel,
+            method => method,
+        }
+    }
+}
+
+/// The method that a word names: `auto`, `pseudoflow` or `push-relabel`.
+pub fn method_named(word: &[u8]) -> Option<Method>
+    ensures { result ≡ method_of word.now }
+{
+    if word == b"auto".as_slice() {
+        Some(Method::Auto)
+    } else if word == b"pseudoflow".as_slice() {
+        Some(Method::Pseudoflow)
+    } else if word == b"push-relabel".as_slice() {
+        Some(Method::PushRelabel)
+    } else {
+        None
+    }
+}

@@ -1,0 +1,254 @@
+//! Both engines on nets that are made up: small ones against the best of all their closed sets, larger ones against each other.
+
+ghost use Rattle.std.specs.Prelude.{◌≤◌, ◌^◌};
+
+use crate::efforts::Effort;
+use crate::method::Method;
+use crate::solving::{by_machine, by_pseudoflow};
+use crate::unwatched::Unwatched;
+use check_pit::Certificate;
+use closure_net::{Net, Pit};
+use ordered_group::{OrderedGroup, Worth, WorthSize};
+use prec_file::Rests;
+use std::alloc::Global;
+use std::process::Abort;
+use std::sync::Wait;
+use std::test::Fail;
+use std::thread::Threads;
+use workers::{Board, Locked, Shared};
+
+const TURNS: u64 = 100_000_000;
+
+#[derive(Clone, Copy)]
+enum Shape {
+    Chain,
+    Star,
+    Cycle,
+    // up to four predecessors of each block, wherever they are
+    Scattered,
+}
+
+// A fixed sequence of numbers, by Park and Miller's generator.
+#[derive(Drop)]
+struct Numbers {
+    last: u64,
+}
+
+impl Numbers {
+    fn next(&mut self) -> u64 {
+        self.last = self.last.wrapping_mul(48_271) % 2_147_483_647;
+        self.last
+    }
+
+    fn below(&mut self, bound: u32) -> u32 {
+        (self.next() % u64::from(bound.max(1))) as u32
+    }
+}
+
+// The pairs of one block.
+fn add_pairs(
+    pairs: &mut Vec<(u32, u32)>,
+    numbers: &mut Numbers,
+    shape: Shape,
+    n: u32,
+    b: u32,
+) -> Result<(), Fail> {
+    let next = b.wrapping_add(1);
+    match shape {
+        Shape::Chain if next < n => pairs.push((b, next))?,
+        Shape::Star if b > 0 => pairs.push((b, 0))?,
+        Shape::Cycle => pairs.push((b, if next < n { next } else { 0 }))?,
+        Shape::Scattered => {
+            for _ in 0..numbers.below(5) {
+                pairs.push((b, numbers.below(n)))?;
+            }
+        }
+        _ => {}
+    }
+    Ok(())
+}
+
+fn pairs_of(
+    alloc: Global,
+    numbers: &mut Numbers,
+    shape: Shape,
+    n: u32,
+) -> Result<Vec<(u32, u32)>, Fail> {
+    let mut pairs = Vec::new(alloc);
+    for b in 0..n {
+        add_pairs(&mut pairs, numbers, shape, n, b)?;
+    }
+    Ok(pairs)
+}
+
+// A worth for each block, from -10 to 10; where some are nothing, each other block is worth nothing.
+fn nanos_of(
+    alloc: Global,
+    numbers: &mut Numbers,
+    n: u32,
+    some_nothing: bool,
+) -> Result<Vec<i128>, Fail> {
+    let mut nanos = Vec::new(alloc);
+    for b in 0..n {
+        let worth = if some_nothing && b % 2 == 0 {
+            0
+        } else {
+            i128::from(numbers.below(21)).wrapping_sub(10)
+        };
+        nanos.push(worth)?;
+    }
+    Ok(nanos)
+}
+
+fn net_of<G: OrderedGroup>(
+    alloc: Global,
+    n: u32,
+    pairs: &[(u32, u32)],
+    nanos: &[i128],
+) -> Result<Net<G>, Fail>
+    requires { n ≤ 2 ^ 24 }
+{
+    let rests = Rests::from_pairs(alloc, n, pairs).ok().ok_or("pairs")?;
+    Ok(Net::of_worths(alloc, rests, nanos).ok().ok_or("worths")?)
+}
+
+// The certificate by pseudoflow itself: a fall-back on the machine would hide its mistakes.
+fn quickly<G: OrderedGroup>(alloc: Global, net: &Net<G>) -> Result<Certificate<G>, Fail> {
+    let found = by_pseudoflow(alloc, net, TURNS, &Unwatched);
+    Ok(found.ok().ok_or("memory")?.ok_or("pseudoflow gave up")?)
+}
+
+fn by_steps<G: OrderedGroup, R: Threads + Wait + Sync>(
+    rt: &R,
+    alloc: Global,
+    net: &Net<G>,
+) -> Result<Certificate<G>, Fail>
+where
+    Locked<Board<G>>: Shared,
+{
+    let effort = Effort::new(Method::PushRelabel, 1, TURNS);
+    Ok(
+        by_machine(rt, alloc, net, effort, &Unwatched)
+            .ok()
+            .ok_or("machine")?,
+    )
+}
+
+fn holds(set: u32, b: u32) -> bool {
+    set.wrapping_shr(b) % 2 == 1
+}
+
+fn is_closed(set: u32, pairs: &[(u32, u32)]) -> bool {
+    pairs
+        .iter()
+        .all(|pair| !holds(set, pair.0) || holds(set, pair.1))
+}
+
+fn worth_of(set: u32, nanos: &[i128]) -> i128 {
+    let mut sum = 0i128;
+    let mut b = 0u32;
+    for worth in nanos {
+        if holds(set, b) {
+            sum = sum.wrapping_add(*worth);
+        }
+        b = b.wrapping_add(1);
+    }
+    sum
+}
+
+// The worth and the number of blocks of the best closed set: no other is worth more, and none that is
+// worth as much has fewer blocks.
+fn best_of_all(n: u32, pairs: &[(u32, u32)], nanos: &[i128]) -> (i128, u32) {
+    let mut best = (0i128, 0u32);
+    for set in 0..1u32.wrapping_shl(n) {
+        if is_closed(set, pairs) {
+            let worth = worth_of(set, nanos);
+            let size = set.count_ones();
+            if worth > best.0 || (worth == best.0 && size < best.1) {
+                best = (worth, size);
+            }
+        }
+    }
+    best
+}
+
+fn set_of(pit: &Pit) -> u32 {
+    let mut set = 0u32;
+    for b in pit.blocks() {
+        set |= 1u32.wrapping_shl(*b);
+    }
+    set
+}
+
+// Both engines find the best of all closed sets of the net, in amounts of the group G.
+fn both_find_the_best<G: OrderedGroup, R: Threads + Wait + Sync + Abort>(
+    rt: &R,
+    alloc: Global,
+    n: u32,
+    pairs: &[(u32, u32)],
+    nanos: &[i128],
+) -> Result<(), Fail>
+where
+    Locked<Board<G>>: Shared,
+    requires { n ≤ 2 ^ 24 }
+{
+    let net: Net<G> = net_of(alloc, n, pairs, nanos)?;
+    let best = best_of_all(n, pairs, nanos);
+    for pit in [quickly(alloc, &net)?.pit, by_steps(rt, alloc, &net)?.pit] {
+        let set = set_of(&pit);
+        assert!(rt; is_closed(set, pairs));
+        assert_eq!(rt; (worth_of(set, nanos), set.count_ones()), best);
+    }
+    Ok(())
+}
+
+#[test]
+fn small_nets_against_all_closed_sets(rt: HostRuntime) -> Result<(), Fail> {
+    let alloc = rt.alloc();
+    let mut numbers = Numbers { last: 2026 };
+    for i in 0..204u32 {
+        let n = i / 17 + 1;
+        let shape = match i % 3 {
+            0 => Shape::Chain,
+            1 => Shape::Star,
+            _ => Shape::Cycle,
+        };
+        let pairs = pairs_of(alloc, &mut numbers, shape, n)?;
+        let nanos = nanos_of(alloc, &mut numbers, n, i % 4 == 3)?;
+        both_find_the_best::<WorthSize, HostRuntime>(&rt, alloc, n, &pairs, &nanos)?;
+        both_find_the_best::<Worth, HostRuntime>(&rt, alloc, n, &pairs, &nanos)?;
+    }
+    Ok(())
+}
+
+#[test]
+fn both_engines_find_the_same_pit(rt: HostRuntime) -> Result<(), Fail> {
+    let alloc = rt.alloc();
+    let mut numbers = Numbers { last: 1976 };
+    for i in 0..500u32 {
+        let n = numbers.below(251).saturating_add(50).min(300);
+        let pairs = pairs_of(alloc, &mut numbers, Shape::Scattered, n)?;
+        let nanos = nanos_of(alloc, &mut numbers, n, i % 4 == 3)?;
+        let net: Net<WorthSize> = net_of(alloc, n, &pairs, &nanos)?;
+        let quick = quickly(alloc, &net)?;
+        let slow = by_steps(&rt, alloc, &net)?;
+        assert!(rt; quick.pit.blocks() == slow.pit.blocks());
+    }
+    Ok(())
+}
+
+// A chain of 2,000 blocks worth 1 each, and below them 2,000 that cost as much: pseudoflow takes a number of turns that
+// grows with the square of the blocks, and ends.
+#[test]
+fn a_slow_chain_ends(rt: HostRuntime) -> Result<(), Fail> {
+    let alloc = rt.alloc();
+    let mut numbers = Numbers { last: 1 };
+    let pairs = pairs_of(alloc, &mut numbers, Shape::Chain, 4_000)?;
+    let mut nanos = Vec::new(alloc);
+    for b in 0..4_000u32 {
+        nanos.push(if b < 2_000 { 1i128 } else { -1i128 })?;
+    }
+    let net: Net<WorthSize> = net_of(alloc, 4_000, &pairs, &nanos)?;
+    assert!(rt; quickly(alloc, &net)?.pit.blocks().is_empty());
+    Ok(())
+}

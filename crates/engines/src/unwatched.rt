@@ -1,0 +1,16 @@
+//! A run that nobody watches.
+
+use pseudoflow::Progress;
+use workers::Gate;
+
+/// A gate that is always open, and a progress that tells nobody.
+#[derive(Clone, Copy)]
+pub struct Unwatched;
+
+impl Gate for Unwatched {
+    fn turn(&self, _worker: u32, _turn: u64) {}
+}
+
+impl Progress for Unwatched {
+    fn report(&self, _settled: u32, _blocks: u32) {}
+}

@@ -1,0 +1,214 @@
+//! The forest: which block hangs under which.
+
+ghost use Rattle.std.specs.Prelude.{◌≡◌, ◌<◌, IfSome, IfOk};
+
+use crate::links::{Link, NO_LINK};
+use std::alloc::{AllocError, Global};
+use std::marker::Model;
+
+/// How the arc of a block and its parent points. An arc leads from a block to one that it rests on, and has no limit.
+#[derive(Clone, Copy, PartialEq, Eq)]
+pub(crate) enum Direction {
+    /// To the parent: the block rests on it, and any amount can be pushed up.
+    Up,
+    /// To the block: the parent rests on it, and no more can be pushed up than the arc carries down.
+    Down,
+}
+
+impl Direction {
+    /// The direction of the same arc once child and parent have changed places.
+    pub(crate) fn reversed(self) -> Direction {
+        match self {
+            Direction::Up => Direction::Down,
+            Direction::Down => Direction::Up,
+        }
+    }
+}
+
+// What the forest keeps of a block: the links of its tree, and where two searches at it stand.
+#[derive(Clone, Copy)]
+struct Node {
+    parent: Link,
+    // the children of a block form a list, linked both ways so that any of them is taken out at once
+    first_child: Link,
+    next_sibling: Link,
+    previous_sibling: Link,
+    // the child with which the depth-first walk goes on
+    unvisited: Link,
+    // how many of its pairs have been passed since it got its label
+    current_arc: u32,
+    // the root behind it in the bucket of its label
+    next_root: Link,
+    direction: Direction,
+}
+
+const ALONE: Node = Node {
+    parent: NO_LINK,
+    first_child: NO_LINK,
+    next_sibling: NO_LINK,
+    previous_sibling: NO_LINK,
+    unvisited: NO_LINK,
+    current_arc: 0,
+    next_root: NO_LINK,
+    direction: Direction::Up,
+};
+
+/// The rooted trees of a pseudoflow, the branches of Hochbaum's normalized tree without the root that joins them. Only
+/// their arcs carry anything. A tree is strong where its root has an excess, and weak otherwise, as in Lerchs and
+/// Grossmann's algorithm.
+#[derive(Drop)]
+pub(crate) struct Forest {
+    nodes: Vec<Node>,
+}
+
+impl Model for Forest {
+    ghost use Rattle.std.specs.Prelude.{ℕ, length};
+
+    ghost Value = { ℕ };
+
+    ghost view = { λ f. length f.nodes.items };
+}
+
+impl Forest {
+    /// So many blocks, each a tree of its own.
+    pub(crate) fn new(alloc: Global, n: u32) -> Result<Forest, AllocError>
+        ensures { IfOk result (λ f. f ≡ n) }
+    {
+        let nodes = vec![in alloc; ALONE; n as usize]?;
+        Ok(Forest { nodes })
+    }
+
+    /// The block to which a link leads.
+    pub(crate) fn block(&self, link: Link) -> Option<u32>
+        ensures { IfSome result (λ b. b < self.now) }
+    {
+        link.block(self.nodes.len())
+    }
+
+    /// The parent of b. A root has none.
+    pub(crate) fn parent(&self, b: u32) -> Option<u32>
+        requires { b < self.now }
+        ensures { IfSome result (λ p. p < self.now) }
+    {
+        self.nodes[b as usize].parent.block(self.nodes.len())
+    }
+
+    /// The first child of b.
+    pub(crate) fn first_child(&self, b: u32) -> Option<u32>
+        requires { b < self.now }
+        ensures { IfSome result (λ c. c < self.now) }
+    {
+        self.nodes[b as usize].first_child.block(self.nodes.len())
+    }
+
+    /// The child behind b of the same parent.
+    pub(crate) fn next_sibling(&self, b: u32) -> Option<u32>
+        requires { b < self.now }
+        ensures { IfSome result (λ c. c < self.now) }
+    {
+        self.nodes[b as usize].next_sibling.block(self.nodes.len())
+    }
+
+    /// How the arc of b and its parent points.
+    pub(crate) fn direction(&self, b: u32) -> Direction
+        requires { b < self.now }
+    {
+        self.nodes[b as usize].direction
+    }
+
+    /// Makes a root the first child of a block of another tree.
+    pub(crate) fn link(&mut self, parent: u32, root: u32, direction: Direction)
+        requires parent { parent < self.old }
+        requires root { root < self.old }
+        ensures { self.new ≡ self.old }
+    {
+        let first = self.nodes[parent as usize].first_child;
+        self.nodes[parent as usize].first_child = Link::to(root);
+        if let Some(sibling) = first.block(self.nodes.len()) {
+            self.nodes[sibling as usize].previous_sibling = Link::to(root);
+        }
+        let node = &mut self.nodes[root as usize];
+        node.parent = Link::to(parent);
+        node.next_sibling = first;
+        node.previous_sibling = NO_LINK;
+        node.direction = direction;
+    }
+
+    /// Makes b a root, with all that hangs under it. A root stays as it is.
+    pub(crate) fn cut(&mut self, b: u32)
+        requires { b < self.old }
+        ensures { self.new ≡ self.old }
+    {
+        let n = self.nodes.len();
+        let node = self.nodes[b as usize];
+        // the siblings of a root are those that it had before it was cut: they are not to be joined again
+        let Some(parent) = node.parent.block(n) else {
+            return;
+        };
+        match node.previous_sibling.block(n) {
+            Some(previous) => self.nodes[previous as usize].next_sibling = node.next_sibling,
+            None => self.nodes[parent as usize].first_child = node.next_sibling,
+        }
+        if let Some(next) = node.next_sibling.block(n) {
+            self.nodes[next as usize].previous_sibling = node.previous_sibling;
+        }
+        self.nodes[b as usize].parent = NO_LINK;
+    }
+
+    /// Begins a walk over the children of b.
+    pub(crate) fn begin_visits(&mut self, b: u32)
+        requires { b < self.old }
+        ensures { self.new ≡ self.old }
+    {
+        let node = &mut self.nodes[b as usize];
+        node.unvisited = node.first_child;
+    }
+
+    /// The child of b at which the walk over its children stands.
+    pub(crate) fn unvisited(&self, b: u32) -> Option<u32>
+        requires { b < self.now }
+        ensures { IfSome result (λ c. c < self.now) }
+    {
+        self.nodes[b as usize].unvisited.block(self.nodes.len())
+    }
+
+    /// Moves the walk over the children of b behind a child.
+    pub(crate) fn pass_child(&mut self, b: u32, child: u32)
+        requires block { b < self.old }
+        requires child { child < self.old }
+        ensures { self.new ≡ self.old }
+    {
+        let next = self.nodes[child as usize].next_sibling;
+        self.nodes[b as usize].unvisited = next;
+    }
+
+    /// The current arc of b: how many of its pairs have been passed since it got its label.
+    pub(crate) fn current_arc(&self, b: u32) -> u32
+        requires { b < self.now }
+    {
+        self.nodes[b as usize].current_arc
+    }
+
+    /// Sets how many of the pairs of b have been passed.
+    pub(crate) fn set_current_arc(&mut self, b: u32, passed: u32)
+        requires { b < self.old }
+        ensures { self.new ≡ self.old }
+    {
+        self.nodes[b as usize].current_arc = passed;
+    }
+
+    /// The link from b to the root behind it in its bucket.
+    pub(crate) fn next_root(&self, b: u32) -> Link
+        requires { b < self.now }
+    {
+        self.nodes[b as usize].next_root
+    }
+
+    /// Sets the link from b to the root behind it in its bucket.
+    pub(crate) fn set_next_root(&mut self, b: u32, link: Link)
+        requires { b < self.old }
+        ensures { self.new ≡ self.old }
+    {
+        self.nodes[b as usize].next_root = link;
+    }
+}

@@ -1,0 +1,46 @@
+//! A quick search for a greatest flow of a closure problem's network, which is the ultimate pit problem: highest-label
+//! pseudoflow.
+//!
+//! The algorithm is Hochbaum's (The pseudoflow algorithm: a new algorithm for the maximum-flow problem, Operations Research,
+//! 2008), in the form with highest labels of Chandran and Hochbaum (A computational study of the pseudoflow and push-relabel
+//! algorithms for the maximum flow problem, Operations Research, 2009). It grew out of the trees of Lerchs and Grossmann
+//! (Optimum design of open-pit mines, 1965):
+//!
+//! - All arcs of the source and the sink are saturated at first, so that each block has its worth as its excess, or as its
+//!   deficit where it is negative. The other arcs that carry something form a forest (`forest`). A tree is strong where its
+//!   root has an excess, and weak otherwise.
+//! - The strong tree whose root has the highest label (`labels`, `buckets`) is searched for a merger arc, a pair that leads
+//!   to a block of the next lower label (`finding`). The tree is hung under that block (`merging`), and its excess is pushed
+//!   up to the new root. A block whose arc can't take all of it is split off as a new strong tree (`pushing`).
+//! - A strong tree over a gap in the labels has no merger arc left, and is lifted out of the search (`lifting`). When no
+//!   other strong tree is left, the blocks that were lifted are the pit.
+//! - The flow is that of the forest's arcs. What the roots have left, or lack, is taken off the arcs that brought it
+//!   (`recovery`).
+//!
+//! Stands on `closure_net`, `ordered_group` and `prec_file`. Promises upward: the call ends within the number of turns that
+//! it is given, and the flow has the lengths of the net. Nothing is claimed of the amounts in it: a checker decides whether
+//! it is a greatest flow, so a mistake in here would cost time and never a wrong answer.
+#![tactic(auto)]
+
+mod amounts;
+mod buckets;
+mod budget;
+mod fault;
+mod finding;
+mod forest;
+mod labels;
+mod lifting;
+mod links;
+mod merging;
+mod preorder;
+mod pushing;
+mod recovery;
+mod reporting;
+mod search;
+mod solving;
+#[cfg(test)]
+mod tests;
+
+pub use fault::PseudoflowFault;
+pub use reporting::{Progress, Silent};
+pub use solving::solve;

@@ -1,0 +1,33 @@
+//! The walk over a whole tree.
+
+ghost use Rattle.std.specs.Prelude.{◌≡◌, ◌<◌, ◌≤◌, IfOk, IfSome};
+
+use crate::budget::Budget;
+use crate::fault::PseudoflowFault;
+use crate::forest::Forest;
+
+impl Forest {
+    /// The block behind b in its tree, in preorder: each block stands before those that hang under it.
+    pub(crate) fn next_in_preorder(
+        &self,
+        b: u32,
+        budget: &mut Budget,
+    ) -> Result<Option<u32>, PseudoflowFault>
+        requires { b < self.now }
+        ensures less { budget.new.left ≤ budget.old.left }
+        ensures known { IfOk result (λ found. IfSome found (λ c. c < self.now)) }
+    {
+        if let Some(child) = self.first_child(b) {
+            return Ok(Some(child));
+        }
+        let mut at = b;
+        while let Some(parent) = self.parent(at) {
+            budget.spend(1)?;
+            if let Some(sibling) = self.next_sibling(at) {
+                return Ok(Some(sibling));
+            }
+            at = parent;
+        }
+        Ok(None)
+    }
+}

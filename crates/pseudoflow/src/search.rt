@@ -1,0 +1,120 @@
+//! A search for a greatest flow.
+
+ghost use Rattle.std.specs.Prelude.{◌≡◌, ◌<◌, ◌≤◌, length, IfOk};
+ghost use Rattle.closure_net.specs.Network.{FlowFits};
+
+use crate::amounts::Amounts;
+use crate::buckets::Buckets;
+use crate::budget::Budget;
+use crate::fault::PseudoflowFault;
+use crate::forest::Forest;
+use crate::labels::Labels;
+use crate::recovery::flow_of_forest;
+use crate::reporting::Progress;
+use closure_net::{Flow, Net};
+use ordered_group::OrderedGroup;
+use prec_file::Rests;
+use std::alloc::Global;
+use std::marker::Model;
+
+// How many turns there are from one report to the next: a millisecond or less.
+const STRIDE: u64 = 1 << 16;
+
+/// A search: a pseudoflow whose arcs that carry something form a forest, and the labels that guide it.
+#[derive(Drop)]
+pub(crate) struct Search<'a, G: OrderedGroup> {
+    pub(crate) rests: &'a Rests,
+    pub(crate) forest: Forest,
+    pub(crate) labels: Labels,
+    pub(crate) buckets: Buckets,
+    pub(crate) amounts: Amounts<G>,
+    // no strong root waits at a higher label
+    pub(crate) highest: u32,
+}
+
+impl<'a, G: OrderedGroup> Model for Search<'a, G> {
+    ghost use Rattle.std.specs.Prelude.{◌≡◌, ℕ};
+
+    ghost Value = { ℕ };
+
+    ghost view = { λ s. s.forest };
+
+    ghost invariant = { λ s. (s.rests.now.blocks ≡ s.forest) × (s.labels ≡ s.forest) × (s.amounts ≡ s.forest) };
+}
+
+impl<'a, G: OrderedGroup> Search<'a, G> {
+    /// Each block is a tree of its own, and those of positive worth wait as strong roots of label 1.
+    pub(crate) fn open(alloc: Global, net: &'a Net<G>) -> Result<Search<'a, G>, PseudoflowFault>
+        ensures { IfOk result (λ s. s ≡ length net.now.worths) }
+    {
+        let rests = net.rests();
+        let n = rests.len();
+        let mut search = Search {
+            rests,
+            forest: Forest::new(alloc, n)?,
+            labels: Labels::new(alloc, n)?,
+            buckets: Buckets::new(alloc, n as usize + 2)?,
+            amounts: Amounts::new(alloc, net.worths())?,
+            highest: 1,
+        };
+        for b in (0..n).rev() {
+            if search.amounts.excess(b).is_positive() {
+                search.labels.raise(b)?;
+                search.add_strong_root(b)?;
+            }
+        }
+        Ok(search)
+    }
+
+    /// Puts a root into the bucket of its label.
+    pub(crate) fn add_strong_root(&mut self, root: u32) -> Result<(), PseudoflowFault>
+        requires { root < self.old }
+        ensures { self.new ≡ self.old }
+    {
+        let label = self.labels.at(root);
+        self.buckets.push(&mut self.forest, label, root)
+    }
+
+    /// Merges or lifts strong trees, those of the highest label first, until there is none.
+    pub(crate) fn run<P: Progress>(
+        &mut self,
+        budget: &mut Budget,
+        progress: &P,
+    ) -> Result<(), PseudoflowFault>
+        ensures kept { self.new ≡ self.old }
+    {
+        let blocks = self.rests.len();
+        let mut report_at = budget.left;
+        while let Some(root) = self.highest_strong_root(budget)? {
+            budget.spend(1)?;
+            self.process_root(root, budget)?;
+            if budget.left <= report_at {
+                progress.report(self.labels.lifted(), blocks);
+                report_at = budget.left.saturating_sub(STRIDE);
+            }
+        }
+        progress.report(blocks, blocks);
+        Ok(())
+    }
+
+    /// The flow of the forest once no tree is strong but those that were lifted.
+    pub(crate) fn flow(
+        self,
+        alloc: Global,
+        net: &Net<G>,
+        budget: &mut Budget,
+    ) -> Result<Flow<G>, PseudoflowFault>
+        requires { self ≡ length net.now.worths }
+        ensures { IfOk result (λ flow. FlowFits net.now flow) }
+    {
+        let Search {
+            rests: _,
+            forest,
+            labels: _,
+            buckets: _,
+            mut amounts,
+            highest: _,
+        } = self;
+        flow_of_forest(alloc, net, &forest, &mut amounts, budget)
+    }
+}

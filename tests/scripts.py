@@ -1,0 +1,102 @@
+"""Tests of this repository's own scripts, on a repository of one small crate that is made for them."""
+import shutil
+import subprocess
+import tempfile
+from pathlib import Path
+
+CODE = """//! A crate for the tests of the scripts.
+#![tactic(auto)]
+
+ghost use Rattle.std.specs.Prelude.{◌≡◌, ◌+◌, ◌<◌, ◌^◌};
+
+/// The number after n.
+pub fn next(n: u64) -> u64
+    requires { n + 1 < 2 ^ 64 }
+    ensures { result ≡ n + 1 }
+{
+    n + 1
+}
+
+/// A number of no matter what size.
+pub fn some_number() -> u64 {
+    7
+}
+"""
+REFUSED = "file: src/lib.rt\nold:     n + 1\nnew:     n\n"
+ACCEPTED = "file: src/lib.rt\nold:     7\nnew:     8\n"
+STALE = "file: src/lib.rt\nold:     9\nnew:     8\n"
+MAIN = """//! A program for the tests of the scripts.
+#![tactic(auto)]
+
+fn main(rt: HostRuntime) -> std::process::ExitCode {
+    let _ = rt.println("ACCEPTED");
+    std::process::ExitCode::SUCCESS
+}
+"""
+
+
+def repository(top, room):
+    """A repository with this one's scripts, a library `small` and a program `pit`."""
+    tree = Path(room) / "repository"
+    for file in ("build", "run-example", "tests/run", "tests/planted.py", "tests/scripts.py"):
+        (tree / file).parent.mkdir(parents=True, exist_ok=True)
+        shutil.copy(top / file, tree / file)
+    (tree / "crates.txt").write_text("small:\npit: small\n")
+    write(tree, "small/src/lib.rt", CODE)
+    write(tree, "pit/src/main.rt", MAIN)
+    (tree / "examples" / "copper").mkdir(parents=True)
+    return tree
+
+
+def write(tree, name, text):
+    file = tree / "crates" / name
+    file.parent.mkdir(parents=True, exist_ok=True)
+    file.write_text(text)
+
+
+def ran(tree, *words):
+    done = subprocess.run([str(tree / words[0]), *words[1:]], cwd=tree, stdin=subprocess.DEVNULL, stdout=subprocess.PIPE,
+                          stderr=subprocess.STDOUT, text=True, errors="replace")
+    return done.returncode, done.stdout
+
+
+def refused_edits_pass(tree):
+    write(tree, "small/planted/the_number_itself.edit", REFUSED)
+    status, said = ran(tree, "tests/run", "--planted", "small")
+    return status == 0 and "small/the_number_itself: refused" in said and said.endswith("1 passed, 0 failed\n"), said
+
+
+def an_accepted_edit_fails(tree):
+    write(tree, "small/planted/harmless.edit", ACCEPTED)
+    write(tree, "small/planted/stale.edit", STALE)
+    status, said = ran(tree, "tests/run", "--planted")
+    is_told = "small/harmless: ACCEPTED" in said and "small/stale: cannot be tried" in said
+    return status == 1 and is_told and said.endswith("1 passed, 2 failed\n"), said
+
+
+def a_build_says_what_it_proved(tree):
+    status, said = ran(tree, "build")
+    again, nothing = ran(tree, "build")
+    return status == 0 and "[ 1/2] small" in said and "functions proved" in said and (again, nothing) == (0, ""), said + nothing
+
+
+def a_failed_proof_fails_the_example(tree):
+    write(tree, "small/src/lib.rt", CODE.replace("    n + 1\n", "    n\n"))
+    status, said = ran(tree, "run-example")
+    return status != 0 and "small NOT PROVED" in said and "logic=not-proved" in said and "ACCEPTED" not in said, said
+
+
+CASES = [refused_edits_pass, an_accepted_edit_fails, a_build_says_what_it_proved, a_failed_proof_fails_the_example]
+
+
+def test(top):
+    """Runs the tests, and gives how many passed and failed."""
+    passed = failed = 0
+    with tempfile.TemporaryDirectory(prefix="pit-scripts-") as room:
+        tree = repository(top, room)
+        for case in CASES:
+            well, said = case(tree)
+            if not well:
+                print("%s: failed:\n%s" % (case.__name__, said))
+            passed, failed = passed + well, failed + (not well)
+    return passed, failed
