@@ -38,15 +38,21 @@ at_fault u p c old new engine.Device k = inl k
 -- the two texts of the mine were read
 pub read_both : (u p : List ℕ) (values : upit.UpitView) (rests : RestsView) (n : ℕ) → n ≡ length values.values → ReadsUpit u values → ReadsPrec n p rests → AreRead u p values rests
 read_both u p values rests n e a b =
-    let q : length values.values ≡ rests.blocks = sym e ∙ sym b.1 in
+    let q : length values.values ≡ rests.blocks = sym e ∙ sym b.2 in
     let F : ℕ → Type 0 = λ k. prec.fault_of k p ≡ None in
     let D : ℕ → Type 0 = λ k. upit.declared_of u ≡ Ok k in
     let V : ℕ → Type 0 = λ k. upit.fault_of k u ≡ None in
     let N : ℕ → Type 0 = λ k. upit.Denotes k u values in
     record {
-      mine = record { declared = subst D q a.0.0; values_read = subst V q a.0.1; precedence_read = subst F (sym b.1) b.0 };
+      mine = record {
+        values_within = a.0.within;
+        precedence_within = b.0;
+        declared = subst D q a.0.declared;
+        values_read = subst V q a.0.read;
+        precedence_read = subst F (sym b.2) b.1;
+      };
       denotes = subst N q a.1;
-      pairs = b.2;
+      pairs = b.3;
     }
 
 text_stands : (u p c : List ℕ) (values : upit.UpitView) (rests : RestsView) (fault : EngineFault) → AreRead u p values rests → TextReadFails c fault → Fails u p c fault

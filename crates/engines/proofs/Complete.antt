@@ -6,21 +6,18 @@ use Rattle.engines.specs.declared.engine_faults.EngineFault.{EngineFault}
 use Rattle.engines.specs.declared.engine_faults.EngineFault.TheVariants as engine
 use Rattle.engines.specs.Engines.{Checks, SoundIsAccepted}
 use Rattle.engines.proofs.Alone.{sound_stands}
-use Rattle.engines.specs.declared.engine_faults.Problem.TheVariants as problem
 use Rattle.engines.specs.declared.engine_faults.CertificateProblem.TheVariants as certificate
-use Rattle.engines.proofs.Unread.{upit_read, prec_read, price_read, header_read, body_read}
+use Rattle.engines.proofs.Unread.{upit_read, prec_read, model_read, price_read, header_read, body_read}
 
 complete_at : (u p c : List ℕ) (old new : Option (List ℕ)) (answer : Result Verdict EngineFault) → Checks u p c old new answer → SoundIsAccepted u p c answer
 complete_at u p c old new (Ok Done) h read s = tt
 complete_at u p c old new (Ok No) h read s = sound_stands u p c read h.refused.read h.fault s h.refused.stands
-complete_at u p c old new (Err (engine.Upit problem.InputTooLong)) h read s = tt
-complete_at u p c old new (Err (engine.Upit (problem.Fault f))) h read s = upit_read u p c f read h.0
-complete_at u p c old new (Err (engine.Prec problem.InputTooLong)) h read s = tt
-complete_at u p c old new (Err (engine.Prec (problem.Fault f))) h read s = prec_read u p c h.0.0 f read h.0.1 h.0.2
-complete_at u p c old new (Err (engine.Model f)) h read s = tt
-complete_at u p c old new (Err (engine.Certificate certificate.InputTooLong)) h read s = tt
-complete_at u p c old new (Err (engine.Certificate certificate.WrongPrice)) h read s = price_read u p c h.0.0 read h.0.2
-complete_at u p c old new (Err (engine.Certificate (certificate.Fault f))) h read s = elim h.0.2 [ inl a ↦ header_read u p c h.0.0 f read h.0.1 a | inr b ↦ body_read u p c h.0.0 f read h.0.1 b ]
+complete_at u p c old new (Err (engine.Upit q)) h read s = upit_read u p c q read h.0
+complete_at u p c old new (Err (engine.Prec q)) h read s = prec_read u p c h.0.0 q read h.0.1 h.0.2
+complete_at u p c old new (Err (engine.Model f)) h read s = model_read u p c h.0.0 h.0.3 f read h.0.4 h.0.5
+complete_at u p c old new (Err (engine.Certificate certificate.InputTooLong)) h read s = h.0.2
+complete_at u p c old new (Err (engine.Certificate certificate.WrongPrice)) h read s = price_read u p c h.0.0 read h.0.2.1
+complete_at u p c old new (Err (engine.Certificate (certificate.Fault f))) h read s = elim h.0.2.1 [ inl a ↦ header_read u p c h.0.0 f read h.0.1 a | inr b ↦ body_read u p c h.0.0 f read h.0.1 b ]
 complete_at u p c old new (Err (engine.Blocks q)) h read s = absurd h.0
 complete_at u p c old new (Err (engine.Slope q)) h read s = absurd h.0
 complete_at u p c old new (Err engine.Memory) h read s = tt

@@ -21,6 +21,7 @@ use Rattle.check_pit.specs.declared.headers.Header.{Header}
 use Rattle.check_pit.specs.declared.headers.Price.TheVariants.{Objective}
 use Rattle.check_pit.specs.Pieces.{pieces_of}
 use Rattle.check_pit.specs.Header.{header_of}
+use Rattle.engines.specs.Limits.{IsWithinLimit}
 use Rattle.engines.specs.Mines.{mine_of, DenoteMine}
 use Rattle.engines.specs.Readings.{Reads}
 use Rattle.engines.specs.Judgements.{IsAccepted, IsRefused}
@@ -87,19 +88,20 @@ module _ (name : Group) (block : ℤ → ℕ → Amount) (counts : Bool) (values
     known = h.read.known;
   }
 
-  pub refused : (fault : PitFault) → FaultStands net flow pit fault → IsRefused values precedence certificate fault
-  refused fault f = record { read = reads; stands = f }
+  pub refused : IsWithinLimit certificate → (fault : PitFault) → FaultStands net flow pit fault → IsRefused values precedence certificate fault
+  refused within fault f = record { within = within; read = reads; stands = f }
 
   group_sum_is : group_worth net.worths (holds_of pit) ≡ group_sum block (mine_of (length net.worths) values precedence).worth (holds_of pit) (length net.worths)
   group_sum_is = total-same _ _ (length net.worths) (λ b l. ap (λ x. where_so (holds_of pit b) x) (h.of_mine.worths b l))
 
-  pub accepted : (set_worth : Amount → ℕ → ℕ → ℤ) → SumsTellWorth block set_worth → IsSound net flow pit → IsGreatest net (holds_of pit) → (count : ℕ) (worth : ℤ) → count ≡ length pit → worth ≡ set_worth (group_worth net.worths (holds_of pit)) (length net.worths) count → IsAccepted values precedence certificate name count worth
-  accepted set_worth tells sound greatest count worth c w =
+  pub accepted : IsWithinLimit certificate → (set_worth : Amount → ℕ → ℕ → ℤ) → SumsTellWorth block set_worth → IsSound net flow pit → IsGreatest net (holds_of pit) → (count : ℕ) (worth : ℤ) → count ≡ length pit → worth ≡ set_worth (group_worth net.worths (holds_of pit)) (length net.worths) count → IsAccepted values precedence certificate name count worth
+  accepted within set_worth tells sound greatest count worth c w =
       let n = length net.worths in
       let mine = mine_of n values precedence in
       let size = count_in-ascending pit n h.read.ascending h.read.known in
       let told = tells mine.worth (holds_of pit) n in
       record {
+        within = within;
         read = reads;
         group = refl;
         sound = sound;
@@ -121,13 +123,13 @@ body_fails name block counts values precedence certificate net fault named heade
     }
 
 -- a fault in answering it
-pub text_fails : (name : Group) (block : ℤ → ℕ → Amount) (counts : Bool) (values precedence certificate : List ℕ) (net : NetView) (fault : CertFault) → DenoteMine values precedence (length net.worths) → IsGroupNamed name block counts → IsHeader certificate (length net.worths) name → IsNet net → IsNetOf block (mine_of (length net.worths) values precedence) net → UnlessMemory fault (fault_of counts name (length net.worths) net.pairs certificate ≡ Some fault) → Fails values precedence certificate (of_certificate fault)
-text_fails name block counts values precedence certificate net (cert.Text k) mine named header is_net of_mine f = (length net.worths, mine, inr (body_fails name block counts values precedence certificate net _ named header is_net of_mine f))
-text_fails name block counts values precedence certificate net (cert.Number k) mine named header is_net of_mine f = (length net.worths, mine, inr (body_fails name block counts values precedence certificate net _ named header is_net of_mine f))
-text_fails name block counts values precedence certificate net (cert.OutOfOrder k) mine named header is_net of_mine f = (length net.worths, mine, inr (body_fails name block counts values precedence certificate net _ named header is_net of_mine f))
-text_fails name block counts values precedence certificate net (cert.UnknownPair k) mine named header is_net of_mine f = (length net.worths, mine, inr (body_fails name block counts values precedence certificate net _ named header is_net of_mine f))
-text_fails name block counts values precedence certificate net cert.Truncated mine named header is_net of_mine f = (length net.worths, mine, inr (body_fails name block counts values precedence certificate net _ named header is_net of_mine f))
-text_fails name block counts values precedence certificate net cert.NoMemory mine named header is_net of_mine f = tt
+pub text_fails : (name : Group) (block : ℤ → ℕ → Amount) (counts : Bool) (values precedence certificate : List ℕ) (net : NetView) (fault : CertFault) → IsWithinLimit certificate → DenoteMine values precedence (length net.worths) → IsGroupNamed name block counts → IsHeader certificate (length net.worths) name → IsNet net → IsNetOf block (mine_of (length net.worths) values precedence) net → UnlessMemory fault (fault_of counts name (length net.worths) net.pairs certificate ≡ Some fault) → Fails values precedence certificate (of_certificate fault)
+text_fails name block counts values precedence certificate net (cert.Text k) within mine named header is_net of_mine f = (length net.worths, mine, (within, inr (body_fails name block counts values precedence certificate net _ named header is_net of_mine f)))
+text_fails name block counts values precedence certificate net (cert.Number k) within mine named header is_net of_mine f = (length net.worths, mine, (within, inr (body_fails name block counts values precedence certificate net _ named header is_net of_mine f)))
+text_fails name block counts values precedence certificate net (cert.OutOfOrder k) within mine named header is_net of_mine f = (length net.worths, mine, (within, inr (body_fails name block counts values precedence certificate net _ named header is_net of_mine f)))
+text_fails name block counts values precedence certificate net (cert.UnknownPair k) within mine named header is_net of_mine f = (length net.worths, mine, (within, inr (body_fails name block counts values precedence certificate net _ named header is_net of_mine f)))
+text_fails name block counts values precedence certificate net cert.Truncated within mine named header is_net of_mine f = (length net.worths, mine, (within, inr (body_fails name block counts values precedence certificate net _ named header is_net of_mine f)))
+text_fails name block counts values precedence certificate net cert.NoMemory within mine named header is_net of_mine f = tt
 
 pub worths_fail : (name : Group) (block : ℤ → ℕ → Amount) (counts : Bool) (values : List ℕ) (read : upit.UpitView) (n : ℕ) (worths : List ℤ) (fault : NetFault) → upit.Denotes n values read → IsGroupNamed name block counts → worths ≡ map (λ x. pos 1000 *ℤ x) read.values → WorthsFaultStands block n worths fault → NetFails values n name fault
 worths_fail name block counts values read n worths fault d named e f =
@@ -138,10 +140,10 @@ worths_fail name block counts values read n worths fault d named e f =
     }
 
 -- a fault in making the net
-pub net_fails : (name : Group) (block : ℤ → ℕ → Amount) (counts : Bool) (values precedence certificate : List ℕ) (read : upit.UpitView) (rests : RestsView) (worths : List ℤ) (fault : NetFault) → AreRead values precedence read rests → IsGroupNamed name block counts → IsHeader certificate rests.blocks name → worths ≡ map (λ x. pos 1000 *ℤ x) read.values → WorthsFaultStands block rests.blocks worths fault → Fails values precedence certificate (of_model fault)
-net_fails name block counts values precedence certificate read rests worths net.WrongLength a named header e f = (rests.blocks, a.mine, name, header, worths_fail name block counts values read rests.blocks worths net.WrongLength a.denotes named e f)
-net_fails name block counts values precedence certificate read rests worths net.TooLarge a named header e f = (rests.blocks, a.mine, name, header, worths_fail name block counts values read rests.blocks worths net.TooLarge a.denotes named e f)
-net_fails name block counts values precedence certificate read rests worths net.NoMemory a named header e f = tt
+pub net_fails : (name : Group) (block : ℤ → ℕ → Amount) (counts : Bool) (values precedence certificate : List ℕ) (read : upit.UpitView) (rests : RestsView) (worths : List ℤ) (fault : NetFault) → IsWithinLimit certificate → AreRead values precedence read rests → IsGroupNamed name block counts → IsHeader certificate rests.blocks name → worths ≡ map (λ x. pos 1000 *ℤ x) read.values → WorthsFaultStands block rests.blocks worths fault → Fails values precedence certificate (of_model fault)
+net_fails name block counts values precedence certificate read rests worths net.WrongLength within a named header e f = (rests.blocks, a.mine, within, name, header, worths_fail name block counts values read rests.blocks worths net.WrongLength a.denotes named e f)
+net_fails name block counts values precedence certificate read rests worths net.TooLarge within a named header e f = (rests.blocks, a.mine, within, name, header, worths_fail name block counts values read rests.blocks worths net.TooLarge a.denotes named e f)
+net_fails name block counts values precedence certificate read rests worths net.NoMemory within a named header e f = tt
 
 -- what was read of the pairs of a net, said of the net
 pub unless_moved : (fault : CertFault) (counts : Bool) (name : Group) (n m : ℕ) (ps qs : List (ℕ × ℕ)) (text : List ℕ) → n ≡ m → ps ≡ qs → UnlessMemory fault (fault_of counts name n ps text ≡ Some fault) → UnlessMemory fault (fault_of counts name m qs text ≡ Some fault)
@@ -163,13 +165,13 @@ read_moved counts name n m ps qs text blocks price pit flow e f h =
     subst Q f (subst P e h)
 
 -- what was answered with an accepted pit
-pub judged_accepted : (name : Group) (block : ℤ → ℕ → Amount) (counts : Bool) (values precedence certificate : List ℕ) (net : NetView) (pit : List ℕ) (flow : FlowView) → HasRead name block counts values precedence certificate net pit flow → (set_worth : Amount → ℕ → ℕ → ℤ) → SumsTellWorth block set_worth → (seen : NetView) (blocks : List ℕ) → seen ≡ net → blocks ≡ pit → IsSound net flow pit → IsGreatest seen (holds_of blocks) → (group : Group) (count : ℕ) (worth shown : ℤ) → group ≡ name → count ≡ length blocks → worth ≡ set_worth (group_worth seen.worths (holds_of blocks)) (length seen.worths) count → shown ≡ worth → IsAccepted values precedence certificate group count shown
-judged_accepted name block counts values precedence certificate net pit flow h set_worth tells seen blocks e f sound greatest group count worth shown a b w s =
+pub judged_accepted : (name : Group) (block : ℤ → ℕ → Amount) (counts : Bool) (values precedence certificate : List ℕ) (net : NetView) (pit : List ℕ) (flow : FlowView) → HasRead name block counts values precedence certificate net pit flow → IsWithinLimit certificate → (set_worth : Amount → ℕ → ℕ → ℤ) → SumsTellWorth block set_worth → (seen : NetView) (blocks : List ℕ) → seen ≡ net → blocks ≡ pit → IsSound net flow pit → IsGreatest seen (holds_of blocks) → (group : Group) (count : ℕ) (worth shown : ℤ) → group ≡ name → count ≡ length blocks → worth ≡ set_worth (group_worth seen.worths (holds_of blocks)) (length seen.worths) count → shown ≡ worth → IsAccepted values precedence certificate group count shown
+judged_accepted name block counts values precedence certificate net pit flow h within set_worth tells seen blocks e f sound greatest group count worth shown a b w s =
     let G : NetView → Type 0 = λ n. IsGreatest n (holds_of blocks) in
     let H : List ℕ → Type 0 = λ l. IsGreatest net (holds_of l) in
     let size = b ∙ ap length f in
     let told = w ∙ ap (λ (n : NetView). set_worth (group_worth n.worths (holds_of blocks)) (length n.worths) count) e ∙ ap (λ (l : List ℕ). set_worth (group_worth net.worths (holds_of l)) (length net.worths) count) f in
-    let all = accepted name block counts values precedence certificate net pit flow h set_worth tells sound (subst H f (subst G e greatest)) count worth size told in
+    let all = accepted name block counts values precedence certificate net pit flow h within set_worth tells sound (subst H f (subst G e greatest)) count worth size told in
     let S : ℤ → Type 0 = λ z. IsAccepted values precedence certificate name count z in
     let N : Group → Type 0 = λ n. IsAccepted values precedence certificate n count shown in
     subst N (sym a) (subst S (sym s) all)

@@ -3,6 +3,7 @@ pub mod Listed
 pub mod Judged
 pub mod Answered
 pub mod Alone
+pub mod Fitting
 pub mod Unread
 pub mod Complete
 pub mod Pieces

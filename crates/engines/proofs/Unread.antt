@@ -1,5 +1,5 @@
 -- Where the texts are read, no fault of a text stands.
-use Rattle.std.proofs.Common.{◌≡◌, ℕ, List, sym, ap, ◌∙◌, subst, Option, Some, None, Result, Ok, Err, ◌⊎◌, inl, inr}
+use Rattle.std.proofs.Common.{◌≡◌, ℕ, List, arith, sym, ap, ◌∙◌, subst, Option, Some, None, Result, Ok, Err, ◌⊎◌, inl, inr}
 use Rattle.ordered_group.specs.declared.groups.Group.{Group}
 use Rattle.prec_file.specs.Records as prec
 use Rattle.prec_file.specs.declared.prec_fault.PrecFault.{PrecFault}
@@ -7,13 +7,17 @@ use Rattle.upit_file.specs.Records as upit
 use Rattle.upit_file.specs.declared.fault.UpitFault.{UpitFault}
 use Rattle.closure_net.specs.Network.{NetView}
 use Rattle.closure_net.specs.Mine.{IsNetOf}
+use Rattle.closure_net.specs.declared.networks.NetFault.{NetFault}
 use Rattle.check_pit.specs.declared.headers.Header.{Header}
 use Rattle.check_pit.specs.Certificate.{fault_of}
 use Rattle.check_pit.specs.declared.cert_faults.CertFault.{CertFault}
+use Rattle.engines.specs.declared.engine_faults.Problem.{Problem}
+use Rattle.engines.specs.declared.engine_faults.Problem.TheVariants as problem
 use Rattle.engines.specs.Mines.{mine_of, DenoteMine}
 use Rattle.engines.specs.Readings.{block_by, counts_by, Reads}
-use Rattle.engines.specs.Faults.{ValuesRead, HeaderFails, BodyFails, PriceDiffers}
+use Rattle.engines.specs.Faults.{UpitFails, PrecFails, ValuesRead, IsHeader, ModelFails, HeaderFails, BodyFails, PriceDiffers}
 use Rattle.engines.proofs.Alone.{ok_same, nets_same}
+use Rattle.engines.proofs.Fitting.{no_model_fails}
 
 never : {F : Type 0} (o : Option F) (f : F) → o ≡ None → o ≡ Some f → ⊥
 never o f e g = let h : None ≡ Some f = sym e ∙ g in cc
@@ -21,18 +25,23 @@ never o f e g = let h : None ≡ Some f = sym e ∙ g in cc
 not_both : {A F : Type 0} (r : Result A F) (a : A) (f : F) → r ≡ Ok a → r ≡ Err f → ⊥
 not_both r a f e g = let h : Ok a ≡ Err f = sym e ∙ g in cc
 
-pub upit_read : (u p c : List ℕ) (fault : UpitFault) → Reads u p c → (upit.declared_of u ≡ Err fault) ⊎ ((n : ℕ) × (upit.declared_of u ≡ Ok n) × (upit.fault_of n u ≡ Some fault)) → ⊥
-upit_read u p c fault r (inl e) = not_both _ _ _ r.mine.declared e
-upit_read u p c fault r (inr h) =
+values_fault : (u p c : List ℕ) (fault : UpitFault) → Reads u p c → (upit.declared_of u ≡ Err fault) ⊎ ((n : ℕ) × (upit.declared_of u ≡ Ok n) × (upit.fault_of n u ≡ Some fault)) → ⊥
+values_fault u p c fault r (inl e) = not_both _ _ _ r.mine.declared e
+values_fault u p c fault r (inr h) =
     let n = ok_same _ _ _ r.mine.declared h.1 in
     let P : ℕ → Type 0 = λ k. upit.fault_of k u ≡ None in
     never _ _ (subst P n r.mine.values_read) h.2
 
-pub prec_read : (u p c : List ℕ) (n : ℕ) (fault : PrecFault) → Reads u p c → ValuesRead u n → prec.fault_of n p ≡ Some fault → ⊥
-prec_read u p c n fault r v f =
-    let e = ok_same _ _ _ r.mine.declared v.0 in
+pub upit_read : (u p c : List ℕ) (q : Problem UpitFault) → Reads u p c → UpitFails u q → ⊥
+upit_read u p c problem.InputTooLong r h = let within = r.mine.values_within in omega (arith, within, h)
+upit_read u p c (problem.Fault fault) r h = values_fault u p c fault r h.1
+
+pub prec_read : (u p c : List ℕ) (n : ℕ) (q : Problem PrecFault) → Reads u p c → ValuesRead u n → PrecFails n p q → ⊥
+prec_read u p c n problem.InputTooLong r v h = let within = r.mine.precedence_within in omega (arith, within, h)
+prec_read u p c n (problem.Fault fault) r v h =
+    let e = ok_same _ _ _ r.mine.declared v.declared in
     let P : ℕ → Type 0 = λ k. prec.fault_of k p ≡ None in
-    never _ _ (subst P e r.mine.precedence_read) f
+    never _ _ (subst P e r.mine.precedence_read) h.1
 
 pub price_read : (u p c : List ℕ) (n : ℕ) → Reads u p c → PriceDiffers c n → ⊥
 price_read u p c n r h = let e = ok_same _ _ _ h.1 r.header in h.3 (ap (λ (z : Header). z.price) e)
@@ -43,6 +52,15 @@ header_read u p c n fault r m (inr h) =
     let e = ok_same _ _ _ h.1 r.header in
     let b = ok_same _ _ _ r.mine.declared m.declared in
     h.2 (ap (λ (z : Header). z.blocks) e ∙ b)
+
+pub model_read : (u p c : List ℕ) (n : ℕ) (group : Group) (fault : NetFault) → Reads u p c → IsHeader c n group → ModelFails u n group fault → ⊥
+model_read u p c n group fault r h f =
+    let e = ok_same _ _ _ r.header h in
+    let blocks : r.blocks ≡ n = ap (λ (z : Header). z.blocks) e in
+    let named : r.group ≡ group = ap (λ (z : Header). z.group) e in
+    let M : ℕ → Type 0 = λ k. IsNetOf (block_by r.group) (mine_of k u p) r.net in
+    let N : Group → Type 0 = λ g. IsNetOf (block_by g) (mine_of n u p) r.net in
+    no_model_fails u p n group r.net r.is_net (subst N named (subst M blocks r.of_mine)) fault f
 
 pub body_read : (u p c : List ℕ) (n : ℕ) (fault : CertFault) → Reads u p c → DenoteMine u p n → BodyFails u p c n fault → ⊥
 body_read u p c n fault r m f =

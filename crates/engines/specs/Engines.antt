@@ -11,8 +11,8 @@ use Rattle.engines.specs.declared.judgements.Verdict.{Verdict}
 use Rattle.engines.specs.declared.judgements.Verdict.TheVariants.{Done, No}
 use Rattle.engines.specs.declared.engine_faults.EngineFault.{EngineFault}
 use Rattle.engines.specs.declared.engine_faults.EngineFault.TheVariants as engine
-use Rattle.engines.specs.declared.engine_faults.Problem.TheVariants as problem
 use Rattle.engines.specs.declared.engine_faults.CertificateProblem.TheVariants as certificate
+use Rattle.engines.specs.Limits.{IsTooLong}
 use Rattle.engines.specs.Readings.{Reads}
 use Rattle.engines.specs.Judgements.{IsAccepted, IsRefused, IsJudged}
 use Rattle.engines.specs.Faults.{Fails}
@@ -53,26 +53,23 @@ Checks values precedence certificate old new (Ok Done) = WritesAccepted values p
 Checks values precedence certificate old new (Ok No) = WritesRefused values precedence certificate old new
 Checks values precedence certificate old new (Err fault) = Fails values precedence certificate fault × WritesAtFault values precedence certificate old new fault
 
--- what keeps a sound certificate from being accepted: memory, a device, an input of more than 2^32 bytes, or a worth that doesn't fit
-abbrev pub Hinders : EngineFault → Type 0
-Hinders engine.Memory = Unit {0}
-Hinders engine.Device = Unit {0}
-Hinders (engine.Model fault) = Unit {0}
-Hinders (engine.Upit problem.InputTooLong) = Unit {0}
-Hinders (engine.Prec problem.InputTooLong) = Unit {0}
-Hinders (engine.Certificate certificate.InputTooLong) = Unit {0}
-Hinders _ = ⊥
+-- what keeps a sound certificate from being accepted: memory, a device, or its own length
+abbrev pub Hinders : List ℕ → EngineFault → Type 0
+Hinders text engine.Memory = Unit {0}
+Hinders text engine.Device = Unit {0}
+Hinders text (engine.Certificate certificate.InputTooLong) = IsTooLong text
+Hinders text _ = ⊥
 
 -- it accepts, unless something hinders it
-abbrev pub AcceptsUnlessHindered : Result Verdict EngineFault → Type 0
-AcceptsUnlessHindered (Ok Done) = Unit {0}
-AcceptsUnlessHindered (Ok No) = ⊥
-AcceptsUnlessHindered (Err fault) = Hinders fault
+abbrev pub AcceptsUnlessHindered : List ℕ → Result Verdict EngineFault → Type 0
+AcceptsUnlessHindered text (Ok Done) = Unit {0}
+AcceptsUnlessHindered text (Ok No) = ⊥
+AcceptsUnlessHindered text (Err fault) = Hinders text fault
 
 -- A certificate whose flow is one, whose pit is closed and tight, and whose sums fit is accepted.
 abbrev pub SoundIsAccepted : List ℕ → List ℕ → List ℕ → Result Verdict EngineFault → Type 0
-SoundIsAccepted values precedence certificate answer = (read : Reads values precedence certificate) → IsSound read.net read.flow read.pit → AcceptsUnlessHindered answer
+SoundIsAccepted values precedence certificate answer = (read : Reads values precedence certificate) → IsSound read.net read.flow read.pit → AcceptsUnlessHindered certificate answer
 
--- a device of four has failed once more, and no other
+-- the counts of four devices are one more together
 pub record OneFailed (a b c d a' b' c' d' : ℕ) : Type 0 where
   pub one : a' + b' + c' + d' ≡ a + b + c + d + 1

@@ -1,5 +1,5 @@
 -- When an engine answers a fault: each stands in the texts, and none before it does.
-use Rattle.std.specs.Prelude.{◌≡◌, ◌≢◌, ℕ, ◌<◌, ◌^◌, ℤ, pos, ◌*ℤ◌, ◌⊎◌, List, length, slice_index_or, Some, None, Ok, Err}
+use Rattle.std.specs.Prelude.{◌≡◌, ◌≢◌, ℕ, ◌<◌, ℤ, pos, ◌*ℤ◌, ◌⊎◌, List, length, slice_index_or, Some, None, Ok, Err}
 use Rattle.ordered_group.specs.declared.groups.Group.{Group}
 use Rattle.closure_net.specs.Faults.{WorthsFaultStands}
 use Rattle.closure_net.specs.declared.networks.NetFault.{NetFault}
@@ -23,25 +23,24 @@ use Rattle.engines.specs.declared.engine_faults.CertificateProblem.{CertificateP
 use Rattle.engines.specs.declared.engine_faults.CertificateProblem.TheVariants as certificate
 use Rattle.engines.specs.declared.engine_faults.EngineFault.{EngineFault}
 use Rattle.engines.specs.declared.engine_faults.EngineFault.TheVariants as engine
+use Rattle.engines.specs.Limits.{IsTooLong, IsWithinLimit}
 use Rattle.engines.specs.Mines.{mine_of, DenoteMine}
 use Rattle.engines.specs.Readings.{block_by, counts_by}
 
--- the most bytes of an input
-abbrev pub longest : ℕ
-longest = 2 ^ 32
-
 -- the values are no text of values: too long, or a fault of the header, or one by the number of blocks that it declares
 abbrev pub UpitFails : List ℕ → Problem UpitFault → Type 0
-UpitFails text problem.InputTooLong = longest < length text
-UpitFails text (problem.Fault fault) = (upit.declared_of text ≡ Err fault) ⊎ ((n : ℕ) × (upit.declared_of text ≡ Ok n) × (upit.fault_of n text ≡ Some fault))
+UpitFails text problem.InputTooLong = IsTooLong text
+UpitFails text (problem.Fault fault) = IsWithinLimit text × ((upit.declared_of text ≡ Err fault) ⊎ ((n : ℕ) × (upit.declared_of text ≡ Ok n) × (upit.fault_of n text ≡ Some fault)))
 
--- the first text declares n blocks and has no fault
-abbrev pub ValuesRead : List ℕ → ℕ → Type 0
-ValuesRead text n = (upit.declared_of text ≡ Ok n) × (upit.fault_of n text ≡ None)
+-- The first text isn't too long, declares n blocks and has no fault.
+pub record ValuesRead (text : List ℕ) (n : ℕ) : Type 0 where
+  pub within : IsWithinLimit text
+  pub declared : upit.declared_of text ≡ Ok n
+  pub read : upit.fault_of n text ≡ None
 
 abbrev pub PrecFails : ℕ → List ℕ → Problem PrecFault → Type 0
-PrecFails n text problem.InputTooLong = longest < length text
-PrecFails n text (problem.Fault fault) = prec.fault_of n text ≡ Some fault
+PrecFails n text problem.InputTooLong = IsTooLong text
+PrecFails n text (problem.Fault fault) = IsWithinLimit text × (prec.fault_of n text ≡ Some fault)
 
 -- the header is one for this mine at the objective
 abbrev pub IsHeader : List ℕ → ℕ → Group → Type 0
@@ -81,15 +80,15 @@ abbrev pub PriceDiffers : List ℕ → ℕ → Type 0
 PriceDiffers text n = (header : Header) × (header_of (pieces_of text) ≡ Ok header) × (header.blocks ≡ n) × (header.price ≢ Objective)
 
 abbrev pub CertificateFails : List ℕ → List ℕ → List ℕ → ℕ → CertificateProblem → Type 0
-CertificateFails values precedence text n certificate.InputTooLong = longest < length text
-CertificateFails values precedence text n certificate.WrongPrice = PriceDiffers text n
-CertificateFails values precedence text n (certificate.Fault fault) = HeaderFails text n fault ⊎ BodyFails values precedence text n fault
+CertificateFails values precedence text n certificate.InputTooLong = IsTooLong text
+CertificateFails values precedence text n certificate.WrongPrice = IsWithinLimit text × PriceDiffers text n
+CertificateFails values precedence text n (certificate.Fault fault) = IsWithinLimit text × (HeaderFails text n fault ⊎ BodyFails values precedence text n fault)
 
 -- Why the check of three texts answers a fault. Want of memory and a failing device say nothing of the texts.
 abbrev pub Fails : List ℕ → List ℕ → List ℕ → EngineFault → Type 0
 Fails values precedence text (engine.Upit p) = UpitFails values p
 Fails values precedence text (engine.Prec p) = (n : ℕ) × ValuesRead values n × PrecFails n precedence p
-Fails values precedence text (engine.Model fault) = (n : ℕ) × DenoteMine values precedence n × (group : Group) × IsHeader text n group × ModelFails values n group fault
+Fails values precedence text (engine.Model fault) = (n : ℕ) × DenoteMine values precedence n × IsWithinLimit text × (group : Group) × IsHeader text n group × ModelFails values n group fault
 Fails values precedence text (engine.Certificate p) = (n : ℕ) × DenoteMine values precedence n × CertificateFails values precedence text n p
 Fails values precedence text (engine.Blocks p) = ⊥
 Fails values precedence text (engine.Slope p) = ⊥

@@ -1,13 +1,17 @@
 -- What reading each input of an engine gives, and when it answers a fault.
-use Rattle.std.specs.Prelude.{◌≡◌, ℕ, List, length, None}
+use Rattle.std.specs.Prelude.{◌≡◌, ◌⊎◌, ℕ, List, length, None}
 use Rattle.prec_file.specs.Rests.{RestsView, ArePairsOf}
 use Rattle.prec_file.specs.Records as prec
 use Rattle.upit_file.specs.Records as upit
 use Rattle.engines.specs.declared.engine_faults.EngineFault.{EngineFault}
 use Rattle.engines.specs.declared.engine_faults.EngineFault.TheVariants as engine
 use Rattle.engines.specs.declared.engine_faults.CertificateProblem.TheVariants as certificate
-use Rattle.engines.specs.Faults.{UpitFails, PrecFails, ValuesRead, longest}
-use Rattle.std.specs.Prelude.{◌<◌}
+use Rattle.engines.specs.Limits.{IsTooLong, IsWithinLimit}
+use Rattle.engines.specs.Faults.{UpitFails, PrecFails, ValuesRead}
+
+-- why a text isn't read: for want of memory or by a failing device, or it is too long, which is told by a fault of its own
+abbrev pub TextFails : EngineFault → List ℕ → EngineFault → Type 0
+TextFails too_long text fault = (fault ≡ engine.Memory) ⊎ (fault ≡ engine.Device) ⊎ ((fault ≡ too_long) × IsTooLong text)
 
 -- the values are those of the text, for the blocks that it declares
 abbrev pub ReadsUpit : List ℕ → upit.UpitView → Type 0
@@ -22,11 +26,11 @@ UpitReadFails text _ = ⊥
 
 -- the pairs are those that the text lists, as it lists them
 abbrev pub ListsPrec : ℕ → List ℕ → RestsView → Type 0
-ListsPrec n text listed = (prec.fault_of n text ≡ None) × (listed.blocks ≡ n) × (listed.pairs ≡ prec.listed text)
+ListsPrec n text listed = IsWithinLimit text × (prec.fault_of n text ≡ None) × (listed.blocks ≡ n) × (listed.pairs ≡ prec.listed text)
 
 -- the pairs are those of the text
 abbrev pub ReadsPrec : ℕ → List ℕ → RestsView → Type 0
-ReadsPrec n text rests = (prec.fault_of n text ≡ None) × (rests.blocks ≡ n) × ArePairsOf (prec.listed text) rests.pairs
+ReadsPrec n text rests = IsWithinLimit text × (prec.fault_of n text ≡ None) × (rests.blocks ≡ n) × ArePairsOf (prec.listed text) rests.pairs
 
 abbrev pub PrecReadFails : ℕ → List ℕ → EngineFault → Type 0
 PrecReadFails n text (engine.Prec p) = PrecFails n text p
@@ -35,7 +39,7 @@ PrecReadFails n text engine.Device = Unit {0}
 PrecReadFails n text _ = ⊥
 
 abbrev pub TextReadFails : List ℕ → EngineFault → Type 0
-TextReadFails text (engine.Certificate certificate.InputTooLong) = longest < length text
+TextReadFails text (engine.Certificate certificate.InputTooLong) = IsTooLong text
 TextReadFails text engine.Memory = Unit {0}
 TextReadFails text engine.Device = Unit {0}
 TextReadFails text _ = ⊥

@@ -7,11 +7,13 @@ use Rattle.check_pit.specs.Checks.{IsSound, FaultStands}
 use Rattle.check_pit.specs.declared.faults.PitFault.{PitFault}
 use Rattle.engines.specs.declared.judgements.Judgement.{Judgement}
 use Rattle.engines.specs.declared.judgements.Judgement.TheVariants.{Accepted, Refused}
+use Rattle.engines.specs.Limits.{IsWithinLimit}
 use Rattle.engines.specs.Mines.{mine_of}
 use Rattle.engines.specs.Readings.{Reads, IsProvedPit}
 
 -- The texts denote a mine and a certificate whose flow proves its pit; that pit has so many blocks and is worth so much.
 pub record IsAccepted (values precedence certificate : List ℕ) (name : Group) (blocks : ℕ) (nanos : ℤ) : Type 0 where
+  pub within : IsWithinLimit certificate
   pub read : Reads values precedence certificate
   pub group : read.group ≡ name
   pub sound : IsSound read.net read.flow read.pit
@@ -21,6 +23,7 @@ pub record IsAccepted (values precedence certificate : List ℕ) (name : Group) 
 
 -- The texts denote a mine and a certificate in which this fault stands.
 pub record IsRefused (values precedence certificate : List ℕ) (fault : PitFault) : Type 0 where
+  pub within : IsWithinLimit certificate
   pub read : Reads values precedence certificate
   pub stands : FaultStands read.net read.flow read.pit fault
 

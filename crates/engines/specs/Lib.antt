@@ -1,3 +1,4 @@
+pub mod Limits
 pub mod Mines
 pub mod Readings
 pub mod Judgements

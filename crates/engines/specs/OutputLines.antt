@@ -1,5 +1,5 @@
 -- The lines that the program prints.
-use Rattle.std.specs.Prelude.{ℕ, List, [], ◌∷◌, ◌++◌, codes, decimal}
+use Rattle.std.specs.Prelude.{ℕ, List, [], ◌∷◌, ◌++◌, codes, decimal, Option, Some}
 use Rattle.fixed_worth.specs.Printed.{printed}
 use Rattle.ordered_group.specs.declared.groups.Group.{Group}
 use Rattle.ordered_group.specs.declared.groups.Group.TheVariants.{Worth, Pair}
@@ -34,6 +34,11 @@ judgement_line (Refused fault) = codes "REFUSED " ++ (pit_fault_text fault ++ 10
 abbrev pub problem_text : {F : Type 0} → (F → List ℕ) → Problem F → List ℕ
 problem_text text problem.InputTooLong = codes "InputTooLong"
 problem_text text (problem.Fault fault) = text fault
+
+-- the same where a fault may have no text that is claimed
+abbrev pub problem_output : {F : Type 0} → (F → Option (List ℕ)) → Problem F → Option (List ℕ)
+problem_output output problem.InputTooLong = Some (codes "InputTooLong")
+problem_output output (problem.Fault fault) = output fault
 
 abbrev pub certificate_text : CertificateProblem → List ℕ
 certificate_text certificate.InputTooLong = codes "InputTooLong"

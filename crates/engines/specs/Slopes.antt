@@ -1,5 +1,5 @@
 -- The precedence that a pattern gives of the blocks of a text, and how the engine of `slopes` ends.
-use Rattle.std.specs.Prelude.{◌≡◌, ℕ, ◌<◌, ◌≤◌, ◌⊎◌, List, [], length, Option, Some, None, Result, Ok, Err, Contains}
+use Rattle.std.specs.Prelude.{◌≡◌, ℕ, ◌≤◌, ◌⊎◌, List, [], Option, Some, None, Result, Ok, Err, Contains}
 use Rattle.std.specs.Io.KnownBytes.{Appends, Keeps}
 use Rattle.fixed_worth.specs.Device.{ReceivedPrefix}
 use Rattle.blocks_file.specs.Records as blocks
@@ -26,7 +26,7 @@ use Rattle.engines.specs.declared.engine_faults.SlopeProblem.{SlopeProblem}
 use Rattle.engines.specs.declared.engine_faults.SlopeProblem.TheVariants as of
 use Rattle.engines.specs.declared.engine_faults.EngineFault.{EngineFault}
 use Rattle.engines.specs.declared.engine_faults.EngineFault.TheVariants as engine
-use Rattle.engines.specs.Faults.{longest}
+use Rattle.engines.specs.Limits.{IsTooLong, IsWithinLimit}
 
 -- a number of a cone is from 1 to 1,000
 abbrev pub IsConeNumber : ℕ → Type 0
@@ -44,9 +44,9 @@ IsChosen Five offsets = AreOffsets (Contains five_offsets) offsets
 IsChosen Nine offsets = AreOffsets (Contains nine_offsets) offsets
 IsChosen (Cone levels run rise) offsets = AreOffsets (IsInCone levels run rise) offsets
 
--- the text has no fault, and these are its blocks; no column is chosen
+-- the text isn't too long and has no fault, and these are its blocks; no column is chosen
 abbrev pub ReadsBlocks : List ℕ → BlocksView → Type 0
-ReadsBlocks text m = (blocks.fault_of [] text ≡ None) × Denotes [] text m
+ReadsBlocks text m = IsWithinLimit text × (blocks.fault_of [] text ≡ None) × Denotes [] text m
 
 -- The pairs are those that a pattern gives of a model.
 pub record AreSlopesBy (m : BlocksView) (choice : PatternChoice) (up : Up) (rests : RestsView) : Type 0 where
@@ -62,8 +62,8 @@ pub record AreSlopesOf (text : List ℕ) (choice : PatternChoice) (up : Up) (res
 
 -- the text is no text of blocks: it is too long, or has this fault
 abbrev pub BlocksFails : List ℕ → Problem BlocksFault → Type 0
-BlocksFails text problem.InputTooLong = longest < length text
-BlocksFails text (problem.Fault fault) = blocks.fault_of [] text ≡ Some fault
+BlocksFails text problem.InputTooLong = IsTooLong text
+BlocksFails text (problem.Fault fault) = IsWithinLimit text × (blocks.fault_of [] text ≡ Some fault)
 
 -- there is no such pattern: a cone has too many offsets, and nothing else can be wrong
 abbrev pub PatternFails : PatternChoice → PatternFault → Type 0

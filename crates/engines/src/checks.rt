@@ -37,8 +37,9 @@ pub fn check_engine<U: CountedRead, P: CountedRead, C: CountedRead, W: CountedWr
     ensures complete { IfSome (U.remaining upit.old) (λ u. IfSome (P.remaining prec.old) (λ p. IfSome (C.remaining certificate.old) (λ c.
         SoundIsAccepted u p c result))) }
 
-    // A device is named only where one failed.
+    // A device is named exactly where one failed.
     ensures device { IsErrOf result EngineFault.Device → OneFailed (U.failed upit.old) (P.failed prec.old) (C.failed certificate.old) (W.failed out.old) (U.failed upit.new) (P.failed prec.new) (C.failed certificate.new) (W.failed out.new) }
+    ensures kept { ¬ IsErrOf result EngineFault.Device → (U.failed upit.new ≡ U.failed upit.old) × (P.failed prec.new ≡ P.failed prec.old) × (C.failed certificate.new ≡ C.failed certificate.old) × (W.failed out.new ≡ W.failed out.old) }
 {
     check_all(alloc, upit, prec, certificate, out)
 }
@@ -58,6 +59,7 @@ fn check_all<U: CountedRead, P: CountedRead, C: CountedRead, W: CountedWrite>(
     ensures answer { IfSome (U.remaining upit.old) (λ u. IfSome (P.remaining prec.old) (λ p. IfSome (C.remaining certificate.old) (λ c.
         Checks u p c (W.contents out.old) (W.contents out.new) result))) }
     ensures device { IsErrOf result EngineFault.Device → OneFailed (U.failed upit.old) (P.failed prec.old) (C.failed certificate.old) (W.failed out.old) (U.failed upit.new) (P.failed prec.new) (C.failed certificate.new) (W.failed out.new) }
+    ensures kept { ¬ IsErrOf result EngineFault.Device → (U.failed upit.new ≡ U.failed upit.old) × (P.failed prec.new ≡ P.failed prec.old) × (C.failed certificate.new ≡ C.failed certificate.old) × (W.failed out.new ≡ W.failed out.old) }
 {
     let upit = upit_from(alloc, upit)?;
     let rests = rests_from(alloc, prec, upit.len())?;

@@ -21,6 +21,10 @@ pub enum Problem<F> {
 }
 
 impl<F: fmt::Display> fmt::Display for Problem<F> {
+    ghost use Rattle.engines.specs.OutputLines.{problem_output};
+
+    ghost output = { problem_output F.output };
+
     fn fmt<W: fmt::Write>(&self, f: &mut fmt::Formatter<W>) -> fmt::Result {
         match self {
             Problem::InputTooLong => f.write_str("InputTooLong"),
@@ -41,6 +45,11 @@ pub enum CertificateProblem {
 }
 
 impl fmt::Display for CertificateProblem {
+    ghost use Rattle.std.specs.Prelude.{Some};
+    ghost use Rattle.engines.specs.OutputLines.{certificate_text};
+
+    ghost output = { λ problem. Some (certificate_text problem) };
+
     fn fmt<W: fmt::Write>(&self, f: &mut fmt::Formatter<W>) -> fmt::Result {
         match self {
             CertificateProblem::InputTooLong => f.write_str("InputTooLong"),
@@ -60,6 +69,11 @@ pub enum SlopeProblem {
 }
 
 impl fmt::Display for SlopeProblem {
+    ghost use Rattle.std.specs.Prelude.{Some};
+    ghost use Rattle.engines.specs.OutputLines.{slope_text};
+
+    ghost output = { λ problem. Some (slope_text problem) };
+
     fn fmt<W: fmt::Write>(&self, f: &mut fmt::Formatter<W>) -> fmt::Result {
         match self {
             SlopeProblem::Pattern(fault) => write!(f, "{fault}"),
@@ -69,6 +83,8 @@ impl fmt::Display for SlopeProblem {
 }
 
 /// Why an engine could not answer: what is wrong, and with which of its inputs.
+///
+/// The program tells it in the line of [`write_fault`](crate::write_fault); nothing is claimed of the text derived here.
 #[derive(Clone, Copy, Debug, PartialEq, Eq, Error)]
 pub enum EngineFault {
     /// The blocks and their places.

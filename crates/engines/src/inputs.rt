@@ -1,8 +1,9 @@
 //! Reading the inputs of an engine, each whole and with its own fault.
 
-ghost use Rattle.std.specs.Prelude.{◌≡◌, ◌+◌, ◌-◌, ◌^◌, ◌<◌, ◌≤◌, ◌↔◌, ℕ, ◌⊎◌, length, IfSome, MatchResult, IsErrOf};
+ghost use Rattle.std.specs.Prelude.{◌≡◌, ◌+◌, ◌-◌, ◌^◌, ◌<◌, ◌≤◌, ◌↔◌, ℕ, ◌⊎◌, length, IfOk, IfSome, MatchResult, IsErrOf};
+ghost use Rattle.engines.specs.Limits.{IsWithinLimit};
 ghost use Rattle.engines.specs.Slopes.{ReadsBlocks, BlocksReadFails};
-ghost use Rattle.engines.specs.Inputs.{ReadsUpit, ListsPrec, ReadsPrec, UpitReadFails, PrecReadFails, TextReadFails};
+ghost use Rattle.engines.specs.Inputs.{ReadsUpit, ListsPrec, ReadsPrec, UpitReadFails, PrecReadFails, TextFails, TextReadFails};
 
 use crate::engine_faults::{CertificateProblem, EngineFault, Problem};
 use blocks_file::{BlockModel, BlocksFault, read_blocks};
@@ -14,6 +15,27 @@ use upit_file::{Upit, UpitFault, declared_blocks, read_upit};
 // The most bytes of an input.
 const LONGEST: u64 = 1 << 32;
 
+// All bytes of an input; the fault of one that has too many is handed in.
+fn text_from<R: CountedRead>(
+    alloc: Global,
+    from: &mut R,
+    too_long: EngineFault,
+) -> Result<Vec<u8>, EngineFault>
+    requires room { R.failed from.old < 2 ^ 64 - 1 }
+    requires no_device { ¬ (too_long ≡ EngineFault.Device) }
+    ensures read { IfSome (R.remaining from.old) (λ text. MatchResult result (λ v. v.items ≡ text) (TextFails too_long text)) }
+    ensures within { IfOk result (λ v. IsWithinLimit v.items) }
+    ensures device { IsErrOf result EngineFault.Device ↔ (R.failed from.new ≡ R.failed from.old + 1) }
+    ensures kept { ¬ IsErrOf result EngineFault.Device → R.failed from.new ≡ R.failed from.old }
+{
+    match read_whole(alloc, from, LONGEST) {
+        Ok(text) => Ok(text),
+        Err(InputFault::Device) => Err(EngineFault::Device),
+        Err(InputFault::InputTooLong) => Err(too_long),
+        Err(InputFault::NoMemory) => Err(EngineFault::Memory),
+    }
+}
+
 /// The blocks of a text and their places, without columns.
 pub fn blocks_from<R: CountedRead>(alloc: Global, from: &mut R) -> Result<BlockModel, EngineFault>
     requires { R.failed from.old < 2 ^ 64 - 1 }
@@ -21,12 +43,7 @@ pub fn blocks_from<R: CountedRead>(alloc: Global, from: &mut R) -> Result<BlockM
     ensures device { IsErrOf result EngineFault.Device ↔ (R.failed from.new ≡ R.failed from.old + 1) }
     ensures kept { ¬ IsErrOf result EngineFault.Device → R.failed from.new ≡ R.failed from.old }
 {
-    let text = match read_whole(alloc, from, LONGEST) {
-        Ok(text) => text,
-        Err(InputFault::Device) => return Err(EngineFault::Device),
-        Err(InputFault::InputTooLong) => return Err(EngineFault::Blocks(Problem::InputTooLong)),
-        Err(InputFault::NoMemory) => return Err(EngineFault::Memory),
-    };
+    let text = text_from(alloc, from, EngineFault::Blocks(Problem::InputTooLong))?;
     match read_blocks(alloc, text.as_slice(), &[]) {
         Ok(model) => Ok(model),
         Err(BlocksFault::NoMemory) => Err(EngineFault::Memory),
@@ -41,17 +58,13 @@ pub fn upit_from<R: CountedRead>(alloc: Global, from: &mut R) -> Result<Upit, En
     ensures device { IsErrOf result EngineFault.Device ↔ (R.failed from.new ≡ R.failed from.old + 1) }
     ensures kept { ¬ IsErrOf result EngineFault.Device → R.failed from.new ≡ R.failed from.old }
 {
-    let text = match read_whole(alloc, from, LONGEST) {
-        Ok(text) => text,
-        Err(InputFault::Device) => return Err(EngineFault::Device),
-        Err(InputFault::InputTooLong) => return Err(EngineFault::Upit(Problem::InputTooLong)),
-        Err(InputFault::NoMemory) => return Err(EngineFault::Memory),
-    };
+    let text = text_from(alloc, from, EngineFault::Upit(Problem::InputTooLong))?;
     upit_of(alloc, text.as_slice())
 }
 
 // The values that a text gives to the blocks that it declares.
 fn upit_of(alloc: Global, text: &[u8]) -> Result<Upit, EngineFault>
+    requires { IsWithinLimit text.now }
     ensures read { MatchResult result (ReadsUpit text.now) (UpitReadFails text.now) }
     ensures no_device { ¬ IsErrOf result EngineFault.Device }
 {
@@ -78,12 +91,7 @@ fn listed_from<R: CountedRead>(
     ensures device { IsErrOf result EngineFault.Device ↔ (R.failed from.new ≡ R.failed from.old + 1) }
     ensures kept { ¬ IsErrOf result EngineFault.Device → R.failed from.new ≡ R.failed from.old }
 {
-    let text = match read_whole(alloc, from, LONGEST) {
-        Ok(text) => text,
-        Err(InputFault::Device) => return Err(EngineFault::Device),
-        Err(InputFault::InputTooLong) => return Err(EngineFault::Prec(Problem::InputTooLong)),
-        Err(InputFault::NoMemory) => return Err(EngineFault::Memory),
-    };
+    let text = text_from(alloc, from, EngineFault::Prec(Problem::InputTooLong))?;
     match read_listed(alloc, text.as_slice(), n) {
         Ok(listed) => Ok(listed),
         Err(PrecFault::NoMemory) => Err(EngineFault::Memory),
@@ -107,15 +115,13 @@ pub fn rests_from<R: CountedRead>(alloc: Global, from: &mut R, n: u32) -> Result
 pub fn certificate_from<R: CountedRead>(alloc: Global, from: &mut R) -> Result<Vec<u8>, EngineFault>
     requires { R.failed from.old < 2 ^ 64 - 1 }
     ensures read { IfSome (R.remaining from.old) (λ text. MatchResult result (λ v. v.items ≡ text) (TextReadFails text)) }
+    ensures within { IfOk result (λ v. IsWithinLimit v.items) }
     ensures device { IsErrOf result EngineFault.Device ↔ (R.failed from.new ≡ R.failed from.old + 1) }
     ensures kept { ¬ IsErrOf result EngineFault.Device → R.failed from.new ≡ R.failed from.old }
 {
-    match read_whole(alloc, from, LONGEST) {
-        Ok(text) => Ok(text),
-        Err(InputFault::Device) => Err(EngineFault::Device),
-        Err(InputFault::InputTooLong) => Err(EngineFault::Certificate(
-            CertificateProblem::InputTooLong,
-        )),
-        Err(InputFault::NoMemory) => Err(EngineFault::Memory),
-    }
+    text_from(
+        alloc,
+        from,
+        EngineFault::Certificate(CertificateProblem::InputTooLong),
+    )
 }

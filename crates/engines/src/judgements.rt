@@ -8,8 +8,15 @@ use ordered_group::Group;
 /// What a check says of a certificate.
 #[derive(Clone, Copy, Debug, PartialEq, Eq)]
 pub enum Judgement {
-    /// The pit is proved: what was counted, how many blocks it has, and its worth in billionths.
-    Accepted(Group, u32, i128),
+    /// The pit is proved.
+    Accepted {
+        /// What was counted.
+        group: Group,
+        /// How many blocks the pit has.
+        count: u32,
+        /// Its worth in billionths.
+        worth: i128,
+    },
     /// The certificate proves nothing: the first fault.
     Refused(PitFault),
 }
@@ -31,7 +38,7 @@ impl Judgement {
         ensures { result ≡ verdict_of self }
     {
         match self {
-            Judgement::Accepted(..) => Verdict::Done,
+            Judgement::Accepted { .. } => Verdict::Done,
             Judgement::Refused(_) => Verdict::No,
         }
     }

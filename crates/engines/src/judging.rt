@@ -5,6 +5,7 @@ ghost use Rattle.closure_net.specs.Network.{holds_of, IsAscending};
 ghost use Rattle.ordered_group.specs.Amount.{FitsPair};
 ghost use Rattle.closure_net.specs.Closure.{group_worth, IsGreatest};
 ghost use Rattle.closure_net.specs.Mine.{IsNetOf};
+ghost use Rattle.engines.specs.Limits.{IsWithinLimit};
 ghost use Rattle.engines.specs.Mines.{DenoteMine, mine_of};
 ghost use Rattle.engines.specs.Faults.{IsHeader};
 ghost use Rattle.engines.specs.Judging.{AreRead, IsGroupNamed, Judges};
@@ -26,6 +27,7 @@ pub fn judge(
     rests: Rests,
     certificate: &[u8],
 ) -> Result<Judgement, EngineFault>
+    requires { IsWithinLimit certificate.now }
     ensures judged { (values precedence : List ℕ) → AreRead values precedence upit.now rests → Judges values precedence certificate.now result }
     ensures no_device { ¬ IsErrOf result EngineFault.Device }
 {
@@ -54,6 +56,7 @@ fn judge_by<G: OrderedGroup>(
     rests: Rests,
     certificate: &[u8],
 ) -> Result<Judgement, EngineFault>
+    requires { IsWithinLimit certificate.now }
     ensures judged { (values precedence : List ℕ) → AreRead values precedence upit.now rests → IsGroupNamed G.name G.block_parts G.counts
         → IsHeader certificate.now rests.blocks G.name → Judges values precedence certificate.now result }
     ensures no_device { ¬ IsErrOf result EngineFault.Device }
@@ -69,6 +72,7 @@ fn judge_for<G: OrderedGroup>(
     net: &Net<G>,
     certificate: &[u8],
 ) -> Result<Judgement, EngineFault>
+    requires { IsWithinLimit certificate.now }
     ensures judged { (values precedence : List ℕ) → DenoteMine values precedence (length net.now.worths) → IsGroupNamed G.name G.block_parts G.counts
         → IsHeader certificate.now (length net.now.worths) G.name → IsNetOf G.block_parts (mine_of (length net.now.worths) values precedence) net.now
         → Judges values precedence certificate.now result }
@@ -81,7 +85,11 @@ fn judge_for<G: OrderedGroup>(
         Ok(accepted) => {
             let count = size_of(&accepted);
             let worth = worth_of(&accepted, count);
-            Ok(Judgement::Accepted(G::group(), count, worth))
+            Ok(Judgement::Accepted {
+                group: G::group(),
+                count,
+                worth,
+            })
         }
         Err(fault) => Ok(Judgement::Refused(fault)),
     }

@@ -1,6 +1,7 @@
 //! The run that the program carries: three blocks, of which the third must be dug for the other two.
 
-ghost use Rattle.std.specs.Prelude.{◌-◌, ◌^◌, ◌<◌};
+ghost use Rattle.std.specs.Prelude.{◌≡◌, ◌-◌, ◌^◌, ◌<◌, IsErrOf};
+ghost use Rattle.engines.specs.Engines.{Checks};
 
 use crate::checks::check_engine;
 use crate::engine_faults::EngineFault;
@@ -8,16 +9,23 @@ use crate::judgements::Verdict;
 use fixed_worth::{Counted, CountedWrite};
 use std::alloc::Global;
 
-const VALUES: &[u8] = b"NBLOCKS: 3\nOBJECTIVE_FUNCTION:\n0 6\n1 5\n2 -10\n";
+/// The values of the blocks.
+pub const VALUES: &[u8] = b"NBLOCKS: 3\nOBJECTIVE_FUNCTION:\n0 6\n1 5\n2 -10\n";
 
-const PRECEDENCE: &[u8] = b"0 1 2\n1 1 2\n";
+/// The precedence.
+pub const PRECEDENCE: &[u8] = b"0 1 2\n1 1 2\n";
 
-const CERTIFICATE: &[u8] =
+/// The certificate.
+pub const CERTIFICATE: &[u8] =
     b"PITCERT 1\nBLOCKS 3\nPRICE OBJECTIVE\nGROUP PAIR\nPIT 0\nPIT 1\nPIT 2\nSOURCE 0 6000000000 -1\nSOURCE 1 4000000000 2\nREST 0 2 6000000000 -1\nREST 1 2 4000000000 2\nSINK 2 10000000000 1\nEND\n";
 
-/// Checks the stored certificate, and writes the answer.
+/// Checks the stored certificate, and writes the answer: what [`check_engine`] answers for these texts.
+///
+/// `out` must have counted fewer than 2^64 - 1 failures, so that one more can be counted.
 pub fn stored_check<W: CountedWrite>(alloc: Global, out: &mut W) -> Result<Verdict, EngineFault>
     requires { W.failed out.old < 2 ^ 64 - 1 }
+    ensures answer { Checks VALUES.now PRECEDENCE.now CERTIFICATE.now (W.contents out.old) (W.contents out.new) result }
+    ensures kept { ¬ IsErrOf result EngineFault.Device → W.failed out.new ≡ W.failed out.old }
 {
     let mut upit = Counted::new(VALUES);
     let mut prec = Counted::new(PRECEDENCE);

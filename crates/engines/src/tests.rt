@@ -4,7 +4,7 @@ use crate::checks::check_engine;
 use crate::engine_faults::{CertificateProblem, EngineFault, Problem, SlopeProblem};
 use crate::fault_lines::{status, write_fault};
 use crate::judgements::Verdict;
-use crate::stored_run::stored_check;
+use crate::stored_run::{CERTIFICATE, PRECEDENCE, VALUES, stored_check};
 use blocks_file::BlocksFault;
 use check_pit::CertFault;
 use closure_net::NetFault;
@@ -17,19 +17,35 @@ use std::io::{Error, ErrorKind, Read, Write};
 use std::test::Fail;
 use upit_file::UpitFault;
 
-const VALUES: &[u8] = b"NBLOCKS: 3\nOBJECTIVE_FUNCTION:\n0 6\n1 5\n2 -10\n";
-
-const PRECEDENCE: &[u8] = b"0 1 2\n1 1 2\n";
-
-/// A device whose every call fails.
+/// A reader of bytes, or one whose every call fails.
 #[derive(Drop)]
-struct Failing;
+enum Source<'a> {
+    Bytes(&'a [u8]),
+    Failing,
+}
 
-impl Read for Failing {
-    fn read(&mut self, _buf: &mut [u8]) -> io::Result<usize> {
-        Err(Error::from(ErrorKind::BrokenPipe))
+impl<'a> Source<'a> {
+    fn of(bytes: &'a [u8], fails: bool) -> Source<'a> {
+        if fails {
+            Source::Failing
+        } else {
+            Source::Bytes(bytes)
+        }
     }
 }
+
+impl Read for Source<'_> {
+    fn read(&mut self, buf: &mut [u8]) -> io::Result<usize> {
+        match self {
+            Source::Bytes(bytes) => bytes.read(buf),
+            Source::Failing => Err(Error::from(ErrorKind::BrokenPipe)),
+        }
+    }
+}
+
+/// A writer whose every call fails.
+#[derive(Drop)]
+struct Failing;
 
 impl Write for Failing {
     fn write(&mut self, _buf: &[u8]) -> io::Result<usize> {
@@ -66,18 +82,39 @@ fn a_pit_that_is_not_closed_is_refused(rt: HostRuntime) {
     assert!(rt; out.into_inner().as_slice() == b"REFUSED NotClosed(0, 2)\n".as_slice());
 }
 
+// The answer to the stored certificate and what it wrote, where the reader of this number fails.
+fn checked_with_failing(alloc: Global, failing: usize) -> (Result<Verdict, EngineFault>, Vec<u8>) {
+    let mut out = Counted::new(Vec::new(alloc));
+    let answer = check_engine(
+        alloc,
+        &mut Counted::new(Source::of(VALUES, failing == 0)),
+        &mut Counted::new(Source::of(PRECEDENCE, failing == 1)),
+        &mut Counted::new(Source::of(CERTIFICATE, failing == 2)),
+        &mut out,
+    );
+    (answer, out.into_inner())
+}
+
 #[test]
-fn a_failed_read_writes_nothing(rt: HostRuntime) {
-    let mut out = Counted::new(Vec::new(rt.alloc()));
+fn a_failed_read_of_any_input_writes_nothing(rt: HostRuntime) {
+    for failing in 0..3 {
+        let (answer, written) = checked_with_failing(rt.alloc(), failing);
+        assert!(rt; answer == Err(EngineFault::Device) && written.is_empty());
+    }
+    let (answer, written) = checked_with_failing(rt.alloc(), 3);
+    assert!(rt; answer == Ok(Verdict::Done) && !written.is_empty());
+}
+
+#[test]
+fn a_failed_write_is_answered(rt: HostRuntime) {
     let answer = check_engine(
         rt.alloc(),
         &mut Counted::new(VALUES),
+        &mut Counted::new(PRECEDENCE),
+        &mut Counted::new(CERTIFICATE),
         &mut Counted::new(Failing),
-        &mut Counted::new(VALUES),
-        &mut out,
     );
     assert!(rt; answer == Err(EngineFault::Device));
-    assert!(rt; out.into_inner().is_empty());
 }
 
 // Whether the fault has this line and this exit status.

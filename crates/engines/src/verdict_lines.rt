@@ -34,12 +34,11 @@ fn line_of(alloc: Global, judgement: Judgement) -> Result<String, AllocError>
     ensures { IfOk result (λ line. string_bytes line ≡ judgement_line judgement) }
 {
     match judgement {
-        Judgement::Accepted(group, count, worth) => accepted_line(
-            alloc,
+        Judgement::Accepted {
             group,
             count,
-            Nanos(worth),
-        ),
+            worth,
+        } => accepted_line(alloc, group, count, Nanos(worth)),
         Judgement::Refused(fault) => format!(in alloc; "REFUSED {fault}\n"),
     }
 }

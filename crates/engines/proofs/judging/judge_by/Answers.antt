@@ -7,7 +7,7 @@ pub returns-in_err-net-clause-judged : goal.returns-in_err-net-clause-judged
 returns-in_err-net-clause-judged g c = λ values precedence read named header.
     let p = err_from_is_err_and c.from_residual-in_err-net.result c.from_residual-in_err-net.ensures.1 in
     rw (p.1, p.2)
-    (net_fails g.G.OrderedGroup.name g.G.OrderedGroup.block_parts g.G.OrderedGroup.counts values precedence c.args.certificate.now c.args.upit.now c.args.rests c.as_slice.result.now c.in_err-net.field-0.0 read named header (c.as_slice.ensures.value ∙ c.in_ok-nanos.ensures) c.in_err-net.ensures)
+    (net_fails g.G.OrderedGroup.name g.G.OrderedGroup.block_parts g.G.OrderedGroup.counts values precedence c.args.certificate.now c.args.upit.now c.args.rests c.as_slice.result.now c.in_err-net.field-0.0 c.requires read named header (c.as_slice.ensures.value ∙ c.in_ok-nanos.ensures) c.in_err-net.ensures)
 
 pub returns-clause-judged : goal.returns-clause-judged
 returns-clause-judged g c = λ values precedence read named header.
