@@ -18,9 +18,13 @@ pub record MineTexts : Type 0 where
 abbrev pub mine_texts : List ℕ → List ℕ → MineTexts
 mine_texts values precedence = record { values = values; precedence = precedence }
 
--- the price that a certificate for them names
+-- the price that a certificate names where blocks have values
+abbrev pub price_of_values : Price
+price_of_values = Objective
+
+-- the price that a certificate for these texts names
 abbrev pub price_wanted : MineTexts → Price
-price_wanted texts = Objective
+price_wanted texts = price_of_values
 
 -- b rests on p where the pair is listed and they are two blocks
 abbrev pub rests_by : List (ℕ × ℕ) → ℕ → ℕ → Bool
