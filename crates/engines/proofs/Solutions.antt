@@ -145,8 +145,8 @@ module _ (block : ℤ → ℕ → Amount) (counts : Bool) (texts : MineTexts) (n
 
 -- there is no net of the mine
 pub unmade : (block : ℤ → ℕ → Amount) (counts : Bool) (texts : MineTexts) (name : Group) (read : upit.UpitView) (rests : RestsView) (worths : List ℤ) (method : Method) (limit : ℕ) (w : Option (List ℕ)) (fault : NetFault) → AreRead texts read rests → IsGroupNamed name block counts → worths ≡ map (λ x. pos 1000 *ℤ x) read.values → WorthsFaultStands block rests.blocks worths fault → Solves texts name method limit w w (Err (of_model fault))
-unmade block counts texts name read rests worths method limit w net_fault.WrongLength a named e f = ((rests.blocks, a.mine, worths_fail name block counts values read rests.blocks worths net_fault.WrongLength a.denotes named e f), keeps_self w)
-unmade block counts texts name read rests worths method limit w net_fault.TooLarge a named e f = ((rests.blocks, a.mine, worths_fail name block counts values read rests.blocks worths net_fault.TooLarge a.denotes named e f), keeps_self w)
+unmade block counts texts name read rests worths method limit w net_fault.WrongLength a named e f = ((rests.blocks, a.mine, worths_fail name block counts texts read rests.blocks worths net_fault.WrongLength a.denotes named e f), keeps_self w)
+unmade block counts texts name read rests worths method limit w net_fault.TooLarge a named e f = ((rests.blocks, a.mine, worths_fail name block counts texts read rests.blocks worths net_fault.TooLarge a.denotes named e f), keeps_self w)
 unmade block counts texts name read rests worths method limit w net_fault.NoMemory a named e f = (tt, keeps_self w)
 
 -- what holds of any texts of what was read holds where the readers tell their bytes
