@@ -13,7 +13,7 @@ use Rattle.check_pit.specs.Checks.{IsSound, FaultStands}
 use Rattle.check_pit.specs.Certificate.{lines_of_text, Denotes}
 use Rattle.check_pit.specs.declared.faults.PitFault.{PitFault}
 use Rattle.check_pit.proofs.Verdicts.{no_fault}
-use Rattle.engines.specs.Mines.{mine_of}
+use Rattle.engines.specs.Mines.{MineTexts, mine_of}
 use Rattle.engines.specs.Readings.{block_by, counts_by, Reads}
 use Rattle.engines.proofs.Listed.{listed_pairs}
 
@@ -21,9 +21,9 @@ pub ok_same : {E : Type 0} {A : Type 0} (r : Result A E) (a b : A) → r ≡ Ok 
 ok_same r a b e f = let g : Ok a ≡ Ok b = sym e ∙ f in cc
 
 -- two nets of one mine are one
-pub nets_same : (block : ℤ → ℕ → Amount) (n : ℕ) (values precedence : List ℕ) (x y : NetView) → IsNet x → IsNet y → IsNetOf block (mine_of n values precedence) x → IsNetOf block (mine_of n values precedence) y → x ≡ y
-nets_same block n values precedence x y a b p q =
-    let pairs = one_listing (prec.listed precedence) x.pairs y.pairs (listed_pairs (prec.listed precedence) x.pairs a.rests.rising p.pairs) (listed_pairs (prec.listed precedence) y.pairs b.rests.rising q.pairs) in
+pub nets_same : (block : ℤ → ℕ → Amount) (n : ℕ) (texts : MineTexts) (x y : NetView) → IsNet x → IsNet y → IsNetOf block (mine_of n texts) x → IsNetOf block (mine_of n texts) y → x ≡ y
+nets_same block n texts x y a b p q =
+    let pairs = one_listing (prec.listed texts.precedence) x.pairs y.pairs (listed_pairs (prec.listed texts.precedence) x.pairs a.rests.rising p.pairs) (listed_pairs (prec.listed texts.precedence) y.pairs b.rests.rising q.pairs) in
     let sizes = p.blocks ∙ sym q.blocks in
     let worths = same_at_default zero_amount x.worths y.worths sizes (λ k l. let m : k < n = omega (arith, l, p.blocks) in p.worths k m ∙ sym (q.worths k m)) in
     λ i. record { pairs = pairs i; worths = worths i }
@@ -40,7 +40,7 @@ flows_same counts n ps text pit other x y a b =
     λ i. record { source = source i; rest = rest i; sink = sink i }
 
 -- What two readings of the same texts share.
-pub record AreOne (values precedence certificate : List ℕ) (x y : Reads values precedence certificate) : Type 0 where
+pub record AreOne (texts : MineTexts) (certificate : List ℕ) (x y : Reads texts certificate) : Type 0 where
   pub net : x.net ≡ y.net
   pub pit : x.pit ≡ y.pit
   pub flow : x.flow ≡ y.flow
@@ -48,14 +48,14 @@ pub record AreOne (values precedence certificate : List ℕ) (x y : Reads values
 header_same : (text : List ℕ) (h k : Header) → h ≡ k → (h.blocks ≡ k.blocks) × (h.group ≡ k.group)
 header_same text h k e = (ap (λ (z : Header). z.blocks) e, ap (λ (z : Header). z.group) e)
 
-pub readings_same : (values precedence certificate : List ℕ) (x y : Reads values precedence certificate) → AreOne values precedence certificate x y
-readings_same values precedence certificate x y =
+pub readings_same : (texts : MineTexts) (certificate : List ℕ) (x y : Reads texts certificate) → AreOne texts certificate x y
+readings_same texts certificate x y =
     let h = ok_same _ _ _ x.header y.header in
     let blocks : x.blocks ≡ y.blocks = ap (λ (z : Header). z.blocks) h in
     let group : x.group ≡ y.group = ap (λ (z : Header). z.group) h in
-    let M : ℕ → Type 0 = λ n. IsNetOf (block_by x.group) (mine_of n values precedence) x.net in
-    let N : Group → Type 0 = λ g. IsNetOf (block_by g) (mine_of y.blocks values precedence) x.net in
-    let net = nets_same (block_by y.group) y.blocks values precedence x.net y.net x.is_net y.is_net (subst N group (subst M blocks x.of_mine)) y.of_mine in
+    let M : ℕ → Type 0 = λ n. IsNetOf (block_by x.group) (mine_of n texts) x.net in
+    let N : Group → Type 0 = λ g. IsNetOf (block_by g) (mine_of y.blocks texts) x.net in
+    let net = nets_same (block_by y.group) y.blocks texts x.net y.net x.is_net y.is_net (subst N group (subst M blocks x.of_mine)) y.of_mine in
     let D : ℕ → Type 0 = λ n. Denotes n x.net.pairs (lines_of_text (counts_by x.group) n certificate) x.pit x.flow in
     let E : Group → Type 0 = λ g. Denotes y.blocks x.net.pairs (lines_of_text (counts_by g) y.blocks certificate) x.pit x.flow in
     let F : NetView → Type 0 = λ n. Denotes y.blocks n.pairs (lines_of_text (counts_by y.group) y.blocks certificate) x.pit x.flow in
@@ -67,9 +67,9 @@ readings_same values precedence certificate x y =
     }
 
 -- no fault stands in a sound reading
-pub sound_stands : (values precedence certificate : List ℕ) (x y : Reads values precedence certificate) (fault : PitFault) → IsSound x.net x.flow x.pit → FaultStands y.net y.flow y.pit fault → ⊥
-sound_stands values precedence certificate x y fault s f =
-    let one = readings_same values precedence certificate x y in
+pub sound_stands : (texts : MineTexts) (certificate : List ℕ) (x y : Reads texts certificate) (fault : PitFault) → IsSound x.net x.flow x.pit → FaultStands y.net y.flow y.pit fault → ⊥
+sound_stands texts certificate x y fault s f =
+    let one = readings_same texts certificate x y in
     let P : NetView → Type 0 = λ n. FaultStands n y.flow y.pit fault in
     let Q : FlowView → Type 0 = λ w. FaultStands x.net w y.pit fault in
     let R : List ℕ → Type 0 = λ l. FaultStands x.net x.flow l fault in

@@ -13,6 +13,7 @@ use Rattle.engines.specs.declared.engine_faults.CertificateProblem.TheVariants a
 use Rattle.engines.specs.Faults.{Fails}
 use Rattle.engines.specs.Inputs.{ReadsUpit, ReadsPrec, TextReadFails}
 use Rattle.engines.specs.Judgements.{IsJudged}
+use Rattle.engines.specs.Mines.{MineTexts, mine_texts}
 use Rattle.engines.specs.Judging.{AreRead, Judges}
 use Rattle.engines.specs.OutputLines.{judgement_line}
 use Rattle.engines.specs.Verdicts.{verdict_of}
@@ -23,20 +24,20 @@ keeps_self None = tt
 keeps_self (Some xs) = refl
 
 -- nothing was written: so it is at any fault
-at_fault : (u p c : List ℕ) (old new : Option (List ℕ)) (fault : EngineFault) → Keeps old new → WritesAtFault u p c old new fault
-at_fault u p c old new (engine.Upit q) k = k
-at_fault u p c old new (engine.Prec q) k = k
-at_fault u p c old new (engine.Model q) k = k
-at_fault u p c old new (engine.Certificate q) k = k
-at_fault u p c old new (engine.Blocks q) k = k
-at_fault u p c old new (engine.Slope q) k = k
-at_fault u p c old new engine.Memory k = k
-at_fault u p c old new engine.Thread k = k
-at_fault u p c old new engine.Stranger k = k
-at_fault u p c old new engine.Device k = inl k
+at_fault : (texts : MineTexts) (c : List ℕ) (old new : Option (List ℕ)) (fault : EngineFault) → Keeps old new → WritesAtFault texts c old new fault
+at_fault texts c old new (engine.Upit q) k = k
+at_fault texts c old new (engine.Prec q) k = k
+at_fault texts c old new (engine.Model q) k = k
+at_fault texts c old new (engine.Certificate q) k = k
+at_fault texts c old new (engine.Blocks q) k = k
+at_fault texts c old new (engine.Slope q) k = k
+at_fault texts c old new engine.Memory k = k
+at_fault texts c old new engine.Thread k = k
+at_fault texts c old new engine.Stranger k = k
+at_fault texts c old new engine.Device k = inl k
 
 -- the two texts of the mine were read
-pub read_both : (u p : List ℕ) (values : upit.UpitView) (rests : RestsView) (n : ℕ) → n ≡ length values.values → ReadsUpit u values → ReadsPrec n p rests → AreRead u p values rests
+pub read_both : (u p : List ℕ) (values : upit.UpitView) (rests : RestsView) (n : ℕ) → n ≡ length values.values → ReadsUpit u values → ReadsPrec n p rests → AreRead (mine_texts u p) values rests
 read_both u p values rests n e a b =
     let q : length values.values ≡ rests.blocks = sym e ∙ sym b.2 in
     let F : ℕ → Type 0 = λ k. prec.fault_of k p ≡ None in
@@ -55,66 +56,66 @@ read_both u p values rests n e a b =
       pairs = b.3;
     }
 
-text_stands : (u p c : List ℕ) (values : upit.UpitView) (rests : RestsView) (fault : EngineFault) → AreRead u p values rests → TextReadFails c fault → Fails u p c fault
-text_stands u p c values rests (engine.Upit q) a h = absurd h
-text_stands u p c values rests (engine.Prec q) a h = absurd h
-text_stands u p c values rests (engine.Model q) a h = absurd h
-text_stands u p c values rests (engine.Certificate problem.InputTooLong) a h = (rests.blocks, a.mine, h)
-text_stands u p c values rests (engine.Certificate problem.WrongPrice) a h = absurd h
-text_stands u p c values rests (engine.Certificate (problem.Fault f)) a h = absurd h
-text_stands u p c values rests (engine.Blocks q) a h = absurd h
-text_stands u p c values rests (engine.Slope q) a h = absurd h
-text_stands u p c values rests engine.Memory a h = tt
-text_stands u p c values rests engine.Thread a h = absurd h
-text_stands u p c values rests engine.Stranger a h = absurd h
-text_stands u p c values rests engine.Device a h = tt
+text_stands : (texts : MineTexts) (c : List ℕ) (values : upit.UpitView) (rests : RestsView) (fault : EngineFault) → AreRead texts values rests → TextReadFails c fault → Fails texts c fault
+text_stands texts c values rests (engine.Upit q) a h = absurd h
+text_stands texts c values rests (engine.Prec q) a h = absurd h
+text_stands texts c values rests (engine.Model q) a h = absurd h
+text_stands texts c values rests (engine.Certificate problem.InputTooLong) a h = (rests.blocks, a.mine, h)
+text_stands texts c values rests (engine.Certificate problem.WrongPrice) a h = absurd h
+text_stands texts c values rests (engine.Certificate (problem.Fault f)) a h = absurd h
+text_stands texts c values rests (engine.Blocks q) a h = absurd h
+text_stands texts c values rests (engine.Slope q) a h = absurd h
+text_stands texts c values rests engine.Memory a h = tt
+text_stands texts c values rests engine.Thread a h = absurd h
+text_stands texts c values rests engine.Stranger a h = absurd h
+text_stands texts c values rests engine.Device a h = tt
 
 -- the certificate could not be read
-pub text_answer : (o r s w : Option (List ℕ)) (values : upit.UpitView) (rests : RestsView) (n : ℕ) (fault : EngineFault) → n ≡ length values.values → IfSome o (λ u. ReadsUpit u values) → IfSome r (λ p. ReadsPrec n p rests) → IfSome s (λ c. TextReadFails c fault) → IfSome o (λ u. IfSome r (λ p. IfSome s (λ c. Checks u p c w w (Err fault))))
+pub text_answer : (o r s w : Option (List ℕ)) (values : upit.UpitView) (rests : RestsView) (n : ℕ) (fault : EngineFault) → n ≡ length values.values → IfSome o (λ u. ReadsUpit u values) → IfSome r (λ p. ReadsPrec n p rests) → IfSome s (λ c. TextReadFails c fault) → IfSome o (λ u. IfSome r (λ p. IfSome s (λ c. Checks (mine_texts u p) c w w (Err fault))))
 text_answer None r s w values rests n fault e a b h = tt
 text_answer (Some u) None s w values rests n fault e a b h = tt
 text_answer (Some u) (Some p) None w values rests n fault e a b h = tt
-text_answer (Some u) (Some p) (Some c) w values rests n fault e a b h = (text_stands u p c values rests fault (read_both u p values rests n e a b) h, at_fault u p c w w fault (keeps_self w))
+text_answer (Some u) (Some p) (Some c) w values rests n fault e a b h = (text_stands (mine_texts u p) c values rests fault (read_both u p values rests n e a b) h, at_fault (mine_texts u p) c w w fault (keeps_self w))
 
-judged_at : (u p c text : List ℕ) (answer : Result Judgement EngineFault) → text ≡ c → Judges u p text answer → Judges u p c answer
-judged_at u p c text answer e h = let P : List ℕ → Type 0 = λ t. Judges u p t answer in subst P e h
+judged_at : (texts : MineTexts) (c text : List ℕ) (answer : Result Judgement EngineFault) → text ≡ c → Judges texts text answer → Judges texts c answer
+judged_at texts c text answer e h = let P : List ℕ → Type 0 = λ t. Judges texts t answer in subst P e h
 
 -- it could not be judged
-pub judge_answer : (o r s w : Option (List ℕ)) (values : upit.UpitView) (rests : RestsView) (text : List ℕ) (n : ℕ) (fault : EngineFault) → n ≡ length values.values → IfSome o (λ u. ReadsUpit u values) → IfSome r (λ p. ReadsPrec n p rests) → IfSome s (λ c. text ≡ c) → ((u p : List ℕ) → AreRead u p values rests → Judges u p text (Err fault)) → IfSome o (λ u. IfSome r (λ p. IfSome s (λ c. Checks u p c w w (Err fault))))
+pub judge_answer : (o r s w : Option (List ℕ)) (values : upit.UpitView) (rests : RestsView) (text : List ℕ) (n : ℕ) (fault : EngineFault) → n ≡ length values.values → IfSome o (λ u. ReadsUpit u values) → IfSome r (λ p. ReadsPrec n p rests) → IfSome s (λ c. text ≡ c) → ((texts : MineTexts) → AreRead texts values rests → Judges texts text (Err fault)) → IfSome o (λ u. IfSome r (λ p. IfSome s (λ c. Checks (mine_texts u p) c w w (Err fault))))
 judge_answer None r s w values rests text n fault e a b t h = tt
 judge_answer (Some u) None s w values rests text n fault e a b t h = tt
 judge_answer (Some u) (Some p) None w values rests text n fault e a b t h = tt
-judge_answer (Some u) (Some p) (Some c) w values rests text n fault e a b t h = (judged_at u p c text (Err fault) t (h u p (read_both u p values rests n e a b)), at_fault u p c w w fault (keeps_self w))
+judge_answer (Some u) (Some p) (Some c) w values rests text n fault e a b t h = (judged_at (mine_texts u p) c text (Err fault) t (h (mine_texts u p) (read_both u p values rests n e a b)), at_fault (mine_texts u p) c w w fault (keeps_self w))
 
-written : (u p c : List ℕ) (old new : Option (List ℕ)) (judgement : Judgement) → IsJudged u p c judgement → Appends old new (judgement_line judgement) → Checks u p c old new (Ok (verdict_of judgement))
-written u p c old new (Accepted group count worth) h k = record { group = group; count = count; worth = worth; accepted = h; written = k }
-written u p c old new (Refused fault) h k = record { fault = fault; refused = h; written = k }
+written : (texts : MineTexts) (c : List ℕ) (old new : Option (List ℕ)) (judgement : Judgement) → IsJudged texts c judgement → Appends old new (judgement_line judgement) → Checks texts c old new (Ok (verdict_of judgement))
+written texts c old new (Accepted group count worth) h k = record { group = group; count = count; worth = worth; accepted = h; written = k }
+written texts c old new (Refused fault) h k = record { fault = fault; refused = h; written = k }
 
 -- the line was written
-pub line_answer : (o r s old new : Option (List ℕ)) (values : upit.UpitView) (rests : RestsView) (text : List ℕ) (n : ℕ) (judgement : Judgement) → n ≡ length values.values → IfSome o (λ u. ReadsUpit u values) → IfSome r (λ p. ReadsPrec n p rests) → IfSome s (λ c. text ≡ c) → ((u p : List ℕ) → AreRead u p values rests → Judges u p text (Ok judgement)) → Appends old new (judgement_line judgement) → IfSome o (λ u. IfSome r (λ p. IfSome s (λ c. Checks u p c old new (Ok (verdict_of judgement)))))
+pub line_answer : (o r s old new : Option (List ℕ)) (values : upit.UpitView) (rests : RestsView) (text : List ℕ) (n : ℕ) (judgement : Judgement) → n ≡ length values.values → IfSome o (λ u. ReadsUpit u values) → IfSome r (λ p. ReadsPrec n p rests) → IfSome s (λ c. text ≡ c) → ((texts : MineTexts) → AreRead texts values rests → Judges texts text (Ok judgement)) → Appends old new (judgement_line judgement) → IfSome o (λ u. IfSome r (λ p. IfSome s (λ c. Checks (mine_texts u p) c old new (Ok (verdict_of judgement)))))
 line_answer None r s old new values rests text n j e a b t h k = tt
 line_answer (Some u) None s old new values rests text n j e a b t h k = tt
 line_answer (Some u) (Some p) None old new values rests text n j e a b t h k = tt
-line_answer (Some u) (Some p) (Some c) old new values rests text n j e a b t h k = written u p c old new j (judged_at u p c text (Ok j) t (h u p (read_both u p values rests n e a b))) k
+line_answer (Some u) (Some p) (Some c) old new values rests text n j e a b t h k = written (mine_texts u p) c old new j (judged_at (mine_texts u p) c text (Ok j) t (h (mine_texts u p) (read_both u p values rests n e a b))) k
 
-line_failed : (u p c : List ℕ) (old new : Option (List ℕ)) (judgement : Judgement) (fault : EngineFault) → IsJudged u p c judgement → LineFails old new (judgement_line judgement) fault → Checks u p c old new (Err fault)
-line_failed u p c old new j (engine.Upit q) h k = absurd k
-line_failed u p c old new j (engine.Prec q) h k = absurd k
-line_failed u p c old new j (engine.Model q) h k = absurd k
-line_failed u p c old new j (engine.Certificate q) h k = absurd k
-line_failed u p c old new j (engine.Blocks q) h k = absurd k
-line_failed u p c old new j (engine.Slope q) h k = absurd k
-line_failed u p c old new j engine.Memory h k = (tt, k)
-line_failed u p c old new j engine.Thread h k = absurd k
-line_failed u p c old new j engine.Stranger h k = absurd k
-line_failed u p c old new j engine.Device h k = (tt, inr (j, h, k))
+line_failed : (texts : MineTexts) (c : List ℕ) (old new : Option (List ℕ)) (judgement : Judgement) (fault : EngineFault) → IsJudged texts c judgement → LineFails old new (judgement_line judgement) fault → Checks texts c old new (Err fault)
+line_failed texts c old new j (engine.Upit q) h k = absurd k
+line_failed texts c old new j (engine.Prec q) h k = absurd k
+line_failed texts c old new j (engine.Model q) h k = absurd k
+line_failed texts c old new j (engine.Certificate q) h k = absurd k
+line_failed texts c old new j (engine.Blocks q) h k = absurd k
+line_failed texts c old new j (engine.Slope q) h k = absurd k
+line_failed texts c old new j engine.Memory h k = (tt, k)
+line_failed texts c old new j engine.Thread h k = absurd k
+line_failed texts c old new j engine.Stranger h k = absurd k
+line_failed texts c old new j engine.Device h k = (tt, inr (j, h, k))
 
 -- it could not be written
-pub failed_answer : (o r s old new : Option (List ℕ)) (values : upit.UpitView) (rests : RestsView) (text : List ℕ) (n : ℕ) (judgement : Judgement) (fault : EngineFault) → n ≡ length values.values → IfSome o (λ u. ReadsUpit u values) → IfSome r (λ p. ReadsPrec n p rests) → IfSome s (λ c. text ≡ c) → ((u p : List ℕ) → AreRead u p values rests → Judges u p text (Ok judgement)) → LineFails old new (judgement_line judgement) fault → IfSome o (λ u. IfSome r (λ p. IfSome s (λ c. Checks u p c old new (Err fault))))
+pub failed_answer : (o r s old new : Option (List ℕ)) (values : upit.UpitView) (rests : RestsView) (text : List ℕ) (n : ℕ) (judgement : Judgement) (fault : EngineFault) → n ≡ length values.values → IfSome o (λ u. ReadsUpit u values) → IfSome r (λ p. ReadsPrec n p rests) → IfSome s (λ c. text ≡ c) → ((texts : MineTexts) → AreRead texts values rests → Judges texts text (Ok judgement)) → LineFails old new (judgement_line judgement) fault → IfSome o (λ u. IfSome r (λ p. IfSome s (λ c. Checks (mine_texts u p) c old new (Err fault))))
 failed_answer None r s old new values rests text n j fault e a b t h k = tt
 failed_answer (Some u) None s old new values rests text n j fault e a b t h k = tt
 failed_answer (Some u) (Some p) None old new values rests text n j fault e a b t h k = tt
-failed_answer (Some u) (Some p) (Some c) old new values rests text n j fault e a b t h k = line_failed u p c old new j fault (judged_at u p c text (Ok j) t (h u p (read_both u p values rests n e a b))) k
+failed_answer (Some u) (Some p) (Some c) old new values rests text n j fault e a b t h k = line_failed (mine_texts u p) c old new j fault (judged_at (mine_texts u p) c text (Ok j) t (h (mine_texts u p) (read_both u p values rests n e a b))) k
 
 -- the slice is the text that was read
 pub items_are : (s : Option (List ℕ)) (slice items : List ℕ) → slice ≡ items → IfSome s (λ c. items ≡ c) → IfSome s (λ c. slice ≡ c)
@@ -122,7 +123,7 @@ items_are None slice items e h = tt
 items_are (Some c) slice items e h = e ∙ h
 
 -- the answer, by what the judgement's verdict is
-pub line_answer_by : (o r s old new : Option (List ℕ)) (values : upit.UpitView) (rests : RestsView) (text : List ℕ) (n : ℕ) (judgement : Judgement) (verdict : Verdict) → verdict ≡ verdict_of judgement → n ≡ length values.values → IfSome o (λ u. ReadsUpit u values) → IfSome r (λ p. ReadsPrec n p rests) → IfSome s (λ c. text ≡ c) → ((u p : List ℕ) → AreRead u p values rests → Judges u p text (Ok judgement)) → Appends old new (judgement_line judgement) → IfSome o (λ u. IfSome r (λ p. IfSome s (λ c. Checks u p c old new (Ok verdict))))
+pub line_answer_by : (o r s old new : Option (List ℕ)) (values : upit.UpitView) (rests : RestsView) (text : List ℕ) (n : ℕ) (judgement : Judgement) (verdict : Verdict) → verdict ≡ verdict_of judgement → n ≡ length values.values → IfSome o (λ u. ReadsUpit u values) → IfSome r (λ p. ReadsPrec n p rests) → IfSome s (λ c. text ≡ c) → ((texts : MineTexts) → AreRead texts values rests → Judges texts text (Ok judgement)) → Appends old new (judgement_line judgement) → IfSome o (λ u. IfSome r (λ p. IfSome s (λ c. Checks (mine_texts u p) c old new (Ok verdict))))
 line_answer_by o r s old new values rests text n j verdict v e a b t h k =
-    let P : Verdict → Type 0 = λ w. IfSome o (λ u. IfSome r (λ p. IfSome s (λ c. Checks u p c old new (Ok w)))) in
+    let P : Verdict → Type 0 = λ w. IfSome o (λ u. IfSome r (λ p. IfSome s (λ c. Checks (mine_texts u p) c old new (Ok w)))) in
     subst P (sym v) (line_answer o r s old new values rests text n j e a b t h k)

@@ -5,28 +5,29 @@ use Rattle.engines.specs.declared.judgements.Verdict.TheVariants.{Done, No}
 use Rattle.engines.specs.declared.engine_faults.EngineFault.{EngineFault}
 use Rattle.engines.specs.declared.engine_faults.EngineFault.TheVariants as engine
 use Rattle.engines.specs.Engines.{Checks, SoundIsAccepted}
+use Rattle.engines.specs.Mines.{MineTexts, mine_texts}
 use Rattle.engines.proofs.Alone.{sound_stands}
-use Rattle.engines.specs.declared.engine_faults.CertificateProblem.TheVariants as certificate
+use Rattle.engines.specs.declared.engine_faults.CertificateProblem.TheVariants as problem
 use Rattle.engines.proofs.Unread.{upit_read, prec_read, model_read, price_read, header_read, body_read}
 
-complete_at : (u p c : List ℕ) (old new : Option (List ℕ)) (answer : Result Verdict EngineFault) → Checks u p c old new answer → SoundIsAccepted u p c answer
-complete_at u p c old new (Ok Done) h read s = tt
-complete_at u p c old new (Ok No) h read s = sound_stands u p c read h.refused.read h.fault s h.refused.stands
-complete_at u p c old new (Err (engine.Upit q)) h read s = upit_read u p c q read h.0
-complete_at u p c old new (Err (engine.Prec q)) h read s = prec_read u p c h.0.0 q read h.0.1 h.0.2
-complete_at u p c old new (Err (engine.Model f)) h read s = model_read u p c h.0.0 h.0.3 f read h.0.4 h.0.5
-complete_at u p c old new (Err (engine.Certificate certificate.InputTooLong)) h read s = h.0.2
-complete_at u p c old new (Err (engine.Certificate certificate.WrongPrice)) h read s = price_read u p c h.0.0 read h.0.2.1
-complete_at u p c old new (Err (engine.Certificate (certificate.Fault f))) h read s = elim h.0.2.1 [ inl a ↦ header_read u p c h.0.0 f read h.0.1 a | inr b ↦ body_read u p c h.0.0 f read h.0.1 b ]
-complete_at u p c old new (Err (engine.Blocks q)) h read s = absurd h.0
-complete_at u p c old new (Err (engine.Slope q)) h read s = absurd h.0
-complete_at u p c old new (Err engine.Memory) h read s = tt
-complete_at u p c old new (Err engine.Thread) h read s = absurd h.0
-complete_at u p c old new (Err engine.Stranger) h read s = absurd h.0
-complete_at u p c old new (Err engine.Device) h read s = tt
+complete_at : (texts : MineTexts) (c : List ℕ) (old new : Option (List ℕ)) (answer : Result Verdict EngineFault) → Checks texts c old new answer → SoundIsAccepted texts c answer
+complete_at texts c old new (Ok Done) h read s = tt
+complete_at texts c old new (Ok No) h read s = sound_stands texts c read h.refused.read h.fault s h.refused.stands
+complete_at texts c old new (Err (engine.Upit q)) h read s = upit_read texts c q read h.0
+complete_at texts c old new (Err (engine.Prec q)) h read s = prec_read texts c h.0.0 q read h.0.1 h.0.2
+complete_at texts c old new (Err (engine.Model f)) h read s = model_read texts c h.0.0 h.0.3 f read h.0.4 h.0.5
+complete_at texts c old new (Err (engine.Certificate problem.InputTooLong)) h read s = h.0.2
+complete_at texts c old new (Err (engine.Certificate problem.WrongPrice)) h read s = price_read texts c h.0.0 read h.0.2.1
+complete_at texts c old new (Err (engine.Certificate (problem.Fault f))) h read s = elim h.0.2.1 [ inl a ↦ header_read texts c h.0.0 f read h.0.1 a | inr b ↦ body_read texts c h.0.0 f read h.0.1 b ]
+complete_at texts c old new (Err (engine.Blocks q)) h read s = absurd h.0
+complete_at texts c old new (Err (engine.Slope q)) h read s = absurd h.0
+complete_at texts c old new (Err engine.Memory) h read s = tt
+complete_at texts c old new (Err engine.Thread) h read s = absurd h.0
+complete_at texts c old new (Err engine.Stranger) h read s = absurd h.0
+complete_at texts c old new (Err engine.Device) h read s = tt
 
-pub complete : (o r s old new : Option (List ℕ)) (answer : Result Verdict EngineFault) → IfSome o (λ u. IfSome r (λ p. IfSome s (λ c. Checks u p c old new answer))) → IfSome o (λ u. IfSome r (λ p. IfSome s (λ c. SoundIsAccepted u p c answer)))
+pub complete : (o r s old new : Option (List ℕ)) (answer : Result Verdict EngineFault) → IfSome o (λ u. IfSome r (λ p. IfSome s (λ c. Checks (mine_texts u p) c old new answer))) → IfSome o (λ u. IfSome r (λ p. IfSome s (λ c. SoundIsAccepted (mine_texts u p) c answer)))
 complete None r s old new answer h = tt
 complete (Some u) None s old new answer h = tt
 complete (Some u) (Some p) None old new answer h = tt
-complete (Some u) (Some p) (Some c) old new answer h = complete_at u p c old new answer h
+complete (Some u) (Some p) (Some c) old new answer h = complete_at (mine_texts u p) c old new answer h

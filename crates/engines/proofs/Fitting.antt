@@ -15,7 +15,7 @@ use Rattle.closure_net.specs.Faults.{BlockLeaves, WorthsLeave}
 use Rattle.closure_net.specs.declared.networks.NetFault.{NetFault}
 use Rattle.closure_net.specs.declared.networks.NetFault.TheVariants as net_fault
 use Rattle.closure_net.proofs.SameLists.{same_at_default}
-use Rattle.engines.specs.Mines.{mine_of}
+use Rattle.engines.specs.Mines.{MineTexts, mine_of}
 use Rattle.engines.specs.Faults.{AreWorths, ModelFails}
 use Rattle.engines.specs.Readings.{block_by}
 
@@ -41,9 +41,9 @@ block_fits : (group : Group) (v : ℤ) (n : ℕ) → FitsSigned w128 (block_by g
 block_fits Worth v n h = (h, omega (arith, ints))
 block_fits Pair v n h = (h, omega (arith, ints))
 
-module _ (values precedence : List ℕ) (n : ℕ) (group : Group) (net : NetView) (is_net : IsNet net) (of_mine : IsNetOf (block_by group) (mine_of n values precedence) net) where
+module _ (texts : MineTexts) (n : ℕ) (group : Group) (net : NetView) (is_net : IsNet net) (of_mine : IsNetOf (block_by group) (mine_of n texts) net) where
   -- the amounts of the worths are those of the net
-  amounts_same : (vs : List ℤ) → AreWorths n values vs → map (λ v. block_by group v n) vs ≡ net.worths
+  amounts_same : (vs : List ℤ) → AreWorths texts n vs → map (λ v. block_by group v n) vs ≡ net.worths
   amounts_same vs w =
       let size = length-map vs (λ v. block_by group v n) in
       same_at_default zero_amount (map (λ v. block_by group v n) vs) net.worths (size ∙ w.size ∙ sym of_mine.blocks)
@@ -52,7 +52,7 @@ module _ (values precedence : List ℕ) (n : ℕ) (group : Group) (net : NetView
       let here : k < n = omega (arith, below, w.size) in
       get_or-map (λ v. block_by group v n) vs k (pos 0) zero_amount below ∙ ap (λ v. block_by group v n) (w.each k here) ∙ sym (of_mine.worths k here))
 
-  no_block_leaves : (vs : List ℤ) → AreWorths n values vs → BlockLeaves (block_by group) n vs → ⊥
+  no_block_leaves : (vs : List ℤ) → AreWorths texts n vs → BlockLeaves (block_by group) n vs → ⊥
   no_block_leaves vs w h =
       let here : h.0 < n = omega (arith, h.1, w.size) in
       let inside : h.0 < length net.worths = omega (arith, here, of_mine.blocks) in
@@ -70,7 +70,7 @@ module _ (values precedence : List ℕ) (n : ℕ) (group : Group) (net : NetView
       h.2 (subst Q (sym e) (is_net.positives h.0 (subst P e h.1)))
 
   -- no fault of a net stands where there is one
-  pub no_model_fails : (fault : NetFault) → ModelFails values n group fault → ⊥
+  pub no_model_fails : (fault : NetFault) → ModelFails texts n group fault → ⊥
   no_model_fails net_fault.WrongLength h = h.stands (sym h.are.size)
   no_model_fails net_fault.TooLarge h = elim h.stands.1 [ inl b ↦ no_block_leaves h.worths h.are b | inr l ↦ no_worths_leave _ (amounts_same h.worths h.are) l ]
   no_model_fails net_fault.NoMemory h = h

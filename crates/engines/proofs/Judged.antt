@@ -18,11 +18,10 @@ use Rattle.check_pit.specs.Certificate.{fault_of, lines_of_text, IsRead, Denotes
 use Rattle.check_pit.specs.declared.faults.PitFault.{PitFault}
 use Rattle.check_pit.specs.declared.headers.Price.{Price}
 use Rattle.check_pit.specs.declared.headers.Header.{Header}
-use Rattle.check_pit.specs.declared.headers.Price.TheVariants.{Objective}
 use Rattle.check_pit.specs.Pieces.{pieces_of}
 use Rattle.check_pit.specs.Header.{header_of}
 use Rattle.engines.specs.Limits.{IsWithinLimit}
-use Rattle.engines.specs.Mines.{mine_of, DenoteMine}
+use Rattle.engines.specs.Mines.{MineTexts, price_wanted, mine_of, DenoteMine}
 use Rattle.engines.specs.Readings.{Reads}
 use Rattle.engines.specs.Judgements.{IsAccepted, IsRefused}
 use Rattle.engines.specs.Faults.{IsHeader, AreWorths, BodyFails, NetFails, Fails}
@@ -36,8 +35,8 @@ use Rattle.engines.proofs.Counted.{count_in-ascending}
 use Rattle.engines.proofs.Listed.{listed_rests}
 
 -- what is read of the worths
-pub worths_read : (n : ℕ) (values : List ℕ) (read : upit.UpitView) (worths : List ℤ) → upit.Denotes n values read → worths ≡ map (λ x. pos 1000 *ℤ x) read.values → AreWorths n values worths
-worths_read n values read worths d e =
+pub worths_read : (n : ℕ) (texts : MineTexts) (read : upit.UpitView) (worths : List ℤ) → upit.Denotes n texts.values read → worths ≡ map (λ x. pos 1000 *ℤ x) read.values → AreWorths texts n worths
+worths_read n texts read worths d e =
     let size = ap length e ∙ length-map read.values (λ x. pos 1000 *ℤ x) in
     record {
       size = size ∙ d.count;
@@ -47,31 +46,31 @@ worths_read n values read worths d e =
     }
 
 -- the net that is made of them
-pub net_made : (block : ℤ → ℕ → Amount) (values precedence : List ℕ) (read : upit.UpitView) (rests : RestsView) (worths : List ℤ) → AreRead values precedence read rests → worths ≡ map (λ x. pos 1000 *ℤ x) read.values → IsNetOf block (mine_of rests.blocks values precedence) (net_view rests.pairs (map (λ v. block v rests.blocks) worths))
-net_made block values precedence read rests worths a e =
-    let w = worths_read rests.blocks values read worths a.denotes e in
+pub net_made : (block : ℤ → ℕ → Amount) (texts : MineTexts) (read : upit.UpitView) (rests : RestsView) (worths : List ℤ) → AreRead texts read rests → worths ≡ map (λ x. pos 1000 *ℤ x) read.values → IsNetOf block (mine_of rests.blocks texts) (net_view rests.pairs (map (λ v. block v rests.blocks) worths))
+net_made block texts read rests worths a e =
+    let w = worths_read rests.blocks texts read worths a.denotes e in
     record {
       blocks = length-map worths (λ v. block v rests.blocks) ∙ w.size;
       worths = λ b h.
           let l : b < length worths = omega (arith, h, w.size) in
           get_or-map (λ v. block v rests.blocks) worths b (pos 0) zero_amount l ∙ ap (λ v. block v rests.blocks) (w.each b h);
-      pairs = listed_rests (prec.listed precedence) rests.pairs a.pairs;
+      pairs = listed_rests (prec.listed texts.precedence) rests.pairs a.pairs;
     }
 
 -- What is known once the net is made and the certificate is read without a fault.
-pub record HasRead (name : Group) (block : ℤ → ℕ → Amount) (counts : Bool) (values precedence certificate : List ℕ) (net : NetView) (pit : List ℕ) (flow : FlowView) : Type 0 where
-  pub mine : DenoteMine values precedence (length net.worths)
+pub record HasRead (name : Group) (block : ℤ → ℕ → Amount) (counts : Bool) (texts : MineTexts) (certificate : List ℕ) (net : NetView) (pit : List ℕ) (flow : FlowView) : Type 0 where
+  pub mine : DenoteMine texts (length net.worths)
   pub named : IsGroupNamed name block counts
-  pub header : IsHeader certificate (length net.worths) name
+  pub header : IsHeader texts certificate (length net.worths) name
   pub is_net : IsNet net
-  pub of_mine : IsNetOf block (mine_of (length net.worths) values precedence) net
+  pub of_mine : IsNetOf block (mine_of (length net.worths) texts) net
   pub no_fault : fault_of counts name (length net.worths) net.pairs certificate ≡ None
   pub blocks : ℕ
   pub price : Price
   pub read : IsRead counts name (length net.worths) net.pairs certificate blocks price pit flow
 
-module _ (name : Group) (block : ℤ → ℕ → Amount) (counts : Bool) (values precedence certificate : List ℕ) (net : NetView) (pit : List ℕ) (flow : FlowView) (h : HasRead name block counts values precedence certificate net pit flow) where
-  abbrev pub reads : Reads values precedence certificate
+module _ (name : Group) (block : ℤ → ℕ → Amount) (counts : Bool) (texts : MineTexts) (certificate : List ℕ) (net : NetView) (pit : List ℕ) (flow : FlowView) (h : HasRead name block counts texts certificate net pit flow) where
+  abbrev pub reads : Reads texts certificate
   reads = record {
     blocks = length net.worths;
     mine = h.mine;
@@ -79,7 +78,7 @@ module _ (name : Group) (block : ℤ → ℕ → Amount) (counts : Bool) (values
     header = h.header;
     net = net;
     is_net = h.is_net;
-    of_mine = let P : (ℤ → ℕ → Amount) → Type 0 = λ f. IsNetOf f (mine_of (length net.worths) values precedence) net in subst P (sym h.named.block_is) h.of_mine;
+    of_mine = let P : (ℤ → ℕ → Amount) → Type 0 = λ f. IsNetOf f (mine_of (length net.worths) texts) net in subst P (sym h.named.block_is) h.of_mine;
     no_fault = let P : Bool → Type 0 = λ c. fault_of c name (length net.worths) net.pairs certificate ≡ None in subst P (sym h.named.counts_is) h.no_fault;
     pit = pit;
     flow = flow;
@@ -88,16 +87,16 @@ module _ (name : Group) (block : ℤ → ℕ → Amount) (counts : Bool) (values
     known = h.read.known;
   }
 
-  pub refused : IsWithinLimit certificate → (fault : PitFault) → FaultStands net flow pit fault → IsRefused values precedence certificate fault
+  pub refused : IsWithinLimit certificate → (fault : PitFault) → FaultStands net flow pit fault → IsRefused texts certificate fault
   refused within fault f = record { within = within; read = reads; stands = f }
 
-  group_sum_is : group_worth net.worths (holds_of pit) ≡ group_sum block (mine_of (length net.worths) values precedence).worth (holds_of pit) (length net.worths)
+  group_sum_is : group_worth net.worths (holds_of pit) ≡ group_sum block (mine_of (length net.worths) texts).worth (holds_of pit) (length net.worths)
   group_sum_is = total-same _ _ (length net.worths) (λ b l. ap (λ x. where_so (holds_of pit b) x) (h.of_mine.worths b l))
 
-  pub accepted : IsWithinLimit certificate → (set_worth : Amount → ℕ → ℕ → ℤ) → SumsTellWorth block set_worth → IsSound net flow pit → IsGreatest net (holds_of pit) → (count : ℕ) (worth : ℤ) → count ≡ length pit → worth ≡ set_worth (group_worth net.worths (holds_of pit)) (length net.worths) count → IsAccepted values precedence certificate name count worth
+  pub accepted : IsWithinLimit certificate → (set_worth : Amount → ℕ → ℕ → ℤ) → SumsTellWorth block set_worth → IsSound net flow pit → IsGreatest net (holds_of pit) → (count : ℕ) (worth : ℤ) → count ≡ length pit → worth ≡ set_worth (group_worth net.worths (holds_of pit)) (length net.worths) count → IsAccepted texts certificate name count worth
   accepted within set_worth tells sound greatest count worth c w =
       let n = length net.worths in
-      let mine = mine_of n values precedence in
+      let mine = mine_of n texts in
       let size = count_in-ascending pit n h.read.ascending h.read.known in
       let told = tells mine.worth (holds_of pit) n in
       record {
@@ -111,39 +110,39 @@ module _ (name : Group) (block : ℤ → ℕ → Amount) (counts : Bool) (values
       }
 
 -- the fault of a certificate's text behind its header, for the net that was made
-body_fails : (name : Group) (block : ℤ → ℕ → Amount) (counts : Bool) (values precedence certificate : List ℕ) (net : NetView) (fault : CertFault) → IsGroupNamed name block counts → IsHeader certificate (length net.worths) name → IsNet net → IsNetOf block (mine_of (length net.worths) values precedence) net → fault_of counts name (length net.worths) net.pairs certificate ≡ Some fault → BodyFails values precedence certificate (length net.worths) fault
-body_fails name block counts values precedence certificate net fault named header is_net of_mine f =
+body_fails : (name : Group) (block : ℤ → ℕ → Amount) (counts : Bool) (texts : MineTexts) (certificate : List ℕ) (net : NetView) (fault : CertFault) → IsGroupNamed name block counts → IsHeader texts certificate (length net.worths) name → IsNet net → IsNetOf block (mine_of (length net.worths) texts) net → fault_of counts name (length net.worths) net.pairs certificate ≡ Some fault → BodyFails texts certificate (length net.worths) fault
+body_fails name block counts texts certificate net fault named header is_net of_mine f =
     record {
       group = name;
       header = header;
       net = net;
       is_net = is_net;
-      of_mine = let P : (ℤ → ℕ → Amount) → Type 0 = λ b. IsNetOf b (mine_of (length net.worths) values precedence) net in subst P (sym named.block_is) of_mine;
+      of_mine = let P : (ℤ → ℕ → Amount) → Type 0 = λ b. IsNetOf b (mine_of (length net.worths) texts) net in subst P (sym named.block_is) of_mine;
       stands = let P : Bool → Type 0 = λ c. fault_of c name (length net.worths) net.pairs certificate ≡ Some fault in subst P (sym named.counts_is) f;
     }
 
 -- a fault in answering it
-pub text_fails : (name : Group) (block : ℤ → ℕ → Amount) (counts : Bool) (values precedence certificate : List ℕ) (net : NetView) (fault : CertFault) → IsWithinLimit certificate → DenoteMine values precedence (length net.worths) → IsGroupNamed name block counts → IsHeader certificate (length net.worths) name → IsNet net → IsNetOf block (mine_of (length net.worths) values precedence) net → UnlessMemory fault (fault_of counts name (length net.worths) net.pairs certificate ≡ Some fault) → Fails values precedence certificate (of_certificate fault)
-text_fails name block counts values precedence certificate net (cert.Text k) within mine named header is_net of_mine f = (length net.worths, mine, (within, inr (body_fails name block counts values precedence certificate net _ named header is_net of_mine f)))
-text_fails name block counts values precedence certificate net (cert.Number k) within mine named header is_net of_mine f = (length net.worths, mine, (within, inr (body_fails name block counts values precedence certificate net _ named header is_net of_mine f)))
-text_fails name block counts values precedence certificate net (cert.OutOfOrder k) within mine named header is_net of_mine f = (length net.worths, mine, (within, inr (body_fails name block counts values precedence certificate net _ named header is_net of_mine f)))
-text_fails name block counts values precedence certificate net (cert.UnknownPair k) within mine named header is_net of_mine f = (length net.worths, mine, (within, inr (body_fails name block counts values precedence certificate net _ named header is_net of_mine f)))
-text_fails name block counts values precedence certificate net cert.Truncated within mine named header is_net of_mine f = (length net.worths, mine, (within, inr (body_fails name block counts values precedence certificate net _ named header is_net of_mine f)))
-text_fails name block counts values precedence certificate net cert.NoMemory within mine named header is_net of_mine f = tt
+pub text_fails : (name : Group) (block : ℤ → ℕ → Amount) (counts : Bool) (texts : MineTexts) (certificate : List ℕ) (net : NetView) (fault : CertFault) → IsWithinLimit certificate → DenoteMine texts (length net.worths) → IsGroupNamed name block counts → IsHeader texts certificate (length net.worths) name → IsNet net → IsNetOf block (mine_of (length net.worths) texts) net → UnlessMemory fault (fault_of counts name (length net.worths) net.pairs certificate ≡ Some fault) → Fails texts certificate (of_certificate fault)
+text_fails name block counts texts certificate net (cert.Text k) within mine named header is_net of_mine f = (length net.worths, mine, (within, inr (body_fails name block counts texts certificate net _ named header is_net of_mine f)))
+text_fails name block counts texts certificate net (cert.Number k) within mine named header is_net of_mine f = (length net.worths, mine, (within, inr (body_fails name block counts texts certificate net _ named header is_net of_mine f)))
+text_fails name block counts texts certificate net (cert.OutOfOrder k) within mine named header is_net of_mine f = (length net.worths, mine, (within, inr (body_fails name block counts texts certificate net _ named header is_net of_mine f)))
+text_fails name block counts texts certificate net (cert.UnknownPair k) within mine named header is_net of_mine f = (length net.worths, mine, (within, inr (body_fails name block counts texts certificate net _ named header is_net of_mine f)))
+text_fails name block counts texts certificate net cert.Truncated within mine named header is_net of_mine f = (length net.worths, mine, (within, inr (body_fails name block counts texts certificate net _ named header is_net of_mine f)))
+text_fails name block counts texts certificate net cert.NoMemory within mine named header is_net of_mine f = tt
 
-pub worths_fail : (name : Group) (block : ℤ → ℕ → Amount) (counts : Bool) (values : List ℕ) (read : upit.UpitView) (n : ℕ) (worths : List ℤ) (fault : NetFault) → upit.Denotes n values read → IsGroupNamed name block counts → worths ≡ map (λ x. pos 1000 *ℤ x) read.values → WorthsFaultStands block n worths fault → NetFails values n name fault
-worths_fail name block counts values read n worths fault d named e f =
+pub worths_fail : (name : Group) (block : ℤ → ℕ → Amount) (counts : Bool) (texts : MineTexts) (read : upit.UpitView) (n : ℕ) (worths : List ℤ) (fault : NetFault) → upit.Denotes n texts.values read → IsGroupNamed name block counts → worths ≡ map (λ x. pos 1000 *ℤ x) read.values → WorthsFaultStands block n worths fault → NetFails texts n name fault
+worths_fail name block counts texts read n worths fault d named e f =
     record {
       worths = worths;
-      are = worths_read n values read worths d e;
+      are = worths_read n texts read worths d e;
       stands = let P : (ℤ → ℕ → Amount) → Type 0 = λ b. WorthsFaultStands b n worths fault in subst P (sym named.block_is) f;
     }
 
 -- a fault in making the net
-pub net_fails : (name : Group) (block : ℤ → ℕ → Amount) (counts : Bool) (values precedence certificate : List ℕ) (read : upit.UpitView) (rests : RestsView) (worths : List ℤ) (fault : NetFault) → IsWithinLimit certificate → AreRead values precedence read rests → IsGroupNamed name block counts → IsHeader certificate rests.blocks name → worths ≡ map (λ x. pos 1000 *ℤ x) read.values → WorthsFaultStands block rests.blocks worths fault → Fails values precedence certificate (of_model fault)
-net_fails name block counts values precedence certificate read rests worths net.WrongLength within a named header e f = (rests.blocks, a.mine, within, name, header, worths_fail name block counts values read rests.blocks worths net.WrongLength a.denotes named e f)
-net_fails name block counts values precedence certificate read rests worths net.TooLarge within a named header e f = (rests.blocks, a.mine, within, name, header, worths_fail name block counts values read rests.blocks worths net.TooLarge a.denotes named e f)
-net_fails name block counts values precedence certificate read rests worths net.NoMemory within a named header e f = tt
+pub net_fails : (name : Group) (block : ℤ → ℕ → Amount) (counts : Bool) (texts : MineTexts) (certificate : List ℕ) (read : upit.UpitView) (rests : RestsView) (worths : List ℤ) (fault : NetFault) → IsWithinLimit certificate → AreRead texts read rests → IsGroupNamed name block counts → IsHeader texts certificate rests.blocks name → worths ≡ map (λ x. pos 1000 *ℤ x) read.values → WorthsFaultStands block rests.blocks worths fault → Fails texts certificate (of_model fault)
+net_fails name block counts texts certificate read rests worths net.WrongLength within a named header e f = (rests.blocks, a.mine, within, name, header, worths_fail name block counts texts read rests.blocks worths net.WrongLength a.denotes named e f)
+net_fails name block counts texts certificate read rests worths net.TooLarge within a named header e f = (rests.blocks, a.mine, within, name, header, worths_fail name block counts texts read rests.blocks worths net.TooLarge a.denotes named e f)
+net_fails name block counts texts certificate read rests worths net.NoMemory within a named header e f = tt
 
 -- what was read of the pairs of a net, said of the net
 pub unless_moved : (fault : CertFault) (counts : Bool) (name : Group) (n m : ℕ) (ps qs : List (ℕ × ℕ)) (text : List ℕ) → n ≡ m → ps ≡ qs → UnlessMemory fault (fault_of counts name n ps text ≡ Some fault) → UnlessMemory fault (fault_of counts name m qs text ≡ Some fault)
@@ -165,36 +164,36 @@ read_moved counts name n m ps qs text blocks price pit flow e f h =
     subst Q f (subst P e h)
 
 -- what was answered with an accepted pit
-pub judged_accepted : (name : Group) (block : ℤ → ℕ → Amount) (counts : Bool) (values precedence certificate : List ℕ) (net : NetView) (pit : List ℕ) (flow : FlowView) → HasRead name block counts values precedence certificate net pit flow → IsWithinLimit certificate → (set_worth : Amount → ℕ → ℕ → ℤ) → SumsTellWorth block set_worth → (seen : NetView) (blocks : List ℕ) → seen ≡ net → blocks ≡ pit → IsSound net flow pit → IsGreatest seen (holds_of blocks) → (group : Group) (count : ℕ) (worth shown : ℤ) → group ≡ name → count ≡ length blocks → worth ≡ set_worth (group_worth seen.worths (holds_of blocks)) (length seen.worths) count → shown ≡ worth → IsAccepted values precedence certificate group count shown
-judged_accepted name block counts values precedence certificate net pit flow h within set_worth tells seen blocks e f sound greatest group count worth shown a b w s =
+pub judged_accepted : (name : Group) (block : ℤ → ℕ → Amount) (counts : Bool) (texts : MineTexts) (certificate : List ℕ) (net : NetView) (pit : List ℕ) (flow : FlowView) → HasRead name block counts texts certificate net pit flow → IsWithinLimit certificate → (set_worth : Amount → ℕ → ℕ → ℤ) → SumsTellWorth block set_worth → (seen : NetView) (blocks : List ℕ) → seen ≡ net → blocks ≡ pit → IsSound net flow pit → IsGreatest seen (holds_of blocks) → (group : Group) (count : ℕ) (worth shown : ℤ) → group ≡ name → count ≡ length blocks → worth ≡ set_worth (group_worth seen.worths (holds_of blocks)) (length seen.worths) count → shown ≡ worth → IsAccepted texts certificate group count shown
+judged_accepted name block counts texts certificate net pit flow h within set_worth tells seen blocks e f sound greatest group count worth shown a b w s =
     let G : NetView → Type 0 = λ n. IsGreatest n (holds_of blocks) in
     let H : List ℕ → Type 0 = λ l. IsGreatest net (holds_of l) in
     let size = b ∙ ap length f in
     let told = w ∙ ap (λ (n : NetView). set_worth (group_worth n.worths (holds_of blocks)) (length n.worths) count) e ∙ ap (λ (l : List ℕ). set_worth (group_worth net.worths (holds_of l)) (length net.worths) count) f in
-    let all = accepted name block counts values precedence certificate net pit flow h within set_worth tells sound (subst H f (subst G e greatest)) count worth size told in
-    let S : ℤ → Type 0 = λ z. IsAccepted values precedence certificate name count z in
-    let N : Group → Type 0 = λ n. IsAccepted values precedence certificate n count shown in
+    let all = accepted name block counts texts certificate net pit flow h within set_worth tells sound (subst H f (subst G e greatest)) count worth size told in
+    let S : ℤ → Type 0 = λ z. IsAccepted texts certificate name count z in
+    let N : Group → Type 0 = λ n. IsAccepted texts certificate n count shown in
     subst N (sym a) (subst S (sym s) all)
 
 -- What is known of a net that was made of the worths that were read.
-pub record NetKnown (block : ℤ → ℕ → Amount) (values precedence : List ℕ) (certificate : List ℕ) (name : Group) (net : NetView) : Type 0 where
-  pub mine : DenoteMine values precedence (length net.worths)
-  pub header : IsHeader certificate (length net.worths) name
-  pub of_mine : IsNetOf block (mine_of (length net.worths) values precedence) net
+pub record NetKnown (block : ℤ → ℕ → Amount) (texts : MineTexts) (certificate : List ℕ) (name : Group) (net : NetView) : Type 0 where
+  pub mine : DenoteMine texts (length net.worths)
+  pub header : IsHeader texts certificate (length net.worths) name
+  pub of_mine : IsNetOf block (mine_of (length net.worths) texts) net
 
-known_at : (block : ℤ → ℕ → Amount) (values precedence certificate : List ℕ) (name : Group) (n m : ℕ) (net : NetView) → n ≡ m → m ≡ length net.worths → DenoteMine values precedence n → IsHeader certificate n name → IsNetOf block (mine_of n values precedence) net → NetKnown block values precedence certificate name net
-known_at block values precedence certificate name n m net e f mine header of_mine =
-    let D : ℕ → Type 0 = λ k. DenoteMine values precedence k in
-    let H : ℕ → Type 0 = λ k. IsHeader certificate k name in
-    let M : ℕ → Type 0 = λ k. IsNetOf block (mine_of k values precedence) net in
+known_at : (block : ℤ → ℕ → Amount) (texts : MineTexts) (certificate : List ℕ) (name : Group) (n m : ℕ) (net : NetView) → n ≡ m → m ≡ length net.worths → DenoteMine texts n → IsHeader texts certificate n name → IsNetOf block (mine_of n texts) net → NetKnown block texts certificate name net
+known_at block texts certificate name n m net e f mine header of_mine =
+    let D : ℕ → Type 0 = λ k. DenoteMine texts k in
+    let H : ℕ → Type 0 = λ k. IsHeader texts certificate k name in
+    let M : ℕ → Type 0 = λ k. IsNetOf block (mine_of k texts) net in
     record { mine = subst D (e ∙ f) mine; header = subst H (e ∙ f) header; of_mine = subst M (e ∙ f) of_mine }
 
-pub net_known : (block : ℤ → ℕ → Amount) (values precedence certificate : List ℕ) (name : Group) (read : upit.UpitView) (rests : RestsView) (worths slice : List ℤ) (net : NetView) → AreRead values precedence read rests → IsHeader certificate rests.blocks name → slice ≡ worths → worths ≡ map (λ x. pos 1000 *ℤ x) read.values → net ≡ net_view rests.pairs (map (λ v. block v rests.blocks) slice) → rests.blocks ≡ length slice → NetKnown block values precedence certificate name net
-net_known block values precedence certificate name read rests worths slice net a header s e is l =
-    let made = net_made block values precedence read rests slice a (s ∙ e) in
-    let M : NetView → Type 0 = λ n. IsNetOf block (mine_of rests.blocks values precedence) n in
+pub net_known : (block : ℤ → ℕ → Amount) (texts : MineTexts) (certificate : List ℕ) (name : Group) (read : upit.UpitView) (rests : RestsView) (worths slice : List ℤ) (net : NetView) → AreRead texts read rests → IsHeader texts certificate rests.blocks name → slice ≡ worths → worths ≡ map (λ x. pos 1000 *ℤ x) read.values → net ≡ net_view rests.pairs (map (λ v. block v rests.blocks) slice) → rests.blocks ≡ length slice → NetKnown block texts certificate name net
+net_known block texts certificate name read rests worths slice net a header s e is l =
+    let made = net_made block texts read rests slice a (s ∙ e) in
+    let M : NetView → Type 0 = λ n. IsNetOf block (mine_of rests.blocks texts) n in
     let size = sym (ap (λ (n : NetView). length n.worths) is ∙ length-map slice (λ v. block v rests.blocks)) in
-    known_at block values precedence certificate name rests.blocks (length slice) net l size a.mine header (subst M (sym is) made)
+    known_at block texts certificate name rests.blocks (length slice) net l size a.mine header (subst M (sym is) made)
 
-pub header_is : (text : List ℕ) (header : Header) (n : ℕ) (group : Group) → header_of (pieces_of text) ≡ Ok header → header.blocks ≡ n → header.price ≡ Objective → header.group ≡ group → IsHeader text n group
-header_is text header n group e p q r = e ∙ ap Ok (λ i. record { blocks = p i; price = q i; group = r i })
+pub header_is : (texts : MineTexts) (certificate : List ℕ) (header : Header) (n : ℕ) (group : Group) → header_of (pieces_of certificate) ≡ Ok header → header.blocks ≡ n → header.price ≡ price_wanted texts → header.group ≡ group → IsHeader texts certificate n group
+header_is texts certificate header n group e p q r = e ∙ ap Ok (λ i. record { blocks = p i; price = q i; group = r i })

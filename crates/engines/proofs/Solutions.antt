@@ -30,7 +30,7 @@ use Rattle.engines.specs.declared.engine_faults.EngineFault.{EngineFault}
 use Rattle.engines.specs.declared.engine_faults.EngineFault.TheVariants as engine
 use Rattle.engines.specs.Inputs.{ReadsUpit, ReadsPrec}
 use Rattle.engines.specs.Judging.{AreRead, IsGroupNamed, of_model}
-use Rattle.engines.specs.Mines.{mine_of, DenoteMine}
+use Rattle.engines.specs.Mines.{MineTexts, mine_texts, mine_of, DenoteMine}
 use Rattle.engines.specs.Certifying.{IsSolution, IsRefusedFlow}
 use Rattle.engines.specs.declared.method.Method.{Method}
 use Rattle.engines.specs.Solving.{CheckLeaves, IsNoOf, IsCertificateOf, AnswersNet, SolvesNet, IsCertificate, IsNetBy, AnswersMine, Solves}
@@ -90,24 +90,24 @@ pub said_no : (counts : Bool) (name : Group) (net : NetView) (method : Method) (
 said_no counts name net method limit line old new (Ok v) h a = subst (λ (w : Verdict). SolvesNet counts name net method limit old new (Ok w)) (sym a.0) (line, h, a.1)
 said_no counts name net method limit line old new (Err e) h a = subst (λ (w : EngineFault). SolvesNet counts name net method limit old new (Err w)) (sym a.0) (line, inr h, a.1)
 
--- ---- the mine of two texts
+-- ---- the mine of the texts
 
-pub net_by : (block : ℤ → ℕ → Amount) (counts : Bool) (values precedence : List ℕ) (name : Group) (read : upit.UpitView) (rests : RestsView) (worths slice : List ℤ) (net : NetView) → AreRead values precedence read rests → IsGroupNamed name block counts → IsNet net → slice ≡ worths → worths ≡ map (λ x. pos 1000 *ℤ x) read.values → net ≡ net_view rests.pairs (map (λ v. block v rests.blocks) slice) → rests.blocks ≡ length slice → IsNetBy values precedence name net
-net_by block counts values precedence name read rests worths slice net a named is_net s e is l =
-    let made = net_made block values precedence read rests slice a (s ∙ e) in
+pub net_by : (block : ℤ → ℕ → Amount) (counts : Bool) (texts : MineTexts) (name : Group) (read : upit.UpitView) (rests : RestsView) (worths slice : List ℤ) (net : NetView) → AreRead texts read rests → IsGroupNamed name block counts → IsNet net → slice ≡ worths → worths ≡ map (λ x. pos 1000 *ℤ x) read.values → net ≡ net_view rests.pairs (map (λ v. block v rests.blocks) slice) → rests.blocks ≡ length slice → IsNetBy texts name net
+net_by block counts texts name read rests worths slice net a named is_net s e is l =
+    let made = net_made block texts read rests slice a (s ∙ e) in
     let size = l ∙ sym (ap (λ (n : NetView). length n.worths) is ∙ length-map slice (λ v. block v rests.blocks)) in
-    let D : ℕ → Type 0 = λ k. DenoteMine values precedence k in
-    let N : NetView → Type 0 = λ n. IsNetOf block (mine_of rests.blocks values precedence) n in
-    let M : ℕ → Type 0 = λ k. IsNetOf block (mine_of k values precedence) net in
-    let B : (ℤ → ℕ → Amount) → Type 0 = λ b. IsNetOf b (mine_of (length net.worths) values precedence) net in
+    let D : ℕ → Type 0 = λ k. DenoteMine texts k in
+    let N : NetView → Type 0 = λ n. IsNetOf block (mine_of rests.blocks texts) n in
+    let M : ℕ → Type 0 = λ k. IsNetOf block (mine_of k texts) net in
+    let B : (ℤ → ℕ → Amount) → Type 0 = λ b. IsNetOf b (mine_of (length net.worths) texts) net in
     record { mine = subst D size a.mine; is_net = is_net; of_mine = subst B (sym named.block_is) (subst M size (subst N (sym is) made)) }
 
-module _ (block : ℤ → ℕ → Amount) (counts : Bool) (values precedence : List ℕ) (name : Group) (net : NetView) (method : Method) (limit : ℕ) (named : IsGroupNamed name block counts) (by : IsNetBy values precedence name net) where
-  certificate_is : (text : List ℕ) → IsCertificateOf counts name net text → IsCertificate values precedence name text
+module _ (block : ℤ → ℕ → Amount) (counts : Bool) (texts : MineTexts) (name : Group) (net : NetView) (method : Method) (limit : ℕ) (named : IsGroupNamed name block counts) (by : IsNetBy texts name net) where
+  certificate_is : (text : List ℕ) → IsCertificateOf counts name net text → IsCertificate texts name text
   certificate_is text c =
-      let B : (ℤ → ℕ → Amount) → Type 0 = λ b. IsNetOf b (mine_of (length net.worths) values precedence) net in
-      let of_mine : IsNetOf block (mine_of (length net.worths) values precedence) net = subst B named.block_is by.of_mine in
-      let known : HasRead name block counts values precedence text net c.pit c.flow = record {
+      let B : (ℤ → ℕ → Amount) → Type 0 = λ b. IsNetOf b (mine_of (length net.worths) texts) net in
+      let of_mine : IsNetOf block (mine_of (length net.worths) texts) net = subst B named.block_is by.of_mine in
+      let known : HasRead name block counts texts text net c.pit c.flow = record {
         mine = by.mine;
         named = named;
         header = header_alone (record { blocks = length net.worths; group = name }) (pieces_of text) (record { blocks = length net.worths; price = Objective; group = name }) c.read.read.header;
@@ -120,17 +120,17 @@ module _ (block : ℤ → ℕ → Amount) (counts : Bool) (values precedence : L
       } in
       let greatest = (duality net c.flow (holds_of c.pit) by.is_net.rests c.sound.is_flow c.sound.closed c.sound.tight).greatest_set in
       record {
-        read = reads name block counts values precedence text net c.pit c.flow known;
+        read = reads name block counts texts text net c.pit c.flow known;
         group = refl;
         sound = c.sound;
-        proved = named.proves (mine_of (length net.worths) values precedence) net (holds_of c.pit) of_mine greatest;
+        proved = named.proves (mine_of (length net.worths) texts) net (holds_of c.pit) of_mine greatest;
       }
 
-  answers : (verdict : Verdict) (text : List ℕ) → AnswersNet counts name net method limit verdict text → AnswersMine values precedence name method limit verdict text
+  answers : (verdict : Verdict) (text : List ℕ) → AnswersNet counts name net method limit verdict text → AnswersMine texts name method limit verdict text
   answers Done written h = certificate_is written h
   answers No written h = (net, by, h)
 
-  pub solved : (old new : Option (List ℕ)) (result : Result Verdict EngineFault) → SolvesNet counts name net method limit old new result → Solves values precedence name method limit old new result
+  pub solved : (old new : Option (List ℕ)) (result : Result Verdict EngineFault) → SolvesNet counts name net method limit old new result → Solves texts name method limit old new result
   solved old new (Ok verdict) h = (h.0, answers verdict h.0 h.1, h.2)
   solved old new (Err (engine.Upit q)) h = absurd h
   solved old new (Err (engine.Prec q)) h = absurd h
@@ -144,13 +144,13 @@ module _ (block : ℤ → ℕ → Amount) (counts : Bool) (values precedence : L
   solved old new (Err engine.Device) h = (tt, inr (net, by, h.0, h.1, h.2))
 
 -- there is no net of the mine
-pub unmade : (block : ℤ → ℕ → Amount) (counts : Bool) (values precedence : List ℕ) (name : Group) (read : upit.UpitView) (rests : RestsView) (worths : List ℤ) (method : Method) (limit : ℕ) (w : Option (List ℕ)) (fault : NetFault) → AreRead values precedence read rests → IsGroupNamed name block counts → worths ≡ map (λ x. pos 1000 *ℤ x) read.values → WorthsFaultStands block rests.blocks worths fault → Solves values precedence name method limit w w (Err (of_model fault))
-unmade block counts values precedence name read rests worths method limit w net_fault.WrongLength a named e f = ((rests.blocks, a.mine, worths_fail name block counts values read rests.blocks worths net_fault.WrongLength a.denotes named e f), keeps_self w)
-unmade block counts values precedence name read rests worths method limit w net_fault.TooLarge a named e f = ((rests.blocks, a.mine, worths_fail name block counts values read rests.blocks worths net_fault.TooLarge a.denotes named e f), keeps_self w)
-unmade block counts values precedence name read rests worths method limit w net_fault.NoMemory a named e f = (tt, keeps_self w)
+pub unmade : (block : ℤ → ℕ → Amount) (counts : Bool) (texts : MineTexts) (name : Group) (read : upit.UpitView) (rests : RestsView) (worths : List ℤ) (method : Method) (limit : ℕ) (w : Option (List ℕ)) (fault : NetFault) → AreRead texts read rests → IsGroupNamed name block counts → worths ≡ map (λ x. pos 1000 *ℤ x) read.values → WorthsFaultStands block rests.blocks worths fault → Solves texts name method limit w w (Err (of_model fault))
+unmade block counts texts name read rests worths method limit w net_fault.WrongLength a named e f = ((rests.blocks, a.mine, worths_fail name block counts texts read rests.blocks worths net_fault.WrongLength a.denotes named e f), keeps_self w)
+unmade block counts texts name read rests worths method limit w net_fault.TooLarge a named e f = ((rests.blocks, a.mine, worths_fail name block counts texts read rests.blocks worths net_fault.TooLarge a.denotes named e f), keeps_self w)
+unmade block counts texts name read rests worths method limit w net_fault.NoMemory a named e f = (tt, keeps_self w)
 
--- what holds of any two texts of what was read holds where the readers tell their bytes
-pub solve_answer : (o r old new : Option (List ℕ)) (values : upit.UpitView) (rests : RestsView) (n : ℕ) (name : Group) (method : Method) (limit : ℕ) (result : Result Verdict EngineFault) → n ≡ length values.values → IfSome o (λ u. ReadsUpit u values) → IfSome r (λ p. ReadsPrec n p rests) → ((u p : List ℕ) → AreRead u p values rests → Solves u p name method limit old new result) → IfSome o (λ u. IfSome r (λ p. Solves u p name method limit old new result))
+-- what holds of any texts of what was read holds where the readers tell their bytes
+pub solve_answer : (o r old new : Option (List ℕ)) (values : upit.UpitView) (rests : RestsView) (n : ℕ) (name : Group) (method : Method) (limit : ℕ) (result : Result Verdict EngineFault) → n ≡ length values.values → IfSome o (λ u. ReadsUpit u values) → IfSome r (λ p. ReadsPrec n p rests) → ((texts : MineTexts) → AreRead texts values rests → Solves texts name method limit old new result) → IfSome o (λ u. IfSome r (λ p. Solves (mine_texts u p) name method limit old new result))
 solve_answer None r old new values rests n name method limit result e a b h = tt
 solve_answer (Some u) None old new values rests n name method limit result e a b h = tt
-solve_answer (Some u) (Some p) old new values rests n name method limit result e a b h = h u p (read_both u p values rests n e a b)
+solve_answer (Some u) (Some p) old new values rests n name method limit result e a b h = h (mine_texts u p) (read_both u p values rests n e a b)

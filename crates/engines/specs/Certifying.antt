@@ -5,14 +5,14 @@ use Rattle.closure_net.specs.Reached.{IsReached}
 use Rattle.check_pit.specs.Checks.{IsOfNet, IsSound, FaultStands}
 use Rattle.check_pit.specs.declared.faults.PitFault.{PitFault}
 use Rattle.check_pit.specs.declared.headers.Price.{Price}
-use Rattle.check_pit.specs.declared.headers.Price.TheVariants.{Objective}
 use Rattle.engines.specs.declared.certify.Uncertified.{Uncertified}
 use Rattle.engines.specs.declared.certify.Uncertified.TheVariants.{NoMemory, Refused}
+use Rattle.engines.specs.Mines.{price_of_values}
 
 -- a certificate for the net at the objective, whose flow proves its pit
 pub record IsSolution (net : NetView) (blocks : ℕ) (price : Price) (pit : List ℕ) (flow : FlowView) : Type 0 where
   pub same_blocks : blocks ≡ length net.worths
-  pub objective : price ≡ Objective
+  pub objective : price ≡ price_of_values
   pub sound : IsSound net flow pit
 
 -- The fault stands for the flow and a pit; where the flow has the net's lengths, the pit is what the source reaches in it.

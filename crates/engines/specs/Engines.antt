@@ -13,33 +13,34 @@ use Rattle.engines.specs.declared.engine_faults.EngineFault.{EngineFault}
 use Rattle.engines.specs.declared.engine_faults.EngineFault.TheVariants as engine
 use Rattle.engines.specs.declared.engine_faults.CertificateProblem.TheVariants as certificate
 use Rattle.engines.specs.Limits.{IsTooLong}
+use Rattle.engines.specs.Mines.{MineTexts}
 use Rattle.engines.specs.Readings.{Reads}
 use Rattle.engines.specs.Judgements.{IsAccepted, IsRefused, IsJudged}
 use Rattle.engines.specs.Faults.{Fails}
 use Rattle.engines.specs.OutputLines.{judgement_line}
 
 -- It wrote ACCEPTED with the number of blocks and the worth of a pit that the texts prove.
-pub record WritesAccepted (values precedence certificate : List ℕ) (old new : Option (List ℕ)) : Type 0 where
+pub record WritesAccepted (texts : MineTexts) (certificate : List ℕ) (old new : Option (List ℕ)) : Type 0 where
   pub group : Group
   pub count : ℕ
   pub worth : ℤ
-  pub accepted : IsAccepted values precedence certificate group count worth
+  pub accepted : IsAccepted texts certificate group count worth
   pub written : Appends old new (judgement_line (Accepted group count worth))
 
 -- It wrote REFUSED with a fault that stands.
-pub record WritesRefused (values precedence certificate : List ℕ) (old new : Option (List ℕ)) : Type 0 where
+pub record WritesRefused (texts : MineTexts) (certificate : List ℕ) (old new : Option (List ℕ)) : Type 0 where
   pub fault : PitFault
-  pub refused : IsRefused values precedence certificate fault
+  pub refused : IsRefused texts certificate fault
   pub written : Appends old new (judgement_line (Refused fault))
 
 -- Nothing was written, or a front of the line of a judgement that stands.
-abbrev pub WritesFront : List ℕ → List ℕ → List ℕ → Option (List ℕ) → Option (List ℕ) → Type 0
-WritesFront values precedence certificate old new = Keeps old new ⊎ ((judgement : Judgement) × IsJudged values precedence certificate judgement × ReceivedPrefix old new (judgement_line judgement))
+abbrev pub WritesFront : MineTexts → List ℕ → Option (List ℕ) → Option (List ℕ) → Type 0
+WritesFront texts certificate old new = Keeps old new ⊎ ((judgement : Judgement) × IsJudged texts certificate judgement × ReceivedPrefix old new (judgement_line judgement))
 
 -- what is in the writer where an engine answers a fault: what was there before, unless a device failed
-abbrev pub WritesAtFault : List ℕ → List ℕ → List ℕ → Option (List ℕ) → Option (List ℕ) → EngineFault → Type 0
-WritesAtFault values precedence certificate old new engine.Device = WritesFront values precedence certificate old new
-WritesAtFault values precedence certificate old new _ = Keeps old new
+abbrev pub WritesAtFault : MineTexts → List ℕ → Option (List ℕ) → Option (List ℕ) → EngineFault → Type 0
+WritesAtFault texts certificate old new engine.Device = WritesFront texts certificate old new
+WritesAtFault texts certificate old new _ = Keeps old new
 
 -- a line could not be written: for want of memory nothing was, and else a front of it
 abbrev pub LineFails : Option (List ℕ) → Option (List ℕ) → List ℕ → EngineFault → Type 0
@@ -48,10 +49,10 @@ LineFails old new line engine.Device = ReceivedPrefix old new line
 LineFails old new line _ = ⊥
 
 -- the answer, and what was written with it
-abbrev pub Checks : List ℕ → List ℕ → List ℕ → Option (List ℕ) → Option (List ℕ) → Result Verdict EngineFault → Type 0
-Checks values precedence certificate old new (Ok Done) = WritesAccepted values precedence certificate old new
-Checks values precedence certificate old new (Ok No) = WritesRefused values precedence certificate old new
-Checks values precedence certificate old new (Err fault) = Fails values precedence certificate fault × WritesAtFault values precedence certificate old new fault
+abbrev pub Checks : MineTexts → List ℕ → Option (List ℕ) → Option (List ℕ) → Result Verdict EngineFault → Type 0
+Checks texts certificate old new (Ok Done) = WritesAccepted texts certificate old new
+Checks texts certificate old new (Ok No) = WritesRefused texts certificate old new
+Checks texts certificate old new (Err fault) = Fails texts certificate fault × WritesAtFault texts certificate old new fault
 
 -- what keeps a sound certificate from being accepted: memory, a device, or its own length
 abbrev pub Hinders : List ℕ → EngineFault → Type 0
@@ -67,8 +68,8 @@ AcceptsUnlessHindered text (Ok No) = ⊥
 AcceptsUnlessHindered text (Err fault) = Hinders text fault
 
 -- A certificate whose flow is one, whose pit is closed and tight, and whose sums fit is accepted.
-abbrev pub SoundIsAccepted : List ℕ → List ℕ → List ℕ → Result Verdict EngineFault → Type 0
-SoundIsAccepted values precedence certificate answer = (read : Reads values precedence certificate) → IsSound read.net read.flow read.pit → AcceptsUnlessHindered certificate answer
+abbrev pub SoundIsAccepted : MineTexts → List ℕ → Result Verdict EngineFault → Type 0
+SoundIsAccepted texts certificate answer = (read : Reads texts certificate) → IsSound read.net read.flow read.pit → AcceptsUnlessHindered certificate answer
 
 -- the counts of four devices are one more together
 pub record OneFailed (a b c d a' b' c' d' : ℕ) : Type 0 where

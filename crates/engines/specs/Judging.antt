@@ -16,16 +16,16 @@ use Rattle.check_pit.specs.declared.cert_faults.CertFault.{CertFault}
 use Rattle.check_pit.specs.declared.cert_faults.CertFault.TheVariants as cert
 use Rattle.closure_net.specs.declared.networks.NetFault.{NetFault}
 use Rattle.closure_net.specs.declared.networks.NetFault.TheVariants as net
-use Rattle.engines.specs.Mines.{DenoteMine}
+use Rattle.engines.specs.Mines.{MineTexts, DenoteMine}
 use Rattle.engines.specs.Readings.{block_by, counts_by, IsProvedPit}
 use Rattle.engines.specs.Judgements.{IsJudged}
 use Rattle.engines.specs.Faults.{Fails}
 
--- The values and the pairs that were read are those of two texts.
-pub record AreRead (values precedence : List ℕ) (read : upit.UpitView) (rests : RestsView) : Type 0 where
-  pub mine : DenoteMine values precedence rests.blocks
-  pub denotes : upit.Denotes rests.blocks values read
-  pub pairs : ArePairsOf (prec.listed precedence) rests.pairs
+-- The values and the pairs that were read are those of the texts.
+pub record AreRead (texts : MineTexts) (read : upit.UpitView) (rests : RestsView) : Type 0 where
+  pub mine : DenoteMine texts rests.blocks
+  pub denotes : upit.Denotes rests.blocks texts.values read
+  pub pairs : ArePairsOf (prec.listed texts.precedence) rests.pairs
 
 -- The group with this name counts a block so, and what sums to most by it is proved.
 pub record IsGroupNamed (name : Group) (block : ℤ → ℕ → Amount) (counts : Bool) : Type 0 where
@@ -33,10 +33,10 @@ pub record IsGroupNamed (name : Group) (block : ℤ → ℕ → Amount) (counts 
   pub counts_is : counts_by name ≡ counts
   pub proves : (mine : Mine) (net : NetView) (e : ℕ → Bool) → IsNetOf block mine net → IsGreatest net e → IsProvedPit name mine e
 
--- the judgement of three texts, or a fault that stands in them
-abbrev pub Judges : List ℕ → List ℕ → List ℕ → Result Judgement EngineFault → Type 0
-Judges values precedence certificate (Ok judgement) = IsJudged values precedence certificate judgement
-Judges values precedence certificate (Err fault) = Fails values precedence certificate fault
+-- the judgement of the texts of a mine and of a certificate, or a fault that stands in them
+abbrev pub Judges : MineTexts → List ℕ → Result Judgement EngineFault → Type 0
+Judges texts certificate (Ok judgement) = IsJudged texts certificate judgement
+Judges texts certificate (Err fault) = Fails texts certificate fault
 
 -- the engine's fault of a certificate's and of a net's: want of memory is one of its own
 abbrev pub of_certificate : CertFault → EngineFault

@@ -1,4 +1,4 @@
--- What the three texts of a check denote together.
+-- What the texts of a mine and of a certificate denote together.
 use Rattle.std.specs.Prelude.{◌≡◌, ℕ, ◌<◌, All, ℤ, Bool, false, true, List, None, Ok}
 use Rattle.ordered_group.specs.Amount.{Amount}
 use Rattle.ordered_group.specs.Block.{worth_block, counted_block}
@@ -6,11 +6,10 @@ use Rattle.ordered_group.specs.declared.groups.Group.{Group}
 use Rattle.ordered_group.specs.declared.groups.Group.TheVariants.{Worth, Pair}
 use Rattle.closure_net.specs.Network.{NetView, FlowView, IsNet, IsAscending}
 use Rattle.closure_net.specs.Mine.{Mine, IsRichest, IsBest, IsNetOf}
-use Rattle.check_pit.specs.declared.headers.Price.TheVariants.{Objective}
 use Rattle.check_pit.specs.Pieces.{pieces_of}
 use Rattle.check_pit.specs.Header.{header_of}
 use Rattle.check_pit.specs.Certificate.{fault_of, lines_of_text, Denotes}
-use Rattle.engines.specs.Mines.{mine_of, DenoteMine}
+use Rattle.engines.specs.Mines.{MineTexts, price_wanted, mine_of, DenoteMine}
 
 -- what one block counts as, and whether an amount has a count
 abbrev pub block_by : Group → ℤ → ℕ → Amount
@@ -27,14 +26,14 @@ IsProvedPit Worth mine e = IsRichest mine e
 IsProvedPit Pair mine e = IsBest mine e
 
 -- The texts denote a mine, its net, and a certificate for it with a pit and a flow.
-pub record Reads (values precedence certificate : List ℕ) : Type 0 where
+pub record Reads (texts : MineTexts) (certificate : List ℕ) : Type 0 where
   pub blocks : ℕ
-  pub mine : DenoteMine values precedence blocks
+  pub mine : DenoteMine texts blocks
   pub group : Group
-  pub header : header_of (pieces_of certificate) ≡ Ok (record { blocks = blocks; price = Objective; group = group })
+  pub header : header_of (pieces_of certificate) ≡ Ok (record { blocks = blocks; price = price_wanted texts; group = group })
   pub net : NetView
   pub is_net : IsNet net
-  pub of_mine : IsNetOf (block_by group) (mine_of blocks values precedence) net
+  pub of_mine : IsNetOf (block_by group) (mine_of blocks texts) net
   pub no_fault : fault_of (counts_by group) group blocks net.pairs certificate ≡ None
   pub pit : List ℕ
   pub flow : FlowView

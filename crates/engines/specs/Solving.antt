@@ -13,7 +13,6 @@ use Rattle.check_pit.specs.Checks.{IsOfNet, IsSound, FaultStands}
 use Rattle.check_pit.specs.ReadBack.{IsReadBack}
 use Rattle.check_pit.specs.Written.{header_with, text_of}
 use Rattle.check_pit.specs.declared.faults.PitFault.TheVariants as pit_fault
-use Rattle.check_pit.specs.declared.headers.Price.TheVariants.{Objective}
 use Rattle.engines.specs.declared.judgements.Judgement.TheVariants.{Refused}
 use Rattle.engines.specs.declared.judgements.Verdict.{Verdict}
 use Rattle.engines.specs.declared.judgements.Verdict.TheVariants.{Done, No}
@@ -24,7 +23,7 @@ use Rattle.engines.specs.declared.solving.Unsolved.TheVariants.{Unsettled, TooLa
 use Rattle.engines.specs.declared.method.Method.{Method}
 use Rattle.engines.specs.declared.method.Method.TheVariants.{Pseudoflow}
 use Rattle.engines.specs.Faults.{UpitFails, PrecFails, ModelFails, ValuesRead}
-use Rattle.engines.specs.Mines.{mine_of, DenoteMine}
+use Rattle.engines.specs.Mines.{MineTexts, price_of_values, mine_of, DenoteMine}
 use Rattle.engines.specs.OutputLines.{judgement_line}
 use Rattle.engines.specs.Readings.{block_by, Reads, IsProvedPit}
 
@@ -71,7 +70,7 @@ unsolved_by run.NoThread = NoThread
 pub record IsCertificateOf (counts : Bool) (name : Group) (net : NetView) (text : List ℕ) : Type 0 where
   pub pit : List ℕ
   pub flow : FlowView
-  pub read : IsReadBack counts name (length net.worths) net.pairs text Objective pit flow
+  pub read : IsReadBack counts name (length net.worths) net.pairs text price_of_values pit flow
   pub sound : IsSound net flow pit
 
 -- the lines of an answer without a certificate
@@ -95,7 +94,7 @@ pub record IsTextOf (name : Group) (net : NetView) (text : List ℕ) : Type 0 wh
   pub pit : List ℕ
   pub flow : FlowView
   pub sound : IsSound net flow pit
-  pub spelled : text ≡ text_of (header_with (length net.worths) Objective name) net.pairs pit flow
+  pub spelled : text ≡ text_of (header_with (length net.worths) price_of_values name) net.pairs pit flow
 
 -- a text that was to be written for a net
 abbrev pub IsDueFor : Group → NetView → Method → ℕ → List ℕ → Type 0
@@ -110,48 +109,48 @@ SolvesNet counts name net method limit old new (Err engine.Stranger) = Keeps old
 SolvesNet counts name net method limit old new (Err engine.Device) = (text : List ℕ) × IsDueFor name net method limit text × ReceivedPrefix old new text
 SolvesNet counts name net method limit old new (Err _) = ⊥
 
--- ---- two texts
+-- ---- the texts of a mine
 
--- The texts denote a mine, and with the third a certificate for it whose flow proves its pit: a check accepts it.
-pub record IsCertificate (values precedence : List ℕ) (name : Group) (text : List ℕ) : Type 0 where
-  pub read : Reads values precedence text
+-- The texts denote a mine, and this one a certificate for it whose flow proves its pit: a check accepts it where it isn't too long to be read.
+pub record IsCertificate (texts : MineTexts) (name : Group) (text : List ℕ) : Type 0 where
+  pub read : Reads texts text
   pub group : read.group ≡ name
   pub sound : IsSound read.net read.flow read.pit
-  pub proved : IsProvedPit name (mine_of read.blocks values precedence) (holds_of read.pit)
+  pub proved : IsProvedPit name (mine_of read.blocks texts) (holds_of read.pit)
 
--- the net of the mine that two texts denote, in amounts of the group
-pub record IsNetBy (values precedence : List ℕ) (name : Group) (net : NetView) : Type 0 where
-  pub mine : DenoteMine values precedence (length net.worths)
+-- the net of the mine that the texts denote, in amounts of the group
+pub record IsNetBy (texts : MineTexts) (name : Group) (net : NetView) : Type 0 where
+  pub mine : DenoteMine texts (length net.worths)
   pub is_net : IsNet net
-  pub of_mine : IsNetOf (block_by name) (mine_of (length net.worths) values precedence) net
+  pub of_mine : IsNetOf (block_by name) (mine_of (length net.worths) texts) net
 
--- the text that answers for two texts
-abbrev pub AnswersMine : List ℕ → List ℕ → Group → Method → ℕ → Verdict → List ℕ → Type 0
-AnswersMine values precedence name method limit Done text = IsCertificate values precedence name text
-AnswersMine values precedence name method limit No text = (net : NetView) × IsNetBy values precedence name net × IsNoOf net method limit text
+-- the text that answers for them
+abbrev pub AnswersMine : MineTexts → Group → Method → ℕ → Verdict → List ℕ → Type 0
+AnswersMine texts name method limit Done text = IsCertificate texts name text
+AnswersMine texts name method limit No text = (net : NetView) × IsNetBy texts name net × IsNoOf net method limit text
 
 -- Why the engine answers a fault: it stands, and none before it does. Want of memory, of a thread, a failing device and a board that
 -- comes back as another's say nothing of the texts.
-abbrev pub SolveFails : List ℕ → List ℕ → Group → EngineFault → Type 0
-SolveFails values precedence name (engine.Upit p) = UpitFails values p
-SolveFails values precedence name (engine.Prec p) = (n : ℕ) × ValuesRead values n × PrecFails n precedence p
-SolveFails values precedence name (engine.Model fault) = (n : ℕ) × DenoteMine values precedence n × ModelFails values n name fault
-SolveFails values precedence name engine.Memory = Unit {0}
-SolveFails values precedence name engine.Thread = Unit {0}
-SolveFails values precedence name engine.Stranger = Unit {0}
-SolveFails values precedence name engine.Device = Unit {0}
-SolveFails values precedence name _ = ⊥
+abbrev pub SolveFails : MineTexts → Group → EngineFault → Type 0
+SolveFails texts name (engine.Upit p) = UpitFails texts.values p
+SolveFails texts name (engine.Prec p) = (n : ℕ) × ValuesRead texts.values n × PrecFails n texts.precedence p
+SolveFails texts name (engine.Model fault) = (n : ℕ) × DenoteMine texts n × ModelFails texts n name fault
+SolveFails texts name engine.Memory = Unit {0}
+SolveFails texts name engine.Thread = Unit {0}
+SolveFails texts name engine.Stranger = Unit {0}
+SolveFails texts name engine.Device = Unit {0}
+SolveFails texts name _ = ⊥
 
 -- nothing was written, or a front of an answer
-abbrev pub WritesSolveFront : List ℕ → List ℕ → Group → Method → ℕ → Option (List ℕ) → Option (List ℕ) → Type 0
-WritesSolveFront values precedence name method limit old new = Keeps old new ⊎ ((net : NetView) × IsNetBy values precedence name net × (text : List ℕ) × IsDueFor name net method limit text × ReceivedPrefix old new text)
+abbrev pub WritesSolveFront : MineTexts → Group → Method → ℕ → Option (List ℕ) → Option (List ℕ) → Type 0
+WritesSolveFront texts name method limit old new = Keeps old new ⊎ ((net : NetView) × IsNetBy texts name net × (text : List ℕ) × IsDueFor name net method limit text × ReceivedPrefix old new text)
 
 -- what is in the writer at a fault: what was there before, unless a device failed
-abbrev pub SolveAtFault : List ℕ → List ℕ → Group → Method → ℕ → Option (List ℕ) → Option (List ℕ) → EngineFault → Type 0
-SolveAtFault values precedence name method limit old new engine.Device = WritesSolveFront values precedence name method limit old new
-SolveAtFault values precedence name method limit old new _ = Keeps old new
+abbrev pub SolveAtFault : MineTexts → Group → Method → ℕ → Option (List ℕ) → Option (List ℕ) → EngineFault → Type 0
+SolveAtFault texts name method limit old new engine.Device = WritesSolveFront texts name method limit old new
+SolveAtFault texts name method limit old new _ = Keeps old new
 
 -- the answer, and what was written with it
-abbrev pub Solves : List ℕ → List ℕ → Group → Method → ℕ → Option (List ℕ) → Option (List ℕ) → Result Verdict EngineFault → Type 0
-Solves values precedence name method limit old new (Ok verdict) = (text : List ℕ) × AnswersMine values precedence name method limit verdict text × Appends old new text
-Solves values precedence name method limit old new (Err fault) = SolveFails values precedence name fault × SolveAtFault values precedence name method limit old new fault
+abbrev pub Solves : MineTexts → Group → Method → ℕ → Option (List ℕ) → Option (List ℕ) → Result Verdict EngineFault → Type 0
+Solves texts name method limit old new (Ok verdict) = (text : List ℕ) × AnswersMine texts name method limit verdict text × Appends old new text
+Solves texts name method limit old new (Err fault) = SolveFails texts name fault × SolveAtFault texts name method limit old new fault

@@ -2,6 +2,7 @@
 
 ghost use Rattle.std.specs.Prelude.{◌≡◌, ◌+◌, ◌-◌, ◌^◌, ◌<◌, IfSome, IsErrOf};
 ghost use Rattle.engines.specs.Engines.{Checks, SoundIsAccepted, OneFailed};
+ghost use Rattle.engines.specs.Mines.{mine_texts};
 
 use crate::engine_faults::EngineFault;
 use crate::inputs::{certificate_from, rests_from, upit_from};
@@ -33,9 +34,9 @@ pub fn check_engine<U: CountedRead, P: CountedRead, C: CountedRead, W: CountedWr
 
     // What it answers and writes, where the readers tell their bytes.
     ensures answer { IfSome (U.remaining upit.old) (λ u. IfSome (P.remaining prec.old) (λ p. IfSome (C.remaining certificate.old) (λ c.
-        Checks u p c (W.contents out.old) (W.contents out.new) result))) }
+        Checks (mine_texts u p) c (W.contents out.old) (W.contents out.new) result))) }
     ensures complete { IfSome (U.remaining upit.old) (λ u. IfSome (P.remaining prec.old) (λ p. IfSome (C.remaining certificate.old) (λ c.
-        SoundIsAccepted u p c result))) }
+        SoundIsAccepted (mine_texts u p) c result))) }
 
     // A device is named exactly where one failed.
     ensures device { IsErrOf result EngineFault.Device → OneFailed (U.failed upit.old) (P.failed prec.old) (C.failed certificate.old) (W.failed out.old) (U.failed upit.new) (P.failed prec.new) (C.failed certificate.new) (W.failed out.new) }
@@ -57,7 +58,7 @@ fn check_all<U: CountedRead, P: CountedRead, C: CountedRead, W: CountedWrite>(
     requires certificate_room { C.failed certificate.old < 2 ^ 64 - 1 }
     requires out_room { W.failed out.old < 2 ^ 64 - 1 }
     ensures answer { IfSome (U.remaining upit.old) (λ u. IfSome (P.remaining prec.old) (λ p. IfSome (C.remaining certificate.old) (λ c.
-        Checks u p c (W.contents out.old) (W.contents out.new) result))) }
+        Checks (mine_texts u p) c (W.contents out.old) (W.contents out.new) result))) }
     ensures device { IsErrOf result EngineFault.Device → OneFailed (U.failed upit.old) (P.failed prec.old) (C.failed certificate.old) (W.failed out.old) (U.failed upit.new) (P.failed prec.new) (C.failed certificate.new) (W.failed out.new) }
     ensures kept { ¬ IsErrOf result EngineFault.Device → (U.failed upit.new ≡ U.failed upit.old) × (P.failed prec.new ≡ P.failed prec.old) × (C.failed certificate.new ≡ C.failed certificate.old) × (W.failed out.new ≡ W.failed out.old) }
 {

@@ -6,7 +6,7 @@ ghost use Rattle.ordered_group.specs.Amount.{FitsPair};
 ghost use Rattle.closure_net.specs.Closure.{group_worth, IsGreatest};
 ghost use Rattle.closure_net.specs.Mine.{IsNetOf};
 ghost use Rattle.engines.specs.Limits.{IsWithinLimit};
-ghost use Rattle.engines.specs.Mines.{DenoteMine, mine_of};
+ghost use Rattle.engines.specs.Mines.{MineTexts, DenoteMine, mine_of};
 ghost use Rattle.engines.specs.Faults.{IsHeader};
 ghost use Rattle.engines.specs.Judging.{AreRead, IsGroupNamed, Judges};
 
@@ -28,7 +28,7 @@ pub fn judge(
     certificate: &[u8],
 ) -> Result<Judgement, EngineFault>
     requires { IsWithinLimit certificate.now }
-    ensures judged { (values precedence : List ℕ) → AreRead values precedence upit.now rests → Judges values precedence certificate.now result }
+    ensures judged { (texts : MineTexts) → AreRead texts upit.now rests → Judges texts certificate.now result }
     ensures no_device { ¬ IsErrOf result EngineFault.Device }
 {
     laws::greatest_set_is_richest_pit();
@@ -57,8 +57,8 @@ fn judge_by<G: OrderedGroup>(
     certificate: &[u8],
 ) -> Result<Judgement, EngineFault>
     requires { IsWithinLimit certificate.now }
-    ensures judged { (values precedence : List ℕ) → AreRead values precedence upit.now rests → IsGroupNamed G.name G.block_parts G.counts
-        → IsHeader certificate.now rests.blocks G.name → Judges values precedence certificate.now result }
+    ensures judged { (texts : MineTexts) → AreRead texts upit.now rests → IsGroupNamed G.name G.block_parts G.counts
+        → IsHeader texts certificate.now rests.blocks G.name → Judges texts certificate.now result }
     ensures no_device { ¬ IsErrOf result EngineFault.Device }
 {
     let nanos = nanos_of(alloc, upit)?;
@@ -73,9 +73,9 @@ fn judge_for<G: OrderedGroup>(
     certificate: &[u8],
 ) -> Result<Judgement, EngineFault>
     requires { IsWithinLimit certificate.now }
-    ensures judged { (values precedence : List ℕ) → DenoteMine values precedence (length net.now.worths) → IsGroupNamed G.name G.block_parts G.counts
-        → IsHeader certificate.now (length net.now.worths) G.name → IsNetOf G.block_parts (mine_of (length net.now.worths) values precedence) net.now
-        → Judges values precedence certificate.now result }
+    ensures judged { (texts : MineTexts) → DenoteMine texts (length net.now.worths) → IsGroupNamed G.name G.block_parts G.counts
+        → IsHeader texts certificate.now (length net.now.worths) G.name → IsNetOf G.block_parts (mine_of (length net.now.worths) texts) net.now
+        → Judges texts certificate.now result }
     ensures no_device { ¬ IsErrOf result EngineFault.Device }
 {
     let _worths = net.worths();

@@ -2,6 +2,7 @@
 
 ghost use Rattle.std.specs.Prelude.{◌≡◌, ◌+◌, ◌-◌, ◌^◌, ◌<◌, ◌↔◌, ℕ, List, IfSome, IsErrOf};
 ghost use Rattle.engines.specs.Judging.{AreRead, IsGroupNamed};
+ghost use Rattle.engines.specs.Mines.{MineTexts, mine_texts};
 ghost use Rattle.engines.specs.Solving.{Solves};
 
 use crate::efforts::Effort;
@@ -63,7 +64,7 @@ pub fn solve_engine<
 
     // What it answers and writes, where the readers tell their bytes.
     ensures answer { IfSome (U.remaining upit.old) (λ u. IfSome (P.remaining prec.old) (λ p.
-        Solves u p group effort.method effort.steps (W.contents out.old) (W.contents out.new) result)) }
+        Solves (mine_texts u p) group effort.method effort.steps (W.contents out.old) (W.contents out.new) result)) }
 
     // A device is named exactly where one failed.
     ensures device { IsErrOf result EngineFault.Device → U.failed upit.new + P.failed prec.new + W.failed out.new ≡ U.failed upit.old + P.failed prec.old + W.failed out.old + 1 }
@@ -86,7 +87,7 @@ fn solve_mine<R: Threads + Wait + Sync, T: Gate + Progress, W: CountedWrite>(
     out: &mut W,
 ) -> Result<Verdict, EngineFault>
     requires { W.failed out.old < 2 ^ 64 - 1 }
-    ensures answer { (values precedence : List ℕ) → AreRead values precedence upit.now rests → Solves values precedence group effort.method effort.steps (W.contents out.old) (W.contents out.new) result }
+    ensures answer { (texts : MineTexts) → AreRead texts upit.now rests → Solves texts group effort.method effort.steps (W.contents out.old) (W.contents out.new) result }
     ensures device { IsErrOf result EngineFault.Device ↔ (W.failed out.new ≡ W.failed out.old + 1) }
     ensures kept { ¬ IsErrOf result EngineFault.Device → W.failed out.new ≡ W.failed out.old }
 {
@@ -111,8 +112,8 @@ fn solve_by<G: OrderedGroup, R: Threads + Wait + Sync, T: Gate + Progress, W: Co
 where
     Locked<Board<G>>: Shared,
     requires { W.failed out.old < 2 ^ 64 - 1 }
-    ensures answer { (values precedence : List ℕ) → AreRead values precedence upit.now rests → IsGroupNamed G.name G.block_parts G.counts
-        → Solves values precedence G.name effort.method effort.steps (W.contents out.old) (W.contents out.new) result }
+    ensures answer { (texts : MineTexts) → AreRead texts upit.now rests → IsGroupNamed G.name G.block_parts G.counts
+        → Solves texts G.name effort.method effort.steps (W.contents out.old) (W.contents out.new) result }
     ensures device { IsErrOf result EngineFault.Device ↔ (W.failed out.new ≡ W.failed out.old + 1) }
     ensures kept { ¬ IsErrOf result EngineFault.Device → W.failed out.new ≡ W.failed out.old }
 {

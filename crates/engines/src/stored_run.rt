@@ -2,6 +2,7 @@
 
 ghost use Rattle.std.specs.Prelude.{◌≡◌, ◌-◌, ◌^◌, ◌<◌, IsErrOf};
 ghost use Rattle.engines.specs.Engines.{Checks};
+ghost use Rattle.engines.specs.Mines.{mine_texts};
 
 use crate::checks::check_engine;
 use crate::engine_faults::EngineFault;
@@ -24,7 +25,7 @@ pub const CERTIFICATE: &[u8] =
 /// `out` must have counted fewer than 2^64 - 1 failures, so that one more can be counted.
 pub fn stored_check<W: CountedWrite>(alloc: Global, out: &mut W) -> Result<Verdict, EngineFault>
     requires { W.failed out.old < 2 ^ 64 - 1 }
-    ensures answer { Checks VALUES.now PRECEDENCE.now CERTIFICATE.now (W.contents out.old) (W.contents out.new) result }
+    ensures answer { Checks (mine_texts VALUES.now PRECEDENCE.now) CERTIFICATE.now (W.contents out.old) (W.contents out.new) result }
     ensures kept { ¬ IsErrOf result EngineFault.Device → W.failed out.new ≡ W.failed out.old }
 {
     let mut upit = Counted::new(VALUES);
