@@ -86,7 +86,8 @@ def a_failed_proof_fails_the_example(tree):
     return status != 0 and "small NOT PROVED" in said and "logic=not-proved" in said and "ACCEPTED" not in said, said
 
 
-CASES = [refused_edits_pass, an_accepted_edit_fails, a_build_says_what_it_proved, a_failed_proof_fails_the_example]
+# the build comes first: the copies in which edits are tried begin with what it made
+CASES = [a_build_says_what_it_proved, refused_edits_pass, an_accepted_edit_fails, a_failed_proof_fails_the_example]
 
 
 def test(top):

@@ -8,7 +8,8 @@ use Rattle.machine_law.specs.declared.operations.Operation.{Operation}
 use Rattle.machine_law.specs.declared.operations.Operation.TheVariants.{Idle}
 use Rattle.machine_law.specs.Reads.{is_positive}
 use Rattle.async_step.specs.Marks.{mark_at}
-use Rattle.async_step.specs.Views.{StateView, operation_at, IsMarked, IsState, is_idle, is_zero, is_waiting, is_busy}
+use Rattle.async_step.specs.Views.{StateView, operation_at, IsMarked, IsState, is_zero, is_waiting, is_busy}
+use Rattle.machine_law.specs.Operations.{is_idle}
 
 -- the marks with one mark changed
 pub marked_set : (old new : ℕ → Bool) (n : ℕ) (marks : List Bool) (b : ℕ) → IsMarked old n marks → b < n → ((c : ℕ) → (c ≡ b → ⊥) → new c ≡ old c) → IsMarked new n (set marks b (new b))

@@ -7,10 +7,10 @@ use Rattle.closure_net.specs.declared.ports.Port.{Port}
 use Rattle.machine_law.specs.declared.operations.Best.{Best}
 use Rattle.machine_law.specs.declared.operations.Operation.{Operation}
 use Rattle.machine_law.specs.declared.operations.Operation.TheVariants.{Idle, Scan, PushDue, TakeDue, GiveDue, RaiseDue}
-use Rattle.machine_law.specs.Operations.{operation_as}
-use Rattle.machine_law.specs.Reads.{ended, passed}
-use Rattle.async_step.specs.Views.{operation_at, is_idle}
-use Rattle.async_step.specs.Scans.{IsScan, chosen_by}
+use Rattle.machine_law.specs.Operations.{operation_as, is_idle}
+use Rattle.machine_law.specs.Reads.{ended, passed, IsScan}
+use Rattle.async_step.specs.Views.{operation_at}
+use Rattle.async_step.specs.Scans.{chosen_by}
 
 -- the same under the amounts
 pub scan_under : {N M : Type 0} (f : N → M) (n : ℕ) (o : Operation N) → IsScan n (operation_as f o) → IsScan n o

@@ -17,7 +17,8 @@ use Rattle.machine_law.specs.Amounts.{HasAmounts, IsOperation}
 use Rattle.machine_law.proofs.Law.{runs_keep_law}
 use Rattle.machine_law.proofs.Runs.{run_more}
 use Rattle.async_step.specs.Views.{StateView, state_of}
-use Rattle.async_step.specs.Scans.{IsScan, IsScanAt, chosen_by, looks_by}
+use Rattle.async_step.specs.Scans.{IsScanAt, chosen_by, looks_by}
+use Rattle.machine_law.specs.Reads.{IsScan}
 use Rattle.async_step.specs.Answers.{IsStateOf, LeadsTelling, told_of, told_at, told_by, told_beyond, told, saw_as, Stepped, IsRefused}
 use Rattle.async_step.specs.declared.saw.Saw.{Saw}
 use Rattle.async_step.specs.declared.saw.Saw.TheVariants.{Label}

@@ -13,7 +13,8 @@ use Rattle.machine_law.specs.Quiet.{IsFlowOf}
 use Rattle.machine_law.specs.Reads.{is_positive}
 use Rattle.machine_law.proofs.Numbers.{positive-yes, tells_below}
 use Rattle.async_step.specs.Marks.{mark_at, NoneWithin, ahead_of, IsFirstRound}
-use Rattle.async_step.specs.Views.{StateView, state_of, operation_at, IsSized, IsState, is_idle, is_zero, is_waiting, is_busy}
+use Rattle.async_step.specs.Views.{StateView, state_of, operation_at, IsSized, IsState, is_zero, is_waiting, is_busy}
+use Rattle.machine_law.specs.Operations.{is_idle}
 use Rattle.async_step.specs.Answers.{IsStateOf, IsWaiting}
 
 -- ---- blocks that are done

@@ -11,7 +11,7 @@ use Rattle.machine_law.specs.declared.operations.Operation.{Operation}
 use Rattle.machine_law.specs.declared.operations.Operation.TheVariants.{Idle, Scan, PushDue, TakeDue, GiveDue, RaiseDue}
 use Rattle.machine_law.specs.States.{State, opening}
 use Rattle.machine_law.specs.Residual.{room, capacity, end_label}
-use Rattle.machine_law.specs.Steps.{Step, Run, next_kind, advance, push_amount}
+use Rattle.machine_law.specs.Steps.{Step, Run, IsStateOfRun, next_kind, advance, push_amount}
 use Rattle.async_step.specs.Views.{StateView, state_of}
 use Rattle.async_step.specs.declared.saw.Saw.{Saw}
 use Rattle.async_step.specs.declared.saw.Saw.TheVariants.{Excess, Capacity, Label, Moved, Raised}
@@ -74,16 +74,11 @@ pub record Fits (net : NetView) (s : State) : Type 0 where
   pub at_source : FitsPair s.at_source
   pub at_sink : FitsPair s.at_sink
 
--- a run over the net leads to the state
-pub record IsReached (net : NetView) (s : State) : Type 0 where
-  pub events : List Event
-  pub run : Run net (opening net) events s
-
 -- the state is one of a run over the net, and all its numbers fit
 pub record IsStateOf (net : NetView) (v : StateView) : Type 0 where
   pub blocks : length v.operation ≡ length net.worths
   pub pairs : length v.flow ≡ length net.pairs
-  pub reached : IsReached net (state_of v)
+  pub reached : IsStateOfRun net (state_of v)
   pub fits : Fits net (state_of v)
 
 -- ---- steps and refusals
@@ -122,10 +117,6 @@ pub record Stepped (net : NetView) (old : StateView) (event : Event) (new : Stat
   pub saw_is : saw ≡ told net (state_of old) event.block
   pub counted : old.steps < 2 ^ 40
   pub state : IsStateOf net new
-
--- the event of the step that is next for block b
-abbrev pub next_event : NetView → State → ℕ → Event
-next_event net s b = record { block = b; kind = next_kind net s b }
 
 -- the event's step is the one that is next for its block
 pub record IsNext (net : NetView) (s : State) (event : Event) : Type 0 where

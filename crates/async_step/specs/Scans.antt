@@ -1,5 +1,5 @@
 -- A block's look at its ports, as changes of its operation.
-use Rattle.std.specs.Prelude.{◌≡◌, ℕ, ◌<◌, Bool, true, false, Option, Some, None, length}
+use Rattle.std.specs.Prelude.{◌≡◌, ℕ, Bool, true, false, Option, Some, None, length}
 use Rattle.ordered_group.specs.Amount.{Amount, zero_amount}
 use Rattle.closure_net.specs.declared.ports.Port.{Port}
 use Rattle.closure_net.specs.declared.ports.PortKind.{PortKind}
@@ -10,16 +10,7 @@ use Rattle.machine_law.specs.States.{State}
 use Rattle.machine_law.specs.Residual.{capacity, end_label}
 use Rattle.machine_law.specs.declared.operations.Operation.{Operation}
 use Rattle.machine_law.specs.declared.operations.Operation.TheVariants.{Idle, Scan, PushDue, TakeDue, GiveDue, RaiseDue}
-use Rattle.machine_law.specs.Reads.{better, passed, seen}
-
--- the operation looks at one of so many ports
-abbrev pub IsScan : {N : Type 0} → ℕ → Operation N → Type 0
-IsScan count Idle = ⊥
-IsScan count (Scan have place read best) = place < count
-IsScan count (PushDue have best) = ⊥
-IsScan count (TakeDue amount port) = ⊥
-IsScan count (GiveDue amount port) = ⊥
-IsScan count (RaiseDue have best) = ⊥
+use Rattle.machine_law.specs.Reads.{better, seen, passed_by}
 
 -- whether a capacity was read
 abbrev pub has_read : {N : Type 0} → Option N → Bool
@@ -39,15 +30,6 @@ IsScanAt at is_read (RaiseDue have best) = ⊥
 abbrev pub read_or_zero : Option Amount → Amount
 read_or_zero None = zero_amount
 read_or_zero (Some capacity) = capacity
-
--- after the port is passed
-abbrev pub passed_by : {N : Type 0} → ℕ → ℕ → Operation N → Operation N
-passed_by count label Idle = Idle
-passed_by count label (Scan have place read best) = passed count label have place best
-passed_by count label (PushDue have best) = PushDue have best
-passed_by count label (TakeDue amount port) = TakeDue amount port
-passed_by count label (GiveDue amount port) = GiveDue amount port
-passed_by count label (RaiseDue have best) = RaiseDue have best
 
 -- with one more port that may be the best
 abbrev pub weighed_by : Port → ℕ → Operation Amount → Operation Amount

@@ -1,11 +1,11 @@
 -- States as lists, and what is kept beside them.
-use Rattle.std.specs.Prelude.{◌≡◌, ℕ, ◌<◌, ◌≤◌, ◌^◌, Bool, true, false, not, ◌&&◌, ◌||◌, List, map, length, slice_index, slice_index_or}
+use Rattle.std.specs.Prelude.{◌≡◌, ℕ, ◌<◌, ◌≤◌, ◌^◌, Bool, not, ◌&&◌, ◌||◌, List, map, length, slice_index, slice_index_or}
 use Rattle.std.specs.Ordering.{is_eq}
 use Rattle.ordered_group.specs.Amount.{Amount, zero_amount, amount_cmp}
 use Rattle.ordered_group.specs.Sums.{amount_at}
 use Rattle.machine_law.specs.declared.operations.Operation.{Operation}
-use Rattle.machine_law.specs.declared.operations.Operation.TheVariants.{Idle, Scan, PushDue, TakeDue, GiveDue, RaiseDue}
-use Rattle.machine_law.specs.Operations.{operation_as}
+use Rattle.machine_law.specs.declared.operations.Operation.TheVariants.{Idle}
+use Rattle.machine_law.specs.Operations.{operation_as, is_idle}
 use Rattle.machine_law.specs.States.{State}
 use Rattle.machine_law.specs.Reads.{is_positive}
 use Rattle.async_step.specs.Marks.{mark_at}
@@ -61,15 +61,6 @@ pub record IsSized (v : StateView) : Type 0 where
   pub label : length v.label ≡ length v.operation
   pub source : length v.source ≡ length v.operation
   pub sink : length v.sink ≡ length v.operation
-
--- whether there is no operation
-abbrev pub is_idle : {N : Type 0} → Operation N → Bool
-is_idle Idle = true
-is_idle (Scan have place read best) = false
-is_idle (PushDue have best) = false
-is_idle (TakeDue amount port) = false
-is_idle (GiveDue amount port) = false
-is_idle (RaiseDue have best) = false
 
 -- whether the amount is zero
 abbrev pub is_zero : Amount → Bool

@@ -16,6 +16,7 @@
 #![tactic(auto)]
 
 mod changing;
+pub mod laws;
 mod marks;
 mod opening;
 mod operations;

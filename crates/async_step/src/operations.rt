@@ -2,13 +2,13 @@
 
 ghost use Rattle.std.specs.Prelude.{◌≡◌};
 ghost use Rattle.machine_law.specs.Operations.{operation_as};
-ghost use Rattle.machine_law.specs.Reads.{begun, ended};
-ghost use Rattle.async_step.specs.Scans.{IsScan, passed_by, weighed_by, seen_by, chosen_by};
+ghost use Rattle.machine_law.specs.Reads.{begun, IsScan};
+ghost use Rattle.async_step.specs.Scans.{weighed_by, seen_by, chosen_by};
 ghost use Rattle.machine_law.specs.Steps.{read_kind, push_kind, push_amount};
 
 use crate::tests_of_amounts::is_positive;
 use closure_net::{Port, PortKind};
-use machine_law::{Best, Kind, Operation};
+use machine_law::{Best, Kind, Operation, better, pass};
 use ordered_group::{OrderedGroup, smaller};
 
 /// The kind of the first step at a port.
@@ -51,22 +51,6 @@ pub fn begun<G: OrderedGroup>(have: G) -> Operation<G>
     }
 }
 
-/// The operation of a block of this label once all its ports are passed.
-pub fn ended_at<N: Copy>(label: u64, have: N, best: Option<Best<N>>) -> Operation<N>
-    ensures { result ≡ ended label have best }
-{
-    match best {
-        Some(best) => {
-            if best.label < label {
-                Operation::PushDue { have, best }
-            } else {
-                Operation::RaiseDue { have, best }
-            }
-        }
-        None => Operation::Idle,
-    }
-}
-
 /// The amount of a push over a port whose capacity was read as this.
 pub fn push_amount<G: OrderedGroup>(have: G, port: Port, capacity: G) -> G
     ensures { G.parts_of result ≡ push_amount (G.parts_of have) port.kind (G.parts_of capacity) }
@@ -77,30 +61,6 @@ pub fn push_amount<G: OrderedGroup>(have: G, port: Port, capacity: G) -> G
         PortKind::Backward => smaller(have, capacity),
         PortKind::Source => smaller(have, capacity),
     }
-}
-
-/// A block of so many ports and this label passes the port that it looks at.
-pub fn pass<N: Copy>(operation: &mut Operation<N>, ports: u32, label: u64)
-    requires { IsScan ports operation.old }
-    ensures { operation.new ≡ passed_by ports label operation.old }
-{
-    let next = match operation {
-        Operation::Scan {
-            have,
-            place,
-            read,
-            best,
-        } => {
-            if *place + 1 < ports {
-                *place += 1;
-                *read = None;
-                return;
-            }
-            ended_at(label, *have, *best)
-        }
-        _ => return,
-    };
-    *operation = next;
 }
 
 /// A block reads this capacity of the port that it looks at.
@@ -134,21 +94,16 @@ pub fn weigh<G: OrderedGroup>(operation: &mut Operation<G>, port: Port, label: u
             read,
             best,
         } => {
-            let lower = match best {
-                Some(old) => label < old.label,
-                None => true,
+            let capacity = match read {
+                Some(capacity) => *capacity,
+                None => G::zero(),
             };
-            if lower {
-                let capacity = match read {
-                    Some(capacity) => *capacity,
-                    None => G::zero(),
-                };
-                *best = Some(Best {
-                    port,
-                    capacity,
-                    label,
-                });
-            }
+            let new = Best {
+                port,
+                capacity,
+                label,
+            };
+            better(best, new);
         }
         _ => {}
     }

@@ -2,11 +2,11 @@
 
 ghost use Rattle.std.specs.Prelude.{◌≡◌, ◌<◌, length};
 ghost use Rattle.closure_net.specs.Ports.{ports};
-ghost use Rattle.machine_law.specs.Reads.{begun};
+ghost use Rattle.machine_law.specs.Reads.{begun, IsScan};
 ghost use Rattle.machine_law.specs.Residual.{capacity, end_label, IsPortOf};
 ghost use Rattle.machine_law.specs.Steps.{becomes, advance};
 ghost use Rattle.async_step.specs.Views.{state_of};
-ghost use Rattle.async_step.specs.Scans.{IsScan, IsScanAt, seen_by, chosen_by, looks_by};
+ghost use Rattle.async_step.specs.Scans.{IsScanAt, seen_by, chosen_by, looks_by};
 ghost use Rattle.async_step.specs.Answers.{IsStateOf, LeadsTelling, told_by, told};
 ghost use Rattle.async_step.specs.declared.saw.Saw.TheVariants.{Excess, Capacity, Label};
 

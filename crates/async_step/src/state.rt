@@ -10,7 +10,8 @@ ghost use Rattle.machine_law.specs.States.{opening, IsQuiet};
 ghost use Rattle.machine_law.specs.Quiet.{IsFlowOf};
 ghost use Rattle.async_step.specs.Marks.{IsFirstRound};
 ghost use Rattle.async_step.specs.Views.{StateView, state_of, operation_at, IsSized};
-ghost use Rattle.async_step.specs.Scans.{IsScan, seen_by, chosen_by};
+ghost use Rattle.async_step.specs.Scans.{seen_by, chosen_by};
+ghost use Rattle.machine_law.specs.Reads.{IsScan};
 ghost use Rattle.async_step.specs.Answers.{IsStateOf, IsWaiting};
 
 use crate::marks::Marks;

@@ -1,9 +1,9 @@
 //! One step, of any kind.
 
 ghost use Rattle.std.specs.Prelude.{◌≡◌, ◌<◌, length, MatchResult};
-ghost use Rattle.machine_law.specs.Steps.{next_kind, advance};
+ghost use Rattle.machine_law.specs.Steps.{next_kind, advance, next_event};
 ghost use Rattle.async_step.specs.Views.{state_of};
-ghost use Rattle.async_step.specs.Answers.{IsStateOf, LeadsTelling, Stepped, IsRefused, next_event, saw_as, told};
+ghost use Rattle.async_step.specs.Answers.{IsStateOf, LeadsTelling, Stepped, IsRefused, saw_as, told};
 
 use crate::operations::{push_kind, read_kind};
 use crate::refusals::StepRefusal;

@@ -3,8 +3,8 @@
 ghost use Rattle.std.specs.Prelude.{◌≡◌, not, ◌&&◌, ◌||◌};
 ghost use Rattle.ordered_group.specs.Amount.{FitsPair};
 ghost use Rattle.machine_law.specs.Reads.{is_positive};
-ghost use Rattle.machine_law.specs.Operations.{operation_as};
-ghost use Rattle.async_step.specs.Views.{is_idle, is_zero};
+ghost use Rattle.machine_law.specs.Operations.{operation_as, is_idle};
+ghost use Rattle.async_step.specs.Views.{is_zero};
 
 use machine_law::Operation;
 use ordered_group::OrderedGroup;

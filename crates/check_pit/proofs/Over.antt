@@ -4,7 +4,7 @@ use Rattle.std.proofs.lemmas.Bool.{eq-eqb, eqb-true}
 use Rattle.std.proofs.lemmas.Int.{ints}
 use Rattle.ordered_group.specs.Amount.{Amount, plus, FitsPair, Amount_eq}
 use Rattle.ordered_group.specs.Sums.{at_end}
-use Rattle.check_pit.specs.Fits.{EndFits, EndLeaves}
+use Rattle.check_pit.specs.Fits.{EndFits, EndOverflows}
 use Rattle.ordered_group.proofs.Numbers.{over, over-numbers, over-first}
 use Rattle.ordered_group.proofs.Steps.{total_step, fits_there}
 use Rattle.prec_file.specs.Rests.{numbers}
@@ -30,8 +30,8 @@ fits_from_list start end f b m h = λ k l e.
     fits_there (plus start (over f (numbers end b m) i)) (f (get_or (numbers end b m) i 0)) (plus start (at_end end f k b)) (f k)
     (ap (plus start) (first_over end f m b k (omega arith))) (ap f (sym (passing_here (λ j. end j == b) k m l t))) p
 
-pub leaves_from_list : (start : Amount) (end : ℕ → ℕ) (f : ℕ → Amount) (b m i : ℕ) → i < length (numbers end b m) → ¬ (FitsPair (plus (plus start (over f (numbers end b m) i)) (f (get_or (numbers end b m) i 0)))) → EndLeaves start end f b m
-leaves_from_list start end f b m i l h =
+pub overflows_from_list : (start : Amount) (end : ℕ → ℕ) (f : ℕ → Amount) (b m i : ℕ) → i < length (numbers end b m) → ¬ (FitsPair (plus (plus start (over f (numbers end b m) i)) (f (get_or (numbers end b m) i 0)))) → EndOverflows start end f b m
+overflows_from_list start end f b m i l h =
     let k = get_or (numbers end b m) i 0 in
     let p = passing_at (λ j. end j == b) m i l in
     let below : k < m = p.below in
@@ -49,8 +49,8 @@ sum_more start f ks i old new x p q r =
 pub fits_more : (start : Amount) (f : ℕ → Amount) (ks : List ℕ) (i : ℕ) (old x : Amount) → old ≡ plus start (over f ks i) → f (get_or ks i 0) ≡ x → FitsPair (plus old x) → ListFits start f ks i → ListFits start f ks (i + 1)
 fits_more start f ks i old x p q h l = below_more _ i l (fits_there old x (plus start (over f ks i)) (f (get_or ks i 0)) p q h)
 
-pub leaves_here : (start : Amount) (f : ℕ → Amount) (ks : List ℕ) (i : ℕ) (old x : Amount) → old ≡ plus start (over f ks i) → f (get_or ks i 0) ≡ x → ¬ (FitsPair (plus old x)) → ¬ (FitsPair (plus (plus start (over f ks i)) (f (get_or ks i 0))))
-leaves_here start f ks i old x p q h = λ k. h (fits_there (plus start (over f ks i)) (f (get_or ks i 0)) old x (sym p) (sym q) k)
+pub overflows_here : (start : Amount) (f : ℕ → Amount) (ks : List ℕ) (i : ℕ) (old x : Amount) → old ≡ plus start (over f ks i) → f (get_or ks i 0) ≡ x → ¬ (FitsPair (plus old x)) → ¬ (FitsPair (plus (plus start (over f ks i)) (f (get_or ks i 0))))
+overflows_here start f ks i old x p q h = λ k. h (fits_there (plus start (over f ks i)) (f (get_or ks i 0)) old x (sym p) (sym q) k)
 
 -- the same for a list that was handed over as those numbers
 module _ (start : Amount) (end : ℕ → ℕ) (f : ℕ → Amount) (b m : ℕ) (ks : List ℕ) (is : ks ≡ numbers end b m) where
@@ -71,8 +71,8 @@ module _ (start : Amount) (end : ℕ → ℕ) (f : ℕ → Amount) (b m : ℕ) (
       let P : List ℕ → Type 0 = λ xs. ListFits start f xs (length xs) in
       fits_from_list start end f b m (subst P is (subst Q e h))
 
-  pub one_leaves : (i : ℕ) (old x : Amount) → i < length ks → old ≡ plus start (over f ks i) → f (get_or ks i 0) ≡ x → ¬ (FitsPair (plus old x)) → EndLeaves start end f b m
-  one_leaves i old x l p q h =
+  pub one_overflows : (i : ℕ) (old x : Amount) → i < length ks → old ≡ plus start (over f ks i) → f (get_or ks i 0) ≡ x → ¬ (FitsPair (plus old x)) → EndOverflows start end f b m
+  one_overflows i old x l p q h =
       let P : List ℕ → Type 0 = λ xs. (i < length xs) × ¬ (FitsPair (plus (plus start (over f xs i)) (f (get_or xs i 0)))) in
-      let z = subst P is (l, leaves_here start f ks i old x p q h) in
-      leaves_from_list start end f b m i z.0 z.1
+      let z = subst P is (l, overflows_here start f ks i old x p q h) in
+      overflows_from_list start end f b m i z.0 z.1

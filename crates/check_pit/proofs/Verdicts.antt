@@ -1,10 +1,15 @@
 -- What the steps of a check come to.
-use Rattle.std.proofs.Common.{ℕ, ◌<◌, Bool, List, length, ◌⊎◌, inl, inr}
+use Rattle.std.proofs.Common.{◌≡◌, ℕ, ◌<◌, Bool, List, length, inl, inr, refl, subst}
+use Rattle.std.proofs.lemmas.Bool.{cases_lt}
+use Rattle.std.proofs.lemmas.List.Elements.{Contains-get_or, All-contains}
 use Rattle.closure_net.specs.Network.{NetView, FlowView, holds_of}
-use Rattle.closure_net.specs.Closure.{IsClosed}
-use Rattle.closure_net.specs.Flows.{IsFlow, IsTight}
-use Rattle.check_pit.specs.Fits.{BalanceFits, BalanceLeaves, SetFits, SetLeaves, RoomFits, RoomLeaves, SumsFit}
-use Rattle.check_pit.specs.Checks.{IsOfNet, Sizes, NoneBelowZero, PassesCapacities, AllWithin, AllBalanced, IsFirstOpen, SomeBalanceLeaves, FaultStands, BalanceFault}
+use Rattle.closure_net.specs.Closure.{Stays, IsClosed}
+use Rattle.closure_net.specs.Flows.{IsFlow}
+use Rattle.prec_file.specs.Rests.{IsFirstNot}
+use Rattle.check_pit.specs.Fits.{BalanceFits, BalanceOverflows, SumsFit, SomeSumOverflows}
+use Rattle.check_pit.specs.Checks.{ProvesPit, Sizes, NoneBelowZero, KeepsWithin, PassesSigns, PassesCapacities, AllWithin, AllBalanced, BalancedWhileFit, IsOpen, FaultHolds, FaultStands}
+use Rattle.check_pit.specs.Closing.{IsFirstOpen}
+use Rattle.check_pit.specs.Balances.{ComesTo, BalanceFault}
 use Rattle.check_pit.specs.declared.faults.PitFault.{PitFault}
 use Rattle.check_pit.specs.declared.faults.PitFault.TheVariants.{WrongSize, NotClosed, Negative, OverCapacity, Unbalanced, NotTight, TooLarge}
 
@@ -13,39 +18,67 @@ pub flow_found : (net : NetView) (flow : FlowView) (pit : List ℕ) → Sizes ne
 flow_found net flow pit sizes signs within balanced =
     record { fits = sizes.lengths; source = signs.source; rest = signs.rest; sink = signs.sink; capacity = within; balance = λ b h. (balanced b h).1 }
 
+-- ---- a fault that is found is the first that holds
+
+pub open_fault : (net : NetView) (flow : FlowView) (pit : List ℕ) (b p : ℕ) → Sizes net flow pit → IsFirstOpen net.pairs (holds_of pit) (b, p) → FaultStands net flow pit (NotClosed b p)
+open_fault net flow pit b p sizes h =
+    let P : ℕ × ℕ → Type 0 = λ q. IsOpen net.pairs (holds_of pit) q in record {
+      holds = subst P h.2 (Contains-get_or net.pairs h.0 (0, 0) h.1.0, h.1.2);
+      first = (sizes, (h.0, h.1.0, h.2, h.1.1));
+    }
+
+pub capacity_fault : (net : NetView) (flow : FlowView) (pit : List ℕ) (b : ℕ) → PassesSigns net flow pit → IsFirstNot (KeepsWithin net flow) (length net.worths) b → FaultStands net flow pit (OverCapacity b)
+capacity_fault net flow pit b passes h = record { holds = (h.0, h.2); first = (passes, h.1) }
+
+-- where the sums of a balance fit, none overflows
+balance_fits : (net : NetView) (flow : FlowView) (b : ℕ) → BalanceFits net flow b → BalanceOverflows net flow b → ⊥
+balance_fits net flow b fits (inl h) = h.3 (fits.0 h.0 h.1 h.2)
+balance_fits net flow b fits (inr h) = h.3 (fits.1 h.0 h.1 h.2)
+
+-- before a sum of a balance that overflows, all balances stand
+balanced_before : (net : NetView) (flow : FlowView) (b : ℕ) → ComesTo net flow b → BalanceOverflows net flow b → BalancedWhileFit net flow
+balanced_before net flow b comes over = λ k l fit. elim (cases_lt k b) [
+  | inl h ↦ (comes.before k h).1
+  | inr h ↦ absurd (balance_fits net flow b (fit b h) over)
+]
+
 -- a fault of the balances is one of the check
 pub balance_fault : (net : NetView) (flow : FlowView) (pit : List ℕ) (e : PitFault) → PassesCapacities net flow pit → BalanceFault net flow e → FaultStands net flow pit e
-balance_fault net flow pit (Unbalanced b) passes h = (passes, h)
-balance_fault net flow pit TooLarge passes h = (passes, inl h)
+balance_fault net flow pit (Unbalanced b) passes h = record { holds = (h.0.known, h.2); first = (passes, h.0.before, h.1) }
+balance_fault net flow pit TooLarge passes h = record { holds = inl (h.0, h.1.known, h.2); first = (passes, balanced_before net flow h.0 h.1 h.2) }
 balance_fault net flow pit WrongSize passes h = absurd h
 balance_fault net flow pit (NotClosed b p) passes h = absurd h
 balance_fault net flow pit Negative passes h = absurd h
 balance_fault net flow pit (OverCapacity b) passes h = absurd h
 balance_fault net flow pit NotTight passes h = absurd h
 
--- where every pair stays, none is the first that doesn't
-none_open : (net : NetView) (e : ℕ → Bool) (pair : ℕ × ℕ) → IsClosed net.pairs e → IsFirstOpen net.pairs e pair → ⊥
-none_open net e pair closed h = h.1.2 (closed h.0 (0, 0) h.1.0)
+-- a sum that overflows once every balance stands
+pub sum_fault : (net : NetView) (flow : FlowView) (pit : List ℕ) → PassesCapacities net flow pit → AllBalanced net flow → SomeSumOverflows net flow pit → FaultStands net flow pit TooLarge
+sum_fault net flow pit passes balanced over = record { holds = over; first = (passes, λ b l fit. (balanced b l).1) }
 
--- where the sums of a balance fit, none leaves
-balance_stays : (net : NetView) (flow : FlowView) (b : ℕ) → BalanceFits net flow b → BalanceLeaves net flow b → ⊥
-balance_stays net flow b fits (inl h) = h.3 (fits.0 h.0 h.1 h.2)
-balance_stays net flow b fits (inr h) = h.3 (fits.1 h.0 h.1 h.2)
+-- ---- no fault holds of what is sound
 
-set_stays : (net : NetView) (flow : FlowView) (e : ℕ → Bool) → SetFits net.worths e → ((k : ℕ) → k < length net.worths → RoomFits net.worths flow.source k) → SetLeaves net.worths e ⊎ (SetFits net.worths e × RoomLeaves net.worths flow.source) → ⊥
-set_stays net flow e set room (inl h) = h.3 (set h.0 h.1 h.2)
-set_stays net flow e set room (inr h) = h.1.2 (room h.1.0 h.1.1)
+-- where all sums fit, none overflows
+sums_fit : (net : NetView) (flow : FlowView) (pit : List ℕ) → SumsFit net flow pit → SomeSumOverflows net flow pit → ⊥
+sums_fit net flow pit fit (inl h) = balance_fits net flow h.0 (fit.balances h.0 h.1) h.2
+sums_fit net flow pit fit (inr (inl h)) = h.3 (fit.set h.0 h.1 h.2)
+sums_fit net flow pit fit (inr (inr h)) = h.2 (fit.room h.0 h.1)
 
-sums_stay : (net : NetView) (flow : FlowView) (pit : List ℕ) → SumsFit net flow pit → SomeBalanceLeaves net flow ⊎ (AllBalanced net flow × (SetLeaves net.worths (holds_of pit) ⊎ (SetFits net.worths (holds_of pit) × RoomLeaves net.worths flow.source))) → ⊥
-sums_stay net flow pit fit (inl h) = balance_stays net flow h.0 (fit.balances h.0 h.1.known) h.2
-sums_stay net flow pit fit (inr h) = set_stays net flow (holds_of pit) fit.set fit.room h.1
+none_open : (net : NetView) (e : ℕ → Bool) (pair : ℕ × ℕ) → IsClosed net.pairs e → IsOpen net.pairs e pair → ⊥
+none_open net e pair closed h = h.1 (All-contains (Stays e) net.pairs pair closed h.0)
 
--- no fault stands of a closed and tight pit with a flow whose sums fit
-pub no_fault : (net : NetView) (flow : FlowView) (pit : List ℕ) (e : PitFault) → IsOfNet net pit → IsFlow net flow → IsClosed net.pairs (holds_of pit) → IsTight net flow (holds_of pit) → SumsFit net flow pit → FaultStands net flow pit e → ⊥
-no_fault net flow pit WrongSize known is closed tight fit h = h (record { lengths = is.fits; blocks = known })
-no_fault net flow pit (NotClosed b p) known is closed tight fit h = none_open net (holds_of pit) (b, p) closed h.1
-no_fault net flow pit Negative known is closed tight fit h = h.2 (record { source = is.source; rest = is.rest; sink = is.sink })
-no_fault net flow pit (OverCapacity b) known is closed tight fit h = h.1.2 (is.capacity b h.1.0)
-no_fault net flow pit (Unbalanced b) known is closed tight fit h = h.1.2 (is.balance b h.1.0.known)
-no_fault net flow pit NotTight known is closed tight fit h = h.4 tight
-no_fault net flow pit TooLarge known is closed tight fit h = sums_stay net flow pit fit h.1
+-- of a proved pit no fault holds but sums that don't fit
+pub proved_holds : (net : NetView) (flow : FlowView) (pit : List ℕ) (e : PitFault) → ProvesPit net flow pit → FaultHolds net flow pit e → e ≡ TooLarge
+proved_holds net flow pit WrongSize h f = absurd (f (record { lengths = h.is_flow.fits; blocks = h.of_net }))
+proved_holds net flow pit (NotClosed b p) h f = absurd (none_open net (holds_of pit) (b, p) h.closed f)
+proved_holds net flow pit Negative h f = absurd (f (record { source = h.is_flow.source; rest = h.is_flow.rest; sink = h.is_flow.sink }))
+proved_holds net flow pit (OverCapacity b) h f = absurd (f.1 (h.is_flow.capacity b f.0))
+proved_holds net flow pit (Unbalanced b) h f = absurd (f.1 (h.is_flow.balance b f.0))
+proved_holds net flow pit NotTight h f = absurd (f h.tight)
+proved_holds net flow pit TooLarge h f = refl
+
+-- no fault holds of a proved pit whose sums fit
+pub no_fault : (net : NetView) (flow : FlowView) (pit : List ℕ) (e : PitFault) → ProvesPit net flow pit → SumsFit net flow pit → FaultHolds net flow pit e → ⊥
+no_fault net flow pit e proves fit f =
+    let P : PitFault → Type 0 = λ g. FaultHolds net flow pit g in
+    sums_fit net flow pit fit (subst P (proved_holds net flow pit e proves f) f)

@@ -1,6 +1,7 @@
 -- What a set lacks to be closed.
-use Rattle.std.specs.Prelude.{◌≡◌, ℕ, ◌<◌, Bool, IsTrue, List, length}
-use Rattle.prec_file.specs.Rests.{from_at, to_at}
+use Rattle.std.specs.Prelude.{◌≡◌, ℕ, ◌<◌, Bool, IsTrue, List, length, slice_index_or}
+use Rattle.prec_file.specs.Rests.{from_at, to_at, IsFirstNot}
+use Rattle.check_pit.specs.Checks.{StaysAt}
 
 -- the set holds every block that b rests on
 abbrev pub HoldsAbove : List (ℕ × ℕ) → (ℕ → Bool) → ℕ → Type 0
@@ -16,3 +17,7 @@ pub record IsFirstLack (ps : List (ℕ × ℕ)) (e : ℕ → Bool) (b k : ℕ) :
 -- p is the first block that b rests on and that the set lacks
 abbrev pub IsLacking : List (ℕ × ℕ) → (ℕ → Bool) → ℕ → ℕ → Type 0
 IsLacking ps e b p = (k : ℕ) × IsFirstLack ps e b k × (to_at ps k ≡ p)
+
+-- the first pair whose block is in the set and whose predecessor isn't
+abbrev pub IsFirstOpen : List (ℕ × ℕ) → (ℕ → Bool) → ℕ × ℕ → Type 0
+IsFirstOpen ps e pair = (i : ℕ) × IsFirstNot (StaysAt ps e) (length ps) i × (slice_index_or ps i (0, 0) ≡ pair)

@@ -11,35 +11,43 @@ abbrev pub EndFits : Amount → (ℕ → ℕ) → (ℕ → Amount) → ℕ → �
 EndFits start end f b m = (k : ℕ) → k < m → end k ≡ b → FitsPair (plus (plus start (at_end end f k b)) (f k))
 
 -- one of them doesn't
-abbrev pub EndLeaves : Amount → (ℕ → ℕ) → (ℕ → Amount) → ℕ → ℕ → Type 0
-EndLeaves start end f b m = (k : ℕ) × (k < m) × (end k ≡ b) × ¬ (FitsPair (plus (plus start (at_end end f k b)) (f k)))
+abbrev pub EndOverflows : Amount → (ℕ → ℕ) → (ℕ → Amount) → ℕ → ℕ → Type 0
+EndOverflows start end f b m = (k : ℕ) × (k < m) × (end k ≡ b) × ¬ (FitsPair (plus (plus start (at_end end f k b)) (f k)))
 
 -- what enters b from the source and over pairs, and what leaves it to the sink and over pairs: each sum on the way fits
 abbrev pub BalanceFits : NetView → FlowView → ℕ → Type 0
 BalanceFits net flow b = EndFits (amount_at flow.source b) (to_at net.pairs) (amount_at flow.rest) b (length net.pairs) × EndFits (amount_at flow.sink b) (from_at net.pairs) (amount_at flow.rest) b (length net.pairs)
 
 -- one of them doesn't
-abbrev pub BalanceLeaves : NetView → FlowView → ℕ → Type 0
-BalanceLeaves net flow b = EndLeaves (amount_at flow.source b) (to_at net.pairs) (amount_at flow.rest) b (length net.pairs) ⊎ EndLeaves (amount_at flow.sink b) (from_at net.pairs) (amount_at flow.rest) b (length net.pairs)
+abbrev pub BalanceOverflows : NetView → FlowView → ℕ → Type 0
+BalanceOverflows net flow b = EndOverflows (amount_at flow.source b) (to_at net.pairs) (amount_at flow.rest) b (length net.pairs) ⊎ EndOverflows (amount_at flow.sink b) (from_at net.pairs) (amount_at flow.rest) b (length net.pairs)
 
 -- the worths of a set's blocks in their order: each sum on the way fits
 abbrev pub SetFits : List Amount → (ℕ → Bool) → Type 0
 SetFits ws e = (k : ℕ) → k < length ws → IsTrue (e k) → FitsPair (plus (total (λ b. where_so (e b) (amount_at ws b)) k) (amount_at ws k))
 
 -- one of them doesn't
-abbrev pub SetLeaves : List Amount → (ℕ → Bool) → Type 0
-SetLeaves ws e = (k : ℕ) × (k < length ws) × IsTrue (e k) × ¬ (FitsPair (plus (total (λ b. where_so (e b) (amount_at ws b)) k) (amount_at ws k)))
+abbrev pub SetOverflows : List Amount → (ℕ → Bool) → Type 0
+SetOverflows ws e = (k : ℕ) × (k < length ws) × IsTrue (e k) × ¬ (FitsPair (plus (total (λ b. where_so (e b) (amount_at ws b)) k) (amount_at ws k)))
 
 -- what the source could still give block k fits, and so does its sum with that of the blocks before
 abbrev pub RoomFits : List Amount → List Amount → ℕ → Type 0
 RoomFits ws ss k = FitsPair (room_at ws ss k) × FitsPair (plus (total (room_at ws ss) k) (room_at ws ss k))
 
 -- at some block one of the two doesn't
-abbrev pub RoomLeaves : List Amount → List Amount → Type 0
-RoomLeaves ws ss = (k : ℕ) × (k < length ws) × ¬ (RoomFits ws ss k)
+abbrev pub RoomOverflows : List Amount → List Amount → Type 0
+RoomOverflows ws ss = (k : ℕ) × (k < length ws) × ¬ (RoomFits ws ss k)
+
+-- the sums of some block's balance don't all fit
+abbrev pub SomeBalanceOverflows : NetView → FlowView → Type 0
+SomeBalanceOverflows net flow = (b : ℕ) × (b < length net.worths) × BalanceOverflows net flow b
 
 -- every sum that a check makes fits: those of the balances, of the pit's worth, and of what the source could still give
 pub record SumsFit (net : NetView) (flow : FlowView) (pit : List ℕ) : Type 0 where
   pub balances : (b : ℕ) → b < length net.worths → BalanceFits net flow b
   pub set : SetFits net.worths (holds_of pit)
   pub room : (k : ℕ) → k < length net.worths → RoomFits net.worths flow.source k
+
+-- one of them doesn't
+abbrev pub SomeSumOverflows : NetView → FlowView → List ℕ → Type 0
+SomeSumOverflows net flow pit = SomeBalanceOverflows net flow ⊎ (SetOverflows net.worths (holds_of pit) ⊎ RoomOverflows net.worths flow.source)

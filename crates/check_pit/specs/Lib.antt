@@ -1,4 +1,5 @@
 pub mod Accepted
+pub mod Balances
 pub mod BodyLines
 pub mod Certificate
 pub mod Checks

@@ -40,7 +40,7 @@ impl fmt::Display for CertFault {
 }
 
 // What is wrong with a line by itself.
-#[derive(Clone, Copy, Debug, PartialEq, Eq)]
+#[derive(Clone, Copy)]
 pub enum LineFault {
     Text,
     Number,

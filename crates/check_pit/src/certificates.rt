@@ -1,10 +1,9 @@
 //! Certificates, and reading them.
 
-ghost use Rattle.std.specs.Prelude.{◌≡◌, ℕ, ◌<◌, All, length, None, Some, Ok, MatchResult};
-ghost use Rattle.closure_net.specs.Network.{IsAscending};
+ghost use Rattle.std.specs.Prelude.{◌≡◌, None, Some, Err, MatchResult};
 ghost use Rattle.check_pit.specs.Pieces.{pieces_of};
-ghost use Rattle.check_pit.specs.Header.{header_of};
-ghost use Rattle.check_pit.specs.Certificate.{Denotes, UnlessMemory, IsRead, fault_of, lines_of_text};
+ghost use Rattle.check_pit.specs.Header.{header_for};
+ghost use Rattle.check_pit.specs.Certificate.{UnlessMemory, IsRead, fault_of, wanted_for};
 
 use crate::body_reader::read_body;
 use crate::cert_faults::CertFault;
@@ -35,16 +34,17 @@ pub struct Certificate<G: OrderedGroup> {
 /// The text that is read is the only one of its certificate: what [`crate::write_certificate`] writes.
 ///
 /// # Errors
-/// The fault of the first faulty line; `NoMemory` only where memory was refused.
+/// The fault of the first faulty line; `NoMemory` only where memory was refused, and not where the header has a fault.
 pub fn read_certificate<G: OrderedGroup>(
     alloc: Global,
     text: &[u8],
     rests: &Rests,
 ) -> Result<Certificate<G>, CertFault>
-    ensures { MatchResult result
+    ensures read { MatchResult result
         (λ c. (fault_of G.counts G.name rests.now.blocks rests.now.pairs text.now ≡ None)
         × IsRead G.counts G.name rests.now.blocks rests.now.pairs text.now c.blocks c.price c.pit c.flow)
         (λ e. UnlessMemory e (fault_of G.counts G.name rests.now.blocks rests.now.pairs text.now ≡ Some e)) }
+    ensures header { (fault : CertFault) → header_for (wanted_for rests.now.blocks G.name) (pieces_of text.now) ≡ Err fault → result ≡ Err fault }
 {
     let mut pieces = Pieces::new(text);
     let wanted = Wanted {

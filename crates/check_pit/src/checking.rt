@@ -4,11 +4,11 @@ ghost use Rattle.std.specs.Prelude.{◌≡◌, ◌↔◌, ◌<◌, ℕ, IsTrue, 
 ghost use Rattle.std.specs.Result.{IsOk};
 ghost use Rattle.ordered_group.specs.Amount.{zero_amount, minus, FitsPair};
 ghost use Rattle.prec_file.specs.Rests.{IsFirstNot};
-ghost use Rattle.closure_net.specs.Network.{FlowFits, holds_of};
-ghost use Rattle.closure_net.specs.Closure.{IsClosed};
-ghost use Rattle.closure_net.specs.Flows.{IsFlow, IsTight, NoneNegative, Within};
+ghost use Rattle.closure_net.specs.Network.{FlowFits};
+ghost use Rattle.closure_net.specs.Flows.{NoneNegative, Within};
 ghost use Rattle.check_pit.specs.Fits.{SumsFit};
-ghost use Rattle.check_pit.specs.Checks.{IsOfNet, Sizes, IsSound, NoneBelowZero, KeepsWithin, AllWithin, AllBalanced, BalanceFault, FaultStands};
+ghost use Rattle.check_pit.specs.Checks.{ProvesPit, Sizes, IsSound, NoneBelowZero, KeepsWithin, AllWithin, AllBalanced, FaultStands};
+ghost use Rattle.check_pit.specs.Balances.{BalanceFault};
 
 use crate::accepted_pits::Accepted;
 use crate::closing::first_open;
@@ -134,8 +134,7 @@ pub fn check<'a, G: OrderedGroup>(
     ensures found { MatchResult result
         (λ a. (a.net ≡ net.now) × (a.pit ≡ pit.now) × IsSound net.now flow.now pit.now)
         (λ e. FaultStands net.now flow.now pit.now e) }
-    ensures complete { IsOfNet net.now pit.now → IsFlow net.now flow.now → IsClosed net.now.pairs (holds_of pit.now)
-        → IsTight net.now flow.now (holds_of pit.now) → SumsFit net.now flow.now pit.now → IsOk result }
+    ensures complete { ProvesPit net.now flow.now pit.now → SumsFit net.now flow.now pit.now → IsOk result }
 {
     if !sizes_agree(net, pit, flow) {
         return Err(PitFault::WrongSize);

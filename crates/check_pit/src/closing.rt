@@ -3,8 +3,7 @@
 ghost use Rattle.std.specs.Prelude.{◌<◌, MatchOption};
 ghost use Rattle.closure_net.specs.Network.{holds_of};
 ghost use Rattle.closure_net.specs.Closure.{IsClosed};
-ghost use Rattle.check_pit.specs.Closing.{HoldsAbove, IsLacking};
-ghost use Rattle.check_pit.specs.Checks.{IsFirstOpen};
+ghost use Rattle.check_pit.specs.Closing.{HoldsAbove, IsLacking, IsFirstOpen};
 
 use closure_net::{Net, Pit};
 use ordered_group::OrderedGroup;

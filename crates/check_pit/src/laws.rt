@@ -9,7 +9,8 @@ pub fn tight_closed_set_is_greatest()
     ensures { WeakDuality }
 {}
 
-/// A closed pit of the net's blocks that is tight by a flow is accepted, or refused as `TooLarge`.
+/// A closed pit of the net's blocks that is tight by a flow is accepted, or refused as `TooLarge`:
+/// no other fault holds of it, in whatever order a check looks for them.
 pub fn tight_closed_pit_is_refused_for_size_only()
     ensures { RefusedForSizeOnly }
 {}

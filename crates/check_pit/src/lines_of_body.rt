@@ -20,7 +20,7 @@ const SINK: &[u8] = b"SINK";
 const END: &[u8] = b"END";
 
 /// The kinds of lines, in the order in which they stand.
-#[derive(Clone, Copy, Debug, PartialEq, Eq, PartialOrd, Ord)]
+#[derive(Clone, Copy, PartialEq, Eq, PartialOrd, Ord)]
 pub enum Kind {
     Pit,
     Source,

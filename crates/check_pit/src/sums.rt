@@ -7,7 +7,7 @@ ghost use Rattle.prec_file.specs.Rests.{from_at, to_at};
 ghost use Rattle.closure_net.specs.Network.{holds_of, FlowFits, IsNet};
 ghost use Rattle.closure_net.specs.Closure.{group_worth};
 ghost use Rattle.closure_net.specs.Flows.{inflow, outflow, still_to_give};
-ghost use Rattle.check_pit.specs.Fits.{EndFits, EndLeaves, SetFits, SetLeaves, RoomFits, RoomLeaves};
+ghost use Rattle.check_pit.specs.Fits.{EndFits, EndOverflows, SetFits, SetOverflows, RoomFits, RoomOverflows};
 
 use closure_net::{Carried, Flow, Net, Pit};
 use ordered_group::{OrderedGroup, positive_part, same};
@@ -23,7 +23,7 @@ pub(crate) fn with_inflow<G: OrderedGroup>(
     requires lengths { length rest.now ≡ length rests.now.pairs }
     requires known { b < rests.now.blocks }
     ensures { let f = amount_at rest.now in let ps = rests.now.pairs in let m = length ps in MatchOption result
-        (EndLeaves (G.parts_of start) (to_at ps) f b m)
+        (EndOverflows (G.parts_of start) (to_at ps) f b m)
         (λ r. (G.parts_of r ≡ plus (G.parts_of start) (inflow ps rest.now m b)) × EndFits (G.parts_of start) (to_at ps) f b m) }
 {
     let mut sum = start;
@@ -44,7 +44,7 @@ pub(crate) fn with_outflow<G: OrderedGroup>(
     requires lengths { length rest.now ≡ length rests.now.pairs }
     requires known { b < rests.now.blocks }
     ensures { let f = amount_at rest.now in let ps = rests.now.pairs in let m = length ps in MatchOption result
-        (EndLeaves (G.parts_of start) (from_at ps) f b m)
+        (EndOverflows (G.parts_of start) (from_at ps) f b m)
         (λ r. (G.parts_of r ≡ plus (G.parts_of start) (outflow ps rest.now m b)) × EndFits (G.parts_of start) (from_at ps) f b m) }
 {
     let mut sum = start;
@@ -69,7 +69,7 @@ pub(crate) fn balance_of<G: OrderedGroup>(
     requires lengths { length rest.now ≡ length rests.now.pairs }
     requires known { b < rests.now.blocks }
     ensures { let fs = rest.now in let ps = rests.now.pairs in let m = length ps in MatchOption result
-        (EndLeaves (G.parts_of source) (to_at ps) (amount_at fs) b m ⊎ EndLeaves (G.parts_of sink) (from_at ps) (amount_at fs) b m)
+        (EndOverflows (G.parts_of source) (to_at ps) (amount_at fs) b m ⊎ EndOverflows (G.parts_of sink) (from_at ps) (amount_at fs) b m)
         (λ r. EndFits (G.parts_of source) (to_at ps) (amount_at fs) b m
         × EndFits (G.parts_of sink) (from_at ps) (amount_at fs) b m
         × (IsTrue r ↔ (plus (G.parts_of source) (inflow ps fs m b) ≡ plus (G.parts_of sink) (outflow ps fs m b)))) }
@@ -82,7 +82,7 @@ pub(crate) fn balance_of<G: OrderedGroup>(
 // What the pit sums to, in the order of its blocks.
 pub(crate) fn pit_worth<G: OrderedGroup>(net: &Net<G>, pit: &Pit) -> Option<G>
     ensures sum { let ws = net.now.worths in let e = holds_of pit.now in MatchOption result
-        (SetLeaves ws e)
+        (SetOverflows ws e)
         (λ r. (G.parts_of r ≡ group_worth ws e) × SetFits ws e) }
     ensures net { IsNet net.now }
 {
@@ -101,7 +101,7 @@ pub(crate) fn pit_worth<G: OrderedGroup>(net: &Net<G>, pit: &Pit) -> Option<G>
 pub(crate) fn room_left<G: OrderedGroup>(net: &Net<G>, flow: &Flow<G>) -> Option<G>
     requires { FlowFits net.now flow.now }
     ensures { let ws = net.now.worths in let ss = flow.now.source in MatchOption result
-        (RoomLeaves ws ss)
+        (RoomOverflows ws ss)
         (λ r. (G.parts_of r ≡ still_to_give net.now flow.now) × ((k : ℕ) → k < length ws → RoomFits ws ss k)) }
 {
     let worths = net.worths();

@@ -8,7 +8,7 @@ use Rattle.ordered_group.specs.Sums.{total, where_so, amount_at}
 use Rattle.ordered_group.specs.Sets.{group_sum, IsBefore}
 use Rattle.ordered_group.specs.Block.{worth_block}
 use Rattle.ordered_group.specs.Laws.{SumsOrderSets}
-use Rattle.ordered_group.specs.SetSums.{worth_told}
+use Rattle.ordered_group.specs.LawProofs.{worth_told}
 use Rattle.ordered_group.proofs.Order.{Below-not}
 use Rattle.ordered_group.proofs.Totals.{total-same}
 use Rattle.closure_net.specs.Network.{NetView}

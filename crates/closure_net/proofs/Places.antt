@@ -1,9 +1,77 @@
 -- Amounts that are kept by their places.
-use Rattle.std.proofs.Common.{◌≡◌, ℕ, zero, suc, ◌≤◌, ◌<◌, List, [], ◌∷◌, ◌++◌, length, map, replicate, set, Option, None, Some, All, refl, sym, ap, ◌∙◌, arith}
+use Rattle.std.proofs.Common.{◌≡◌, ◌≢◌, ℕ, zero, suc, ◌≤◌, ◌<◌, ◌^◌, List, [], ◌∷◌, ◌++◌, length, map, replicate, set, get_or, inl, inr, Option, None, Some, All, refl, sym, ap, subst, ◌∙◌, arith, length-set, get_or-set_same, get_or-set_other}
+use Rattle.std.proofs.lemmas.Bool.{cases_eq}
 use Rattle.std.proofs.lemmas.List.{map-set, get_or_append_left, get_or-map, get_or-replicate, length-map, length-replicate, ext_get_or, length-append}
+use Rattle.std.proofs.lemmas.Grind.{get_or-set_at}
 use Rattle.std.proofs.Math.Seq.{get_or-append_seam}
 use Rattle.ordered_group.specs.Amount.{Amount, zero_amount}
-use Rattle.closure_net.specs.Carrying.{amount_of_place, carried_by}
+use Rattle.closure_net.specs.Carrying.{amount_of_place, carried_by, placed, ArePlaces}
+
+-- ---- places
+
+placed_most : (ps : List ℕ) → placed ps ≤ length ps
+placed_most [] = omega arith
+placed_most (zero ∷ ps) = omega (arith, placed_most ps)
+placed_most (suc p ∷ ps) = omega (arith, placed_most ps)
+
+-- one more pair has a place where one had none
+placed_set : (ps : List ℕ) (k n : ℕ) → k < length ps → get_or ps k 0 ≡ 0 → placed (set ps k (suc n)) ≡ suc (placed ps)
+placed_set [] k n l e = absurd (omega arith)
+placed_set (zero ∷ ps) zero n l e = refl
+placed_set (suc p ∷ ps) zero n l e = absurd cc
+placed_set (zero ∷ ps) (suc k) n l e = placed_set ps k n (omega arith) e
+placed_set (suc p ∷ ps) (suc k) n l e = ap suc (placed_set ps k n (omega arith) e)
+
+placed_none : (n : ℕ) → placed (replicate n 0) ≡ 0
+placed_none zero = refl
+placed_none (suc n) = placed_none n
+
+-- at first no pair has a place
+pub places_none : (ps : List ℕ) (n amounts : ℕ) → ps ≡ replicate n 0 → n < 2 ^ 32 → amounts ≡ 0 → ArePlaces ps amounts
+places_none ps n amounts e few none =
+    let size = length-replicate {A = ℕ} n 0 in
+    let P : List ℕ → Type 0 = λ qs. ArePlaces qs amounts in
+    subst P (sym e) (record {
+      few = omega (arith, size);
+      inside = λ i d l. omega (arith, get_or-replicate n i 0 d (omega (arith, size)));
+      count = none ∙ sym (placed_none n);
+      apart = λ i j li lj same other. absurd (other (get_or-replicate n i 0 0 (omega (arith, size))));
+    })
+
+-- while a pair has no place, the next place is a number of 32 bits
+pub place_fits : (ps : List ℕ) (n k : ℕ) → ArePlaces ps n → k < length ps → get_or ps k 0 ≡ 0 → suc n < 2 ^ 32
+place_fits ps n k h l e = omega (arith, placed_most (set ps k 1), placed_set ps k 0 l e, length-set ps k 1, h.count, h.few)
+
+-- a pair that has no place gets the next one
+pub places_more : (ps : List ℕ) (n k : ℕ) → ArePlaces ps n → k < length ps → get_or ps k 0 ≡ 0 → ArePlaces (set ps k (suc n)) (suc n)
+places_more ps n k h l e =
+    let size = length-set ps k (suc n) in
+    let here : (i d : ℕ) → i ≡ k → get_or (set ps k (suc n)) i d ≡ suc n = λ i d z. get_or-set_at ps k i (suc n) d z l in
+    let there : (i d : ℕ) → i ≢ k → get_or (set ps k (suc n)) i d ≡ get_or ps i d = λ i d q. get_or-set_other ps k i (suc n) d q in
+    record {
+      few = omega (arith, size, h.few);
+      inside = λ i d li. elim (cases_eq i k) [
+        | inl z ↦ omega (arith, here i d z)
+        | inr q ↦ omega (arith, there i d q, h.inside i d (omega (arith, size)))
+      ];
+      count = omega (arith, placed_set ps k n l e, h.count);
+      apart = λ i j li lj same other. elim (cases_eq i k) [
+        | inl z ↦ elim (cases_eq j k) [
+          | inl y ↦ z ∙ sym y
+          | inr q ↦ absurd (omega (arith, here i 0 z, there j 0 q, same, h.inside j 0 (omega (arith, size))))
+        ]
+        | inr q ↦ elim (cases_eq j k) [
+          | inl y ↦ absurd (omega (arith, here j 0 y, there i 0 q, same, h.inside i 0 (omega (arith, size))))
+          | inr r ↦ h.apart i j (omega (arith, size)) (omega (arith, size)) (sym (there i 0 q) ∙ same ∙ there j 0 r) (λ o. other (there i 0 q ∙ o))
+        ]
+      ];
+    }
+
+-- one more amount, in a list and in what was read of it
+pub grown : {X : Type 0} (xs ys zs : List X) (x : X) → ys ≡ xs ++ x ∷ [] → zs ≡ ys → length zs ≡ suc (length xs)
+grown xs ys zs x e f = ap length (f ∙ e) ∙ length-append xs (x ∷ []) ∙ omega arith
+
+-- ---- what the pairs carry
 
 -- one more amount leaves those of the places before it
 same_at : (xs : List Amount) (x : Amount) (p : ℕ) → p ≤ length xs → amount_of_place (xs ++ x ∷ []) p ≡ amount_of_place xs p
@@ -23,6 +91,32 @@ placed_is_set xs x ps k h =
     map-set (amount_of_place (xs ++ x ∷ [])) ps k (suc (length xs))
     ∙ ap (λ (ys : List Amount). set ys k (amount_of_place (xs ++ x ∷ []) (suc (length xs)))) (same_map xs x ps h)
     ∙ ap (λ (a : Amount). set (map (amount_of_place xs) ps) k a) (get_or-append_seam xs x [] zero_amount)
+
+-- an amount at its place leaves those of the other places
+other_place : (xs : List Amount) (x : Amount) (p q : ℕ) → q ≢ suc p → amount_of_place (set xs p x) q ≡ amount_of_place xs q
+other_place xs x p zero d = refl
+other_place xs x p (suc q) d = get_or-set_other xs p q x zero_amount (λ e. d (ap suc e))
+
+-- with another amount at its place, a pair carries that amount, and the others what they did
+pub replaced_is_set : (xs : List Amount) (x : Amount) (ps : List ℕ) (k p : ℕ) → ArePlaces ps (length xs) → k < length ps → get_or ps k 0 ≡ suc p
+    → map (amount_of_place (set xs p x)) ps ≡ set (map (amount_of_place xs) ps) k x
+replaced_is_set xs x ps k p h l e =
+    let f = amount_of_place (set xs p x) in
+    let g = amount_of_place xs in
+    let size = length-map ps f in
+    let same : length (set (map g ps) k x) ≡ length ps = length-set (map g ps) k x ∙ length-map ps g in
+    let inside : p < length xs = omega (arith, h.inside k 0 l) in
+    ext_get_or zero_amount _ _ (size ∙ sym same) (λ i li.
+    let there : i < length ps = omega (arith, size) in
+    get_or-map f ps i 0 zero_amount there ∙ elim (cases_eq i k) [
+      | inl z ↦
+          ap f (ap (λ j. get_or ps j 0) z ∙ e)
+          ∙ get_or-set_same xs p x zero_amount inside
+          ∙ sym (get_or-set_at (map g ps) k i x zero_amount z (omega (arith, length-map ps g)))
+      | inr d ↦
+          other_place xs x p (get_or ps i 0) (λ q. d (h.apart i k there l (q ∙ sym e) (λ o. absurd (omega (arith, q, o)))))
+          ∙ sym (get_or-set_other (map g ps) k i x zero_amount d ∙ get_or-map g ps i 0 zero_amount there)
+    ])
 
 -- pairs without a place carry nothing
 pub none_placed : (xs : List Amount) (ps : List ℕ) (n : ℕ) → ps ≡ replicate n 0 → map (amount_of_place xs) ps ≡ replicate n zero_amount
@@ -45,6 +139,20 @@ few_set {Kept = Kept} items o v xs ys zs x k n e h f g is =
     ∙ ap (λ (q : ℕ). map (amount_of_place (xs ++ x ∷ [])) (set (items v) k q)) size
     ∙ placed_is_set xs x (items v) k h
     ∙ ap (λ (us : List Amount). set us k x) (sym (ap (λ (w : Option Kept). carried_by items w xs) e) ∙ is)
+
+pub few_replaced : {Kept : Type 0} (items : Kept → List ℕ) (o : Option Kept) (v : Kept) (xs zs : List Amount) (x : Amount) (k p : ℕ)
+    → o ≡ Some v → ArePlaces (items v) (length xs) → k < length (items v) → get_or (items v) k 0 ≡ suc p → carried_by items o xs ≡ zs
+    → map (amount_of_place (set xs p x)) (items v) ≡ set zs k x
+few_replaced {Kept = Kept} items o v xs zs x k p e h l at is =
+    replaced_is_set xs x (items v) k p h l at
+    ∙ ap (λ (us : List Amount). set us k x) (sym (ap (λ (w : Option Kept). carried_by items w xs) e) ∙ is)
+
+-- as many pairs as are kept
+pub few_size : {Kept : Type 0} (items : Kept → List ℕ) (o : Option Kept) (v : Kept) (xs zs : List Amount)
+    → o ≡ Some v → carried_by items o xs ≡ zs → length (items v) ≡ length zs
+few_size {Kept = Kept} items o v xs zs e is =
+    sym (length-map (items v) (amount_of_place xs))
+    ∙ ap (λ (us : List Amount). length us) (sym (ap (λ (w : Option Kept). carried_by items w xs) e) ∙ is)
 
 pub all_set : {Kept : Type 0} {X : Type 0} (parts : X → Amount) (items : Kept → List ℕ) (o : Option Kept) (xs : List X) (zs : List Amount) (x : X) (k : ℕ)
     → o ≡ None → carried_by items o (map parts xs) ≡ zs → carried_by items o (map parts (set xs k x)) ≡ set zs k (parts x)

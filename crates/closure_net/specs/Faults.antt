@@ -10,43 +10,43 @@ abbrev pub OppositesFit : List Amount → Type 0
 OppositesFit ws = (b : ℕ) → b < length ws → FitsPair (minus zero_amount (amount_at ws b))
 
 -- the opposite of one of them doesn't
-abbrev pub OppositeLeaves : List Amount → Type 0
-OppositeLeaves ws = (b : ℕ) × (b < length ws) × ¬ (FitsPair (minus zero_amount (amount_at ws b)))
+abbrev pub OppositeOverflows : List Amount → Type 0
+OppositeOverflows ws = (b : ℕ) × (b < length ws) × ¬ (FitsPair (minus zero_amount (amount_at ws b)))
 
 -- each sum of the positive worths in their order fits
 abbrev pub PositivesFit : List Amount → Type 0
 PositivesFit ws = SumFits (λ b. positive (amount_at ws b)) (length ws)
 
 -- one of those sums doesn't
-abbrev pub PositivesLeave : List Amount → Type 0
-PositivesLeave ws = SumLeaves (λ b. positive (amount_at ws b)) (length ws)
+abbrev pub PositivesOverflow : List Amount → Type 0
+PositivesOverflow ws = SumLeaves (λ b. positive (amount_at ws b)) (length ws)
 
 -- these can be the worths of a net
 abbrev pub WorthsFit : List Amount → Type 0
 WorthsFit ws = OppositesFit ws × PositivesFit ws
 
 -- a worth whose opposite doesn't fit, or a sum of the positive worths in their order that doesn't
-abbrev pub WorthsLeave : List Amount → Type 0
-WorthsLeave ws = OppositeLeaves ws ⊎ PositivesLeave ws
+abbrev pub WorthsOverflow : List Amount → Type 0
+WorthsOverflow ws = OppositeOverflows ws ⊎ PositivesOverflow ws
 
 -- why n blocks and these worths are no net
 abbrev pub NetFaultStands : ℕ → List Amount → NetFault → Type 0
 NetFaultStands n ws WrongLength = n ≢ length ws
-NetFaultStands n ws TooLarge = (n ≡ length ws) × WorthsLeave ws
+NetFaultStands n ws TooLarge = (n ≡ length ws) × WorthsOverflow ws
 NetFaultStands n ws NoMemory = ⊥
 
 -- the amount of one of the blocks, by their worths in billionths, doesn't fit
-abbrev pub BlockLeaves : (ℤ → ℕ → Amount) → ℕ → List ℤ → Type 0
-BlockLeaves block n vs = (b : ℕ) × (b < length vs) × ¬ (FitsPair (block (slice_index_or vs b (pos 0)) n))
+abbrev pub BlockOverflows : (ℤ → ℕ → Amount) → ℕ → List ℤ → Type 0
+BlockOverflows block n vs = (b : ℕ) × (b < length vs) × ¬ (FitsPair (block (slice_index_or vs b (pos 0)) n))
 
 -- why there are no amounts of these blocks
 abbrev pub AmountsFaultStands : (ℤ → ℕ → Amount) → ℕ → List ℤ → NetFault → Type 0
 AmountsFaultStands block n vs WrongLength = ⊥
-AmountsFaultStands block n vs TooLarge = BlockLeaves block n vs
+AmountsFaultStands block n vs TooLarge = BlockOverflows block n vs
 AmountsFaultStands block n vs NoMemory = Unit {0}
 
 -- the same where the worths are made of blocks' worths: one that doesn't fit is too large, too, and memory is wanted only where the lengths agree
 abbrev pub WorthsFaultStands : (ℤ → ℕ → Amount) → ℕ → List ℤ → NetFault → Type 0
 WorthsFaultStands block n vs WrongLength = n ≢ length vs
-WorthsFaultStands block n vs TooLarge = (n ≡ length vs) × (BlockLeaves block n vs ⊎ WorthsLeave (map (λ v. block v n) vs))
+WorthsFaultStands block n vs TooLarge = (n ≡ length vs) × (BlockOverflows block n vs ⊎ WorthsOverflow (map (λ v. block v n) vs))
 WorthsFaultStands block n vs NoMemory = n ≡ length vs

@@ -1,6 +1,6 @@
 //! What the pairs carry.
 
-ghost use Rattle.std.specs.Prelude.{◌≡◌, ℕ, ◌<◌, ◌≤◌, List, length, map, replicate, slice_set, IfOk, MatchResult};
+ghost use Rattle.std.specs.Prelude.{◌≡◌, ℕ, ◌<◌, ◌≤◌, List, length, map, replicate, slice_set, IfOk, IfErr, MatchResult};
 ghost use Rattle.ordered_group.specs.Amount.{zero_amount};
 ghost use Rattle.ordered_group.specs.Sums.{amount_at};
 ghost use Rattle.closure_net.specs.Carrying as spec;
@@ -15,22 +15,22 @@ use std::marker::Model;
 /// the amounts of those few take a small part of the memory that an amount for each pair would.
 #[derive(Drop)]
 pub struct Carried<G: OrderedGroup> {
-    // for each pair 0 where it carries nothing, else one more than its amount's place; none where each pair has an
-    // amount of its own, in the order of the pairs
+    // for each pair one more than its amount's place, or 0 where it was never set; none where each pair has an amount
+    // of its own, in the order of the pairs
     places: Option<Vec<u32>>,
     amounts: Vec<G>,
 }
 
 impl<G: OrderedGroup> Model for Carried<G> {
-    ghost use Rattle.std.specs.Prelude.{List, map, length, All, IfSome, ◌≤◌};
+    ghost use Rattle.std.specs.Prelude.{List, map, length, IfSome};
     ghost use Rattle.ordered_group.specs.Amount.{Amount};
-    ghost use Rattle.closure_net.specs.Carrying.{carried_by};
+    ghost use Rattle.closure_net.specs.Carrying.{carried_by, ArePlaces};
 
     ghost Value = { List Amount };
 
     ghost view = { λ c. carried_by (λ v. v.items) c.places (map G.parts_of c.amounts.items) };
 
-    ghost invariant = { λ c. IfSome c.places (λ v. All (λ p. p ≤ length c.amounts.items) v.items) };
+    ghost invariant = { λ c. IfSome c.places (λ v. ArePlaces v.items (length c.amounts.items)) };
 }
 
 impl<G: OrderedGroup> Carried<G> {
@@ -78,19 +78,24 @@ impl<G: OrderedGroup> Carried<G> {
 
     /// Sets what a pair carries.
     ///
+    /// Takes memory only where the pair is set for the first time.
+    ///
     /// # Errors
-    /// Where memory for one more amount is refused. Nothing is changed then.
+    /// Where memory for one more amount is refused. Nothing is changed then, and the pair carries nothing.
     pub fn set(&mut self, pair: u32, amount: G) -> Result<(), AllocError>
         requires { pair < length self.old }
-        ensures { MatchResult result (λ _. self.new ≡ slice_set self.old pair (G.parts_of amount)) (λ _. self.new ≡ self.old) }
+        ensures is { MatchResult result (λ _. self.new ≡ slice_set self.old pair (G.parts_of amount)) (λ _. self.new ≡ self.old) }
+        ensures first { IfErr result (λ _. amount_at self.old pair ≡ zero_amount) }
     {
         match &mut self.places {
             Some(places) => {
-                if self.amounts.len() >= u32::MAX as usize {
-                    return Err(AllocError);
+                let place = places[pair as usize] as usize;
+                if place == 0 {
+                    self.amounts.push(amount)?;
+                    places[pair as usize] = self.amounts.as_slice().len() as u32;
+                } else {
+                    self.amounts[place - 1] = amount;
                 }
-                self.amounts.push(amount)?;
-                places[pair as usize] = self.amounts.as_slice().len() as u32;
             }
             None => self.amounts[pair as usize] = amount,
         }

@@ -61,8 +61,8 @@ impl<G: OrderedGroup> Net<G> {
     ///
     /// # Errors
     /// In this order: `WrongLength` where there are more or fewer worths than blocks; `TooLarge`
-    /// where the opposite of a worth leaves its type, or a sum of the positive worths in their
-    /// order does.
+    /// where the opposite of a worth overflows, or a sum of the positive worths in their order
+    /// does.
     pub fn build(rests: Rests, worths: Vec<G>) -> Result<Net<G>, NetFault>
         ensures { MatchResult result
             (λ n. (n ≡ net_view rests.pairs (map G.parts_of worths.items)) × (rests.blocks ≡ length worths.items))
@@ -82,8 +82,8 @@ impl<G: OrderedGroup> Net<G> {
     ///
     /// # Errors
     /// `WrongLength` where there are more or fewer worths than blocks, before all else. `TooLarge`
-    /// where a block's amount, its opposite or a sum of the positive ones in their order leaves its
-    /// type. `NoMemory` where memory for the amounts was refused.
+    /// where a block's amount, its opposite or a sum of the positive ones in their order overflows.
+    /// `NoMemory` where memory for the amounts was refused.
     pub fn of_worths(alloc: Global, rests: Rests, nanos: &[i128]) -> Result<Net<G>, NetFault>
         ensures { MatchResult result
             (λ n. (n ≡ net_view rests.pairs (map (λ v. G.block_parts v rests.blocks) nanos.now)) × (rests.blocks ≡ length nanos.now))

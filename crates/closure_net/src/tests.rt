@@ -122,6 +122,36 @@ fn few_pairs_carry_something(rt: HostRuntime) -> Result<(), Fail> {
     Ok(())
 }
 
+// Sets each of so many pairs to its number, as far as there are as many.
+fn set_each(carried: &mut Carried<WorthSize>, pairs: u32) -> Result<(), Fail> {
+    for pair in 0..pairs {
+        if pair as usize >= carried.len() {
+            return Ok(());
+        }
+        carried.set(pair, amount(pair as i128, -1))?;
+    }
+    Ok(())
+}
+
+// Whether there are so many pairs at least, of which each carries its number.
+fn carries_each(carried: &Carried<WorthSize>, pairs: u32) -> bool {
+    for pair in 0..pairs {
+        if pair as usize >= carried.len() || carried.at(pair) != amount(pair as i128, -1) {
+            return false;
+        }
+    }
+    true
+}
+
+#[test]
+fn thousands_of_pairs_carry_something(rt: HostRuntime) -> Result<(), Fail> {
+    let mut carried: Carried<WorthSize> = Carried::nothing(rt.alloc(), 3000)?;
+    set_each(&mut carried, 3000)?;
+    set_each(&mut carried, 3000)?;
+    assert!(rt; carries_each(&carried, 3000));
+    Ok(())
+}
+
 #[test]
 fn all_pairs_carry_something(rt: HostRuntime) -> Result<(), Fail> {
     let amounts = Vec::from_slice(rt.alloc(), &[amount(1, 0), amount(2, 0)])?;

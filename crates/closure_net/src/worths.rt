@@ -1,7 +1,7 @@
 //! Whether amounts can be the worths of a net, and the amounts of blocks.
 
 ghost use Rattle.std.specs.Prelude.{◌≡◌, map, MatchBool, MatchResult};
-ghost use Rattle.closure_net.specs.Faults.{OppositesFit, OppositeLeaves, PositivesFit, PositivesLeave, WorthsFit, WorthsLeave, AmountsFaultStands};
+ghost use Rattle.closure_net.specs.Faults.{OppositesFit, OppositeOverflows, PositivesFit, PositivesOverflow, WorthsFit, WorthsOverflow, AmountsFaultStands};
 
 use crate::networks::NetFault;
 use ordered_group::{OrderedGroup, negative_part, positive_part};
@@ -9,7 +9,7 @@ use std::alloc::Global;
 
 // Whether the opposite of each worth fits.
 fn opposites_fit<G: OrderedGroup>(worths: &[G]) -> bool
-    ensures { let ws = map G.parts_of worths.now in MatchBool result (OppositesFit ws) (OppositeLeaves ws) }
+    ensures { let ws = map G.parts_of worths.now in MatchBool result (OppositesFit ws) (OppositeOverflows ws) }
 {
     for w in worths {
         match negative_part(*w) {
@@ -22,7 +22,7 @@ fn opposites_fit<G: OrderedGroup>(worths: &[G]) -> bool
 
 // Whether each sum of the positive worths in their order fits.
 fn positives_fit<G: OrderedGroup>(worths: &[G]) -> bool
-    ensures { let ws = map G.parts_of worths.now in MatchBool result (PositivesFit ws) (PositivesLeave ws) }
+    ensures { let ws = map G.parts_of worths.now in MatchBool result (PositivesFit ws) (PositivesOverflow ws) }
 {
     let mut sum = G::zero();
     for w in worths {
@@ -36,7 +36,7 @@ fn positives_fit<G: OrderedGroup>(worths: &[G]) -> bool
 
 // Whether these can be the worths of a net.
 pub(crate) fn worths_fit<G: OrderedGroup>(worths: &[G]) -> bool
-    ensures { let ws = map G.parts_of worths.now in MatchBool result (WorthsFit ws) (WorthsLeave ws) }
+    ensures { let ws = map G.parts_of worths.now in MatchBool result (WorthsFit ws) (WorthsOverflow ws) }
 {
     opposites_fit(worths) && positives_fit(worths)
 }

@@ -11,7 +11,7 @@ const DETAILS: &str = "Finds the best pit and writes its certificate.
 Prints a PITCERT text, which `pit check` accepts: the pit, and a flow that proves it. Whatever engine made the flow, it is checked before anything is written. Prints UNSETTLED where the run needs more steps than --steps allows, and REFUSED TooLarge where a sum of the run or of its check doesn't fit the machine's numbers; both have the status 1.
 
 Methods:
-  auto          the push-relabel machine for a mine of at most 1000 blocks, or where --workers or --steps is given; else pseudoflow, and the machine where that gives no flow that proves a pit
+  auto          the push-relabel machine for a mine of at most 1000 blocks, and pseudoflow where a number of its run doesn't fit; for more blocks pseudoflow, and the machine where that gives no flow that proves a pit; the machine alone where --workers or --steps is given
   pseudoflow    highest-label pseudoflow alone: quick on mines of millions of blocks; UNSETTLED where it gives up
   push-relabel  the push-relabel machine alone: each step is proved, and it is slow beyond some thousand blocks";
 

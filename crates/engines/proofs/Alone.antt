@@ -73,4 +73,5 @@ sound_stands texts certificate x y fault s f =
     let P : NetView → Type 0 = λ n. FaultStands n y.flow y.pit fault in
     let Q : FlowView → Type 0 = λ w. FaultStands x.net w y.pit fault in
     let R : List ℕ → Type 0 = λ l. FaultStands x.net x.flow l fault in
-    no_fault x.net x.flow x.pit fault s.of_net s.is_flow s.closed s.tight s.fits (subst R (sym one.pit) (subst Q (sym one.flow) (subst P (sym one.net) f)))
+    let moved : FaultStands x.net x.flow x.pit fault = subst R (sym one.pit) (subst Q (sym one.flow) (subst P (sym one.net) f)) in
+    no_fault x.net x.flow x.pit fault s.proves s.fits moved.holds

@@ -45,7 +45,7 @@ pub check_leaves : (net : NetView) (limit : ℕ) (flow : FlowView) (steps : ℕ)
 check_leaves net limit flow steps fault settles fits refused =
     let reached = refused.reached fits in
     let of_net = refused.of_net fits in
-    let e = refused_for_size_only net flow refused.pit fault settles.solved.greatest.is_flow of_net (settles.solved.closed (holds_of refused.pit) reached) (settles.solved.tight (holds_of refused.pit) reached) refused.stands in
+    let e = refused_for_size_only net flow refused.pit fault (record { of_net = of_net; is_flow = settles.solved.greatest.is_flow; closed = settles.solved.closed (holds_of refused.pit) reached; tight = settles.solved.tight (holds_of refused.pit) reached }) refused.stands.holds in
     record {
       flow = flow;
       steps = steps;
@@ -78,7 +78,7 @@ module _ (counts : Bool) (name : Group) (net : NetView) (method : Method) (limit
 
   pub certified : (old new : Option (List ℕ)) → (blocks ≡ n → IsPrice price → All (λ b. b < n) pit → IsReadBack counts name n ps text price pit flow) → Appends old new text → SolvesNet counts name net method limit old new (Ok Done)
   certified old new back sent =
-      let below : All (λ b. b < n) pit = subst (λ (k : ℕ). All (λ b. b < k) pit) (sym e) s.sound.of_net in
+      let below : All (λ b. b < n) pit = subst (λ (k : ℕ). All (λ b. b < k) pit) (sym e) s.sound.proves.of_net in
       let read = back_moved counts name n (length net.worths) ps net.pairs text price pit flow e f s.objective (back (s.same_blocks ∙ sym e) (price_is price s.objective) below) in
       (text, record { pit = pit; flow = flow; read = read; sound = s.sound }, sent)
 
@@ -118,7 +118,7 @@ module _ (block : ℤ → ℕ → Amount) (counts : Bool) (texts : MineTexts) (n
         price = Objective;
         read = c.read.read;
       } in
-      let greatest = (duality net c.flow (holds_of c.pit) by.is_net.rests c.sound.is_flow c.sound.closed c.sound.tight).greatest_set in
+      let greatest = (duality net c.flow (holds_of c.pit) by.is_net.rests c.sound.proves.is_flow c.sound.proves.closed c.sound.proves.tight).greatest_set in
       record {
         read = reads name block counts texts text net c.pit c.flow known;
         group = refl;

@@ -41,7 +41,7 @@ pub record CheckLeaves (net : NetView) (limit : ℕ) : Type 0 where
 
 -- a step of a run, or the check of what it leaves, needs a number that doesn't fit
 abbrev pub SomeNumberLeaves : NetView → ℕ → Type 0
-SomeNumberLeaves net limit = SomeStepLeaves net ⊎ CheckLeaves net limit
+SomeNumberLeaves net limit = SomeStepLeaves net limit ⊎ CheckLeaves net limit
 
 -- why the machine's run gives none
 abbrev pub MachineStands : NetView → ℕ → Unsolved → Type 0

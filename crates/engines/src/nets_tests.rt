@@ -15,7 +15,7 @@ use std::process::Abort;
 use std::sync::Wait;
 use std::test::Fail;
 use std::thread::Threads;
-use workers::{Board, Locked, Shared};
+use workers::{Locked, Shared, TurnBoard};
 
 const TURNS: u64 = 100_000_000;
 
@@ -124,7 +124,7 @@ fn by_steps<G: OrderedGroup, R: Threads + Wait + Sync>(
     net: &Net<G>,
 ) -> Result<Certificate<G>, Fail>
 where
-    Locked<Board<G>>: Shared,
+    Locked<TurnBoard<G>>: Shared,
 {
     let effort = Effort::new(Method::PushRelabel, 1, TURNS);
     Ok(
@@ -189,7 +189,7 @@ fn both_find_the_best<G: OrderedGroup, R: Threads + Wait + Sync + Abort>(
     nanos: &[i128],
 ) -> Result<(), Fail>
 where
-    Locked<Board<G>>: Shared,
+    Locked<TurnBoard<G>>: Shared,
     requires { n ≤ 2 ^ 24 }
 {
     let net: Net<G> = net_of(alloc, n, pairs, nanos)?;

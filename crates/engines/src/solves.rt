@@ -20,7 +20,7 @@ use std::alloc::Global;
 use std::sync::Wait;
 use std::thread::Threads;
 use upit_file::Upit;
-use workers::{Board, Gate, Locked, Shared};
+use workers::{Gate, Locked, Shared, TurnBoard};
 
 /// Finds the best pit of the mine of two texts, and writes its certificate.
 ///
@@ -110,7 +110,7 @@ fn solve_by<G: OrderedGroup, R: Threads + Wait + Sync, T: Gate + Progress, W: Co
     out: &mut W,
 ) -> Result<Verdict, EngineFault>
 where
-    Locked<Board<G>>: Shared,
+    Locked<TurnBoard<G>>: Shared,
     requires { W.failed out.old < 2 ^ 64 - 1 }
     ensures answer { (texts : MineTexts) → AreRead texts upit.now rests → IsGroupNamed G.name G.block_parts G.counts
         → Solves texts G.name effort.method effort.steps (W.contents out.old) (W.contents out.new) result }

@@ -19,7 +19,7 @@ use pseudoflow::{Progress, PseudoflowFault};
 use std::alloc::{AllocError, Global};
 use std::sync::Wait;
 use std::thread::Threads;
-use workers::{Board, Gate, Locked, Shared, SolveFault, solve};
+use workers::{Gate, Locked, Shared, SolveFault, TurnBoard, solve};
 
 /// Why there is no certificate of a net.
 #[derive(Clone, Copy, Debug, PartialEq, Eq)]
@@ -81,7 +81,7 @@ pub fn by_machine<G: OrderedGroup, R: Threads + Wait + Sync, T: Gate>(
     gate: &T,
 ) -> Result<Certificate<G>, Unsolved>
 where
-    Locked<Board<G>>: Shared,
+    Locked<TurnBoard<G>>: Shared,
     ensures { MatchResult result
         (λ c. IsSolution net.now c.blocks c.price c.pit c.flow)
         (λ unsolved. MachineStands net.now effort.steps unsolved) }
@@ -109,7 +109,7 @@ fn by_machine_first<G: OrderedGroup, R: Threads + Wait + Sync, T: Gate + Progres
     gate: &T,
 ) -> Result<Certificate<G>, Unsolved>
 where
-    Locked<Board<G>>: Shared,
+    Locked<TurnBoard<G>>: Shared,
     ensures { MatchResult result
         (λ c. IsSolution net.now c.blocks c.price c.pit c.flow)
         (λ unsolved. MachineStands net.now effort.steps unsolved) }
@@ -135,7 +135,7 @@ pub fn solution_of<G: OrderedGroup, R: Threads + Wait + Sync, T: Gate + Progress
     gate: &T,
 ) -> Result<Certificate<G>, Unsolved>
 where
-    Locked<Board<G>>: Shared,
+    Locked<TurnBoard<G>>: Shared,
     ensures { MatchResult result
         (λ c. IsSolution net.now c.blocks c.price c.pit c.flow)
         (λ unsolved. UnsolvedStands net.now effort.method effort.steps unsolved) }
@@ -161,7 +161,7 @@ pub fn solve_net<G: OrderedGroup, R: Threads + Wait + Sync, T: Gate + Progress, 
     out: &mut W,
 ) -> Result<Verdict, EngineFault>
 where
-    Locked<Board<G>>: Shared,
+    Locked<TurnBoard<G>>: Shared,
     requires { W.failed out.old < 2 ^ 64 - 1 }
     ensures answer { SolvesNet G.counts G.name net.now effort.method effort.steps (W.contents out.old) (W.contents out.new) result }
     ensures device { IsErrOf result EngineFault.Device ↔ (W.failed out.new ≡ W.failed out.old + 1) }

@@ -1,5 +1,6 @@
 -- Numerals with a point and an exponent, in millionths.
-use Rattle.std.specs.Prelude.{ℕ, ℤ, ◌+◌, ◌^◌, ◌==◌, ◌||◌, ◌&&◌, Bool, not, cond, List, ◌++◌, length, nat_lt, nat_le, Result, Ok, Err}
+use Rattle.std.specs.Prelude.{ℕ, ℤ, ◌+◌, ◌^◌, ◌==◌, ◌||◌, ◌&&◌, Bool, not, cond, List, ◌++◌, length, nat_lt, nat_le, Option, Result, Ok, Err}
+use Rattle.std.specs.Result.{result_ok}
 use Rattle.std.specs.List.{list_all, before_first, after_first, position_or_len}
 use Rattle.fixed_worth.specs.declared.numerals.NumberFault.{NumberFault}
 use Rattle.fixed_worth.specs.declared.numerals.NumberFault.TheVariants.{NotANumber, TooLong, TooLarge}
@@ -52,3 +53,7 @@ most limit n = cond (nat_le n limit) (Ok n) (Err TooLarge)
 
 abbrev pub decimal_of : List ℕ → Result ℤ NumberFault
 decimal_of text = cond (not (is_decimal text)) (Err NotANumber) (cond (is_too_long text) (Err TooLong) (with_sign (is_minus text) (most (10 ^ 18) (millionths_of text))))
+
+-- The value that a field is, in millionths, if it is one.
+abbrev pub value_read : List ℕ → Option ℤ
+value_read field = result_ok (decimal_of field)

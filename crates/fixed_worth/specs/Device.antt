@@ -21,6 +21,10 @@ count_after fails count = cond fails (min (count + 1) (2 ^ 64 - 1)) count
 abbrev pub GaveMoreThan : ℕ → Option (List ℕ) → Option (List ℕ) → Type 0
 GaveMoreThan limit old new = (text : List ℕ) × (limit < length text) × Consumes old new text
 
+-- the reader gave a text of at most `limit` bytes
+abbrev pub GaveAtMost : ℕ → Option (List ℕ) → Option (List ℕ) → Type 0
+GaveAtMost limit old new = (text : List ℕ) × (length text ≤ limit) × Consumes old new text
+
 -- the writer received the first k bytes of the text, for some k
 abbrev pub ReceivedPrefix : Option (List ℕ) → Option (List ℕ) → List ℕ → Type 0
 ReceivedPrefix old new text = (k : ℕ) × (k ≤ length text) × Appends old new (take k text)

@@ -2,6 +2,7 @@
 use Rattle.std.specs.Prelude.{ℕ, ◌+◌, ◌==◌, Bool, true, false, List, [], ◌∷◌, is_ok}
 use Rattle.std.specs.Result.{result_unwrap_or}
 use Rattle.fixed_worth.specs.Numeral.{whole_of}
+use Rattle.fixed_worth.specs.Text.{lines_of}
 
 -- A line and its number.
 pub record Line : Type 0 where
@@ -12,6 +13,10 @@ pub record Line : Type 0 where
 abbrev pub numbered : ℕ → List (List ℕ) → List Line
 numbered k [] = []
 numbered k (text ∷ texts) = record { number = k + 1; text = text } ∷ numbered (k + 1) texts
+
+-- The lines of a text, numbered from 1 on.
+abbrev pub lines_in : List ℕ → List Line
+lines_in text = numbered 0 (lines_of text)
 
 -- The field is a whole number.
 abbrev pub reads : List ℕ → Bool

@@ -1,6 +1,6 @@
 // Devices of the tests' own: they claim nothing of their bytes, so what they received or gave is
 // asserted as the tests run.
-ghost use Rattle.std.specs.Prelude.{◌≡◌, ◌≤◌, ◌^◌, IfOk};
+ghost use Rattle.std.specs.Prelude.{◌≡◌, IfOk};
 
 use crate::{
     Counted, CountedRead, CountedWrite, InputFault, Page, WriteFault, read_whole, write_text,
@@ -207,9 +207,7 @@ fn a_failing_input_is_a_device_fault(rt: HostRuntime) {
 }
 
 // The length of a text that is read from memory.
-fn read_from_memory(alloc: Global, text: &[u8], limit: u64) -> Result<usize, InputFault>
-    requires { limit ≤ 2 ^ 40 }
-{
+fn read_from_memory(alloc: Global, text: &[u8], limit: u64) -> Result<usize, InputFault> {
     match read_whole(alloc, &mut Counted::new(text), limit) {
         Ok(read) => Ok(read.len()),
         Err(fault) => Err(fault),
@@ -221,6 +219,7 @@ fn an_input_longer_than_one_read_is_whole(rt: HostRuntime) -> Result<(), Fail> {
     let long = vec![in rt.alloc(); 7u8; 200_000]?;
     assert!(rt; read_from_memory(rt.alloc(), &long, 200_000) == Ok(200_000));
     assert!(rt; read_from_memory(rt.alloc(), &long, 199_999) == Err(InputFault::InputTooLong));
+    assert!(rt; read_from_memory(rt.alloc(), &long, u64::MAX) == Ok(200_000));
     Ok(())
 }
 

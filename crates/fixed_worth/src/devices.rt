@@ -147,7 +147,7 @@ impl<T: Read> CountedRead for Counted<T> {
     ghost failed = { λ c. c.failures };
 
     fn failures(&self) -> u64 {
-        self.failures()
+        Counted::failures(self)
     }
 
     fn read_once(&mut self, buf: &mut [u8]) -> Option<usize> {
@@ -159,7 +159,7 @@ impl<T: Write> CountedWrite for Counted<T> {
     ghost failed = { λ c. c.failures };
 
     fn failures(&self) -> u64 {
-        self.failures()
+        Counted::failures(self)
     }
 
     fn write_once(&mut self, piece: &[u8]) -> Option<usize> {

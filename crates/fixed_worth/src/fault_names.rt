@@ -1,10 +1,12 @@
 //! Faults print as their names.
 
 ghost use Rattle.std.specs.Prelude.{Some};
-ghost use Rattle.fixed_worth.specs.Faults.{number_fault_name, text_fault_name};
+ghost use Rattle.fixed_worth.specs.Faults.{number_fault_name, text_fault_name, input_fault_name, write_fault_name};
 
 use crate::line_reader::TextFault;
 use crate::numerals::NumberFault;
+use crate::sending::WriteFault;
+use crate::whole_input::InputFault;
 use std::fmt;
 
 impl fmt::Display for NumberFault {
@@ -25,6 +27,28 @@ impl fmt::Display for TextFault {
     fn fmt<W: fmt::Write>(&self, f: &mut fmt::Formatter<W>) -> fmt::Result {
         f.write_str(match self {
             TextFault::LineTooLong => "LineTooLong",
+        })
+    }
+}
+
+impl fmt::Display for InputFault {
+    ghost output = { λ fault. Some (input_fault_name fault) };
+
+    fn fmt<W: fmt::Write>(&self, f: &mut fmt::Formatter<W>) -> fmt::Result {
+        f.write_str(match self {
+            InputFault::Device => "Device",
+            InputFault::InputTooLong => "InputTooLong",
+            InputFault::NoMemory => "NoMemory",
+        })
+    }
+}
+
+impl fmt::Display for WriteFault {
+    ghost output = { λ fault. Some (write_fault_name fault) };
+
+    fn fmt<W: fmt::Write>(&self, f: &mut fmt::Formatter<W>) -> fmt::Result {
+        f.write_str(match self {
+            WriteFault::Device => "Device",
         })
     }
 }

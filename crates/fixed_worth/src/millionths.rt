@@ -1,6 +1,6 @@
 //! Amounts in millionths, as files and the command line give them.
 
-ghost use Rattle.std.specs.Prelude.{◌≡◌, ℤ, pos, ◌*ℤ◌, ◌≤◌, ◌^◌, SomeIff, Some, unsigned_abs};
+ghost use Rattle.std.specs.Prelude.{◌≡◌, ℤ, ◌≤◌, ◌^◌, SomeIff, Some, unsigned_abs};
 ghost use Rattle.fixed_worth.specs.Decimal.{decimal_of};
 ghost use Rattle.fixed_worth.specs.Printed.{printed};
 
@@ -36,19 +36,6 @@ impl Micros {
     {
         if millionths.unsigned_abs() <= 1_000_000_000_000_000_000 {
             Some(Micros { millionths })
-        } else {
-            None
-        }
-    }
-
-    /// The amount of so many whole units, or `None` where that is more than 10^12 either way.
-    pub fn from_whole(units: i128) -> Option<Micros>
-        ensures { SomeIff result (unsigned_abs units ≤ 10 ^ 12) (units *ℤ pos (10 ^ 6)) }
-    {
-        if units.unsigned_abs() <= 1_000_000_000_000 {
-            Some(Micros {
-                millionths: units as i64 * 1_000_000,
-            })
         } else {
             None
         }

@@ -1,7 +1,7 @@
 use crate::NumberFault::{NotANumber, TooLarge, TooLong};
 use crate::{
-    Field, Fields, Lines, Micros, MicrosTotal, Nanos, NumberFault, TextFault, laws, plain_signed,
-    signed_whole, trimmed_fraction, whole,
+    Field, Fields, InputFault, Lines, Micros, MicrosTotal, Nanos, NumberFault, TextFault,
+    WriteFault, laws, plain_signed, signed_whole, trimmed_fraction, whole,
 };
 use std::test::Fail;
 
@@ -118,13 +118,6 @@ fn amounts_in_range(rt: HostRuntime) {
     assert!(rt; Micros::new(-1_000_000_000_000_000_000).is_some());
     assert!(rt; Micros::new(1_000_000_000_000_000_001).is_none());
     assert!(rt; Micros::new(-1_000_000_000_000_000_001).is_none());
-    assert_eq!(rt; Micros::from_whole(-2), Micros::new(-2_000_000));
-    assert_eq!(rt;
-        Micros::from_whole(1_000_000_000_000),
-        Micros::new(1_000_000_000_000_000_000)
-    );
-    assert!(rt; Micros::from_whole(1_000_000_000_001).is_none());
-    assert!(rt; Micros::from_whole(i128::MIN).is_none());
 }
 
 #[test]
@@ -166,6 +159,22 @@ fn printed_faults(rt: HostRuntime) -> Result<(), Fail> {
     assert_eq!(rt;
         TextFault::LineTooLong.to_string(rt.alloc())?.as_str(),
         "LineTooLong"
+    );
+    Ok(())
+}
+
+#[test]
+fn printed_device_faults(rt: HostRuntime) -> Result<(), Fail> {
+    for (fault, name) in [
+        (InputFault::Device, "Device"),
+        (InputFault::InputTooLong, "InputTooLong"),
+        (InputFault::NoMemory, "NoMemory"),
+    ] {
+        assert_eq!(rt; fault.to_string(rt.alloc())?.as_str(), name);
+    }
+    assert_eq!(rt;
+        WriteFault::Device.to_string(rt.alloc())?.as_str(),
+        "Device"
     );
     Ok(())
 }

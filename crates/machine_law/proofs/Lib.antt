@@ -19,6 +19,7 @@ pub mod Tight
 pub mod Quiet
 pub mod Conserved
 pub mod Runs
+pub mod ActiveRuns
 pub mod Rows
 pub mod Naturality
 pub mod WorkedRun

@@ -1,6 +1,6 @@
--- The machine of the definitions on a run worked by hand: blocks of worth 4, -1 and 4, of which the first and the last rest on
--- the middle one. 140 steps, in which a push waits while others pass it, end quiet. The file stands by its last line: what is
--- seen after each row of the run is what the row says.
+-- The machine of the definitions on runs worked by hand. In the first, blocks of worth 4, -1 and 4, of which the first and the last
+-- rest on the middle one, make 140 steps, in which a push waits while others pass it, and end quiet. In the second, a block rests on
+-- two with the same label. The file stands by its last lines: what is seen after each row of a run is what the row says.
 use Rattle.std.proofs.Common.{◌≡◌, ℕ, ℤ, pos, negsuc, true, false, ◌==◌, ◌&&◌, nat_lt, Option, Some, None, List, [], ◌∷◌, map, length, refl}
 use Rattle.ordered_group.specs.Amount.{Amount}
 use Rattle.closure_net.specs.Network.{NetView}
@@ -30,9 +30,9 @@ abbrev net : NetView
 net = record { pairs = (0, 1) ∷ (2, 1) ∷ []; worths = whole (pos 4) ∷ whole (negsuc 0) ∷ whole (pos 4) ∷ [] }
 
 -- the state after these steps, if each is the one that is next
-abbrev follow : State → List Event → Option State
-follow s [] = Some s
-follow s (e ∷ es) = elim (number (next_kind net s e.block) == number e.kind && nat_lt e.block (length net.worths)) [ true ↦ follow (advance net s e.block) es | false ↦ None ]
+abbrev follow : NetView → State → List Event → Option State
+follow over s [] = Some s
+follow over s (e ∷ es) = elim (number (next_kind over s e.block) == number e.kind && nat_lt e.block (length over.worths)) [ true ↦ follow over (advance over s e.block) es | false ↦ None ]
 
 -- steps of one block, and what is seen after them
 record Row : Type 0 where
@@ -86,11 +86,30 @@ rows =
     ∷ after 2 (ReadExcess ∷ ReadLabel ∷ ReadCapacity ∷ ReadLabel ∷ TakeCapacity ∷ TakeExcess ∷ GiveExcess ∷ []) at_the_end (pos 0 ∷ pos 0 ∷ pos 0 ∷ pos 0 ∷ pos 1 ∷ pos 0 ∷ pos 1 ∷ pos 1 ∷ pos 140 ∷ [])
     ∷ []
 
-abbrev watch : Option State → List Row → List (List ℤ)
-watch o [] = []
-watch None (r ∷ rs) = []
-watch (Some s) (r ∷ rs) = elim (follow s (map (λ k. record { block = r.block; kind = k }) r.kinds)) [ None ↦ [] | Some t ↦ r.see t ∷ watch (Some t) rs ]
+abbrev watch : NetView → Option State → List Row → List (List ℤ)
+watch over o [] = []
+watch over None (r ∷ rs) = []
+watch over (Some s) (r ∷ rs) = elim (follow over s (map (λ k. record { block = r.block; kind = k }) r.kinds)) [ None ↦ [] | Some t ↦ r.see t ∷ watch over (Some t) rs ]
 
-as_worked_by_hand : watch (Some (opening net)) rows ≡ map (λ r. r.says) rows
+as_worked_by_hand : watch net (Some (opening net)) rows ≡ map (λ r. r.says) rows
 unfolding put arcs sum_on_way port_list
 as_worked_by_hand = refl
+
+-- ---- two predecessors with the same label
+abbrev two_below : NetView
+two_below = record { pairs = (0, 1) ∷ (0, 2) ∷ []; worths = whole (pos 4) ∷ whole (negsuc 2) ∷ whole (negsuc 2) ∷ [] }
+
+-- the flows of both pairs, and the excesses of the two
+abbrev both_below : State → List ℤ
+both_below s = (s.flow 0).w ∷ (s.flow 1).w ∷ (s.excess 1).w ∷ (s.excess 2).w ∷ []
+
+-- both stand at 0, so the block rises to 1, and its push goes to the first
+abbrev tied_rows : List Row
+tied_rows =
+    after 0 (ReadExcess ∷ ReadLabel ∷ ReadLabel ∷ ReadCapacity ∷ ReadLabel ∷ RaiseLabel ∷ []) (label 0) (pos 1 ∷ [])
+    ∷ after 0 (ReadExcess ∷ ReadLabel ∷ ReadLabel ∷ ReadCapacity ∷ ReadLabel ∷ GiveCapacity ∷ TakeExcess ∷ GiveExcess ∷ []) both_below (pos 4 ∷ pos 0 ∷ pos 4 ∷ pos 0 ∷ [])
+    ∷ []
+
+first_of_two_as_low : watch two_below (Some (opening two_below)) tied_rows ≡ map (λ r. r.says) tied_rows
+unfolding put arcs sum_on_way port_list
+first_of_two_as_low = refl

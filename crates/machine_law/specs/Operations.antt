@@ -1,9 +1,11 @@
--- Operations over other numbers: with each amount replaced by what f says of it.
+-- Operations over numbers of any kind.
+use Rattle.std.specs.Prelude.{Bool, true, false}
 use Rattle.std.specs.Option.{option_map}
 use Rattle.machine_law.specs.declared.operations.Best.{Best}
 use Rattle.machine_law.specs.declared.operations.Operation.{Operation}
 use Rattle.machine_law.specs.declared.operations.Operation.TheVariants.{Idle, Scan, PushDue, TakeDue, GiveDue, RaiseDue}
 
+-- with each amount replaced by what f says of it
 abbrev pub best_as : {N M : Type 0} → (N → M) → Best N → Best M
 best_as f best = record { port = best.port; capacity = f best.capacity; label = best.label }
 
@@ -14,3 +16,12 @@ operation_as f (PushDue have best) = PushDue (f have) (best_as f best)
 operation_as f (TakeDue amount port) = TakeDue (f amount) port
 operation_as f (GiveDue amount port) = GiveDue (f amount) port
 operation_as f (RaiseDue have best) = RaiseDue (f have) (best_as f best)
+
+-- whether there is no operation
+abbrev pub is_idle : {N : Type 0} → Operation N → Bool
+is_idle Idle = true
+is_idle (Scan have place read best) = false
+is_idle (PushDue have best) = false
+is_idle (TakeDue amount port) = false
+is_idle (GiveDue amount port) = false
+is_idle (RaiseDue have best) = false

@@ -1,11 +1,11 @@
 -- What a block does next, by what it read.
-use Rattle.std.specs.Prelude.{ℕ, ◌+◌, nat_lt, Bool, if◌then◌else◌, Option, Some, None}
+use Rattle.std.specs.Prelude.{ℕ, ◌+◌, ◌<◌, nat_lt, Bool, if◌then◌else◌, Option, Some, None}
 use Rattle.ordered_group.specs.Amount.{Amount, zero_amount}
 use Rattle.closure_net.specs.Ports.{is_below}
 use Rattle.closure_net.specs.declared.ports.Port.{Port}
 use Rattle.machine_law.specs.declared.operations.Best.{Best}
 use Rattle.machine_law.specs.declared.operations.Operation.{Operation}
-use Rattle.machine_law.specs.declared.operations.Operation.TheVariants.{Idle, Scan, PushDue, RaiseDue}
+use Rattle.machine_law.specs.declared.operations.Operation.TheVariants.{Idle, Scan, PushDue, TakeDue, GiveDue, RaiseDue}
 
 -- x is greater than zero
 abbrev pub is_positive : Amount → Bool
@@ -37,3 +37,23 @@ seen count label have place best capacity = if is_positive capacity then Scan ha
 -- after the label beyond the port at this place is read: the port may become the best one, and it is passed
 abbrev pub chosen : {N : Type 0} → ℕ → ℕ → N → ℕ → Option (Best N) → N → Port → ℕ → Operation N
 chosen count label have place best capacity port beyond = passed count label have place (Some (better best (record { port = port; capacity = capacity; label = beyond })))
+
+-- ---- the same as changes of an operation
+
+-- the operation looks at one of so many ports
+abbrev pub IsScan : {N : Type 0} → ℕ → Operation N → Type 0
+IsScan count Idle = ⊥
+IsScan count (Scan have place read best) = place < count
+IsScan count (PushDue have best) = ⊥
+IsScan count (TakeDue amount port) = ⊥
+IsScan count (GiveDue amount port) = ⊥
+IsScan count (RaiseDue have best) = ⊥
+
+-- after the port that the operation looks at is passed
+abbrev pub passed_by : {N : Type 0} → ℕ → ℕ → Operation N → Operation N
+passed_by count label Idle = Idle
+passed_by count label (Scan have place read best) = passed count label have place best
+passed_by count label (PushDue have best) = PushDue have best
+passed_by count label (TakeDue amount port) = TakeDue amount port
+passed_by count label (GiveDue amount port) = GiveDue amount port
+passed_by count label (RaiseDue have best) = RaiseDue have best

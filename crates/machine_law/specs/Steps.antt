@@ -12,7 +12,7 @@ use Rattle.machine_law.specs.declared.events.Kind.TheVariants.{ReadExcess, ReadC
 use Rattle.machine_law.specs.declared.operations.Best.{Best}
 use Rattle.machine_law.specs.declared.operations.Operation.{Operation}
 use Rattle.machine_law.specs.declared.operations.Operation.TheVariants.{Idle, Scan, PushDue, TakeDue, GiveDue, RaiseDue}
-use Rattle.machine_law.specs.States.{State, put}
+use Rattle.machine_law.specs.States.{State, put, opening}
 use Rattle.machine_law.specs.Residual.{capacity, end_label}
 use Rattle.machine_law.specs.Reads.{begun, seen, chosen}
 
@@ -50,6 +50,10 @@ next_of net b (RaiseDue have best) = RaiseLabel
 -- the kind of step that is next for b
 abbrev pub next_kind : NetView → State → ℕ → Kind
 next_kind net s b = next_of net b (s.operation b)
+
+-- the event of the step that is next for b
+abbrev pub next_event : NetView → State → ℕ → Event
+next_event net s b = record { block = b; kind = next_kind net s b }
 
 -- ---- what a step leaves
 
@@ -142,3 +146,23 @@ pub record Step (net : NetView) (s : State) (e : Event) (t : State) : Type 0 whe
 abbrev pub Run : NetView → State → List Event → State → Type 0
 Run net s [] t = t ≡ s
 Run net s (e ∷ es) t = (u : State) × Step net s e u × Run net u es t
+
+-- a run from the opening leads to the state
+pub record IsStateOfRun (net : NetView) (s : State) : Type 0 where
+  pub events : List Event
+  pub run : Run net (opening net) events s
+
+-- the step reads no excess that is zero
+abbrev pub ReadsNoZero : State → Event → Type 0
+ReadsNoZero s e = e.kind ≡ ReadExcess → ¬ (s.excess e.block ≡ zero_amount)
+
+-- A run in which no ReadExcess sees zero, so only a block with excess begins an operation, and in which the state after each
+-- step is one that is allowed.
+abbrev pub ActiveRun : (State → Type 0) → NetView → State → List Event → State → Type 0
+ActiveRun allowed net s [] t = t ≡ s
+ActiveRun allowed net s (e ∷ es) t = (u : State) × Step net s e u × ReadsNoZero s e × allowed u × ActiveRun allowed net u es t
+
+-- such a run from the opening leads to the state
+pub record IsStateOfActiveRun (allowed : State → Type 0) (net : NetView) (s : State) : Type 0 where
+  pub events : List Event
+  pub run : ActiveRun allowed net (opening net) events s

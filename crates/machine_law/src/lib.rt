@@ -7,7 +7,7 @@
 //! `Balances` and `Labels` have what holds after every step.
 //!
 //! Stands on `ordered_group`, `prec_file` and `closure_net`. Promises upward: the types of an operation
-//! and of an event; definitions of one state over functions, so that vectors as well as words shared
+//! and of an event, and what a block does next where that asks nothing of its amounts; definitions of one state over functions, so that vectors as well as words shared
 //! by threads can show it; and in `laws` that each step keeps what holds, that nothing is lost, and that
 //! a run which ends quiet leaves a greatest flow, over amounts of any size and in any order of steps.
 #![tactic(auto)]
@@ -15,6 +15,8 @@
 mod events;
 pub mod laws;
 mod operations;
+mod reads;
 
 pub use events::{Event, Kind};
 pub use operations::{Best, Operation};
+pub use reads::{better, ended, pass};

@@ -9,7 +9,7 @@ use Rattle.ordered_group.specs.Amount.{Amount, plus, AtMost, Below, Amount_eq}
 use Rattle.ordered_group.specs.Sums.{where_so}
 use Rattle.ordered_group.specs.Sets.{worth_in, count_in, group_sum, IsBefore}
 use Rattle.ordered_group.specs.Block.{worth_block}
-use Rattle.ordered_group.specs.SetSums.{worth_told}
+use Rattle.ordered_group.specs.LawProofs.{worth_told}
 use Rattle.ordered_group.specs.Laws.{SumsTellWorth, BlocksTellWorth, SumsOrderSets}
 use Rattle.ordered_group.proofs.Totals.Sets.{union, intersection, within_first, within_second, total-one, two_sets}
 use Rattle.ordered_group.proofs.Totals.Ranges.{total-same}

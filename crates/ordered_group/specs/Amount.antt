@@ -1,5 +1,5 @@
 -- Amounts: pairs of whole numbers of any size, their sums and their order.
-use Rattle.std.specs.Prelude.{◌≡◌, ℤ, pos, ◌+ℤ◌, ◌-ℤ◌, ◌≤ℤ◌, ◌<ℤ◌, FitsSigned, refl, Option, MatchOption}
+use Rattle.std.specs.Prelude.{◌≡◌, ℤ, pos, ◌+ℤ◌, ◌-ℤ◌, ◌≤ℤ◌, ◌<ℤ◌, FitsSigned, Option, MatchOption}
 use Rattle.std.specs.declared.cmp.Ordering.{Ordering}
 use Rattle.std.specs.declared.cmp.Ordering.TheVariants.{Less, Equal, Greater}
 use Rattle.std.specs.Ordering.{ordering_then, int_cmp}
@@ -75,9 +75,3 @@ negative x = larger (minus zero_amount x) zero_amount
 -- amounts with equal numbers are equal
 pub Amount_eq : (x y : Amount) → x.w ≡ y.w → x.c ≡ y.c → x ≡ y
 Amount_eq x y p q = λ i. record { w = p i; c = q i }
-
--- equal counts decide nothing
-pub then_equal : (o : Ordering) → o ≡ ordering_then o Equal
-then_equal Less = refl
-then_equal Equal = refl
-then_equal Greater = refl

@@ -18,7 +18,3 @@ TakesParts parts counts w c o = MatchOption o ((counts ≡ false) × ¬ (c ≡ p
 -- the worth is answered where it fits, and otherwise nothing
 abbrev pub TellsWorth : ℤ → Option ℤ → Type 0
 TellsWorth v o = MatchOption o (¬ (FitsSigned w128 v)) (λ r. r ≡ v)
-
--- a kind with counts isn't one without
-pub true_not_false : {P : Type 0} → true ≡ false → P
-true_not_false h = absurd cc

@@ -1,7 +1,7 @@
 pub mod Amount
 pub mod Sums
 pub mod Sets
-pub mod SetSums
 pub mod Block
 pub mod Laws
 pub mod Group
+pub mod LawProofs

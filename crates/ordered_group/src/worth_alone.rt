@@ -13,10 +13,9 @@ pub struct Worth {
 impl OrderedGroup for Worth {
     ghost use Rattle.std.specs.Prelude.{pos, false, refl};
     ghost use Rattle.std.specs.Ordering.{int_cmp};
-    ghost use Rattle.ordered_group.specs.Amount.{then_equal};
+    ghost use Rattle.ordered_group.specs.LawProofs.{then_equal, worth_told};
     ghost use Rattle.ordered_group.specs.Block.{worth_block};
     ghost use Rattle.ordered_group.specs.declared.groups.Group.TheVariants as group;
-    ghost use Rattle.ordered_group.specs.SetSums.{worth_told};
 
     ghost parts_of = { λ x. record { w = x.nanos; c = pos 0 } };
 

@@ -15,9 +15,9 @@ pub struct WorthSize {
 
 impl OrderedGroup for WorthSize {
     ghost use Rattle.std.specs.Prelude.{true, refl};
-    ghost use Rattle.ordered_group.specs.Block.{counted_block, true_not_false};
+    ghost use Rattle.ordered_group.specs.Block.{counted_block};
+    ghost use Rattle.ordered_group.specs.LawProofs.{true_not_false, counted_told};
     ghost use Rattle.ordered_group.specs.declared.groups.Group.TheVariants as group;
-    ghost use Rattle.ordered_group.specs.SetSums.{counted_told};
 
     ghost parts_of = { λ x. record { w = x.nanos; c = x.size } };
 
@@ -84,7 +84,7 @@ impl OrderedGroup for WorthSize {
 }
 
 impl SizeGroup for WorthSize {
-    ghost use Rattle.ordered_group.specs.SetSums.{counted_orders};
+    ghost use Rattle.ordered_group.specs.LawProofs.{counted_orders};
 
     ghost orders_sets = { counted_orders };
 }

@@ -3,7 +3,6 @@
 ghost use Rattle.std.specs.Prelude.{◌≡◌};
 
 use pseudoflow::Progress;
-use std::fmt;
 use std::rt::Clock;
 use std::sync::atomic::{AtomicU64, Ordering};
 use std::time::Instant;
@@ -59,11 +58,6 @@ impl<'a, R: Clock + Eprint> Meter<'a, R> {
                 .is_ok();
         if is_mine { Some(seconds) } else { None }
     }
-
-    // A run goes on where nobody can be told of it.
-    fn tell(&self, line: fmt::Arguments<'_>) {
-        let _ = self.rt.eprintln(line);
-    }
 }
 
 impl<R: Clock + Eprint + Sync> Gate for Meter<'_, R> {
@@ -75,7 +69,8 @@ impl<R: Clock + Eprint + Sync> Gate for Meter<'_, R> {
                 .saturating_add(STRIDE);
             if let Some(seconds) = self.new_second() {
                 let share = steps.saturating_mul(100) / self.limit.max(1);
-                self.tell(format_args!(
+                // a run goes on where nobody can be told of it
+                let _ = self.rt.eprintln(format_args!(
                     "progress: {steps} steps, {share}% of the limit, {seconds} s"
                 ));
             }
@@ -86,7 +81,9 @@ impl<R: Clock + Eprint + Sync> Gate for Meter<'_, R> {
 impl<R: Clock + Eprint> Progress for Meter<'_, R> {
     fn report(&self, settled: u32, blocks: u32) {
         if let Some(seconds) = self.new_second() {
-            self.tell(format_args!("progress: {settled} of {blocks} blocks settled, {seconds} s"));
+            let _ = self.rt.eprintln(format_args!(
+                "progress: {settled} of {blocks} blocks settled, {seconds} s"
+            ));
         }
     }
 }

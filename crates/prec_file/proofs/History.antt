@@ -4,10 +4,12 @@ use Rattle.std.specs.Prelude.{nat_le, nat_lt}
 use Rattle.std.specs.List.{list_all, list_any}
 use Rattle.std.proofs.lemmas.Bool.Decides.{nat_tests}
 use Rattle.std.proofs.lemmas.List.{length-map}
+use Rattle.std.specs.Option.{option_or}
 use Rattle.prec_file.specs.declared.prec_fault.PrecFault.{PrecFault}
-use Rattle.prec_file.specs.declared.prec_fault.PrecFault.TheVariants.{Text, Number, UnknownBlock, Repeated, WrongCount, TooMany}
+use Rattle.prec_file.specs.declared.prec_fault.PrecFault.TheVariants.{Text, Number, UnknownBlock, Repeated, WrongCount, TooMany, NoMemory}
 use Rattle.fixed_worth.specs.Record.{reads, is_skipped}
-use Rattle.prec_file.specs.Records.{block_of, count_of, predecessors_of, pairs_in, shape_fault, history_fault, record_fault, or_else}
+use Rattle.prec_file.specs.Records.{block_of, count_of, predecessors_of, pairs_in, shape_fault, history_fault, record_fault}
+use Rattle.prec_file.specs.Internal.{TellsFault}
 use Rattle.prec_file.proofs.Shapes.{known}
 
 -- A record with no fault of its own has a known block.
@@ -27,14 +29,14 @@ history_same g h k line fs e = rw e refl
 
 -- Only what is known of blocks below n counts.
 same_at : (n : ℕ) (g h : ℕ → Bool) (k line : ℕ) (fs : List (List ℕ)) → ((b : ℕ) → b < n → g b ≡ h b) → (o : Option PrecFault) → shape_fault n line fs ≡ o
-    → or_else (shape_fault n line fs) (history_fault g k line fs) ≡ or_else (shape_fault n line fs) (history_fault h k line fs)
+    → option_or (shape_fault n line fs) (history_fault g k line fs) ≡ option_or (shape_fault n line fs) (history_fault h k line fs)
 same_at n g h k line fs e (Some x) f = rw f refl
 same_at n g h k line fs e None f = rw f (history_same g h k line fs (e (block_of fs) (shape_block n line fs f)))
 
 pub record_same : (n : ℕ) (g h : ℕ → Bool) (k line : ℕ) (fs : List (List ℕ)) → ((b : ℕ) → b < n → g b ≡ h b) → record_fault n g k line fs ≡ record_fault n h k line fs
 record_same n g h k line fs e = ap (cond (is_skipped fs) None) (same_at n g h k line fs e (shape_fault n line fs) refl)
 
-pub or_none : (o p : Option PrecFault) → or_else o p ≡ None → o ≡ None
+pub or_none : (o p : Option PrecFault) → option_or o p ≡ None → o ≡ None
 or_none (Some e) p h = h
 or_none None p h = refl
 
@@ -44,6 +46,27 @@ none_behind false o h f = h
 
 pub record_block : (n : ℕ) (had : ℕ → Bool) (k line : ℕ) (fs : List (List ℕ)) → record_fault n had k line fs ≡ None → is_skipped fs ≡ false → block_of fs < n
 record_block n had k line fs h s = shape_block n line fs (or_none (shape_fault n line fs) (history_fault had k line fs) (none_behind (is_skipped fs) _ h s))
+
+-- Want of memory is no fault of a record.
+never : (a b c : Bool) (line : ℕ) → cond a (Some (Text line)) (cond b (Some (Number line)) (cond c (Some (UnknownBlock line)) None)) ≡ Some NoMemory → ⊥
+never true b c line h = cc
+never false true c line h = cc
+never false false true line h = cc
+never false false false line h = cc
+
+not_memory : (n line : ℕ) (fs : List (List ℕ)) → shape_fault n line fs ≡ Some NoMemory → ⊥
+unfolding shape_fault
+not_memory n line fs h = never _ _ _ line h
+
+-- The fault of a record by itself is told as it is.
+pub told : (n : ℕ) (had : ℕ → Bool) (k line : ℕ) (fs : List (List ℕ)) (e : PrecFault) → is_skipped fs ≡ false → shape_fault n line fs ≡ Some e → TellsFault e (record_fault n had k line fs)
+told n had k line fs NoMemory s f = absurd (not_memory n line fs f)
+told n had k line fs (Text l) s f = rw (s, f) refl
+told n had k line fs (Number l) s f = rw (s, f) refl
+told n had k line fs (UnknownBlock l) s f = rw (s, f) refl
+told n had k line fs (Repeated l) s f = rw (s, f) refl
+told n had k line fs (WrongCount l) s f = rw (s, f) refl
+told n had k line fs (TooMany l) s f = rw (s, f) refl
 
 -- The faults that stand on the records before.
 pub repeated : (n : ℕ) (had : ℕ → Bool) (k line b : ℕ) (fs : List (List ℕ)) → is_skipped fs ≡ false → shape_fault n line fs ≡ None → b ≡ block_of fs → had b ≡ true → record_fault n had k line fs ≡ Some (Repeated line)

@@ -5,7 +5,8 @@ use Rattle.std.proofs.lemmas.Bool.Decides.{nat_tests}
 use Rattle.std.proofs.lemmas.List.{drop_all, take_all}
 use Rattle.std.proofs.lemmas.List.Folds.{list_any-append}
 use Rattle.fixed_worth.specs.Record.{is_skipped}
-use Rattle.prec_file.specs.Records.{block_of, has, marked}
+use Rattle.prec_file.specs.Records.{block_of, has}
+use Rattle.prec_file.specs.Internal.{marked}
 
 -- A block is seen where it had a record.
 or_false : (x : Bool) → (x || false) ≡ x

@@ -4,10 +4,12 @@ use Rattle.std.specs.Prelude.{nat_lt}
 use Rattle.std.proofs.lemmas.Bool.Decides.{nat_tests}
 use Rattle.std.proofs.lemmas.List.Concat.{flat_map-append}
 use Rattle.fixed_worth.specs.Text.{Left, BeginsTooLong, fields_of, lines_of}
+use Rattle.std.specs.Option.{option_or}
 use Rattle.prec_file.specs.declared.prec_fault.PrecFault.{PrecFault}
 use Rattle.prec_file.specs.declared.prec_fault.PrecFault.TheVariants.{Text}
 use Rattle.fixed_worth.specs.Record.{Line, numbered, is_skipped}
-use Rattle.prec_file.specs.Records.{block_of, pairs_in, blocks_in, record_fault, fault_behind, or_else, has, blocks_of, pairs_of, first_fault, fault_of, listed, marked}
+use Rattle.prec_file.specs.Records.{block_of, pairs_in, blocks_in, record_fault, fault_behind, has, blocks_of, pairs_of, first_fault, fault_of, listed}
+use Rattle.prec_file.specs.Internal.{marked}
 use Rattle.prec_file.proofs.History.{record_same, record_block}
 use Rattle.prec_file.proofs.Marks.{mark}
 
@@ -29,7 +31,7 @@ behind n text seen pairs left g k line h =
     rw (short) (e ∙ ap (λ (ps : List (ℕ × ℕ)). record_fault n (λ b. get_or seen b false) (length ps) k (fields_of line)) (sym g.pairs_so))
 
 pub next_fault : (n : ℕ) (before : List Line) (left next : Left) (line : List ℕ) → left.lines ≡ line ∷ next.lines → next.number ≡ left.number + 1
-    → first_fault n before (numbered left.number left.lines) ≡ or_else (fault_behind n before (record { number = next.number; text = line })) (first_fault n (before ++ record { number = next.number; text = line } ∷ []) (numbered next.number next.lines))
+    → first_fault n before (numbered left.number left.lines) ≡ option_or (fault_behind n before (record { number = next.number; text = line })) (first_fault n (before ++ record { number = next.number; text = line } ∷ []) (numbered next.number next.lines))
 next_fault n before left next line e f = rw (e, f) refl
 
 pub goes_wrong : (n : ℕ) (text : List ℕ) (seen : List Bool) (pairs : List (ℕ × ℕ)) (left next : Left) (line : List ℕ) (x : PrecFault) → ReadSoFar n text seen pairs left
@@ -38,7 +40,7 @@ pub goes_wrong : (n : ℕ) (text : List ℕ) (seen : List Bool) (pairs : List (�
 goes_wrong n text seen pairs left next line x g e f h w =
     let l : Line = record { number = next.number; text = line } in
     sym g.fault ∙ next_fault n g.before left next line e f
-    ∙ ap (λ (o : Option PrecFault). or_else o (first_fault n (g.before ++ l ∷ []) (numbered next.number next.lines))) (behind n text seen pairs left g next.number line h ∙ w)
+    ∙ ap (λ (o : Option PrecFault). option_or o (first_fault n (g.before ++ l ∷ []) (numbered next.number next.lines))) (behind n text seen pairs left g next.number line h ∙ w)
 
 pub goes_on : (n : ℕ) (text : List ℕ) (seen more : List Bool) (pairs others : List (ℕ × ℕ)) (left next : Left) (line : List ℕ) → ReadSoFar n text seen pairs left → length seen ≡ n
     → left.lines ≡ line ∷ next.lines → next.number ≡ left.number + 1 → length line ≤ 65536
@@ -52,7 +54,7 @@ goes_on n text seen more pairs others left next line g e f h i w p m =
     let ps : pairs_of (g.before ++ l ∷ []) ≡ pairs_of g.before ++ pairs_in (fields_of line) = flat_map-append (λ x. pairs_in (fields_of x.text)) g.before (l ∷ []) ∙ ap (λ (xs : List (ℕ × ℕ)). pairs_of g.before ++ xs) (append-nil (pairs_in (fields_of line))) in
     record {
       before = g.before ++ l ∷ [];
-      fault = sym (ap (λ (o : Option PrecFault). or_else o (first_fault n (g.before ++ l ∷ []) rest)) (behind n text seen pairs left g next.number line i ∙ w)) ∙ sym (next_fault n g.before left next line f h) ∙ g.fault;
+      fault = sym (ap (λ (o : Option PrecFault). option_or o (first_fault n (g.before ++ l ∷ []) rest)) (behind n text seen pairs left g next.number line i ∙ w)) ∙ sym (next_fault n g.before left next line f h) ∙ g.fault;
       all = ap (λ (xs : List (ℕ × ℕ)). xs ++ pairs_of rest) p ∙ append_assoc pairs (pairs_in (fields_of line)) (pairs_of rest) ∙ ap (λ (xs : List (ℕ × ℕ)). pairs ++ xs) (sym a) ∙ g.all;
       pairs_so = p ∙ ap (λ (xs : List (ℕ × ℕ)). xs ++ pairs_in (fields_of line)) g.pairs_so ∙ sym ps;
       seen_so = λ b j. ap (λ (xs : List Bool). get_or xs b false) m ∙ mark (is_skipped (fields_of line)) n seen (blocks_of g.before) (block_of (fields_of line)) e (record_block n _ (length pairs) next.number (fields_of line) w) g.seen_so b j ∙ ap (λ (xs : List ℕ). has xs b) (sym bs);

@@ -1,5 +1,5 @@
 -- What is wrong with a record by itself.
-use Rattle.std.proofs.Common.{◌≡◌, ℕ, suc, ◌<◌, Bool, true, false, ltb, List, [], ◌∷◌, length, map, Some, None, Result, Ok, Err, refl, sym, ap, ◌∙◌, arith}
+use Rattle.std.proofs.Common.{◌≡◌, ℕ, suc, ◌<◌, Bool, true, false, ltb, List, [], ◌∷◌, length, map, Option, Some, None, Result, Ok, Err, refl, sym, ap, ◌∙◌, arith}
 use Rattle.std.specs.Prelude.{◌||◌, nat_le, is_ok}
 use Rattle.std.specs.List.{list_all, list_any}
 use Rattle.std.specs.Result.{MatchResult, IsErrAnd, result_unwrap_or}
@@ -13,15 +13,17 @@ use Rattle.prec_file.specs.declared.prec_fault.PrecFault.{PrecFault}
 use Rattle.prec_file.specs.declared.prec_fault.PrecFault.TheVariants.{Text, Number, UnknownBlock, Repeated, WrongCount, TooMany, NoMemory}
 use Rattle.fixed_worth.specs.Record.{reads, number_of, is_remark, is_skipped}
 use Rattle.prec_file.specs.Records.{pairs_in, shape_fault, UnlessMemory}
+use Rattle.prec_file.specs.Internal.{TellsFault}
 
-pub unless : (e : PrecFault) {P Q : Type 0} → (P → Q) → UnlessMemory e P → UnlessMemory e Q
-unless NoMemory f h = tt
-unless (Text k) f h = f h
-unless (Number k) f h = f h
-unless (UnknownBlock k) f h = f h
-unless (Repeated k) f h = f h
-unless (WrongCount k) f h = f h
-unless (TooMany k) f h = f h
+-- what is known of a fault that was told
+pub unless_told : (e : PrecFault) (o : Option PrecFault) {Q : Type 0} → (o ≡ Some e → Q) → TellsFault e o → UnlessMemory e Q
+unless_told NoMemory o f h = tt
+unless_told (Text k) o f h = f h
+unless_told (Number k) o f h = f h
+unless_told (UnknownBlock k) o f h = f h
+unless_told (Repeated k) o f h = f h
+unless_told (WrongCount k) o f h = f h
+unless_told (TooMany k) o f h = f h
 
 -- what a result was before another error was put in place of its own
 pub ok_before : {T D E : Type 0} (Q : D → E → Type 0) (r : Result T D) (s : Result T E) (x : T) → s ≡ Ok x → MatchResult r (λ y. s ≡ Ok y) (λ d. IsErrAnd s (Q d)) → r ≡ Ok x

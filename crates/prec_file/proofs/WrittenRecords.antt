@@ -12,9 +12,10 @@ use Rattle.std.proofs.lemmas.List.Folds.{list_any-append}
 use Rattle.fixed_worth.specs.Text.{lines_of, fields_of}
 use Rattle.fixed_worth.specs.Record.{Line, numbered, reads, number_of, is_skipped}
 use Rattle.fixed_worth.proofs.WrittenNumbers.{decimal_is_no_remark, decimal_reads, number_of-decimal, decimals_pass, numbers_of-decimals}
+use Rattle.std.specs.Option.{option_or}
 use Rattle.prec_file.specs.declared.prec_fault.PrecFault.{PrecFault}
 use Rattle.prec_file.specs.Rests.{RestsView, IsRests, ArePairsOf, from_at, to_at, numbers, above_of, first_of}
-use Rattle.prec_file.specs.Records.{pairs_in, blocks_in, shape_fault, record_fault, fault_behind, or_else, has, blocks_of, pairs_of, first_fault, listed}
+use Rattle.prec_file.specs.Records.{pairs_in, blocks_in, shape_fault, record_fault, fault_behind, has, blocks_of, pairs_of, first_fault, listed}
 use Rattle.prec_file.specs.Written.{prec_text, AreNarrow}
 use Rattle.prec_file.specs.ReadBack.{ReadsBack}
 use Rattle.prec_file.proofs.Shapes.{sound, pairs_at}
@@ -137,15 +138,15 @@ pairs_so_far n ps (suc m) w l =
 
 -- ---- faults
 
-first_fault-append : (n : ℕ) (past xs ys : List Line) → first_fault n past (xs ++ ys) ≡ or_else (first_fault n past xs) (first_fault n (past ++ xs) ys)
+first_fault-append : (n : ℕ) (past xs ys : List Line) → first_fault n past (xs ++ ys) ≡ option_or (first_fault n past xs) (first_fault n (past ++ xs) ys)
 first_fault-append n past [] ys = ap (λ ls. first_fault n ls ys) (sym (append-nil past))
 first_fault-append n past (x ∷ xs) ys =
-    ap (or_else (fault_behind n past x)) (first_fault-append n (past ++ x ∷ []) xs ys ∙ ap (λ ls. or_else (first_fault n (past ++ x ∷ []) xs) (first_fault n ls ys)) (append_assoc past (x ∷ []) xs))
-    ∙ sym (or_else_assoc (fault_behind n past x) (first_fault n (past ++ x ∷ []) xs) (first_fault n (past ++ (x ∷ xs)) ys))
+    ap (option_or (fault_behind n past x)) (first_fault-append n (past ++ x ∷ []) xs ys ∙ ap (λ ls. option_or (first_fault n (past ++ x ∷ []) xs) (first_fault n ls ys)) (append_assoc past (x ∷ []) xs))
+    ∙ sym (option_or_assoc (fault_behind n past x) (first_fault n (past ++ x ∷ []) xs) (first_fault n (past ++ (x ∷ xs)) ys))
   where
-    or_else_assoc : (a b c : Option PrecFault) → or_else (or_else a b) c ≡ or_else a (or_else b c)
-    or_else_assoc (Some e) b c = refl
-    or_else_assoc None b c = refl
+    option_or_assoc : (a b c : Option PrecFault) → option_or (option_or a b) c ≡ option_or a (option_or b c)
+    option_or_assoc (Some e) b c = refl
+    option_or_assoc None b c = refl
 
 line_sound : (n : ℕ) (ps : List (ℕ × ℕ)) (b : ℕ) → IsWritable n ps → b < n → fault_behind n (before ps b) (line_at ps b) ≡ None
 unfolding line_at

@@ -1,5 +1,5 @@
 -- The faults of a list of pairs.
-use Rattle.std.specs.Prelude.{ℕ, ◌<◌, ◌^◌, List, length, All}
+use Rattle.std.specs.Prelude.{ℕ, ◌<◌, ◌≤◌, ◌^◌, List, length, All}
 use Rattle.prec_file.specs.Rests.{IsFirstNot, IsKnown, KnownAt}
 use Rattle.prec_file.specs.declared.rests_fault.RestsFault.{RestsFault}
 use Rattle.prec_file.specs.declared.rests_fault.RestsFault.TheVariants.{UnknownBlock, TooMany, NoMemory}
@@ -8,4 +8,4 @@ use Rattle.prec_file.specs.declared.rests_fault.RestsFault.TheVariants.{UnknownB
 abbrev pub FaultStands : ℕ → List (ℕ × ℕ) → RestsFault → Type 0
 FaultStands n listed (UnknownBlock i) = IsFirstNot (KnownAt n listed) (length listed) i
 FaultStands n listed TooMany = All (IsKnown n) listed × (2 ^ 27 < length listed)
-FaultStands n listed NoMemory = Unit {0}
+FaultStands n listed NoMemory = All (IsKnown n) listed × (length listed ≤ 2 ^ 27)

@@ -4,3 +4,4 @@ pub mod Records
 pub mod Printed
 pub mod Written
 pub mod ReadBack
+pub mod Internal

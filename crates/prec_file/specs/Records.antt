@@ -1,8 +1,9 @@
 -- What a precedence file says, over its list of lines.
-use Rattle.std.specs.Prelude.{ℕ, ◌+◌, ◌^◌, ◌==◌, ◌||◌, Bool, true, not, cond, List, [], ◌∷◌, ◌++◌, length, map, nat_lt, nat_le, Option, Some, None, slice_set}
+use Rattle.std.specs.Prelude.{ℕ, ◌+◌, ◌^◌, ◌==◌, ◌||◌, Bool, not, cond, List, [], ◌∷◌, ◌++◌, length, map, nat_lt, nat_le, Option, Some, None}
+use Rattle.std.specs.Option.{option_or}
 use Rattle.std.specs.List.{list_all, list_any, flat_map}
-use Rattle.fixed_worth.specs.Text.{lines_of, fields_of}
-use Rattle.fixed_worth.specs.Record.{Line, numbered, reads, number_of, is_skipped}
+use Rattle.fixed_worth.specs.Text.{fields_of}
+use Rattle.fixed_worth.specs.Record.{Line, lines_in, reads, number_of, is_skipped}
 use Rattle.prec_file.specs.declared.prec_fault.PrecFault.{PrecFault}
 use Rattle.prec_file.specs.declared.prec_fault.PrecFault.TheVariants.{Text, Number, UnknownBlock, Repeated, WrongCount, TooMany, NoMemory}
 
@@ -38,14 +39,9 @@ history_fault had before line fields =
     (cond (nat_lt (2 ^ 27) (before + length (predecessors_of fields))) (Some (TooMany line))
     None))
 
--- The first of two faults, if any.
-abbrev pub or_else : Option PrecFault → Option PrecFault → Option PrecFault
-or_else (Some e) o = Some e
-or_else None o = o
-
 -- The fault of a line's fields: a skipped line has none.
 abbrev pub record_fault : ℕ → (ℕ → Bool) → ℕ → ℕ → List (List ℕ) → Option PrecFault
-record_fault n had before line fields = cond (is_skipped fields) None (or_else (shape_fault n line fields) (history_fault had before line fields))
+record_fault n had before line fields = cond (is_skipped fields) None (option_or (shape_fault n line fields) (history_fault had before line fields))
 
 -- The fault of a line: one of more than 65,536 bytes is faulty even where it would be skipped.
 abbrev pub line_fault : ℕ → (ℕ → Bool) → ℕ → Line → Option PrecFault
@@ -78,19 +74,15 @@ fault_behind n before l = line_fault n (has (blocks_of before)) (length (pairs_o
 -- The fault of the first faulty line, if any, behind these lines.
 abbrev pub first_fault : ℕ → List Line → List Line → Option PrecFault
 first_fault n before [] = None
-first_fault n before (l ∷ lines) = or_else (fault_behind n before l) (first_fault n (before ++ l ∷ []) lines)
+first_fault n before (l ∷ lines) = option_or (fault_behind n before l) (first_fault n (before ++ l ∷ []) lines)
 
 -- The fault of a text for n blocks, if any.
 abbrev pub fault_of : ℕ → List ℕ → Option PrecFault
-fault_of n text = first_fault n [] (numbered 0 (lines_of text))
+fault_of n text = first_fault n [] (lines_in text)
 
 -- The pairs that a text lists, in its order.
 abbrev pub listed : List ℕ → List (ℕ × ℕ)
-listed text = pairs_of (numbered 0 (lines_of text))
-
--- The marks of the blocks that have had a record, once this line is read.
-abbrev pub marked : List (List ℕ) → List Bool → List Bool
-marked fields seen = cond (is_skipped fields) seen (slice_set seen (block_of fields) true)
+listed text = pairs_of (lines_in text)
 
 -- The fault is want of memory, or the claim holds.
 abbrev pub UnlessMemory : PrecFault → Type 0 → Type 0

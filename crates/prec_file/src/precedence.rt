@@ -2,7 +2,8 @@
 
 ghost use Rattle.std.specs.Prelude.{◌≡◌, ℕ, ◌+◌, ◌^◌, ◌<◌, ◌≤◌, All, IfOk, MatchResult, MatchOption, length, slice_index_or, map, ◌==◌, not};
 ghost use Rattle.std.specs.List.{filter, Contains};
-ghost use Rattle.prec_file.specs.Rests.{RestsView, IsRests, IsIndexed, AreApart, IsKnown, KnownAt, IsFirstNot, IsRising, IsStarts, ArePairsOf, from_at, first_of, above_of, below_of};
+ghost use Rattle.prec_file.specs.Rests.{RestsView, IsRests, AreApart, IsKnown, KnownAt, IsFirstNot, IsRising, ArePairsOf, from_at, first_of, above_of, below_of};
+ghost use Rattle.prec_file.specs.Internal.{IsIndexed, IsStarts};
 ghost use Rattle.prec_file.specs.Answer.{FaultStands};
 
 use crate::RestsFault;

@@ -3,7 +3,8 @@
 ghost use Rattle.std.specs.Prelude.{◌≡◌, ◌≤◌, ◌^◌, ◌++◌, false, length, slice_index_or, All, MatchResult};
 ghost use Rattle.fixed_worth.specs.Text.{fields_of};
 ghost use Rattle.prec_file.specs.Rests.{ArePairsOf, IsKnown};
-ghost use Rattle.prec_file.specs.Records.{record_fault, pairs_in, fault_of, listed, marked, UnlessMemory};
+ghost use Rattle.prec_file.specs.Records.{record_fault, pairs_in, fault_of, listed, UnlessMemory};
+ghost use Rattle.prec_file.specs.Internal.{marked, TellsFault};
 
 use crate::records::read_record;
 use crate::{ListedPairs, PrecFault, Rests};
@@ -26,7 +27,7 @@ fn read_line(
         × (pairs.new.items ≡ pairs.old.items ++ pairs_in (fields_of text.now))
         × (length pairs.new.items ≤ 2 ^ 27)
         × (seen.new ≡ marked (fields_of text.now) seen.old))
-        (λ e. UnlessMemory e (record_fault n (λ b. slice_index_or seen.old b false) (length pairs.old.items) line (fields_of text.now) ≡ Some e)) }
+        (λ e. TellsFault e (record_fault n (λ b. slice_index_or seen.old b false) (length pairs.old.items) line (fields_of text.now))) }
 {
     let before = pairs.as_slice().len();
     let Some(record) = read_record(pairs, text, n, line)? else {
@@ -40,6 +41,9 @@ fn read_line(
     }
     if before as u64 + record.found > 1 << 27 {
         return Err(PrecFault::TooMany(line));
+    }
+    if record.refused {
+        return Err(PrecFault::NoMemory);
     }
     seen[record.block as usize] = true;
     Ok(())

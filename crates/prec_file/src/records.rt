@@ -4,7 +4,7 @@ ghost use Rattle.std.specs.Prelude.{◌≡◌, ℕ, ◌<◌, ◌≤◌, ◌^◌,
 ghost use Rattle.std.specs.List.{list_all, list_any};
 ghost use Rattle.fixed_worth.specs.Text.{Run, fields_of};
 ghost use Rattle.fixed_worth.specs.Record.{reads, number_of, is_skipped};
-ghost use Rattle.prec_file.specs.Records.{block_of, count_of, predecessors_of, shape_fault, pairs_in, UnlessMemory};
+ghost use Rattle.prec_file.specs.Records.{block_of, count_of, predecessors_of, shape_fault, pairs_in};
 
 use crate::PrecFault;
 use fixed_worth::{Fields, is_remark, whole};
@@ -17,42 +17,59 @@ pub(crate) struct Record {
     pub count: u64,
     // the number of those that it has
     pub found: u64,
+    // there was no memory for its pairs
+    pub refused: bool,
 }
 
-// Reads a block's predecessors: whether one of all these isn't known, and how many they are. A field that is no number
-// comes before an unknown block, so the fields are read to the end.
+// The predecessors of a record.
+#[derive(Clone, Copy)]
+struct Predecessors {
+    found: u64,
+    // the record's block or one of these isn't known
+    unknown: bool,
+    // there was no memory for the pairs
+    refused: bool,
+}
+
+// Reads a block's predecessors. A field that is no number comes before an unknown block, and each fault of the record
+// before want of memory, so the fields are read to the end.
 fn read_predecessors(
     pairs: &mut Vec<(u32, u32)>,
     fields: Fields,
     block: u64,
     n: u32,
     line: u64,
-) -> Result<(bool, u64), PrecFault>
+) -> Result<Predecessors, PrecFault>
     requires { length fields ≤ 65536 }
     ensures { MatchResult result
         (λ r. IsTrue (list_all reads (map (λ f. f.text) fields.entry))
-        × (r.0 ≡ (nat_le n block || list_any (nat_le n) (map number_of (map (λ f. f.text) fields.entry))))
-        × (r.1 ≡ length fields.entry)
-        × (r.0 ≡ false → pairs.new.items ≡ pairs.old.items ++ map (λ p. (block, p)) (map number_of (map (λ f. f.text) fields.entry))))
-        (λ e. UnlessMemory e ((e ≡ PrecFault.Number line) × (list_all reads (map (λ f. f.text) fields.entry) ≡ false))) }
+        × (r.unknown ≡ (nat_le n block || list_any (nat_le n) (map number_of (map (λ f. f.text) fields.entry))))
+        × (r.found ≡ length fields.entry)
+        × (r.unknown ≡ false → r.refused ≡ false → pairs.new.items ≡ pairs.old.items ++ map (λ p. (block, p)) (map number_of (map (λ f. f.text) fields.entry))))
+        (λ e. (e ≡ PrecFault.Number line) × (list_all reads (map (λ f. f.text) fields.entry) ≡ false)) }
 {
     let mut unknown = block >= n as u64;
+    let mut refused = false;
     let mut found: u64 = 0;
     for field in fields {
         let predecessor = whole(field.text).map_err(|_| PrecFault::Number(line))?;
         if block < n as u64 && predecessor < n as u64 {
-            pairs
-                .push((block as u32, predecessor as u32))
-                .map_err(|_| PrecFault::NoMemory)?;
+            if pairs.push((block as u32, predecessor as u32)).is_err() {
+                refused = true;
+            }
         } else {
             unknown = true;
         }
         found += 1;
     }
-    Ok((unknown, found))
+    Ok(Predecessors {
+        found,
+        unknown,
+        refused,
+    })
 }
 
-// Reads a line that may be a record, and adds its pairs.
+// Reads a line that may be a record, and adds its pairs where there is memory for them.
 pub(crate) fn read_record(
     pairs: &mut Vec<(u32, u32)>,
     text: &[u8],
@@ -68,8 +85,8 @@ pub(crate) fn read_record(
         × (r.block ≡ block_of (fields_of text.now)) × (r.block < n)
         × (r.count ≡ count_of (fields_of text.now))
         × (r.found ≡ length (predecessors_of (fields_of text.now))) × (r.found ≤ 65536)
-        × (pairs.new.items ≡ pairs.old.items ++ pairs_in (fields_of text.now))))
-        (λ e. UnlessMemory e ((is_skipped (fields_of text.now) ≡ false) × (shape_fault n line (fields_of text.now) ≡ Some e))) }
+        × (r.refused ≡ false → pairs.new.items ≡ pairs.old.items ++ pairs_in (fields_of text.now))))
+        (λ e. (is_skipped (fields_of text.now) ≡ false) × (shape_fault n line (fields_of text.now) ≡ Some e)) }
 {
     let mut fields = Fields::new(text);
     let Some(first) = fields.next() else {
@@ -81,13 +98,14 @@ pub(crate) fn read_record(
     let second = fields.next().ok_or(PrecFault::Text(line))?;
     let block = whole(first.text).map_err(|_| PrecFault::Number(line))?;
     let count = whole(second.text).map_err(|_| PrecFault::Number(line))?;
-    let (unknown, found) = read_predecessors(pairs, fields, block, n, line)?;
-    if unknown {
+    let listed = read_predecessors(pairs, fields, block, n, line)?;
+    if listed.unknown {
         return Err(PrecFault::UnknownBlock(line));
     }
     Ok(Some(Record {
         block: block as u32,
         count,
-        found,
+        found: listed.found,
+        refused: listed.refused,
     }))
 }

@@ -50,11 +50,56 @@ fn lift_all(
     Ok(())
 }
 
+// The highest label, from one on down, at which a strong root waits and below which there is a block: 0 where there is
+// none. The strong trees over a gap, a label that no block has, can't be merged with any other, and are lifted.
+fn highest_label(
+    buckets: &mut Buckets,
+    forest: &Forest,
+    labels: &mut Labels,
+    from: u32,
+    budget: &mut Budget,
+) -> Result<u32, PseudoflowFault>
+    requires labels { labels.old ≡ forest.now }
+    ensures kept { labels.new ≡ labels.old }
+    ensures less { budget.new.left ≤ budget.old.left }
+{
+    let mut label = from;
+    while let Some(below) = label.checked_sub(1) {
+        budget.spend(1)?;
+        if buckets.has(forest, label) {
+            if labels.count(below) > 0 {
+                return Ok(label);
+            }
+            lift_all(buckets, forest, labels, label, budget)?;
+        }
+        label = below;
+    }
+    Ok(0)
+}
+
+// Gives label 1 to the strong roots that wait at label 0.
+fn raise_lowest(
+    buckets: &mut Buckets,
+    forest: &mut Forest,
+    labels: &mut Labels,
+    budget: &mut Budget,
+) -> Result<(), PseudoflowFault>
+    requires labels { labels.old ≡ forest.old }
+    ensures forest { forest.new ≡ forest.old }
+    ensures labels { labels.new ≡ labels.old }
+    ensures less { budget.new.left ≤ budget.old.left }
+{
+    while let Some(root) = buckets.pop(forest, 0) {
+        budget.spend(1)?;
+        labels.raise(root)?;
+        forest.set_current_arc(root, 0);
+        buckets.push(forest, 1, root)?;
+    }
+    Ok(())
+}
+
 impl<'a, G: OrderedGroup> Search<'a, G> {
-    /// Takes the next of the strong roots of the highest label.
-    ///
-    /// Where no block has the label below (a gap), the strong trees of that label can't be merged with any other: they
-    /// are lifted out of the search, and the next label's come.
+    /// Takes the first of the strong roots of the highest label. Where all that wait have label 0, they get label 1.
     pub(crate) fn highest_strong_root(
         &mut self,
         budget: &mut Budget,
@@ -63,43 +108,13 @@ impl<'a, G: OrderedGroup> Search<'a, G> {
         ensures less { budget.new.left ≤ budget.old.left }
         ensures known { IfOk result (λ found. IfSome found (λ root. root < self.old)) }
     {
-        let mut label = self.highest;
-        while let Some(below) = label.checked_sub(1) {
-            budget.spend(1)?;
-            if self.buckets.has(&self.forest, label) {
-                self.highest = label;
-                if self.labels.count(below) > 0 {
-                    return Ok(self.buckets.pop(&self.forest, label));
-                }
-                lift_all(
-                    &mut self.buckets,
-                    &self.forest,
-                    &mut self.labels,
-                    label,
-                    budget,
-                )?;
-            }
-            label = below;
+        let (buckets, labels) = (&mut self.buckets, &mut self.labels);
+        let mut label = highest_label(buckets, &self.forest, labels, self.highest, budget)?;
+        if label == 0 {
+            raise_lowest(buckets, &mut self.forest, labels, budget)?;
+            label = highest_label(buckets, &self.forest, labels, 1, budget)?;
         }
-        self.raise_unlabelled(budget)
-    }
-
-    // The same where all strong roots that wait have label 0: they get label 1.
-    fn raise_unlabelled(&mut self, budget: &mut Budget) -> Result<Option<u32>, PseudoflowFault>
-        ensures kept { self.new ≡ self.old }
-        ensures less { budget.new.left ≤ budget.old.left }
-        ensures known { IfOk result (λ found. IfSome found (λ root. root < self.old)) }
-    {
-        while let Some(root) = self.buckets.pop(&self.forest, 0) {
-            budget.spend(1)?;
-            self.labels.raise(root)?;
-            self.forest.set_current_arc(root, 0);
-            self.add_strong_root(root)?;
-        }
-        self.highest = 1;
-        if self.labels.count(0) == 0 {
-            lift_all(&mut self.buckets, &self.forest, &mut self.labels, 1, budget)?;
-        }
-        Ok(self.buckets.pop(&self.forest, 1))
+        self.highest = label;
+        Ok(self.buckets.pop(&self.forest, label))
     }
 }

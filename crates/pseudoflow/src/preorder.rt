@@ -1,4 +1,4 @@
-//! The walk over a whole tree.
+//! The walk over a tree.
 
 ghost use Rattle.std.specs.Prelude.{◌≡◌, ◌<◌, ◌≤◌, IfOk, IfSome};
 
@@ -17,9 +17,22 @@ impl Forest {
         ensures less { budget.new.left ≤ budget.old.left }
         ensures known { IfOk result (λ found. IfSome found (λ c. c < self.now)) }
     {
-        if let Some(child) = self.first_child(b) {
-            return Ok(Some(child));
+        match self.first_child(b) {
+            Some(child) => Ok(Some(child)),
+            None => self.next_beyond(b, budget),
         }
+    }
+
+    /// The block in preorder behind b and all that hang under it.
+    pub(crate) fn next_beyond(
+        &self,
+        b: u32,
+        budget: &mut Budget,
+    ) -> Result<Option<u32>, PseudoflowFault>
+        requires { b < self.now }
+        ensures less { budget.new.left ≤ budget.old.left }
+        ensures known { IfOk result (λ found. IfSome found (λ c. c < self.now)) }
+    {
         let mut at = b;
         while let Some(parent) = self.parent(at) {
             budget.spend(1)?;

@@ -29,8 +29,47 @@ fn saturated<G: OrderedGroup>(
     Ok((source, sink))
 }
 
-// Takes the imbalance that stands at a block, as its excess, off the block's arc of the source or the sink, and the rest
-// of it off the arcs of those children that bring it. What is taken off such an arc is the child's imbalance then.
+// Takes as much of an imbalance as an amount has off both: what is left of the imbalance, and of the amount.
+fn cancel<G: OrderedGroup>(imbalance: G, amount: G) -> Result<(G, G), PseudoflowFault> {
+    let part = smaller(imbalance, amount);
+    Ok((difference(imbalance, part)?, difference(amount, part)?))
+}
+
+// Takes an imbalance off the arcs of the children of a block that bring it: what is left of it. What is taken off such an
+// arc is the child's imbalance then.
+fn cancel_at_children<G: OrderedGroup>(
+    forest: &Forest,
+    amounts: &mut Amounts<G>,
+    imbalance: G,
+    block: u32,
+    brings: Direction,
+    budget: &mut Budget,
+) -> Result<G, PseudoflowFault>
+    requires block { block < forest.now }
+    requires amounts { amounts.old ≡ forest.now }
+    ensures kept { amounts.new ≡ amounts.old }
+    ensures less { budget.new.left ≤ budget.old.left }
+{
+    let mut left = imbalance;
+    let mut next = forest.first_child(block);
+    while let Some(child) = next {
+        budget.spend(1)?;
+        if forest.direction(child) == brings {
+            amounts.set_excess(child, smaller(left, amounts.flow(child)));
+            let (rest, flow) = cancel(left, amounts.flow(child))?;
+            amounts.set_flow(child, flow);
+            left = rest;
+        }
+        next = forest.next_sibling(child);
+    }
+    Ok(left)
+}
+
+// Takes the imbalance that stands at a block, as its excess, off the block's arc of the source or the sink, and what is
+// left of it off the arcs of those children that bring it.
+//
+// # Errors
+// `Broken` where something is left then.
 fn cancel_at<G: OrderedGroup>(
     forest: &Forest,
     amounts: &mut Amounts<G>,
@@ -45,22 +84,10 @@ fn cancel_at<G: OrderedGroup>(
     ensures kept { amounts.new ≡ amounts.old }
     ensures less { budget.new.left ≤ budget.old.left }
 {
-    let imbalance = amounts.excess(block);
-    let part = smaller(imbalance, ends[block as usize]);
-    ends[block as usize] = difference(ends[block as usize], part)?;
-    let mut rest = difference(imbalance, part)?;
-    let mut next = forest.first_child(block);
-    while let Some(child) = next {
-        budget.spend(1)?;
-        if forest.direction(child) == brings {
-            let part = smaller(rest, amounts.flow(child));
-            amounts.set_flow(child, difference(amounts.flow(child), part)?);
-            amounts.set_excess(child, part);
-            rest = difference(rest, part)?;
-        }
-        next = forest.next_sibling(child);
-    }
-    if rest.is_positive() {
+    let (left, end) = cancel(amounts.excess(block), ends[block as usize])?;
+    ends[block as usize] = end;
+    let left = cancel_at_children(forest, amounts, left, block, brings, budget)?;
+    if left.is_positive() {
         return Err(PseudoflowFault::Broken);
     }
     Ok(())
@@ -84,10 +111,13 @@ fn cancel_below<G: OrderedGroup>(
     let mut next = Some(root);
     while let Some(block) = next {
         budget.spend(1)?;
-        if amounts.excess(block).is_positive() {
+        // where nothing is left to be taken off, nothing is below
+        next = if amounts.excess(block).is_positive() {
             cancel_at(forest, amounts, ends, block, brings, budget)?;
-        }
-        next = forest.next_in_preorder(block, budget)?;
+            forest.next_in_preorder(block, budget)?
+        } else {
+            forest.next_beyond(block, budget)?
+        };
     }
     Ok(())
 }

@@ -42,6 +42,29 @@ impl<'a, G: OrderedGroup> Model for Search<'a, G> {
     ghost invariant = { λ s. (s.rests.now.blocks ≡ s.forest) × (s.labels ≡ s.forest) × (s.amounts ≡ s.forest) };
 }
 
+// Puts the blocks of positive worth, of which each is a tree of its own, into the bucket of label 1.
+fn add_positive_blocks<G: OrderedGroup>(
+    amounts: &Amounts<G>,
+    n: u32,
+    forest: &mut Forest,
+    labels: &mut Labels,
+    buckets: &mut Buckets,
+) -> Result<(), PseudoflowFault>
+    requires blocks { n ≡ forest.old }
+    requires amounts { amounts.now ≡ forest.old }
+    requires labels { labels.old ≡ forest.old }
+    ensures forest { forest.new ≡ forest.old }
+    ensures labels { labels.new ≡ labels.old }
+{
+    for b in (0..n).rev() {
+        if amounts.excess(b).is_positive() {
+            labels.raise(b)?;
+            buckets.push(forest, 1, b)?;
+        }
+    }
+    Ok(())
+}
+
 impl<'a, G: OrderedGroup> Search<'a, G> {
     /// Each block is a tree of its own, and those of positive worth wait as strong roots of label 1.
     pub(crate) fn open(alloc: Global, net: &'a Net<G>) -> Result<Search<'a, G>, PseudoflowFault>
@@ -49,21 +72,19 @@ impl<'a, G: OrderedGroup> Search<'a, G> {
     {
         let rests = net.rests();
         let n = rests.len();
-        let mut search = Search {
+        let amounts = Amounts::new(alloc, net.worths())?;
+        let mut forest = Forest::new(alloc, n)?;
+        let mut labels = Labels::new(alloc, n)?;
+        let mut buckets = Buckets::new(alloc, n as usize + 2)?;
+        add_positive_blocks(&amounts, n, &mut forest, &mut labels, &mut buckets)?;
+        Ok(Search {
             rests,
-            forest: Forest::new(alloc, n)?,
-            labels: Labels::new(alloc, n)?,
-            buckets: Buckets::new(alloc, n as usize + 2)?,
-            amounts: Amounts::new(alloc, net.worths())?,
+            forest,
+            labels,
+            buckets,
+            amounts,
             highest: 1,
-        };
-        for b in (0..n).rev() {
-            if search.amounts.excess(b).is_positive() {
-                search.labels.raise(b)?;
-                search.add_strong_root(b)?;
-            }
-        }
-        Ok(search)
+        })
     }
 
     /// Puts a root into the bucket of its label.

@@ -16,8 +16,8 @@ use std::alloc::Global;
 /// It has an amount for each block and each pair of the net. Nothing else is promised of it: that it is a greatest flow,
 /// and that the blocks which the source reaches in what it leaves are the pit, is for a checker to say.
 ///
-/// At most `turns` turns are taken, of which each is one look at a block, at a pair or at a label. Mines take some 3 to 10
-/// for each block and pair. A chain in which each block rests on the next, the positive ones below, takes a number that
+/// At most `turns` turns are taken, of which each is one look at a block, at a pair or at a label. Models of mines take 1 to
+/// 75 for each block and pair. A chain in which each block rests on the next, the positive ones below, takes a number that
 /// grows with the square of the blocks.
 ///
 /// # Errors

@@ -3,7 +3,7 @@
 ghost use Rattle.std.specs.Prelude.{◌≤◌, ◌^◌};
 
 use crate::{Progress, PseudoflowFault, Silent, solve};
-use closure_net::{Net, pit_of};
+use closure_net::{Net, Pit, pit_of};
 use ordered_group::{OrderedGroup, Worth, WorthSize};
 use prec_file::Rests;
 use std::alloc::Global;
@@ -22,21 +22,14 @@ fn net_of<G: OrderedGroup>(
 ) -> Result<Net<G>, Fail>
     requires { n ≤ 2 ^ 24 }
 {
-    let rests = Rests::from_pairs(alloc, n, pairs).ok().ok_or("pairs")?;
-    Ok(Net::of_worths(alloc, rests, nanos).ok().ok_or("worths")?)
+    let rests = Rests::from_pairs(alloc, n, pairs)?;
+    Ok(Net::of_worths(alloc, rests, nanos)?)
 }
 
-// The flow that is found leaves this pit.
-fn leaves<G: OrderedGroup>(
-    rt: &impl Abort,
-    alloc: Global,
-    net: &Net<G>,
-    pit: &[u32],
-) -> Result<(), Fail> {
-    let flow = solve(alloc, net, AMPLE, &Silent).ok().ok_or("flow")?;
-    assert!(rt; flow.fits(net));
-    assert!(rt; pit_of(alloc, net, &flow)?.blocks() == pit);
-    Ok(())
+// The pit that the flow leaves.
+fn found<G: OrderedGroup>(alloc: Global, net: &Net<G>) -> Result<Pit, Fail> {
+    let flow = solve(alloc, net, AMPLE, &Silent)?;
+    Ok(pit_of(alloc, net, &flow)?)
 }
 
 // The same in both groups.
@@ -52,8 +45,9 @@ fn has_pit(
 {
     let by_size: Net<WorthSize> = net_of(alloc, n, pairs, nanos)?;
     let by_worth: Net<Worth> = net_of(alloc, n, pairs, nanos)?;
-    leaves(rt, alloc, &by_size, pit)?;
-    leaves(rt, alloc, &by_worth, pit)
+    assert!(rt; found(alloc, &by_size)?.blocks() == pit);
+    assert!(rt; found(alloc, &by_worth)?.blocks() == pit);
+    Ok(())
 }
 
 #[test]
@@ -98,9 +92,7 @@ fn chain(alloc: Global, from_below: bool) -> Result<Net<WorthSize>, Fail> {
 fn bare_chains_end(rt: HostRuntime) -> Result<(), Fail> {
     for from_below in [false, true] {
         let net = chain(rt.alloc(), from_below)?;
-        let flow = solve(rt.alloc(), &net, AMPLE, &Silent).ok().ok_or("flow")?;
-        assert!(rt; flow.fits(&net));
-        assert_eq!(rt; pit_of(rt.alloc(), &net, &flow)?.len(), 4_000);
+        assert_eq!(rt; found(rt.alloc(), &net)?.len(), 4_000);
     }
     Ok(())
 }
@@ -143,9 +135,7 @@ fn one_turn_is_too_few(rt: HostRuntime) -> Result<(), Fail> {
 // The sizes of two blocks whose sum is beyond their type.
 #[test]
 fn a_sum_is_too_large(rt: HostRuntime) -> Result<(), Fail> {
-    let rests = Rests::from_pairs(rt.alloc(), 2, &[(0, 1)])
-        .ok()
-        .ok_or("pairs")?;
+    let rests = Rests::from_pairs(rt.alloc(), 2, &[(0, 1)])?;
     let worths = [
         WorthSize {
             nanos: 5,
@@ -154,7 +144,7 @@ fn a_sum_is_too_large(rt: HostRuntime) -> Result<(), Fail> {
         WorthSize { nanos: -9, size: 1 },
     ];
     let worths = Vec::from_slice(rt.alloc(), &worths)?;
-    let net = Net::build(rests, worths).ok().ok_or("net")?;
+    let net = Net::build(rests, worths)?;
     let fault = solve(rt.alloc(), &net, AMPLE, &Silent).err();
     assert_eq!(rt; fault, Some(PseudoflowFault::TooLarge));
     Ok(())

@@ -1,18 +1,17 @@
 -- What is written is read back.
-use Rattle.std.proofs.Common.{◌≡◌, ℕ, ℤ, ◌+◌, ◌^◌, ◌≤◌, Bool, true, false, not, eqb, List, [], ◌∷◌, ◌++◌, length, refl, sym, ap, ◌∙◌, arith}
-use Rattle.std.specs.Prelude.{nat_le, codes}
+use Rattle.std.proofs.Common.{◌≡◌, ℕ, ℤ, ◌+◌, ◌^◌, ◌≤◌, Bool, true, false, not, eqb, List, [], ◌∷◌, ◌++◌, length, refl, sym, ap, ◌∙◌, arith, All}
+use Rattle.std.specs.Prelude.{unsigned_abs, codes}
 use Rattle.std.specs.List.{list_all, list_any}
 use Rattle.std.specs.Option.{option_or}
 use Rattle.std.specs.Fmt.{decimal}
-use Rattle.std.proofs.lemmas.Bool.{and_parts, or_parts}
-use Rattle.std.proofs.lemmas.Bool.Decides.{nat_tests}
+use Rattle.std.proofs.lemmas.Bool.{or_parts}
 use Rattle.std.proofs.lemmas.List.Folds.{list_all-append}
 use Rattle.fixed_worth.specs.Record.{Line, numbered}
 use Rattle.upit_file.specs.Header.{header, last_name, header_fault}
 use Rattle.upit_file.specs.Body.{body, before_end, first_fault, value_among}
 use Rattle.upit_file.specs.Records.{UpitView, is_name, lines_in}
 use Rattle.upit_file.specs.Writing.{header_lines, record_lines, upit_lines, upit_text}
-use Rattle.upit_file.specs.RoundTrip.{CanBeWritten, IsReadBack}
+use Rattle.upit_file.specs.RoundTrip.{IsReadBack}
 use Rattle.fixed_worth.proofs.Joined.{is_one_line, lines_cut}
 use Rattle.fixed_worth.proofs.WrittenNumbers.{decimal_is_one_line}
 use Rattle.upit_file.proofs.HeaderBack.{name_whole, written, header_back}
@@ -34,15 +33,20 @@ all_lines name vs h few s =
 read_lines : (u : UpitView) → is_name u.name ≡ true → length u.values ≤ 2 ^ 24 → Sizes u.values → lines_in (upit_text u) ≡ written u.name (length u.values) (numbered 4 (record_lines 0 u.values ++ (codes "EOF" ∷ [])))
 read_lines u h few s = ap (numbered 0) (lines_cut (upit_lines u) (all_lines u.name u.values h few s))
 
+-- The name and the values are such as the type holds: each value has at most 10^18 millionths either way.
+pub record CanBeWritten (u : UpitView) : Type 0 where
+  pub named : is_name u.name ≡ true
+  pub few : length u.values ≤ 2 ^ 24
+  pub sizes : All (λ value. unsigned_abs value ≤ 10 ^ 18) u.values
+
 pub read_back : (u : UpitView) → CanBeWritten u → IsReadBack u
 read_back u c =
     let n = length u.values in
-    let form = and_parts (is_name u.name) (nat_le (length u.values) (2 ^ 24)) c.form in
-    let few : length u.values ≤ 2 ^ 24 = let t : nat_le (length u.values) (2 ^ 24) ≡ true = form.1 in grind (arith, nat_tests) in
+    let few : length u.values ≤ 2 ^ 24 = c.few in
     let s = sizes_each u.values c.sizes in
     let rest = numbered 4 (record_lines 0 u.values ++ (codes "EOF" ∷ [])) in
-    let lines = read_lines u form.0 few s in
-    let h = header_back n u.name rest form.0 few in
+    let lines = read_lines u c.named few s in
+    let h = header_back n u.name rest c.named few in
     let records : body (lines_in (upit_text u)) ≡ numbered 4 (record_lines 0 u.values) = ap body lines ∙ ap before_end h.2 ∙ body_back 4 0 u.values (omega arith) s in
     record {
       sound = ap (λ (ls : List Line). option_or (header_fault n ls) (first_fault n [] (body (lines_in (upit_text u))))) lines

@@ -1,17 +1,12 @@
 -- The records behind the header: a block and its value each.
 use Rattle.std.specs.Prelude.{ℕ, ℤ, pos, ◌==◌, ◌&&◌, Bool, not, cond, List, [], ◌∷◌, ◌++◌, drop, nat_le, Option, Some, None, is_some, unwrap_or}
 use Rattle.std.specs.Option.{option_or}
-use Rattle.std.specs.Result.{result_ok}
 use Rattle.std.specs.List.{list_any}
-use Rattle.fixed_worth.specs.Decimal.{decimal_of}
+pub use Rattle.fixed_worth.specs.Decimal.{value_read}
 use Rattle.fixed_worth.specs.Record.{Line, reads, number_of, is_skipped}
 use Rattle.upit_file.specs.declared.fault.UpitFault.{UpitFault}
 use Rattle.upit_file.specs.declared.fault.UpitFault.TheVariants.{Text, Number, UnknownBlock, Repeated}
 use Rattle.upit_file.specs.Header.{is_long, fields_in, is_end, after_header}
-
--- The value that a field is, in millionths.
-abbrev pub value_read : List ℕ → Option ℤ
-value_read field = result_ok (decimal_of field)
 
 -- The block that a record is for: its first field.
 abbrev pub block_of : List (List ℕ) → ℕ

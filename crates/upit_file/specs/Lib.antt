@@ -2,6 +2,6 @@ pub mod Header
 pub mod Body
 pub mod Records
 pub mod Faults
-pub mod Steps
 pub mod Writing
 pub mod RoundTrip
+pub mod Internal

@@ -2,16 +2,13 @@
 use Rattle.std.specs.Prelude.{◌≡◌, ℕ, ℤ, ◌-◌, ◌<◌, ◌==◌, ◌^◌, ◌&&◌, ◌||◌, Bool, not, nat_le, slice_index, List, [], length, Option, Some, None, unwrap_or, Result, Ok, Err, get_or, pos}
 use Rattle.std.specs.Option.{option_or}
 use Rattle.std.specs.List.{list_any}
-use Rattle.fixed_worth.specs.Text.{lines_of, is_separator}
-use Rattle.fixed_worth.specs.Record.{Line, numbered}
+use Rattle.fixed_worth.specs.Text.{is_separator}
+use Rattle.fixed_worth.specs.Record.{Line}
+pub use Rattle.fixed_worth.specs.Record.{lines_in}
 use Rattle.upit_file.specs.declared.fault.UpitFault.{UpitFault}
 use Rattle.upit_file.specs.declared.fault.UpitFault.TheVariants.{NoMemory}
 use Rattle.upit_file.specs.Header.{header, last_name, first_count, header_fault}
 use Rattle.upit_file.specs.Body.{body, first_fault, value_among}
-
--- The lines of a text, numbered from 1 on.
-abbrev pub lines_in : List ℕ → List Line
-lines_in text = numbered 0 (lines_of text)
 
 -- n where nothing is wrong, and otherwise what is.
 abbrev pub unless_fault : ℕ → Option UpitFault → Result ℕ UpitFault

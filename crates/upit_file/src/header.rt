@@ -1,6 +1,6 @@
 //! Reading the header.
 
-ghost use Rattle.std.specs.Prelude.{[], ◌≡◌, ◌≤◌, ◌^◌, ◌==◌, ◌||◌, length, drop, MatchResult, OnSome, IfSome, unwrap_or, Some, None};
+ghost use Rattle.std.specs.Prelude.{[], ◌≡◌, ◌≤◌, ◌^◌, ◌==◌, ◌||◌, length, drop, MatchResult, OnSome, unwrap_or, Some, None};
 ghost use Rattle.fixed_worth.specs.Text.{fields_of};
 ghost use Rattle.fixed_worth.specs.Record.{numbered};
 ghost use Rattle.upit_file.specs.Header as spec;
@@ -61,8 +61,7 @@ pub(crate) fn read_header<'a>(
     lines: &mut Lines<'a>,
     wanted: Option<u32>,
 ) -> Result<Header<'a>, UpitFault>
-    requires first { lines.old.number ≡ 0 }
-    requires bound { IfSome wanted (λ n. n ≤ 2 ^ 24) }
+    requires { lines.old.number ≡ 0 }
     ensures { let all = numbered 0 lines.old.lines in let n = unwrap_or wanted (records.count_in all) in MatchResult result
         (λ header. (header.blocks ≡ n) × (header.blocks ≤ 2 ^ 24) × (spec.header_fault n all ≡ None)
         × (header.name.now ≡ spec.last_name [] (spec.header all))

@@ -1,11 +1,21 @@
 //! What the definitions of reading and writing say of each other.
 //!
-//! These functions do nothing. A caller names one where its own proof needs the law.
+//! The function changes nothing. A caller names it where its own proof needs the law.
 
-ghost use Rattle.upit_file.specs.Records.{UpitView};
-ghost use Rattle.upit_file.specs.RoundTrip.{CanBeWritten, IsReadBack};
+ghost use Rattle.upit_file.specs.RoundTrip.{IsReadBack};
 
-/// The text of a name and values, read for as many blocks, has no fault and denotes that name and these values.
-pub fn written_is_read()
-    ensures { (u : UpitView) → CanBeWritten u → IsReadBack u }
-{}
+use crate::Upit;
+
+/// What [`crate::write_upit`] writes, [`crate::read_upit`] reads for as many blocks without a fault, as the same name and
+/// values.
+pub fn written_is_read(upit: &Upit)
+    ensures { IsReadBack upit.now }
+{
+    let _ = upit.len();
+    let _ = upit.name();
+    // each value says how large it can be
+    let values = upit.values();
+    for value in values {
+        let _ = value.get();
+    }
+}

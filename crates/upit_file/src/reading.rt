@@ -29,7 +29,6 @@ pub fn declared_blocks(text: &[u8]) -> Result<u32, UpitFault>
 /// Otherwise the first fault of the text, or `NoMemory` where memory is refused. A fault of the header is answered before
 /// memory is asked for.
 pub fn read_upit(alloc: Global, text: &[u8], n: u32) -> Result<Upit, UpitFault>
-    requires { n ≤ 2 ^ 24 }
     ensures value { MatchResult result
         (λ upit. (spec.fault_of n text.now ≡ None) × spec.Denotes n text.now upit)
         (λ e. spec.UnlessMemory e (spec.fault_of n text.now ≡ Some e)) }

@@ -5,7 +5,7 @@ ghost use Rattle.fixed_worth.specs.Text.{fields_of};
 ghost use Rattle.fixed_worth.specs.Record.{is_skipped};
 ghost use Rattle.upit_file.specs.Header as header;
 ghost use Rattle.upit_file.specs.Body as spec;
-ghost use Rattle.upit_file.specs.Steps.{IsRecord};
+ghost use Rattle.upit_file.specs.Internal.{IsRecord};
 
 use crate::fault::UpitFault;
 use crate::value::read_value;

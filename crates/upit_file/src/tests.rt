@@ -1,4 +1,4 @@
-use crate::{Upit, UpitFault, declared_blocks, read_upit, write_upit};
+use crate::{Upit, UpitFault, declared_blocks, laws, read_upit, write_upit};
 use fixed_worth::{Counted, WriteFault};
 use std::alloc::Global;
 use std::process::Abort;
@@ -23,7 +23,7 @@ fn have_their_faults(rt: &impl Abort, alloc: Global, rows: &[(&[u8], Option<Upit
 fn a_whole_text(rt: HostRuntime) -> Result<(), Fail> {
     assert_eq!(rt; declared_blocks(SAMPLE), Ok(2));
     let upit = read_upit(rt.alloc(), SAMPLE, 2).ok().ok_or("read")?;
-    assert_eq!(rt; (upit.len(), upit.is_empty()), (2, false));
+    assert_eq!(rt; upit.len(), 2);
     assert_eq!(rt; upit.name(), b"a b".as_slice());
     assert_eq!(rt; (upit.value(0).get(), upit.value(1).get()), (0, -2_500_000));
     Ok(())
@@ -222,6 +222,7 @@ fn a_written_text(rt: HostRuntime) -> Result<(), Fail> {
     let upit = read_upit(rt.alloc(), WRITTEN, 3).ok().ok_or("read")?;
     let mut out = Counted::new(Vec::new(rt.alloc()));
     assert_eq!(rt; write_upit(&upit, &mut out), Ok(()));
+    laws::written_is_read(&upit);
     assert_eq!(rt; out.into_inner().as_slice(), WRITTEN);
     Ok(())
 }

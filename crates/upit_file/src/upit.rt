@@ -83,13 +83,6 @@ impl Upit {
         self.values.len() as u32
     }
 
-    /// Whether there are no blocks.
-    pub fn is_empty(&self) -> bool
-        ensures { result ≡ (length self.now.values == 0) }
-    {
-        self.values.is_empty()
-    }
-
     /// The name, which is empty where there is none.
     pub fn name(&self) -> &[u8]
         ensures value { result.now ≡ self.now.name }

@@ -1,4 +1,2 @@
-pub mod Boards
 pub mod Runs
 pub mod Solving
-pub mod Turns

@@ -1,33 +1,35 @@
 -- How whole runs end.
-use Rattle.std.specs.Prelude.{◌≡◌, ℕ, ◌<◌, ◌≤◌, ◌^◌, ◌⊎◌, length}
+use Rattle.std.specs.Prelude.{◌≡◌, ℕ, ◌≤◌, ◌^◌, min}
 use Rattle.closure_net.specs.Network.{NetView, FlowView}
 use Rattle.machine_law.specs.States.{State, IsQuiet}
-use Rattle.machine_law.specs.Steps.{advance}
 use Rattle.machine_law.specs.Quiet.{IsFlowOf, IsSolved}
-use Rattle.async_step.specs.Answers.{Fits, IsReached}
+use Rattle.boards.specs.Runs.{SomeNextLeaves, IsMadeByTurns}
 
--- A run over the net ends quiet after so many steps, at most the limit. It leaves this flow, which is a greatest one, and what the
--- source reaches in what the flow leaves is closed and tight.
+-- the most steps of a run with this limit: a limit above 2^40 counts as 2^40
+abbrev pub most_steps : ℕ → ℕ
+most_steps limit = min limit (2 ^ 40)
+
+-- Turns end a run over the net quiet after so many steps, at most those of the limit. It leaves this flow, which is a greatest one,
+-- and what the source reaches in what the flow leaves is closed and tight.
 pub record Settles (net : NetView) (limit : ℕ) (flow : FlowView) (steps : ℕ) : Type 0 where
   pub state : State
-  pub reached : IsReached net state
+  pub made : IsMadeByTurns net state
   pub counted : state.steps ≡ steps
-  pub within : steps ≤ limit
+  pub within : steps ≤ most_steps limit
   pub quiet : IsQuiet net state
   pub amounts : IsFlowOf net state flow
   pub solved : IsSolved net flow
 
--- a run over the net made as many steps as it may, or as are counted at all, and doesn't end quiet
+-- turns made exactly as many steps over the net as the limit allows, and the state that they lead to isn't quiet
 pub record IsCutOff (net : NetView) (limit : ℕ) : Type 0 where
   pub state : State
-  pub reached : IsReached net state
-  pub made : (state.steps ≡ limit) ⊎ (2 ^ 40 ≤ state.steps)
+  pub made : IsMadeByTurns net state
+  pub counted : state.steps ≡ most_steps limit
   pub unquiet : ¬ (IsQuiet net state)
 
--- after a run over the net, the step that is next for some block leads to a number that leaves its type
-pub record SomeStepLeaves (net : NetView) : Type 0 where
+-- turns within the limit lead to a state over the net whose next step of some block leads to a number that leaves its type
+pub record SomeStepLeaves (net : NetView) (limit : ℕ) : Type 0 where
   pub state : State
-  pub reached : IsReached net state
-  pub block : ℕ
-  pub known : block < length net.worths
-  pub leaves : ¬ (Fits net (advance net state block))
+  pub made : IsMadeByTurns net state
+  pub within : state.steps ≤ most_steps limit
+  pub next : SomeNextLeaves net state

@@ -1,7 +1,7 @@
 //! Gates that make workers wait for each other, and one that counts.
 
 use crate::test_nets::{two_on_dear_waste, two_on_waste};
-use crate::{Board, Gate, Locked, Shared, solve};
+use crate::{Gate, Locked, Shared, TurnBoard, solve};
 use closure_net::Net;
 use ordered_group::{OrderedGroup, Worth, WorthSize};
 use std::alloc::Global;
@@ -14,10 +14,10 @@ use std::thread;
 use std::thread::Threads;
 use std::time::{Clock, Duration};
 
-// Waits until a flag is set, ten seconds or so at most. Answers whether it was.
-fn comes<R: Clock>(clock: &R, flag: &AtomicBool) -> bool {
+// Waits until a number is another one, ten seconds or so at most. Answers whether it was.
+fn becomes<R: Clock>(clock: &R, number: &AtomicU64, goal: u64) -> bool {
     for _look in 0..10_000 {
-        if flag.load(SeqCst) {
+        if number.load(SeqCst) == goal {
             return true;
         }
         thread::sleep(clock, Duration::from_millis(1));
@@ -25,59 +25,57 @@ fn comes<R: Clock>(clock: &R, flag: &AtomicBool) -> bool {
     false
 }
 
-// Before one of their turns two workers wait for each other.
+// Before one of their turns so many workers wait for each other. Each of 64 workers has a binary digit
+// of its own.
 #[derive(Drop)]
-struct Meeting<R: Clock + Sync + Drop> {
+pub struct Meeting<R: Clock + Sync + Drop> {
     clock: R,
     turn: u64,
-    // which of the two came, and which of them saw the other come
-    came: [AtomicBool; 2],
-    met: [AtomicBool; 2],
+    // the digits of all of them
+    all: u64,
+    // who came, and who of them saw all come
+    came: AtomicU64,
+    met: AtomicU64,
 }
 
 impl<R: Clock + Sync + Drop> Meeting<R> {
-    fn before(clock: R, turn: u64) -> Meeting<R> {
+    pub fn of(clock: R, workers: u32, turn: u64) -> Meeting<R> {
         Meeting {
             clock,
             turn,
-            came: [AtomicBool::new(false), AtomicBool::new(false)],
-            met: [AtomicBool::new(false), AtomicBool::new(false)],
+            all: u64::MAX.wrapping_shr(64u32.wrapping_sub(workers)),
+            came: AtomicU64::new(0),
+            met: AtomicU64::new(0),
         }
     }
 
-    fn both_met(&self) -> bool {
-        self.met[0].load(SeqCst) && self.met[1].load(SeqCst)
+    // Whether each number is that of one worker, and all of them met.
+    pub fn all_met(&self) -> bool {
+        self.met.load(SeqCst) == self.all
     }
 }
 
 impl<R: Clock + Sync + Drop> Gate for Meeting<R> {
     fn turn(&self, worker: u32, turn: u64) {
-        if turn == self.turn && worker < 2 {
-            let own = worker as usize;
-            self.came[own].store(true, SeqCst);
-            let met = comes(&self.clock, &self.came[1 - own]);
-            self.met[own].store(met, SeqCst);
+        if turn == self.turn {
+            let own = 1u64.wrapping_shl(worker);
+            self.came.fetch_add(own, SeqCst);
+            if becomes(&self.clock, &self.came, self.all) {
+                self.met.fetch_add(own, SeqCst);
+            }
         }
     }
 }
 
 #[test]
-fn both_workers_are_at_their_first_turn_at_once(rt: HostRuntime) -> Result<(), Fail> {
+fn both_workers_are_at_their_turns_at_once(rt: HostRuntime) -> Result<(), Fail> {
     let net: Net<WorthSize> = two_on_dear_waste(rt.alloc())?;
-    let gate = Meeting::before(rt, 0);
-    let solved = solve(&rt, rt.alloc(), &net, 2, 10_000_000, &gate);
-    assert!(rt; gate.both_met());
-    assert!(rt; solved.is_ok());
-    Ok(())
-}
-
-#[test]
-fn both_workers_are_at_their_second_turn_at_once(rt: HostRuntime) -> Result<(), Fail> {
-    let net: Net<WorthSize> = two_on_dear_waste(rt.alloc())?;
-    let gate = Meeting::before(rt, 1);
-    let solved = solve(&rt, rt.alloc(), &net, 2, 10_000_000, &gate);
-    assert!(rt; gate.both_met());
-    assert!(rt; solved.is_ok());
+    for turn in 0..2 {
+        let gate = Meeting::of(rt, 2, turn);
+        let solved = solve(&rt, rt.alloc(), &net, 2, 10_000_000, &gate);
+        assert!(rt; gate.all_met());
+        assert!(rt; solved.is_ok());
+    }
     Ok(())
 }
 
@@ -85,15 +83,15 @@ fn both_workers_are_at_their_second_turn_at_once(rt: HostRuntime) -> Result<(), 
 #[derive(Drop)]
 struct HeldBack<R: Clock + Sync + Drop> {
     clock: R,
-    far: AtomicBool,
+    far: AtomicU64,
     seen: AtomicBool,
 }
 
 impl<R: Clock + Sync + Drop> Gate for HeldBack<R> {
     fn turn(&self, worker: u32, turn: u64) {
         match (worker, turn) {
-            (0, 0) => self.seen.store(comes(&self.clock, &self.far), SeqCst),
-            (1, 20) => self.far.store(true, SeqCst),
+            (0, 0) => self.seen.store(becomes(&self.clock, &self.far, 20), SeqCst),
+            (1, 20) => self.far.store(20, SeqCst),
             _ => {}
         }
     }
@@ -104,7 +102,7 @@ fn a_worker_goes_on_while_another_waits(rt: HostRuntime) -> Result<(), Fail> {
     let net: Net<WorthSize> = two_on_dear_waste(rt.alloc())?;
     let gate = HeldBack {
         clock: rt,
-        far: AtomicBool::new(false),
+        far: AtomicU64::new(0),
         seen: AtomicBool::new(false),
     };
     let solved = solve(&rt, rt.alloc(), &net, 2, 10_000_000, &gate);
@@ -133,7 +131,7 @@ fn counts_turns<G: OrderedGroup, R: Abort + Threads + Wait + Sync>(
     net: &Net<G>,
 ) -> Result<(), Fail>
 where
-    Locked<Board<G>>: Shared,
+    Locked<TurnBoard<G>>: Shared,
 {
     for workers in 1..3 {
         let gate = Counting {

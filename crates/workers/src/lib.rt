@@ -2,38 +2,34 @@
 //! maximum flow problem, 2008), here with the state under one lock: each worker takes the lock for a
 //! single step at a time, so the steps of the workers come in any order.
 //!
-//! Stands on `async_step`, whose state a `Board` holds together with its net. Promises upward: a board's
-//! type keeps a state of a run over its own net, so all that `machine_law` says of every run holds
-//! whenever the lock is free; `Board::turn` makes exactly one step, of the block that it is said to
-//! pick, or leaves the state as it was; a board gives a flow only where it is quiet, and then a
-//! greatest one; and `solve` answers a flow only where it is a greatest one of the net handed in.
+//! Stands on `boards`, whose turns the workers take. Promises upward: whenever the lock is free, all that
+//! a board's type keeps holds of the board; `solve` answers a flow only where it is a greatest one of
+//! the net handed in; it answers that a run is unsettled only where turns made all its steps and the
+//! state that they led to isn't quiet, and that a number is too large only where they led to a state
+//! whose next step of some block leads to such a number.
 //!
-//! No proof speaks of time: that workers run at once, and that a run ends settled, is shown by tests.
+//! No proof speaks of time: that workers run at once, and that a run ends settled, is shown by tests. A
+//! call that may wait meets any promise by never returning, so what is promised here holds where the
+//! call returns.
 #![tactic(auto)]
 
-mod boards;
-mod finishing;
+mod gate;
 #[cfg(test)]
 mod gate_tests;
-mod gates;
-mod serving;
-#[cfg(test)]
-mod serving_tests;
-mod sharing;
+mod locked;
 #[cfg(test)]
 mod small_nets_tests;
 mod solving;
 #[cfg(test)]
 mod test_nets;
 #[cfg(test)]
-mod tests;
-mod turns;
-#[cfg(test)]
 mod whole_run_tests;
+mod worker;
+#[cfg(test)]
+mod worker_tests;
 
-pub use boards::Board;
-pub use gates::{Gate, OpenGate};
-pub use serving::serve;
-pub use sharing::{Locked, Shared};
+pub use boards::{Board, End, Turn, TurnBoard};
+pub use gate::{Gate, OpenGate};
+pub use locked::{Locked, Shared};
 pub use solving::{SolveFault, Solved, solve};
-pub use turns::{End, Turn};
+pub use worker::serve;

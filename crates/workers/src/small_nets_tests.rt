@@ -4,7 +4,7 @@
 ghost use Rattle.std.specs.Prelude.{◌<◌, ◌≤◌, ◌^◌, length};
 
 use crate::test_nets::{net_of, two_on_waste};
-use crate::{Board, Locked, OpenGate, Shared, SolveFault, solve};
+use crate::{Locked, OpenGate, Shared, SolveFault, TurnBoard, solve};
 use closure_net::{Net, pit_of};
 use ordered_group::{OrderedGroup, Worth, WorthSize};
 use std::alloc::Global;
@@ -108,7 +108,7 @@ fn set_by_a_run<G: OrderedGroup, R: Threads + Wait + Sync>(
     nanos: &[i128],
 ) -> Result<u32, Fail>
 where
-    Locked<Board<G>>: Shared,
+    Locked<TurnBoard<G>>: Shared,
     requires { n ≤ 2 ^ 24 }
 {
     let net: Net<G> = net_of(alloc, n, pairs, nanos)?;

@@ -1,16 +1,14 @@
 //! Whole runs.
 
-ghost use Rattle.std.specs.Prelude.{◌≡◌, ◌↔◌, ◌<◌, ◌≤◌, ◌^◌, MatchResult, IsErrOf};
-ghost use Rattle.workers.specs.Boards.{shown};
-ghost use Rattle.workers.specs.Runs.{Settles};
+ghost use Rattle.std.specs.Prelude.{◌≡◌, ◌↔◌, ◌<◌, ◌≤◌, MatchResult, IsErrOf};
+ghost use Rattle.boards.specs.Boards.{shown};
+ghost use Rattle.workers.specs.Runs.{most_steps, Settles};
 ghost use Rattle.workers.specs.Solving.{AreBadWorkers, IsLeft, IsLoss, RunFaultStands, SolveFaultStands};
 
-use crate::boards::Board;
-use crate::finishing::finish;
-use crate::gates::Gate;
-use crate::serving::serve;
-use crate::sharing::{Locked, Shared};
-use crate::turns::End;
+use crate::gate::Gate;
+use crate::locked::{Locked, Shared};
+use crate::worker::serve;
+use boards::{End, TurnBoard, finish};
 use closure_net::{Flow, Net};
 use ordered_group::OrderedGroup;
 use std::alloc::Global;
@@ -51,9 +49,9 @@ pub enum SolveFault {
     NoThread,
 }
 
-// Starts the workers and waits until all that were started have ended. False where one couldn't be
-// started.
-fn serve_all<R: Threads + Wait + Sync, S: Shared, T: Gate>(
+/// Starts the workers and waits until all that were started have ended. False where one couldn't be
+/// started.
+pub fn serve_all<R: Threads + Wait + Sync, S: Shared, T: Gate>(
     rt: &R,
     shared: &S,
     gate: &T,
@@ -99,7 +97,7 @@ pub fn solve<G: OrderedGroup, R: Threads + Wait + Sync, T: Gate>(
     gate: &T,
 ) -> Result<Solved<G>, SolveFault>
 where
-    Locked<Board<G>>: Shared,
+    Locked<TurnBoard<G>>: Shared,
     ensures answer { MatchResult result
         (λ solved. Settles net.now steps solved.flow solved.steps)
         (λ fault. SolveFaultStands net.now workers steps fault) }
@@ -108,9 +106,15 @@ where
     if workers < 1 || workers > MOST_WORKERS {
         return Err(SolveFault::BadWorkers);
     }
-    let limit = steps.min(MOST_STEPS);
-    let board = board_after(rt, alloc, net, workers, limit, gate)?;
-    flow_of(board, limit)
+    let board = board_after(rt, alloc, net, workers, steps, gate)?;
+    flow_of(board, steps)
+}
+
+// The most steps of a run with this limit.
+fn most_steps(limit: u64) -> u64
+    ensures { result ≡ most_steps limit }
+{
+    limit.min(MOST_STEPS)
 }
 
 // The board of a net as so many workers leave it.
@@ -121,18 +125,19 @@ fn board_after<G: OrderedGroup, R: Threads + Wait + Sync, T: Gate>(
     workers: u32,
     limit: u64,
     gate: &T,
-) -> Result<Board<G>, SolveFault>
+) -> Result<TurnBoard<G>, SolveFault>
 where
-    Locked<Board<G>>: Shared,
+    Locked<TurnBoard<G>>: Shared,
     ensures { MatchResult result (λ board. IsLeft net.now limit board) (λ fault. IsLoss fault) }
 {
-    let board = Board::open(alloc, net).map_err(|_| SolveFault::NoMemory)?;
+    let board = TurnBoard::open(alloc, net).map_err(|_| SolveFault::NoMemory)?;
     let shared = Locked::new(board);
-    if !serve_all(rt, &shared, gate, workers, net.len(), limit) {
+    let steps = most_steps(limit);
+    if !serve_all(rt, &shared, gate, workers, net.len(), steps) {
         return Err(SolveFault::NoThread);
     }
     let board = shared.into_inner();
-    if board.is_over(net) && board.count() <= limit {
+    if board.is_over(net) && board.count() <= steps {
         Ok(board)
     } else {
         Err(SolveFault::StrangerNet)
@@ -140,20 +145,20 @@ where
 }
 
 // The flow that a run leaves once the turns that are left are made.
-fn flow_of<G: OrderedGroup>(board: Board<G>, limit: u64) -> Result<Solved<G>, SolveFault>
-    requires counted { limit ≤ 2 ^ 40 }
-    requires within { (shown board).steps ≤ limit }
+fn flow_of<G: OrderedGroup>(board: TurnBoard<G>, limit: u64) -> Result<Solved<G>, SolveFault>
+    requires { (shown board).steps ≤ most_steps limit }
     ensures { MatchResult result
         (λ solved. Settles board.net limit solved.flow solved.steps)
         (λ fault. RunFaultStands board.net limit fault) }
 {
     let mut board = board;
-    match finish(&mut board, limit) {
+    match finish(&mut board, most_steps(limit)) {
         End::Quiet => {}
         End::Stuck => return Err(SolveFault::TooLarge),
         End::Limit => return Err(SolveFault::Unsettled),
         End::Full => unreachable!("a board has room for all its steps"),
     }
+    let board = board.into_board();
     let steps = board.count();
     match board.settle() {
         Ok((_, flow)) => Ok(Solved { flow, steps }),

@@ -3,7 +3,7 @@
 use crate::test_nets::{
     each_on_the_other, sizes_too_large, two_on_dear_waste, two_on_waste, worth_what_it_costs,
 };
-use crate::{Board, Locked, OpenGate, Shared, SolveFault, solve};
+use crate::{Locked, OpenGate, Shared, SolveFault, TurnBoard, solve};
 use closure_net::{Net, pit_of};
 use ordered_group::{OrderedGroup, Worth, WorthSize};
 use std::alloc::Global;
@@ -20,7 +20,7 @@ fn leaves_the_pit<G: OrderedGroup, R: Abort + Threads + Wait + Sync>(
     pit: &[u32],
 ) -> Result<(), Fail>
 where
-    Locked<Board<G>>: Shared,
+    Locked<TurnBoard<G>>: Shared,
 {
     for workers in [1, 2, 4, 64] {
         for _run in 0..20 {

@@ -19,8 +19,8 @@ pub unreachable-requires : goal.unreachable-requires
 unreachable-requires g c =
     c.in-None.ensures (none_ascends g.G.OrderedGroup.counts c.args.rests.now.blocks c.args.rests.now.pairs c.read_header.new.pieces c.in-Ok.parts c.read_body.new.parts c.in-Ok.ensures.empty c.in_ok-read_body.ensures.0 c.in_ok-read_body.ensures.2)
 
-pub returns : goal.returns
-returns g c =
+pub returns-clause-read : goal.returns-clause-read
+returns-clause-read g c =
     let counts = g.G.OrderedGroup.counts in
     let name = g.G.OrderedGroup.name in
     let n = c.args.rests.now.blocks in

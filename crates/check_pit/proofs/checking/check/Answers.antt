@@ -1,18 +1,28 @@
 use Rattle.std.proofs.Common.{◌∙◌, sym}
+use Rattle.std.proofs.lemmas.Result.{err_from_is_err_and}
 use Rattle.closure_net.specs.Network.{holds_of}
+use Rattle.check_pit.specs.Checks.{PassesCapacities}
 use Rattle.check_pit.proofs.Verdicts.{flow_found, balance_fault, no_fault}
 use Rattle.closure_net.proofs.Duality.{greatest_from_tight}
 use Rattle.check_pit.proofs.checking.check.Goals as goal
 
-pub returns-in_err-balances-clause-complete : goal.returns-in_err-balances-clause-complete
-returns-in_err-balances-clause-complete g c =
-    λ known is closed tight fit. absurd (no_fault c.args.net.now c.args.flow.now c.args.pit.now c.in_err-balances.field-0.0 known is closed tight fit
-    (balance_fault c.args.net.now c.args.flow.now c.args.pit.now c.in_err-balances.field-0.0
-    (record {
+pub returns-in_err-balances-clause-found : goal.returns-in_err-balances-clause-found
+returns-in_err-balances-clause-found g c =
+    let passes : PassesCapacities c.args.net.now c.args.flow.now c.args.pit.now = record {
       signs = record { sizes = c.sizes_agree.ensures.0 c.if-not-sizes_agree.false; closed = c.in_default.ensures; signs = c.none_below_zero.ensures.0 c.if-not-none_below_zero.false };
       within = c.in_default-first_over.ensures;
-    })
-    c.in_err-balances.ensures))
+    } in
+    let p = err_from_is_err_and c.from_residual.result c.from_residual.ensures.1 in
+    rw (p.1, p.2) (balance_fault c.args.net.now c.args.flow.now c.args.pit.now c.in_err-balances.field-0.0 passes c.in_err-balances.ensures)
+
+pub returns-in_err-balances-clause-complete : goal.returns-in_err-balances-clause-complete
+returns-in_err-balances-clause-complete g c =
+    let passes : PassesCapacities c.args.net.now c.args.flow.now c.args.pit.now = record {
+      signs = record { sizes = c.sizes_agree.ensures.0 c.if-not-sizes_agree.false; closed = c.in_default.ensures; signs = c.none_below_zero.ensures.0 c.if-not-none_below_zero.false };
+      within = c.in_default-first_over.ensures;
+    } in
+    let found = balance_fault c.args.net.now c.args.flow.now c.args.pit.now c.in_err-balances.field-0.0 passes c.in_err-balances.ensures in
+    λ proves fit. absurd (no_fault c.args.net.now c.args.flow.now c.args.pit.now c.in_err-balances.field-0.0 proves fit found.holds)
 
 pub new-requires-clause-greatest : goal.new-requires-clause-greatest
 new-requires-clause-greatest g c =

@@ -1,7 +1,7 @@
 use Rattle.std.proofs.Common.{◌≡◌, length, arith, sym, get_or}
 use Rattle.ordered_group.specs.Sums.{amount_at}
 use Rattle.prec_file.specs.Rests.{to_at}
-use Rattle.check_pit.proofs.Over.{number_below, all_in, all_fit, one_leaves, sum_more, fits_more}
+use Rattle.check_pit.proofs.Over.{number_below, all_in, all_fit, one_overflows, sum_more, fits_more}
 use Rattle.check_pit.proofs.sums.with_inflow.Goals as goal
 
 pub at-requires-after_bounds : goal.at-requires-after_bounds
@@ -17,7 +17,7 @@ returns-in_err-sum g c =
     let k = get_or ks c.loop-k.k-index 0 in
     let below = number_below (parts c.args.start) (to_at c.args.rests.now.pairs) (amount_at c.args.rest.now) c.args.b (length c.args.rests.now.pairs) ks c.below-numbers.ensures c.loop-k.k-index (omega arith) in
     let q = sym c.at.ensures in
-    rw c.from_residual.ensures (one_leaves (parts c.args.start) (to_at c.args.rests.now.pairs) (amount_at c.args.rest.now) c.args.b (length c.args.rests.now.pairs) ks c.below-numbers.ensures c.loop-k.k-index _ _ (omega arith) c.loop-k.invariant.so_far q c.in_err-sum.ensures)
+    rw c.from_residual.ensures (one_overflows (parts c.args.start) (to_at c.args.rests.now.pairs) (amount_at c.args.rest.now) c.args.b (length c.args.rests.now.pairs) ks c.below-numbers.ensures c.loop-k.k-index _ _ (omega arith) c.loop-k.invariant.so_far q c.in_err-sum.ensures)
 
 pub loop-k-preserved : goal.loop-k-preserved
 loop-k-preserved g c =

@@ -4,7 +4,7 @@ use Rattle.ordered_group.specs.Sums.{amount_at}
 use Rattle.prec_file.specs.Rests.{from_at, to_at}
 use Rattle.prec_file.specs.Rests.{numbers}
 use Rattle.prec_file.proofs.Order.{own_at}
-use Rattle.check_pit.proofs.Over.{number_below, all_in, all_fit, one_leaves, sum_more, fits_more}
+use Rattle.check_pit.proofs.Over.{number_below, all_in, all_fit, one_overflows, sum_more, fits_more}
 use Rattle.check_pit.proofs.sums.with_outflow.Goals as goal
 
 pub overflow_cast-i : goal.overflow_cast-i
@@ -51,7 +51,7 @@ returns-in_err-sum g c =
     let own = own_at ps c.len-n.ensures.all.rising c.args.b c.loop-i.i inside ∙ ap (λ x. x + c.loop-i.i) (sym c.first-first.ensures) in
     let below = number_below (parts c.args.start) (from_at ps) f c.args.b (length ps) ks refl c.loop-i.i inside in
     let q = ap f own ∙ sym c.at.ensures in
-    rw c.from_residual.ensures (one_leaves (parts c.args.start) (from_at ps) f c.args.b (length ps) ks refl c.loop-i.i _ _ inside c.loop-i.invariant.so_far q c.in_err-sum.ensures)
+    rw c.from_residual.ensures (one_overflows (parts c.args.start) (from_at ps) f c.args.b (length ps) ks refl c.loop-i.i _ _ inside c.loop-i.invariant.so_far q c.in_err-sum.ensures)
 
 pub loop-i-preserved : goal.loop-i-preserved
 loop-i-preserved g c =

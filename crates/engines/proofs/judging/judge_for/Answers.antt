@@ -7,7 +7,7 @@ use Rattle.engines.proofs.judging.judge_for.Goals as goal
 
 pub returns-in_err-certificate-clause-judged : goal.returns-in_err-certificate-clause-judged
 returns-in_err-certificate-clause-judged g c = λ texts mine named header of_mine.
-    let told = unless_moved c.in_err-certificate.field-0.0 g.G.OrderedGroup.counts g.G.OrderedGroup.name _ _ _ _ c.args.certificate.now c.rests-rests.ensures.blocks c.rests-rests.ensures.pairs c.in_err-certificate.ensures in
+    let told = unless_moved c.in_err-certificate.field-0.0 g.G.OrderedGroup.counts g.G.OrderedGroup.name _ _ _ _ c.args.certificate.now c.rests-rests.ensures.blocks c.rests-rests.ensures.pairs c.in_err-certificate.ensures.read in
     let p = err_from_is_err_and c.from_residual.result c.from_residual.ensures.1 in
     rw (p.1, p.2)
     (text_fails g.G.OrderedGroup.name g.G.OrderedGroup.block_parts g.G.OrderedGroup.counts texts c.args.certificate.now c.args.net.now c.in_err-certificate.field-0.0 c.requires mine named header c.worths-worths.ensures.net of_mine told)
@@ -20,10 +20,10 @@ returns-in-Ok-clause-judged g c = λ texts mine named header of_mine.
       header = header;
       is_net = c.worths-worths.ensures.net;
       of_mine = of_mine;
-      no_fault = none_moved g.G.OrderedGroup.counts g.G.OrderedGroup.name _ _ _ _ c.args.certificate.now c.rests-rests.ensures.blocks c.rests-rests.ensures.pairs c.in_ok-certificate.ensures.0;
+      no_fault = none_moved g.G.OrderedGroup.counts g.G.OrderedGroup.name _ _ _ _ c.args.certificate.now c.rests-rests.ensures.blocks c.rests-rests.ensures.pairs c.in_ok-certificate.ensures.read.0;
       blocks = c.in_ok-certificate.certificate.blocks;
       price = c.in_ok-certificate.certificate.price;
-      read = read_moved g.G.OrderedGroup.counts g.G.OrderedGroup.name _ _ _ _ c.args.certificate.now _ _ _ _ c.rests-rests.ensures.blocks c.rests-rests.ensures.pairs c.in_ok-certificate.ensures.1;
+      read = read_moved g.G.OrderedGroup.counts g.G.OrderedGroup.name _ _ _ _ c.args.certificate.now _ _ _ _ c.rests-rests.ensures.blocks c.rests-rests.ensures.pairs c.in_ok-certificate.ensures.read.1;
     } in
     let laws = g.met.G.OrderedGroup g.world.𝓛 g.world.𝓜 g.world.𝓡 ((λ s x. x), (λ x. x), (λ x. x), λ x. x) in
     let fits : FitsSigned w128 c.worth_of-worth.result = search rules in
@@ -39,9 +39,9 @@ returns-clause-judged g c = λ texts mine named header of_mine.
       header = header;
       is_net = c.worths-worths.ensures.net;
       of_mine = of_mine;
-      no_fault = none_moved g.G.OrderedGroup.counts g.G.OrderedGroup.name _ _ _ _ c.args.certificate.now c.rests-rests.ensures.blocks c.rests-rests.ensures.pairs c.in_ok-certificate.ensures.0;
+      no_fault = none_moved g.G.OrderedGroup.counts g.G.OrderedGroup.name _ _ _ _ c.args.certificate.now c.rests-rests.ensures.blocks c.rests-rests.ensures.pairs c.in_ok-certificate.ensures.read.0;
       blocks = c.in_ok-certificate.certificate.blocks;
       price = c.in_ok-certificate.certificate.price;
-      read = read_moved g.G.OrderedGroup.counts g.G.OrderedGroup.name _ _ _ _ c.args.certificate.now _ _ _ _ c.rests-rests.ensures.blocks c.rests-rests.ensures.pairs c.in_ok-certificate.ensures.1;
+      read = read_moved g.G.OrderedGroup.counts g.G.OrderedGroup.name _ _ _ _ c.args.certificate.now _ _ _ _ c.rests-rests.ensures.blocks c.rests-rests.ensures.pairs c.in_ok-certificate.ensures.read.1;
     } in
     refused g.G.OrderedGroup.name g.G.OrderedGroup.block_parts g.G.OrderedGroup.counts texts c.args.certificate.now c.args.net.now c.in_ok-certificate.certificate.pit c.in_ok-certificate.certificate.flow known c.requires c.in-Err.fault c.in-Err.ensures.found

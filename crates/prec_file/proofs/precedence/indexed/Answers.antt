@@ -1,5 +1,6 @@
 use Rattle.std.proofs.Common.{ℕ, List, length, ◌∙◌, ap, map, subst}
-use Rattle.prec_file.specs.Rests.{IsStarts, from_at}
+use Rattle.prec_file.specs.Rests.{from_at}
+use Rattle.prec_file.specs.Internal.{IsStarts}
 use Rattle.prec_file.proofs.Sorting.{known_tops}
 use Rattle.prec_file.proofs.Order.{tops_moved, filled_moved}
 use Rattle.prec_file.proofs.precedence.indexed.Goals as goal

@@ -1,6 +1,6 @@
 use Rattle.std.proofs.Common.{List, Bool, length, ap, sym, subst, ◌∙◌}
 use Rattle.std.proofs.lemmas.Result.{err_from_is_err_and}
-use Rattle.prec_file.proofs.Shapes.{unless}
+use Rattle.prec_file.proofs.Shapes.{unless_told}
 use Rattle.prec_file.proofs.Progress.{ReadSoFar, step_on, step_wrong}
 use Rattle.prec_file.proofs.KnownPairs.{more_known}
 use Rattle.prec_file.proofs.Marks.{written_back}
@@ -31,5 +31,5 @@ returns-in_err-read_line-in-Ok-Some c =
     let g = subst (λ (xs : List Bool). ReadSoFar c.args.n c.args.text.now xs c.loop-line.pairs.items c.loop-line.lines) (sym lent) c.loop-line.invariant.going in
     let fault = c.in_err-read_line-in-Ok-Some.field-0.0 in
     let p = err_from_is_err_and c.from_residual-in_err-read_line-in-Ok-Some.result c.from_residual-in_err-read_line-in-Ok-Some.ensures.1 in
-    rw (p.1, p.2) (unless fault (λ w. step_wrong c.args.n c.number-number.result c.args.text.now c.as_mut_slice.result.now c.loop-line.pairs.items c.loop-line.lines c.next_line.new.self c.in-Ok-Some.line.now fault
+    rw (p.1, p.2) (unless_told fault _ (λ w. step_wrong c.args.n c.number-number.result c.args.text.now c.as_mut_slice.result.now c.loop-line.pairs.items c.loop-line.lines c.next_line.new.self c.in-Ok-Some.line.now fault
     g c.number-number.ensures.value q.1 q.2 q.0 w) c.in_err-read_line-in-Ok-Some.ensures)

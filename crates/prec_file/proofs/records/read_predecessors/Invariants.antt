@@ -14,5 +14,5 @@ invariant-loop-field l =
       known : (l.unknown || list_any (nat_le l.n) (map number_of left)) ≡ (nat_le l.n l.block || list_any (nat_le l.n) (map number_of all));
       count : l.found + length left ≡ length all;
       few : length all ≤ 65536;
-      pairs : l.unknown ≡ false → (l.block < l.n) × (l.pairs.items ++ map (λ p. (l.block, p)) (map number_of left) ≡ l.fn.pairs.items ++ map (λ p. (l.block, p)) (map number_of all));
+      pairs : l.unknown ≡ false → l.refused ≡ false → (l.block < l.n) × (l.pairs.items ++ map (λ p. (l.block, p)) (map number_of left) ≡ l.fn.pairs.items ++ map (λ p. (l.block, p)) (map number_of all));
     }

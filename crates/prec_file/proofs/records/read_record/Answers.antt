@@ -1,11 +1,10 @@
-use Rattle.std.proofs.Common.{◌≡◌, ℕ, ◌++◌, ◌∷◌, [], false, length, map, List, sym, ap, ◌∙◌, arith, subst, rules}
+use Rattle.std.proofs.Common.{◌≡◌, ℕ, ◌++◌, ◌∷◌, [], false, length, map, List, sym, ap, ◌∙◌, arith, rules}
 use Rattle.fixed_worth.specs.Text.{Run, fields_of}
 use Rattle.fixed_worth.specs.Record.{is_remark}
 use Rattle.prec_file.specs.Records.{block_of, count_of, predecessors_of}
-use Rattle.prec_file.specs.declared.prec_fault.PrecFault.{PrecFault}
 use Rattle.prec_file.specs.declared.prec_fault.PrecFault.TheVariants.{Text, Number}
 use Rattle.std.proofs.lemmas.Result.{err_from_is_err_and}
-use Rattle.prec_file.proofs.Shapes.{unless, ok_before, err_before, reads_ok, reads_err, Wrong, too_few, bad_first, bad_second, bad_rest, unknown, sound, known, texts_length, pairs_at}
+use Rattle.prec_file.proofs.Shapes.{ok_before, err_before, reads_ok, reads_err, too_few, bad_first, bad_second, bad_rest, unknown, sound, known, texts_length, pairs_at}
 use Rattle.prec_file.proofs.records.read_record.Goals as goal
 
 abbrev texts : List Run → List (List ℕ)
@@ -42,14 +41,14 @@ returns-in_err-count c =
     let p = err_from_is_err_and c.from_residual-in_err-count.result c.from_residual-in_err-count.ensures.1 in
     rw (p.1, p.2, is) (bad_second c.args.n c.args.line _ _ _ _ e m b.0 (reads_err _ _ (sym was.1 ∙ c.whole-2.ensures)))
 
-pub returns-then-unknown : goal.returns-then-unknown
-returns-then-unknown c =
+pub returns-then-listed : goal.returns-then-listed
+returns-then-listed c =
     let some = rw c.in_ok-second.ensures.ok_part at c.next-2.ensures.steps in
     let e : fields_of c.args.text.now ≡ c.in-Some.first.text.now ∷ c.in_ok-second.second.text.now ∷ texts c.next-2.new.self = two_fields _ _ _ _ _ (sym c.new-fields.ensures.fields ∙ c.in-Some.ensures.steps) some in
     let m : is_remark c.in-Some.first.text.now ≡ false = sym c.is_remark.ensures ∙ c.if-is_remark.false in
     let b = reads_ok c.in-Some.first.text.now c.in_ok-block.block (sym (ok_before _ _ _ _ c.in_ok-block.was c.map_err.ensures.cases) ∙ c.whole.ensures) in
     let k = reads_ok c.in_ok-second.second.text.now c.in_ok-count.count (sym (ok_before _ _ _ _ c.in_ok-count.was c.map_err-2.ensures.cases) ∙ c.whole-2.ensures) in
-    unknown c.args.n c.args.line c.in_ok-block.block _ _ _ _ e m b.0 b.1 k.0 c.in_ok-unknown.ensures.0 (sym c.in_ok-unknown.ensures.1 ∙ c.if-unknown.true)
+    unknown c.args.n c.args.line c.in_ok-block.block _ _ _ _ e m b.0 b.1 k.0 c.in_ok-listed.ensures.0 (sym c.in_ok-listed.ensures.1 ∙ c.if-listed.true)
 
 pub returns : goal.returns
 returns c =
@@ -58,8 +57,8 @@ returns c =
     let m : is_remark c.in-Some.first.text.now ≡ false = sym c.is_remark.ensures ∙ c.if-is_remark.false in
     let b = reads_ok c.in-Some.first.text.now c.in_ok-block.block (sym (ok_before _ _ _ _ c.in_ok-block.was c.map_err.ensures.cases) ∙ c.whole.ensures) in
     let k = reads_ok c.in_ok-second.second.text.now c.in_ok-count.count (sym (ok_before _ _ _ _ c.in_ok-count.was c.map_err-2.ensures.cases) ∙ c.whole-2.ensures) in
-    let no = sym c.in_ok-unknown.ensures.1 ∙ c.if-unknown.false in
-    let s = sound c.args.n c.args.line c.in_ok-block.block _ _ _ _ e m b.0 b.1 k.0 c.in_ok-unknown.ensures.0 no in
+    let no = sym c.in_ok-listed.ensures.1 ∙ c.if-listed.false in
+    let s = sound c.args.n c.args.line c.in_ok-block.block _ _ _ _ e m b.0 b.1 k.0 c.in_ok-listed.ensures.0 no in
     let k1 = ap length c.in-Some.ensures.steps in
     let k2 = ap length some in (
       s.0,
@@ -67,18 +66,18 @@ returns c =
       sym (ap block_of e ∙ b.1),
       known c.args.n c.in_ok-block.block _ no,
       sym (ap count_of e ∙ k.1),
-      c.in_ok-unknown.ensures.2 ∙ sym (texts_length c.next-2.new.self) ∙ sym (ap (λ fs. length (predecessors_of fs)) e),
-      omega (arith, k1, k2, c.new-fields.ensures.few, c.in_ok-unknown.ensures.2),
-      c.in_ok-unknown.ensures.3 c.if-unknown.false ∙ ap (λ ps. c.args.pairs.now.items ++ ps) (sym (pairs_at c.in_ok-block.block _ _ _ _ e m b.1)),
+      c.in_ok-listed.ensures.2 ∙ sym (texts_length c.next-2.new.self) ∙ sym (ap (λ fs. length (predecessors_of fs)) e),
+      omega (arith, k1, k2, c.new-fields.ensures.few, c.in_ok-listed.ensures.2),
+      λ stored. c.in_ok-listed.ensures.3 c.if-listed.false stored ∙ ap (λ ps. c.args.pairs.now.items ++ ps) (sym (pairs_at c.in_ok-block.block _ _ _ _ e m b.1)),
     )
 
-pub returns-in_err-unknown : goal.returns-in_err-unknown
-returns-in_err-unknown c =
+pub returns-in_err-listed : goal.returns-in_err-listed
+returns-in_err-listed c =
     let some = rw c.in_ok-second.ensures.ok_part at c.next-2.ensures.steps in
     let e : fields_of c.args.text.now ≡ c.in-Some.first.text.now ∷ c.in_ok-second.second.text.now ∷ texts c.next-2.new.self = two_fields _ _ _ _ _ (sym c.new-fields.ensures.fields ∙ c.in-Some.ensures.steps) some in
     let m : is_remark c.in-Some.first.text.now ≡ false = sym c.is_remark.ensures ∙ c.if-is_remark.false in
     let b = reads_ok c.in-Some.first.text.now c.in_ok-block.block (sym (ok_before _ _ _ _ c.in_ok-block.was c.map_err.ensures.cases) ∙ c.whole.ensures) in
     let k = reads_ok c.in_ok-second.second.text.now c.in_ok-count.count (sym (ok_before _ _ _ _ c.in_ok-count.was c.map_err-2.ensures.cases) ∙ c.whole-2.ensures) in
-    let fault = c.in_err-unknown.field-0.0 in
-    let p = err_from_is_err_and c.from_residual-in_err-unknown.result c.from_residual-in_err-unknown.ensures.1 in
-    rw (p.1, p.2) (unless fault (λ h. subst (λ (x : PrecFault). Wrong c.args.n c.args.line (fields_of c.args.text.now) x) (sym h.0) (bad_rest c.args.n c.args.line _ _ _ _ e m b.0 k.0 h.1)) c.in_err-unknown.ensures)
+    let p = err_from_is_err_and c.from_residual-in_err-listed.result c.from_residual-in_err-listed.ensures.1 in
+    let h = c.in_err-listed.ensures in
+    rw (p.1, p.2, h.0) (bad_rest c.args.n c.args.line _ _ _ _ e m b.0 k.0 h.1)

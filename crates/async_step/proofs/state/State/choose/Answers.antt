@@ -5,7 +5,8 @@ use Rattle.ordered_group.specs.Amount.{Amount}
 use Rattle.machine_law.specs.declared.operations.Operation.{Operation}
 use Rattle.machine_law.specs.Operations.{operation_as}
 use Rattle.async_step.specs.Views.{StateView, view_of, IsState, operation_at}
-use Rattle.async_step.specs.Scans.{IsScan, chosen_by}
+use Rattle.async_step.specs.Scans.{chosen_by}
+use Rattle.machine_law.specs.Reads.{IsScan}
 use Rattle.async_step.proofs.Changes.{state_works}
 use Rattle.async_step.proofs.Scanning.{scan_under, scan_works, chosen_works, place_is, place_changed}
 use Rattle.async_step.proofs.state.State.choose.Goals as goal

@@ -1,6 +1,6 @@
 use Rattle.std.proofs.Common.{refl}
 use Rattle.async_step.specs.Views.{state_of}
-use Rattle.async_step.specs.Answers.{next_event}
+use Rattle.machine_law.specs.Steps.{next_event}
 use Rattle.async_step.proofs.Turns.{stepped, still_state}
 use Rattle.async_step.proofs.state.State.next_step.Goals as goal
 

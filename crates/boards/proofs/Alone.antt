@@ -1,0 +1,168 @@
+-- Which blocks have an operation.
+use Rattle.std.proofs.Common.{◌≡◌, ◌≢◌, ℕ, ◌+◌, ◌<◌, ◌↔◌, ◌⊎◌, IsTrue, refl, sym, ap, subst, ◌∙◌, arith, inl, inr, Bool, true, false, if◌then◌else◌, Option, Some, None}
+use Rattle.std.proofs.lemmas.Bool.{cases_eq}
+use Rattle.std.proofs.lemmas.Option.{none-some, same_Some}
+use Rattle.ordered_group.specs.Amount.{Amount, zero_amount}
+use Rattle.ordered_group.proofs.Order.{AtMost-both, most_or_below}
+use Rattle.closure_net.specs.Network.{NetView}
+use Rattle.closure_net.specs.declared.ports.Port.{Port}
+use Rattle.closure_net.specs.declared.ports.PortKind.{PortKind}
+use Rattle.closure_net.specs.declared.ports.PortKind.TheVariants.{Sink, Forward, Backward, Source}
+use Rattle.machine_law.specs.declared.operations.Operation.{Operation}
+use Rattle.machine_law.specs.declared.operations.Operation.TheVariants.{Idle, Scan, PushDue, TakeDue, GiveDue, RaiseDue}
+use Rattle.machine_law.specs.States.{State, put, IsQuiet}
+use Rattle.machine_law.specs.Steps.{push_amount, pushed_by, given_by, advance_by}
+use Rattle.machine_law.proofs.Law.{runs_keep_law}
+use Rattle.machine_law.proofs.Points.{put-other}
+use Rattle.boards.specs.Boards.{BoardView, shown, blocks_of, IsBoard}
+use Rattle.boards.specs.Turns.{HasNoOwn, IsPicked, IsUnserved, IsDue, HasServed}
+use Rattle.boards.specs.Ends.{IsAlone, AreIdleBelow, GoesOn}
+
+-- ---- a step changes the operation of its block alone, and is counted
+record Changes (s t : State) (b : ℕ) : Type 0 where
+  pub others : (c : ℕ) → c ≢ b → t.operation c ≡ s.operation c
+  pub counted : t.steps ≡ s.steps + 1
+
+changes : (s t : State) (b : ℕ) (o : Operation Amount) → t.operation ≡ put s.operation b o → t.steps ≡ s.steps + 1 → Changes s t b
+changes s t b o e k = record {
+  others = λ c ne. ap (λ (f : ℕ → Operation Amount). f c) e ∙ put-other s.operation b o c ne;
+  counted = k;
+}
+
+pushed_changes : (s : State) (b : ℕ) (d : Amount) (port : Port) (kind : PortKind) → Changes s (pushed_by s b d port kind) b
+pushed_changes s b d port Sink = changes s _ b _ refl refl
+pushed_changes s b d port Forward = changes s _ b _ refl refl
+pushed_changes s b d port Backward = changes s _ b _ refl refl
+pushed_changes s b d port Source = changes s _ b _ refl refl
+
+given_changes : (s : State) (b : ℕ) (d : Amount) (port : Port) (kind : PortKind) → Changes s (given_by s b d port kind) b
+given_changes s b d port Sink = changes s _ b _ refl refl
+given_changes s b d port Forward = changes s _ b _ refl refl
+given_changes s b d port Backward = changes s _ b _ refl refl
+given_changes s b d port Source = changes s _ b _ refl refl
+
+step_changes : (net : NetView) (s : State) (b : ℕ) (o : Operation Amount) → Changes s (advance_by net s b o) b
+step_changes net s b Idle = changes s _ b _ refl refl
+step_changes net s b (Scan have place None best) = changes s _ b _ refl refl
+step_changes net s b (Scan have place (Some read) best) = changes s _ b _ refl refl
+step_changes net s b (PushDue have best) = pushed_changes s b (push_amount have best.port.kind best.capacity) best.port best.port.kind
+step_changes net s b (TakeDue d port) = changes s _ b _ refl refl
+step_changes net s b (GiveDue d port) = given_changes s b d port port.kind
+step_changes net s b (RaiseDue have best) = changes s _ b _ refl refl
+
+served_changes : (old new : BoardView) (b : ℕ) (more : Bool) → HasServed old b new more → Changes (shown old) (shown new) b
+served_changes old new b more h =
+    subst (λ (t : State). Changes (shown old) t b) (sym h.step.after) (step_changes old.net (shown old) b ((shown old).operation b))
+
+-- the run goes on
+pub served_goes_on : (first old new : BoardView) (own : Option ℕ) (from steps b : ℕ) (more : Bool) → GoesOn first old steps → IsDue old own from steps b × HasServed old b new more → GoesOn first new steps
+served_goes_on first old new own from steps b more g h = record {
+  net_is = ap (λ (x : BoardView). x.net) h.1.rest ∙ g.net_is;
+  within = (let k = (served_changes old new b more h.1).counted in omega (arith, k, h.0.going.room));
+}
+
+pub served_counts : (old new : BoardView) (b : ℕ) (more : Bool) → HasServed old b new more → (shown new).steps ≡ (shown old).steps + 1
+served_counts old new b more h = (served_changes old new b more h).counted
+
+-- ---- an operation, or none
+idle_or : (o : Operation Amount) → (o ≡ Idle) ⊎ ¬ (o ≡ Idle)
+idle_or Idle = inl refl
+idle_or (Scan have place read best) = inr (λ e. cc)
+idle_or (PushDue have best) = inr (λ e. cc)
+idle_or (TakeDue amount port) = inr (λ e. cc)
+idle_or (GiveDue amount port) = inr (λ e. cc)
+idle_or (RaiseDue have best) = inr (λ e. cc)
+
+idle_not : (o : Operation Amount) → ¬ ¬ (o ≡ Idle) → o ≡ Idle
+idle_not o h = elim (idle_or o) [
+  | inl e ↦ e
+  | inr ne ↦ absurd (h ne)
+]
+
+no_own_idle : (board : BoardView) (own : Option ℕ) (c : ℕ) → HasNoOwn board own → own ≡ Some c → c < blocks_of board → (shown board).operation c ≡ Idle
+no_own_idle board own c h e l = idle_not ((shown board).operation c) (λ work. h c (record { own_is = e; inside = l; at_work = work }))
+
+-- ---- while one block is served to its end
+own_served : (board : BoardView) (from block b : ℕ) → block < blocks_of board → ¬ ((shown board).operation block ≡ Idle) → IsPicked board (Some block) from b → b ≡ block
+own_served board from block b l work p = elim p [
+  | inl own ↦ sym (same_Some block b own.own_is)
+  | inr none ↦ absurd (work (no_own_idle board (Some block) block none.0 refl l))
+]
+
+pub still_idle_below : (old new : BoardView) (from steps block b : ℕ) (more : Bool) → block < blocks_of old → ¬ ((shown old).operation block ≡ Idle) → AreIdleBelow old block
+    → IsDue old (Some block) from steps b × HasServed old b new more → AreIdleBelow new block
+still_idle_below old new from steps block b more l work idle h c below =
+    let e = own_served old from block b l work h.0.picked in
+    (served_changes old new b more h.1).others c (λ q. (let t : block < block = subst (λ x. x < block) (q ∙ e) below in omega (arith, t))) ∙ idle c below
+
+pub one_more_idle : (board : BoardView) (block : ℕ) → AreIdleBelow board block → ¬ ¬ ((shown board).operation block ≡ Idle) → AreIdleBelow board (block + 1)
+one_more_idle board block idle here c below = elim (cases_eq c block) [
+  | inl e ↦ subst (λ x. (shown board).operation x ≡ Idle) (sym e) (idle_not ((shown board).operation block) here)
+  | inr ne ↦ idle c (omega (arith, below, ne))
+]
+
+-- ---- while one operation follows another
+pub all_idle_alone : (board : BoardView) → AreIdleBelow board (blocks_of board) → IsAlone (blocks_of board) (shown board) None
+all_idle_alone board idle = record {
+  known = λ b q. absurd (none-some b q);
+  others = λ c l ne. idle c l;
+}
+
+pub picked_inside : (board : BoardView) (own : Option ℕ) (from b : ℕ) → IsPicked board own from b → b < blocks_of board
+picked_inside board own from b p = elim p [
+  | inl own ↦ own.inside
+  | inr none ↦ none.1.inside
+]
+
+other_idle : (board : BoardView) (own : Option ℕ) (from b c : ℕ) → IsAlone (blocks_of board) (shown board) own → IsPicked board own from b → c < blocks_of board → c ≢ b → ((own ≡ Some c) ⊎ ¬ (own ≡ Some c)) → (shown board).operation c ≡ Idle
+other_idle board own from b c alone p l ne (inr not) = alone.others c l not
+other_idle board own from b c alone p l ne (inl is) = elim p [
+  | inl own ↦ absurd (ne (same_Some c b (sym is ∙ own.own_is)))
+  | inr none ↦ no_own_idle board _ c none.0 is l
+]
+
+own_or : (own : Option ℕ) (c : ℕ) → (own ≡ Some c) ⊎ ¬ (own ≡ Some c)
+own_or None c = inr (λ e. none-some c e)
+own_or (Some b) c = elim (cases_eq b c) [
+  | inl e ↦ inl (ap Some e)
+  | inr ne ↦ inr (λ e. ne (same_Some b c e))
+]
+
+goes_on_alone : (n : ℕ) (s : State) (b : ℕ) (more : Bool) → b < n → ((c : ℕ) → c < n → c ≢ b → s.operation c ≡ Idle) → (IsTrue more ↔ ¬ (s.operation b ≡ Idle)) → IsAlone n s (if more then Some b else None)
+goes_on_alone n s b true l others h = record {
+  known = λ c e. subst (λ x. x < n) (same_Some b c e) l;
+  others = λ c k ne. others c k (λ e. ne (ap Some (sym e)));
+}
+goes_on_alone n s b false l others h = record {
+  known = λ c e. absurd (none-some c e);
+  others = λ c k ne. elim (cases_eq c b) [
+    | inl e ↦ subst (λ x. s.operation x ≡ Idle) (sym e) (idle_not (s.operation b) (λ work. (let t : IsTrue false = h.1 work in cc)))
+    | inr other ↦ others c k other
+  ];
+}
+
+pub still_alone : (old new : BoardView) (own : Option ℕ) (from steps b : ℕ) (more : Bool) → IsAlone (blocks_of old) (shown old) own → IsDue old own from steps b × HasServed old b new more
+    → IsAlone (blocks_of new) (shown new) (if more then Some b else None)
+still_alone old new own from steps b more alone h =
+    let n : blocks_of new ≡ blocks_of old = ap (λ (x : BoardView). blocks_of x) h.1.rest in
+    let k = served_changes old new b more h.1 in
+    let others : (c : ℕ) → c < blocks_of new → c ≢ b → (shown new).operation c ≡ Idle =
+    λ c l ne. k.others c ne ∙ other_idle old own from b c alone h.0.picked (subst (λ x. c < x) n l) ne (own_or own c) in
+    goes_on_alone (blocks_of new) (shown new) b more (subst (λ x. b < x) (sym n) (picked_inside old own from b h.0.picked)) others h.1.goes_on
+
+-- where none has an operation and none waits, all is quiet
+pub unserved_quiet : (board : BoardView) (own : Option ℕ) → IsBoard board → IsAlone (blocks_of board) (shown board) own → IsUnserved board own → IsQuiet board.net (shown board)
+unserved_quiet board own is alone none =
+    let amounts = (runs_keep_law board.net is.over.reached.events (shown board) is.over.reached.run).amounts in
+    let idle : (b : ℕ) → b < blocks_of board → (shown board).operation b ≡ Idle =
+    λ b l. (elim (own_or own b) [
+      | inl e ↦ no_own_idle board own b none.no_own e l
+      | inr ne ↦ alone.others b l ne
+    ]) in
+    record {
+      excess = λ b l. elim (most_or_below ((shown board).excess b) zero_amount) [
+        | inl most ↦ AtMost-both ((shown board).excess b) zero_amount most (amounts.excess b)
+        | inr below ↦ absurd (none.none_waits b l (record { excess = below; idle = idle b l }))
+      ];
+      operation = idle;
+    }

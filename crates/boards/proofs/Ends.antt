@@ -1,0 +1,124 @@
+-- What turns leave of a board, and how they end its run.
+use Rattle.std.proofs.Common.{◌≡◌, ◌↔◌, ℕ, ◌≤◌, ◌^◌, IsTrue, Bool, refl, sym, ap, subst, ◌∙◌, arith, inl, inr, true, false, Option, ◌∷◌, [], ◌++◌}
+use Rattle.ordered_group.specs.Amount.{zero_amount}
+use Rattle.ordered_group.proofs.Order.{AtMost-same, Below-not}
+use Rattle.closure_net.specs.Network.{NetView, FlowView, IsNet}
+use Rattle.machine_law.specs.States.{opening, IsQuiet}
+use Rattle.machine_law.specs.Steps.{next_event, ReadsNoZero}
+use Rattle.machine_law.specs.Quiet.{IsFlowOf}
+use Rattle.machine_law.proofs.Quiet.{quiet_solves}
+use Rattle.machine_law.proofs.ActiveRuns.{active_more, excess_read_idle}
+use Rattle.async_step.specs.Answers.{Fits}
+use Rattle.boards.specs.Runs.{SomeNextLeaves, IsMadeByTurns}
+use Rattle.boards.specs.Boards.{BoardView, shown, IsBoard, IsTurnBoard, IsOpened, HasSettled}
+use Rattle.boards.specs.Turns.{IsPicked, IsDue, HasNoneDue, HasServed, Sticks, IsStepOf, IsEnd, IsTurn}
+use Rattle.boards.specs.Ends.{HasEnded, GoesOn}
+use Rattle.boards.specs.declared.turn.Turn.{Turn}
+use Rattle.boards.specs.declared.turn.Turn.TheVariants.{Stepped, Idle as Unserved, Ended}
+use Rattle.boards.specs.declared.turn.End.{End}
+use Rattle.boards.specs.declared.turn.End.TheVariants.{Quiet, Stuck, Limit, Full}
+use Rattle.boards.proofs.Alone.{picked_inside}
+
+-- a quiet board's flow solves its net
+pub settled : (board : BoardView) (flow : FlowView) → IsBoard board → IsNet board.net → IsQuiet board.net (shown board) → IsFlowOf board.net (shown board) flow → HasSettled board board.net flow
+settled board flow is net quiet amounts = record {
+  net_is = refl;
+  quiet = quiet;
+  amounts = amounts;
+  solved = quiet_solves board.net is.over.reached.events (shown board) flow net.rests.known is.over.reached.run quiet amounts;
+}
+
+-- what a test for quiet tells of a board that isn't
+pub unquiet : (quiet : Bool) (claim : Type 0) → IsTrue quiet ↔ claim → quiet ≡ false → ¬ claim
+unquiet quiet claim tells isnt q = let z : true ≡ false = sym (tells.1 q) ∙ isnt in cc
+
+-- ---- a turn is what is due, and its step
+pub turn_of_none : (old : BoardView) (own : Option ℕ) (from steps : ℕ) (turn : Turn) → HasNoneDue old own steps turn → IsTurn old own from steps old turn
+turn_of_none old own from steps (Stepped block more) h = absurd h
+turn_of_none old own from steps Unserved h = (h.0, h.1, refl)
+turn_of_none old own from steps (Ended Quiet) h = (h, refl)
+turn_of_none old own from steps (Ended Stuck) h = inl (h, refl)
+turn_of_none old own from steps (Ended Limit) h = (inl h, refl)
+turn_of_none old own from steps (Ended Full) h = absurd h
+
+pub turn_of_step : (old new : BoardView) (own : Option ℕ) (from steps b : ℕ) (turn : Turn) → IsDue old own from steps b → IsStepOf old b new turn → IsTurn old own from steps new turn
+turn_of_step old new own from steps b (Stepped block more) due h =
+    (subst (λ x. IsDue old own from steps x) (sym h.0) due, subst (λ x. HasServed old x new more) (sym h.0) h.1)
+turn_of_step old new own from steps b Unserved due h = absurd h
+turn_of_step old new own from steps b (Ended Quiet) due h = absurd h
+turn_of_step old new own from steps b (Ended Stuck) due h = inr (b, due, h)
+turn_of_step old new own from steps b (Ended Limit) due h = (inr (b, due, h.0), h.1)
+turn_of_step old new own from steps b (Ended Full) due h = absurd h
+
+-- ---- what turns alone keep
+
+-- the step of a block that is due reads no excess of zero
+due_reads : (board : BoardView) (own : Option ℕ) (from b : ℕ) → IsPicked board own from b → ReadsNoZero (shown board) (next_event board.net (shown board) b)
+due_reads board own from b (inl own_one) kind zero = own_one.at_work (excess_read_idle board.net b ((shown board).operation b) kind)
+due_reads board own from b (inr waits) kind zero = Below-not zero_amount ((shown board).excess b) waits.1.here.excess (AtMost-same ((shown board).excess b) zero_amount zero)
+
+module _ (old new : BoardView) (was : IsTurnBoard old) (is : IsBoard new) where
+  still : new ≡ old → IsTurnBoard new
+  still e = subst IsTurnBoard (sym e) was
+
+  -- one more step was made
+  served : (own : Option ℕ) (from steps b : ℕ) (more : Bool) → IsDue old own from steps b → HasServed old b new more → IsTurnBoard new
+  served own from steps b more due h =
+      let net_is : new.net ≡ old.net = ap (λ (x : BoardView). x.net) h.rest in
+      let fits : Fits old.net (shown new) = subst (λ (n : NetView). Fits n (shown new)) net_is is.over.fits in
+      record {
+        is_board = is;
+        made = subst (λ (n : NetView). IsMadeByTurns n (shown new)) (sym net_is) (record {
+          events = was.made.events ++ next_event old.net (shown old) b ∷ [];
+          run = active_more (Fits old.net) old.net (opening old.net) was.made.events (next_event old.net (shown old) b) (shown old) (shown new) was.made.run h.step (due_reads old own from b due.picked) fits;
+        });
+        why = λ t. (let z : true ≡ false = sym t ∙ (ap (λ (x : BoardView). x.stuck) h.rest ∙ due.going.free) in absurd cc);
+      }
+
+  -- it is stuck now
+  sticks : (own : Option ℕ) (from steps b : ℕ) → IsDue old own from steps b → Sticks old b new → IsTurnBoard new
+  sticks own from steps b due h = record {
+    is_board = is;
+    made = subst (λ (x : BoardView). IsMadeByTurns x.net (shown x)) (sym h.marked) was.made;
+    why = λ t. subst (λ (x : BoardView). SomeNextLeaves x.net (shown x)) (sym h.marked) (record { block = b; known = picked_inside old own from b due.picked; leaves = h.leaves });
+  }
+
+  pub turned : (own : Option ℕ) (from steps : ℕ) (turn : Turn) → IsTurn old own from steps new turn → IsTurnBoard new
+  turned own from steps (Stepped block more) h = served own from steps block more h.0 h.1
+  turned own from steps Unserved h = still h.2
+  turned own from steps (Ended Quiet) h = still h.1
+  turned own from steps (Ended Stuck) (inl h) = still h.1
+  turned own from steps (Ended Stuck) (inr h) = sticks own from steps h.0 h.1 h.2
+  turned own from steps (Ended Limit) h = still h.1
+  turned own from steps (Ended Full) h = absurd h
+
+-- a board as it opens
+pub opened : (net : NetView) (board : BoardView) → IsBoard board → IsOpened net board → IsTurnBoard board
+opened net board is o = record {
+  is_board = is;
+  made = record { events = []; run = o.state ∙ ap opening (sym o.net_is) };
+  why = λ t. (let z : true ≡ false = sym t ∙ o.free in absurd cc);
+}
+
+-- ---- how turns end a run
+module _ (first old new : BoardView) (own : Option ℕ) (from steps : ℕ) (small : steps ≤ 2 ^ 40) (goes : GoesOn first old steps) (is : IsTurnBoard new) where
+  same_state : (end : End) → IsEnd old own from steps new end → (new.net ≡ old.net) × (new.state ≡ old.state)
+  same_state Quiet h = (ap (λ (x : BoardView). x.net) h.1, ap (λ (x : BoardView). x.state) h.1)
+  same_state Stuck (inl h) = (ap (λ (x : BoardView). x.net) h.1, ap (λ (x : BoardView). x.state) h.1)
+  same_state Stuck (inr h) = (ap (λ (x : BoardView). x.net) h.2.marked, ap (λ (x : BoardView). x.state) h.2.marked)
+  same_state Limit h = (ap (λ (x : BoardView). x.net) h.1, ap (λ (x : BoardView). x.state) h.1)
+  same_state Full h = absurd h
+
+  pub end_goes_on : (end : End) → IsEnd old own from steps new end → GoesOn first new steps
+  end_goes_on end h = let same = same_state end h in record {
+    net_is = same.0 ∙ goes.net_is;
+    within = subst (λ (k : ℕ). k ≤ steps) (sym (ap (λ v. v.steps) same.1)) goes.within;
+  }
+
+  pub ended : (end : End) → IsEnd old own from steps new end → HasEnded new steps end
+  ended Quiet h = subst (λ (x : BoardView). IsQuiet x.net (shown x)) (sym h.1) h.0
+  ended Stuck (inl h) = is.why (ap (λ (x : BoardView). x.stuck) h.1 ∙ h.0.stuck)
+  ended Stuck (inr h) = is.why (ap (λ (x : BoardView). x.stuck) h.2.marked)
+  ended Limit (inl h, same) = subst (λ (x : BoardView). HasEnded x steps Limit) (sym same) (record { counted = (let a = h.made in let b = goes.within in omega (arith, a, b)); unquiet = h.unquiet })
+  ended Limit (inr h, same) = let a = h.2.full in let b = h.1.going.room in absurd (omega (arith, a, b, small))
+  ended Full h = absurd h

@@ -1,0 +1,4 @@
+pub mod Runs
+pub mod Boards
+pub mod Turns
+pub mod Ends

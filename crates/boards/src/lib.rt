@@ -1,0 +1,27 @@
+//! Boards: a net and a state of Hong's machine over it (Hong, A lock-free multi-threaded algorithm for
+//! the maximum flow problem, 2008), on which one step at a time is made, whoever asks for it.
+//!
+//! Stands on `async_step`, whose state a `Board` holds together with its net. Nothing here knows of
+//! threads or locks. Promises upward: a board's type keeps a state of a run over its own net, so all
+//! that `machine_law` says of every run holds of it; a turn makes exactly one step, of the block that
+//! it is said to pick, or leaves the state as it was; a board gives a flow only where it is quiet, and
+//! then a greatest one; a `TurnBoard`, on which nothing but turns makes steps, keeps in its type that no
+//! step of its run read an excess of zero and why it is stuck; and `finish` says of the board how its
+//! run ends.
+#![tactic(auto)]
+
+mod board;
+#[cfg(test)]
+mod board_tests;
+mod finishing;
+#[cfg(test)]
+mod test_nets;
+mod turn;
+mod turn_board;
+#[cfg(test)]
+mod turn_board_tests;
+
+pub use board::Board;
+pub use finishing::finish;
+pub use turn::{End, Turn};
+pub use turn_board::TurnBoard;

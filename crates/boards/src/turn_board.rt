@@ -1,0 +1,92 @@
+//! A board on which nothing but turns makes steps.
+
+ghost use Rattle.std.specs.Prelude.{◌≡◌, ◌↔◌, ◌<◌, IsTrue, IfOk};
+ghost use Rattle.machine_law.specs.declared.operations.Operation.TheVariants.{Idle};
+ghost use Rattle.boards.specs.Boards.{shown, blocks_of, IsTurnBoard, IsOpened};
+ghost use Rattle.boards.specs.Turns.{IsTurn};
+
+use crate::board::Board;
+use crate::turn::Turn;
+use closure_net::Net;
+use ordered_group::OrderedGroup;
+use std::alloc::{AllocError, Global};
+use std::marker::Model;
+
+/// A board whose steps are made by turns alone, so its type keeps what is true of such runs: no step
+/// read an excess of zero, after each step all numbers fit, and where the board is stuck a number of
+/// the state after its next step of some block would leave its type.
+#[derive(Drop)]
+pub struct TurnBoard<G: OrderedGroup> {
+    board: Board<G>,
+}
+
+impl<G: OrderedGroup> Model for TurnBoard<G> {
+    ghost use Rattle.boards.specs.Boards.{BoardView, IsTurnBoard};
+
+    ghost Value = { BoardView };
+
+    ghost view = { λ b. b.board };
+
+    ghost invariant = { λ b. IsTurnBoard b.board };
+}
+
+impl<G: OrderedGroup> TurnBoard<G> {
+    /// A board over a copy of a net, in the state in which the machine opens.
+    ///
+    /// # Errors
+    /// Want of memory.
+    pub fn open(alloc: Global, net: &Net<G>) -> Result<TurnBoard<G>, AllocError>
+        ensures { IfOk result (λ board. IsOpened net.now board) }
+    {
+        let board = Board::open(alloc, net)?;
+        let _blocks = board.len();
+        Ok(TurnBoard { board })
+    }
+
+    /// How many blocks its net has.
+    pub fn len(&self) -> u32
+        ensures is { result ≡ blocks_of self.now }
+        ensures made { IsTurnBoard self.now }
+    {
+        self.board.len()
+    }
+
+    /// Whether its net has the same pairs and the same worths as another. Linear in their sizes.
+    pub fn is_over(&self, net: &Net<G>) -> bool
+        ensures { IsTrue result ↔ (self.now.net ≡ net.now) }
+    {
+        self.board.is_over(net)
+    }
+
+    /// How many steps were made.
+    pub fn count(&self) -> u64
+        ensures { result ≡ (shown self.now).steps }
+    {
+        self.board.count()
+    }
+
+    /// Whether block b has an operation.
+    pub fn has_operation(&self, b: u32) -> bool
+        requires { b < blocks_of self.now }
+        ensures { IsTrue result ↔ ¬ ((shown self.now).operation b ≡ Idle) }
+    {
+        self.board.has_operation(b)
+    }
+
+    /// A turn, as `Board::turn`.
+    pub fn turn(&mut self, own: Option<u32>, from: u32, steps: u64) -> Turn
+        ensures turn { IsTurn self.old own from steps self.new result }
+        ensures made { IsTurnBoard self.new }
+    {
+        self.board.turn(own, from, steps)
+    }
+
+    /// The board, for steps of any block.
+    pub fn into_board(self) -> Board<G>
+        ensures is { result ≡ self }
+        ensures made { IsTurnBoard result }
+    {
+        let TurnBoard { board } = self;
+        board
+    }
+}

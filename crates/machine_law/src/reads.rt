@@ -1,0 +1,59 @@
+//! What a block does next by what it read, where that asks nothing of its amounts.
+
+ghost use Rattle.std.specs.Prelude.{◌≡◌, Some};
+ghost use Rattle.machine_law.specs.Reads.{better, ended, passed_by, IsScan};
+
+use crate::operations::{Best, Operation};
+
+/// The best port with one more: the lower of the two, and of two as low the earlier.
+pub fn better<N: Copy>(best: &mut Option<Best<N>>, new: Best<N>)
+    ensures { best.new ≡ Some (better best.old new) }
+{
+    let lower = match best {
+        Some(old) => new.label < old.label,
+        None => true,
+    };
+    if lower {
+        *best = Some(new);
+    }
+}
+
+/// The operation of a block of this label once all its ports are passed.
+pub fn ended<N: Copy>(label: u64, have: N, best: Option<Best<N>>) -> Operation<N>
+    ensures { result ≡ ended label have best }
+{
+    match best {
+        Some(best) => {
+            if best.label < label {
+                Operation::PushDue { have, best }
+            } else {
+                Operation::RaiseDue { have, best }
+            }
+        }
+        None => Operation::Idle,
+    }
+}
+
+/// A block of so many ports and this label passes the port that it looks at.
+pub fn pass<N: Copy>(operation: &mut Operation<N>, ports: u32, label: u64)
+    requires { IsScan ports operation.old }
+    ensures { operation.new ≡ passed_by ports label operation.old }
+{
+    let next = match operation {
+        Operation::Scan {
+            have,
+            place,
+            read,
+            best,
+        } => {
+            if *place + 1 < ports {
+                *place += 1;
+                *read = None;
+                return;
+            }
+            ended(label, *have, *best)
+        }
+        _ => return,
+    };
+    *operation = next;
+}

@@ -1,0 +1,12 @@
+use Rattle.std.proofs.Common.{◌≡◌, ◌<◌, ◌≤◌, IfSome}
+use Rattle.pseudoflow.proofs.recovery.cancel_at_children.Given as goal
+
+abbrev pub invariant-loop-next : goal.invariant-loop-next
+invariant-loop-next g l = record {
+  known : IfSome l.next (λ b. b < l.forest);
+  same : l.amounts ≡ l.fn.amounts;
+  spent : l.budget.left ≤ l.fn.budget.left;
+}
+
+abbrev pub decreases-loop-next : goal.decreases-loop-next
+decreases-loop-next g l = l.budget.left

@@ -1,5 +1,0 @@
-use Rattle.workers.specs.Solving.{AreIdleBelow, GoesOn}
-use Rattle.workers.proofs.finishing.end_operations.Given as goal
-
-abbrev pub invariant-loop-block : goal.invariant-loop-block
-invariant-loop-block g l = GoesOn l.fn.board l.board l.steps × AreIdleBelow l.board l.block

@@ -1,7 +1,0 @@
-use Rattle.std.proofs.Common.{◌≡◌}
-use Rattle.workers.specs.Boards.{shown, blocks_of, IsBoard}
-use Rattle.workers.specs.Solving.{IsAlone, GoesOn}
-use Rattle.workers.proofs.finishing.take_turns.Given as goal
-
-abbrev pub invariant-loop-made : goal.invariant-loop-made
-invariant-loop-made g l = GoesOn l.fn.board l.board l.steps × IsAlone (blocks_of l.board) (shown l.board) l.own × ((shown l.board).steps ≡ l._made) × IsBoard l.board

@@ -1,0 +1,261 @@
+//! What a worker asks of what it shares, and a turn under the lock.
+
+ghost use Rattle.std.specs.Prelude.{◌<◌};
+
+use crate::gate_tests::Meeting;
+use crate::solving::serve_all;
+use crate::test_nets::two_on_dear_waste;
+use crate::{Board, End, Gate, Locked, OpenGate, Shared, Turn, TurnBoard, serve};
+use closure_net::Net;
+use ordered_group::{OrderedGroup, Worth, WorthSize};
+use std::alloc::Global;
+use std::process::Abort;
+use std::sync::atomic::Ordering::SeqCst;
+use std::sync::atomic::{AtomicBool, AtomicU64};
+use std::sync::{Mutex, Wait};
+use std::test::Fail;
+
+// The first step of block 1: the operation that it begins goes on.
+const BEGUN: Turn = Turn::Stepped {
+    block: 1,
+    more: true,
+};
+
+// What a worker asks for.
+#[derive(Clone, Copy, Debug, PartialEq, Eq)]
+struct Question {
+    own: Option<u32>,
+    from: u32,
+    steps: u64,
+}
+
+// The first questions, and how many there were.
+#[derive(Drop)]
+struct Asked {
+    questions: [Option<Question>; 4],
+    count: usize,
+}
+
+impl Asked {
+    // Answers the place of the question.
+    fn note(&mut self, question: Question) -> usize {
+        let place = self.count;
+        if place < 4 {
+            self.questions[place] = Some(question);
+            self.count = place + 1;
+        }
+        place
+    }
+}
+
+// Answers each question in the same way, whoever asks, and notes it.
+#[derive(Drop)]
+struct Script {
+    asked: Mutex<Asked>,
+}
+
+impl Script {
+    fn new() -> Script {
+        let asked = Asked {
+            questions: [None; 4],
+            count: 0,
+        };
+        Script {
+            asked: Mutex::new(asked),
+        }
+    }
+}
+
+impl Shared for Script {
+    fn act<R: Wait>(&self, rt: &R, own: Option<u32>, from: u32, steps: u64) -> Turn {
+        let question = Question { own, from, steps };
+        match self.asked.lock(rt).note(question) {
+            0 => Turn::Stepped {
+                block: 2,
+                more: true,
+            },
+            1 => Turn::Stepped {
+                block: 2,
+                more: false,
+            },
+            2 => Turn::Idle,
+            _ => Turn::Ended(End::Quiet),
+        }
+    }
+}
+
+#[test]
+fn a_worker_keeps_its_block_while_it_is_at_work(rt: HostRuntime) {
+    let script = Script::new();
+    assert_eq!(rt; serve(&rt, &script, &OpenGate, 1, 4, 10), End::Quiet);
+    let asked = script.asked.into_inner();
+    let steps = 10;
+    assert_eq!(rt;
+        asked.questions[0],
+        Some(Question {
+            own: None,
+            from: 1,
+            steps
+        })
+    );
+    assert_eq!(rt; asked.questions[1].map(|q| q.own), Some(Some(2)));
+    assert_eq!(rt;
+        asked.questions[2],
+        Some(Question {
+            own: None,
+            from: 3,
+            steps
+        })
+    );
+    assert_eq!(rt;
+        asked.questions[3],
+        Some(Question {
+            own: None,
+            from: 3,
+            steps
+        })
+    );
+    assert_eq!(rt; asked.count, 4);
+}
+
+#[test]
+fn a_worker_ends_after_its_turns(rt: HostRuntime) {
+    let script = Script::new();
+    assert_eq!(rt; serve(&rt, &script, &OpenGate, 1, 4, 2), End::Limit);
+    assert_eq!(rt; script.asked.into_inner().count, 2);
+}
+
+#[test]
+fn a_worker_of_no_blocks_asks_from_the_first(rt: HostRuntime) {
+    let script = Script::new();
+    assert_eq!(rt; serve(&rt, &script, &OpenGate, 1, 0, 10), End::Quiet);
+    let asked = script.asked.into_inner();
+    let steps = 10;
+    assert_eq!(rt;
+        asked.questions[0],
+        Some(Question {
+            own: None,
+            from: 0,
+            steps
+        })
+    );
+    assert_eq!(rt;
+        asked.questions[2],
+        Some(Question {
+            own: None,
+            from: 0,
+            steps
+        })
+    );
+}
+
+// Idle for whoever asks, a hundred times. Both the gate and what is behind it: a question is in its turn
+// where the gate was passed just before it.
+#[derive(Drop)]
+struct Idler {
+    passed: AtomicU64,
+    asked: AtomicU64,
+    out_of_turn: AtomicBool,
+}
+
+impl Idler {
+    fn new() -> Idler {
+        Idler {
+            passed: AtomicU64::new(0),
+            asked: AtomicU64::new(0),
+            out_of_turn: AtomicBool::new(false),
+        }
+    }
+}
+
+impl Gate for Idler {
+    fn turn(&self, worker: u32, turn: u64) {
+        let passed = self.passed.fetch_add(1, SeqCst);
+        if worker != 3 || turn != passed || self.asked.load(SeqCst) != passed {
+            self.out_of_turn.store(true, SeqCst);
+        }
+    }
+}
+
+impl Shared for Idler {
+    fn act<R: Wait>(&self, _rt: &R, _own: Option<u32>, _from: u32, _steps: u64) -> Turn {
+        if self.asked.fetch_add(1, SeqCst) < 100 {
+            Turn::Idle
+        } else {
+            Turn::Ended(End::Stuck)
+        }
+    }
+}
+
+#[test]
+fn idle_turns_are_counted_and_pass_the_gate_first(rt: HostRuntime) {
+    let idler = Idler::new();
+    assert_eq!(rt; serve(&rt, &idler, &idler, 3, 4, 5), End::Limit);
+    assert_eq!(rt;
+        (idler.passed.load(SeqCst), idler.asked.load(SeqCst)),
+        (5, 5)
+    );
+    assert!(rt; !idler.out_of_turn.load(SeqCst));
+}
+
+// Notes the blocks from which workers look: each of 64 blocks has a binary digit of its own.
+#[derive(Drop)]
+struct Looks {
+    from: AtomicU64,
+}
+
+impl Shared for Looks {
+    fn act<R: Wait>(&self, _rt: &R, _own: Option<u32>, from: u32, _steps: u64) -> Turn {
+        self.from.fetch_add(1u64.wrapping_shl(from), SeqCst);
+        Turn::Idle
+    }
+}
+
+// All are at their first turn at once, each with its own number, and looks from the block of that
+// number.
+#[test]
+fn sixty_four_workers_are_started(rt: HostRuntime) {
+    let looks = Looks {
+        from: AtomicU64::new(0),
+    };
+    let gate = Meeting::of(rt, 64, 0);
+    assert!(rt; serve_all(&rt, &looks, &gate, 64, 64, 1));
+    assert!(rt; gate.all_met());
+    assert_eq!(rt; looks.from.load(SeqCst), u64::MAX);
+}
+
+// A turn under the lock makes one step, of the block that is asked for.
+fn makes_a_step<S: Shared, R: Abort + Wait>(rt: &R, shared: &S) {
+    assert_eq!(rt; shared.act(rt, None, 1, 10), BEGUN);
+}
+
+// Turns under the lock make steps of a worker's own block, up to the limit.
+fn makes_two_steps<S: Shared, R: Abort + Wait>(rt: &R, shared: &S) {
+    assert_eq!(rt; shared.act(rt, None, 1, 2), BEGUN);
+    assert_eq!(rt; shared.act(rt, Some(1), 0, 2), BEGUN);
+    assert_eq!(rt; shared.act(rt, Some(1), 0, 2), Turn::Ended(End::Limit));
+}
+
+// On a board, and on one that only turns change.
+fn makes_steps<G: OrderedGroup, R: Abort + Wait>(rt: &R, alloc: Global) -> Result<(), Fail>
+where
+    Locked<Board<G>>: Shared,
+    Locked<TurnBoard<G>>: Shared,
+{
+    let net: Net<G> = two_on_dear_waste(alloc)?;
+    let shared = Locked::new(Board::open(alloc, &net)?);
+    makes_a_step(rt, &shared);
+    assert_eq!(rt; shared.into_inner().count(), 1);
+    let shared = Locked::new(TurnBoard::open(alloc, &net)?);
+    makes_a_step(rt, &shared);
+    assert_eq!(rt; shared.into_inner().count(), 1);
+    makes_two_steps(rt, &Locked::new(Board::open(alloc, &net)?));
+    makes_two_steps(rt, &Locked::new(TurnBoard::open(alloc, &net)?));
+    Ok(())
+}
+
+#[test]
+fn turns_under_the_lock_make_steps(rt: HostRuntime) -> Result<(), Fail> {
+    makes_steps::<Worth, _>(&rt, rt.alloc())?;
+    makes_steps::<WorthSize, _>(&rt, rt.alloc())
+}
