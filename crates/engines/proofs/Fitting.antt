@@ -11,7 +11,7 @@ use Rattle.ordered_group.proofs.Signs.{NonNeg, NonNeg-positive, positive-of_NonN
 use Rattle.ordered_group.proofs.Totals.Ranges.{total_nonneg}
 use Rattle.closure_net.specs.Network.{NetView, IsNet}
 use Rattle.closure_net.specs.Mine.{IsNetOf}
-use Rattle.closure_net.specs.Faults.{BlockLeaves, WorthsLeave}
+use Rattle.closure_net.specs.Faults.{BlockOverflows, WorthsOverflow}
 use Rattle.closure_net.specs.declared.networks.NetFault.{NetFault}
 use Rattle.closure_net.specs.declared.networks.NetFault.TheVariants as net_fault
 use Rattle.closure_net.proofs.SameLists.{same_at_default}
@@ -52,19 +52,19 @@ module _ (texts : MineTexts) (n : ℕ) (group : Group) (net : NetView) (is_net :
       let here : k < n = omega (arith, below, w.size) in
       get_or-map (λ v. block_by group v n) vs k (pos 0) zero_amount below ∙ ap (λ v. block_by group v n) (w.each k here) ∙ sym (of_mine.worths k here))
 
-  no_block_leaves : (vs : List ℤ) → AreWorths texts n vs → BlockLeaves (block_by group) n vs → ⊥
-  no_block_leaves vs w h =
+  no_block_overflows : (vs : List ℤ) → AreWorths texts n vs → BlockOverflows (block_by group) n vs → ⊥
+  no_block_overflows vs w h =
       let here : h.0 < n = omega (arith, h.1, w.size) in
       let inside : h.0 < length net.worths = omega (arith, here, of_mine.blocks) in
       let is = of_mine.worths h.0 here ∙ sym (ap (λ v. block_by group v n) (w.each h.0 here)) in
       h.2 (block_fits group _ n (subst (λ (x : Amount). FitsSigned w128 x.w) is (net_worth_fits net is_net h.0 inside)))
 
-  no_worths_leave : (ws : List Amount) → ws ≡ net.worths → WorthsLeave ws → ⊥
-  no_worths_leave ws e (inl h) =
+  no_worths_overflow : (ws : List Amount) → ws ≡ net.worths → WorthsOverflow ws → ⊥
+  no_worths_overflow ws e (inl h) =
       let P : List Amount → Type 0 = λ xs. h.0 < length xs in
       let Q : List Amount → Type 0 = λ xs. FitsPair (minus zero_amount (amount_at xs h.0)) in
       h.2 (subst Q (sym e) (is_net.opposites h.0 (subst P e h.1)))
-  no_worths_leave ws e (inr h) =
+  no_worths_overflow ws e (inr h) =
       let P : List Amount → Type 0 = λ xs. h.0 < length xs in
       let Q : List Amount → Type 0 = λ xs. FitsPair (plus (total (λ b. positive (amount_at xs b)) h.0) (positive (amount_at xs h.0))) in
       h.2 (subst Q (sym e) (is_net.positives h.0 (subst P e h.1)))
@@ -72,5 +72,5 @@ module _ (texts : MineTexts) (n : ℕ) (group : Group) (net : NetView) (is_net :
   -- no fault of a net stands where there is one
   pub no_model_fails : (fault : NetFault) → ModelFails texts n group fault → ⊥
   no_model_fails net_fault.WrongLength h = h.stands (sym h.are.size)
-  no_model_fails net_fault.TooLarge h = elim h.stands.1 [ inl b ↦ no_block_leaves h.worths h.are b | inr l ↦ no_worths_leave _ (amounts_same h.worths h.are) l ]
+  no_model_fails net_fault.TooLarge h = elim h.stands.1 [ inl b ↦ no_block_overflows h.worths h.are b | inr l ↦ no_worths_overflow _ (amounts_same h.worths h.are) l ]
   no_model_fails net_fault.NoMemory h = h
