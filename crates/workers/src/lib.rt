@@ -16,9 +16,9 @@
 mod gate;
 #[cfg(test)]
 mod gate_tests;
-mod locked;
 #[cfg(test)]
-mod small_nets_tests;
+mod known_runs_tests;
+mod locked;
 mod solving;
 #[cfg(test)]
 mod test_nets;
