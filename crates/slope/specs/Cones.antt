@@ -1,5 +1,5 @@
 -- A cone as it is gathered: by levels, on each by the first number, and then by the second.
-use Rattle.std.specs.Prelude.{◌≡◌, ℕ, ◌≤◌, ◌*◌, ◌/◌, ℤ, pos, ◌≤ℤ◌, ◌<ℤ◌, ◌⊎◌, List, length}
+use Rattle.std.specs.Prelude.{◌≡◌, ℕ, ◌<◌, ◌≤◌, ◌*◌, ◌/◌, ℤ, pos, ◌≤ℤ◌, ◌<ℤ◌, ◌⊎◌, List, length}
 use Rattle.slope.specs.Offsets.{Offset}
 use Rattle.slope.specs.Patterns.{IsNear}
 use Rattle.slope.specs.declared.pattern_fault.PatternFault.{PatternFault}
@@ -31,8 +31,8 @@ pub record IsBelowPoint (run rise : ℕ) (k x y : ℤ) (o : Offset) : Type 0 whe
   pub near : IsNear run rise o
   pub below : (o.2 <ℤ k) ⊎ ((o.2 ≡ k) × ((o.0 <ℤ x) ⊎ ((o.0 ≡ x) × (o.1 <ℤ y))))
 
--- Why an offset isn't added to others: there are 4,096 already, or there is no memory.
+-- Why an offset isn't added to others: there are 4,096 already, or fewer and no memory for one more.
 abbrev pub RefusalStands : List Offset → PatternFault → Type 0
 RefusalStands offsets (NotUpward i) = ⊥
 RefusalStands offsets TooMany = 4096 ≤ length offsets
-RefusalStands offsets NoMemory = Unit {0}
+RefusalStands offsets NoMemory = length offsets < 4096

@@ -69,8 +69,8 @@ PairFaultStands m offsets up (SamePlace b c) = ⊥
 PairFaultStands m offsets up TooMany = AreMoreThan (2 ^ 27) (IsSlopePair m offsets up)
 PairFaultStands m offsets up NoMemory = Unit {0}
 
--- Why a pair isn't added to others: there are 2^27 already, or there is no memory.
+-- Why a pair isn't added to others: there are 2^27 already, or fewer and no memory for one more.
 abbrev pub PairRefusalStands : List (ℕ × ℕ) → SlopeFault → Type 0
 PairRefusalStands pairs (SamePlace b c) = ⊥
 PairRefusalStands pairs TooMany = 2 ^ 27 ≤ length pairs
-PairRefusalStands pairs NoMemory = Unit {0}
+PairRefusalStands pairs NoMemory = length pairs < 2 ^ 27
