@@ -4,20 +4,20 @@ use Rattle.std.specs.Io.KnownBytes.{Appends, Keeps}
 use Rattle.prec_file.specs.Rests.{RestsView}
 use Rattle.prec_file.specs.Records as prec
 use Rattle.upit_file.specs.Records as upit
-use Rattle.engines.specs.declared.judgements.Judgement.{Judgement}
-use Rattle.engines.specs.declared.judgements.Judgement.TheVariants.{Accepted, Refused}
-use Rattle.engines.specs.declared.judgements.Verdict.{Verdict}
-use Rattle.engines.specs.declared.engine_faults.EngineFault.{EngineFault}
-use Rattle.engines.specs.declared.engine_faults.EngineFault.TheVariants as engine
-use Rattle.engines.specs.declared.engine_faults.CertificateProblem.TheVariants as problem
-use Rattle.engines.specs.Faults.{Fails}
+use Rattle.engines.specs.declared.judgement.Judgement.{Judgement}
+use Rattle.engines.specs.declared.judgement.Judgement.TheVariants.{Accepted, Refused}
+use Rattle.engines.specs.declared.judgement.Verdict.{Verdict}
+use Rattle.engines.specs.declared.engine_fault.EngineFault.{EngineFault}
+use Rattle.engines.specs.declared.engine_fault.EngineFault.TheVariants as engine
+use Rattle.engines.specs.declared.engine_fault.CertificateProblem.TheVariants as problem
+use Rattle.engines.specs.FaultStands.{Fails}
 use Rattle.engines.specs.Inputs.{ReadsUpit, ReadsPrec, TextReadFails}
 use Rattle.engines.specs.Judgements.{IsJudged}
 use Rattle.engines.specs.Mines.{MineTexts, mine_texts}
 use Rattle.engines.specs.Judging.{AreRead, Judges}
 use Rattle.engines.specs.OutputLines.{judgement_line}
 use Rattle.engines.specs.Verdicts.{verdict_of}
-use Rattle.engines.specs.Engines.{Checks, WritesAtFault, LineFails}
+use Rattle.engines.specs.Checking.{Checks, WritesAtFault, LineFails}
 
 pub keeps_self : (w : Option (List ℕ)) → Keeps w w
 keeps_self None = tt

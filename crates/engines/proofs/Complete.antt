@@ -1,13 +1,13 @@
 -- What follows of the answer for a sound certificate.
 use Rattle.std.proofs.Common.{ℕ, List, Option, Some, None, Result, Ok, Err, inl, inr, IfSome}
-use Rattle.engines.specs.declared.judgements.Verdict.{Verdict}
-use Rattle.engines.specs.declared.judgements.Verdict.TheVariants.{Done, No}
-use Rattle.engines.specs.declared.engine_faults.EngineFault.{EngineFault}
-use Rattle.engines.specs.declared.engine_faults.EngineFault.TheVariants as engine
-use Rattle.engines.specs.Engines.{Checks, SoundIsAccepted}
+use Rattle.engines.specs.declared.judgement.Verdict.{Verdict}
+use Rattle.engines.specs.declared.judgement.Verdict.TheVariants.{Done, No}
+use Rattle.engines.specs.declared.engine_fault.EngineFault.{EngineFault}
+use Rattle.engines.specs.declared.engine_fault.EngineFault.TheVariants as engine
+use Rattle.engines.specs.Checking.{Checks, SoundIsAccepted}
 use Rattle.engines.specs.Mines.{MineTexts, mine_texts}
 use Rattle.engines.proofs.Alone.{sound_stands}
-use Rattle.engines.specs.declared.engine_faults.CertificateProblem.TheVariants as problem
+use Rattle.engines.specs.declared.engine_fault.CertificateProblem.TheVariants as problem
 use Rattle.engines.proofs.Unread.{upit_read, prec_read, model_read, price_read, header_read, body_read}
 
 complete_at : (texts : MineTexts) (c : List ℕ) (old new : Option (List ℕ)) (answer : Result Verdict EngineFault) → Checks texts c old new answer → SoundIsAccepted texts c answer

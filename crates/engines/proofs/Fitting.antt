@@ -16,7 +16,7 @@ use Rattle.closure_net.specs.declared.networks.NetFault.{NetFault}
 use Rattle.closure_net.specs.declared.networks.NetFault.TheVariants as net_fault
 use Rattle.closure_net.proofs.SameLists.{same_at_default}
 use Rattle.engines.specs.Mines.{MineTexts, mine_of}
-use Rattle.engines.specs.Faults.{AreWorths, ModelFails}
+use Rattle.engines.specs.FaultStands.{AreWorths, ModelFails}
 use Rattle.engines.specs.Readings.{block_by}
 
 -- a worth fits whose opposite does, and whose sum with one that isn't negative does where it is positive itself

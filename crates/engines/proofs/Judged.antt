@@ -24,7 +24,7 @@ use Rattle.engines.specs.Limits.{IsWithinLimit}
 use Rattle.engines.specs.Mines.{MineTexts, price_wanted, mine_of, DenoteMine}
 use Rattle.engines.specs.Readings.{Reads}
 use Rattle.engines.specs.Judgements.{IsAccepted, IsRefused}
-use Rattle.engines.specs.Faults.{IsHeader, AreWorths, BodyFails, NetFails, Fails}
+use Rattle.engines.specs.FaultStands.{IsHeader, AreWorths, BodyFails, NetFails, Fails}
 use Rattle.closure_net.specs.Faults.{WorthsFaultStands}
 use Rattle.closure_net.specs.declared.networks.NetFault.{NetFault}
 use Rattle.closure_net.specs.declared.networks.NetFault.TheVariants as net

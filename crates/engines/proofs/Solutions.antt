@@ -24,10 +24,10 @@ use Rattle.check_pit.specs.declared.headers.Price.TheVariants.{Objective}
 use Rattle.check_pit.specs.Pieces.{pieces_of}
 use Rattle.check_pit.proofs.Duality.{duality}
 use Rattle.check_pit.proofs.Tightness.{refused_for_size_only}
-use Rattle.engines.specs.declared.judgements.Verdict.{Verdict}
-use Rattle.engines.specs.declared.judgements.Verdict.TheVariants.{Done, No}
-use Rattle.engines.specs.declared.engine_faults.EngineFault.{EngineFault}
-use Rattle.engines.specs.declared.engine_faults.EngineFault.TheVariants as engine
+use Rattle.engines.specs.declared.judgement.Verdict.{Verdict}
+use Rattle.engines.specs.declared.judgement.Verdict.TheVariants.{Done, No}
+use Rattle.engines.specs.declared.engine_fault.EngineFault.{EngineFault}
+use Rattle.engines.specs.declared.engine_fault.EngineFault.TheVariants as engine
 use Rattle.engines.specs.Inputs.{ReadsUpit, ReadsPrec}
 use Rattle.engines.specs.Judging.{AreRead, IsGroupNamed, of_model}
 use Rattle.engines.specs.Mines.{MineTexts, mine_texts, mine_of, DenoteMine}

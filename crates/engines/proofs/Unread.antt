@@ -11,11 +11,11 @@ use Rattle.closure_net.specs.declared.networks.NetFault.{NetFault}
 use Rattle.check_pit.specs.declared.headers.Header.{Header}
 use Rattle.check_pit.specs.Certificate.{fault_of}
 use Rattle.check_pit.specs.declared.cert_faults.CertFault.{CertFault}
-use Rattle.engines.specs.declared.engine_faults.Problem.{Problem}
-use Rattle.engines.specs.declared.engine_faults.Problem.TheVariants as problem
+use Rattle.engines.specs.declared.engine_fault.Problem.{Problem}
+use Rattle.engines.specs.declared.engine_fault.Problem.TheVariants as problem
 use Rattle.engines.specs.Mines.{MineTexts, mine_of, DenoteMine}
 use Rattle.engines.specs.Readings.{block_by, counts_by, Reads}
-use Rattle.engines.specs.Faults.{UpitFails, PrecFails, ValuesRead, IsHeader, ModelFails, HeaderFails, BodyFails, PriceDiffers}
+use Rattle.engines.specs.FaultStands.{UpitFails, PrecFails, ValuesRead, IsHeader, ModelFails, HeaderFails, BodyFails, PriceDiffers}
 use Rattle.engines.proofs.Alone.{ok_same, nets_same}
 use Rattle.engines.proofs.Fitting.{no_model_fails}
 

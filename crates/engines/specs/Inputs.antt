@@ -3,11 +3,11 @@ use Rattle.std.specs.Prelude.{◌≡◌, ◌⊎◌, ℕ, List, length, None}
 use Rattle.prec_file.specs.Rests.{RestsView, ArePairsOf}
 use Rattle.prec_file.specs.Records as prec
 use Rattle.upit_file.specs.Records as upit
-use Rattle.engines.specs.declared.engine_faults.EngineFault.{EngineFault}
-use Rattle.engines.specs.declared.engine_faults.EngineFault.TheVariants as engine
-use Rattle.engines.specs.declared.engine_faults.CertificateProblem.TheVariants as certificate
+use Rattle.engines.specs.declared.engine_fault.EngineFault.{EngineFault}
+use Rattle.engines.specs.declared.engine_fault.EngineFault.TheVariants as engine
+use Rattle.engines.specs.declared.engine_fault.CertificateProblem.TheVariants as certificate
 use Rattle.engines.specs.Limits.{IsTooLong, IsWithinLimit}
-use Rattle.engines.specs.Faults.{UpitFails, PrecFails, ValuesRead}
+use Rattle.engines.specs.FaultStands.{UpitFails, PrecFails, ValuesRead}
 
 -- why a text isn't read: for want of memory or by a failing device, or it is too long, which is told by a fault of its own
 abbrev pub TextFails : EngineFault → List ℕ → EngineFault → Type 0

@@ -5,8 +5,8 @@ use Rattle.closure_net.specs.Network.{holds_of}
 use Rattle.closure_net.specs.Mine.{worth_of, count_of}
 use Rattle.check_pit.specs.Checks.{IsSound, FaultStands}
 use Rattle.check_pit.specs.declared.faults.PitFault.{PitFault}
-use Rattle.engines.specs.declared.judgements.Judgement.{Judgement}
-use Rattle.engines.specs.declared.judgements.Judgement.TheVariants.{Accepted, Refused}
+use Rattle.engines.specs.declared.judgement.Judgement.{Judgement}
+use Rattle.engines.specs.declared.judgement.Judgement.TheVariants.{Accepted, Refused}
 use Rattle.engines.specs.Limits.{IsWithinLimit}
 use Rattle.engines.specs.Mines.{MineTexts, mine_of}
 use Rattle.engines.specs.Readings.{Reads, IsProvedPit}

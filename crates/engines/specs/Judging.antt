@@ -8,10 +8,10 @@ use Rattle.upit_file.specs.Records as upit
 use Rattle.closure_net.specs.Network.{NetView}
 use Rattle.closure_net.specs.Closure.{IsGreatest}
 use Rattle.closure_net.specs.Mine.{Mine, IsNetOf}
-use Rattle.engines.specs.declared.judgements.Judgement.{Judgement}
-use Rattle.engines.specs.declared.engine_faults.EngineFault.{EngineFault}
-use Rattle.engines.specs.declared.engine_faults.EngineFault.TheVariants as engine
-use Rattle.engines.specs.declared.engine_faults.CertificateProblem.TheVariants as problem
+use Rattle.engines.specs.declared.judgement.Judgement.{Judgement}
+use Rattle.engines.specs.declared.engine_fault.EngineFault.{EngineFault}
+use Rattle.engines.specs.declared.engine_fault.EngineFault.TheVariants as engine
+use Rattle.engines.specs.declared.engine_fault.CertificateProblem.TheVariants as problem
 use Rattle.check_pit.specs.declared.cert_faults.CertFault.{CertFault}
 use Rattle.check_pit.specs.declared.cert_faults.CertFault.TheVariants as cert
 use Rattle.closure_net.specs.declared.networks.NetFault.{NetFault}
@@ -19,7 +19,7 @@ use Rattle.closure_net.specs.declared.networks.NetFault.TheVariants as net
 use Rattle.engines.specs.Mines.{MineTexts, DenoteMine}
 use Rattle.engines.specs.Readings.{block_by, counts_by, IsProvedPit}
 use Rattle.engines.specs.Judgements.{IsJudged}
-use Rattle.engines.specs.Faults.{Fails}
+use Rattle.engines.specs.FaultStands.{Fails}
 
 -- The values and the pairs that were read are those of the texts.
 pub record AreRead (texts : MineTexts) (read : upit.UpitView) (rests : RestsView) : Type 0 where

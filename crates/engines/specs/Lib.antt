@@ -2,10 +2,10 @@ pub mod Limits
 pub mod Mines
 pub mod Readings
 pub mod Judgements
-pub mod Faults
+pub mod FaultStands
 pub mod OutputLines
 pub mod Inputs
-pub mod Engines
+pub mod Checking
 pub mod Statuses
 pub mod Verdicts
 pub mod Judging

@@ -10,16 +10,16 @@ use Rattle.blocks_file.specs.Printed.{blocks_fault_text}
 use Rattle.slope.specs.Printed.{pattern_fault_text, slope_fault_text}
 use Rattle.check_pit.specs.FaultText.{fault_text}
 use Rattle.check_pit.specs.PrintedFaults.{pit_fault_text}
-use Rattle.engines.specs.declared.judgements.Judgement.{Judgement}
-use Rattle.engines.specs.declared.judgements.Judgement.TheVariants.{Accepted, Refused}
-use Rattle.engines.specs.declared.engine_faults.Problem.{Problem}
-use Rattle.engines.specs.declared.engine_faults.Problem.TheVariants as problem
-use Rattle.engines.specs.declared.engine_faults.CertificateProblem.{CertificateProblem}
-use Rattle.engines.specs.declared.engine_faults.CertificateProblem.TheVariants as certificate
-use Rattle.engines.specs.declared.engine_faults.SlopeProblem.{SlopeProblem}
-use Rattle.engines.specs.declared.engine_faults.SlopeProblem.TheVariants as of
-use Rattle.engines.specs.declared.engine_faults.EngineFault.{EngineFault}
-use Rattle.engines.specs.declared.engine_faults.EngineFault.TheVariants as engine
+use Rattle.engines.specs.declared.judgement.Judgement.{Judgement}
+use Rattle.engines.specs.declared.judgement.Judgement.TheVariants.{Accepted, Refused}
+use Rattle.engines.specs.declared.engine_fault.Problem.{Problem}
+use Rattle.engines.specs.declared.engine_fault.Problem.TheVariants as problem
+use Rattle.engines.specs.declared.engine_fault.CertificateProblem.{CertificateProblem}
+use Rattle.engines.specs.declared.engine_fault.CertificateProblem.TheVariants as certificate
+use Rattle.engines.specs.declared.engine_fault.SlopeProblem.{SlopeProblem}
+use Rattle.engines.specs.declared.engine_fault.SlopeProblem.TheVariants as of
+use Rattle.engines.specs.declared.engine_fault.EngineFault.{EngineFault}
+use Rattle.engines.specs.declared.engine_fault.EngineFault.TheVariants as engine
 
 -- what stands behind the worth where worth alone was counted
 abbrev pub group_mark : Group → List ℕ

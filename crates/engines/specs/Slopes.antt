@@ -16,16 +16,16 @@ use Rattle.slope.specs.declared.pattern_fault.PatternFault.{PatternFault}
 use Rattle.slope.specs.declared.pattern_fault.PatternFault.TheVariants as pattern
 use Rattle.slope.specs.declared.slope_fault.SlopeFault.{SlopeFault}
 use Rattle.slope.specs.declared.slope_fault.SlopeFault.TheVariants as slope
-use Rattle.engines.specs.declared.judgements.Verdict.{Verdict}
-use Rattle.engines.specs.declared.judgements.Verdict.TheVariants.{Done, No}
+use Rattle.engines.specs.declared.judgement.Verdict.{Verdict}
+use Rattle.engines.specs.declared.judgement.Verdict.TheVariants.{Done, No}
 use Rattle.engines.specs.declared.pattern_choice.PatternChoice.{PatternChoice}
 use Rattle.engines.specs.declared.pattern_choice.PatternChoice.TheVariants.{Five, Nine, Cone}
-use Rattle.engines.specs.declared.engine_faults.Problem.{Problem}
-use Rattle.engines.specs.declared.engine_faults.Problem.TheVariants as problem
-use Rattle.engines.specs.declared.engine_faults.SlopeProblem.{SlopeProblem}
-use Rattle.engines.specs.declared.engine_faults.SlopeProblem.TheVariants as of
-use Rattle.engines.specs.declared.engine_faults.EngineFault.{EngineFault}
-use Rattle.engines.specs.declared.engine_faults.EngineFault.TheVariants as engine
+use Rattle.engines.specs.declared.engine_fault.Problem.{Problem}
+use Rattle.engines.specs.declared.engine_fault.Problem.TheVariants as problem
+use Rattle.engines.specs.declared.engine_fault.SlopeProblem.{SlopeProblem}
+use Rattle.engines.specs.declared.engine_fault.SlopeProblem.TheVariants as of
+use Rattle.engines.specs.declared.engine_fault.EngineFault.{EngineFault}
+use Rattle.engines.specs.declared.engine_fault.EngineFault.TheVariants as engine
 use Rattle.engines.specs.Limits.{IsTooLong, IsWithinLimit}
 
 -- a number of a cone is from 1 to 1,000

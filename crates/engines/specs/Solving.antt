@@ -13,16 +13,16 @@ use Rattle.check_pit.specs.Checks.{IsOfNet, IsSound, FaultStands}
 use Rattle.check_pit.specs.ReadBack.{IsReadBack}
 use Rattle.check_pit.specs.Written.{header_with, text_of}
 use Rattle.check_pit.specs.declared.faults.PitFault.TheVariants as pit_fault
-use Rattle.engines.specs.declared.judgements.Judgement.TheVariants.{Refused}
-use Rattle.engines.specs.declared.judgements.Verdict.{Verdict}
-use Rattle.engines.specs.declared.judgements.Verdict.TheVariants.{Done, No}
-use Rattle.engines.specs.declared.engine_faults.EngineFault.{EngineFault}
-use Rattle.engines.specs.declared.engine_faults.EngineFault.TheVariants as engine
+use Rattle.engines.specs.declared.judgement.Judgement.TheVariants.{Refused}
+use Rattle.engines.specs.declared.judgement.Verdict.{Verdict}
+use Rattle.engines.specs.declared.judgement.Verdict.TheVariants.{Done, No}
+use Rattle.engines.specs.declared.engine_fault.EngineFault.{EngineFault}
+use Rattle.engines.specs.declared.engine_fault.EngineFault.TheVariants as engine
 use Rattle.engines.specs.declared.solving.Unsolved.{Unsolved}
 use Rattle.engines.specs.declared.solving.Unsolved.TheVariants.{Unsettled, TooLarge, GaveUp, NoMemory, NoThread, Stranger}
 use Rattle.engines.specs.declared.method.Method.{Method}
 use Rattle.engines.specs.declared.method.Method.TheVariants.{Pseudoflow}
-use Rattle.engines.specs.Faults.{UpitFails, PrecFails, ModelFails, ValuesRead}
+use Rattle.engines.specs.FaultStands.{UpitFails, PrecFails, ModelFails, ValuesRead}
 use Rattle.engines.specs.Mines.{MineTexts, price_of_values, mine_of, DenoteMine}
 use Rattle.engines.specs.OutputLines.{judgement_line}
 use Rattle.engines.specs.Readings.{block_by, Reads, IsProvedPit}

@@ -5,7 +5,7 @@ ghost use Rattle.engines.specs.Limits.{IsWithinLimit};
 ghost use Rattle.engines.specs.Slopes.{ReadsBlocks, BlocksReadFails};
 ghost use Rattle.engines.specs.Inputs.{ReadsUpit, ListsPrec, ReadsPrec, UpitReadFails, PrecReadFails, TextFails, TextReadFails};
 
-use crate::engine_faults::{CertificateProblem, EngineFault, Problem};
+use crate::engine_fault::{CertificateProblem, EngineFault, Problem};
 use blocks_file::{BlockModel, BlocksFault, read_blocks};
 use fixed_worth::{CountedRead, InputFault, read_whole};
 use prec_file::{ListedPairs, PrecFault, Rests, read_listed};

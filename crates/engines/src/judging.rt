@@ -7,11 +7,11 @@ ghost use Rattle.closure_net.specs.Closure.{group_worth, IsGreatest};
 ghost use Rattle.closure_net.specs.Mine.{IsNetOf};
 ghost use Rattle.engines.specs.Limits.{IsWithinLimit};
 ghost use Rattle.engines.specs.Mines.{MineTexts, DenoteMine, mine_of};
-ghost use Rattle.engines.specs.Faults.{IsHeader};
+ghost use Rattle.engines.specs.FaultStands.{IsHeader};
 ghost use Rattle.engines.specs.Judging.{AreRead, IsGroupNamed, Judges};
 
-use crate::engine_faults::{CertificateProblem, EngineFault};
-use crate::judgements::Judgement;
+use crate::engine_fault::{CertificateProblem, EngineFault};
+use crate::judgement::Judgement;
 use check_pit::{Accepted, CertFault, Price, check, read_certificate, reading};
 use closure_net::{Net, laws};
 use fixed_worth::Micros;

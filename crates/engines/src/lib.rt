@@ -8,12 +8,13 @@
 #![tactic(auto)]
 
 mod certify;
-mod checks;
-mod efforts;
-mod engine_faults;
-mod fault_lines;
+mod checking;
+mod effort;
+mod engine_fault;
+mod fault_line;
 mod inputs;
-mod judgements;
+mod judgement;
+mod judgement_line;
 mod judging;
 mod method;
 mod pattern_choice;
@@ -21,31 +22,30 @@ mod pattern_words;
 mod slope_pairs;
 mod slopes;
 mod solve_words;
-mod solves;
 mod solving;
+mod solving_engine;
 mod stored_run;
 mod unwatched;
-mod verdict_lines;
 
-pub use checks::check_engine;
-pub use efforts::Effort;
-pub use engine_faults::{CertificateProblem, EngineFault, Problem, SlopeProblem};
-pub use fault_lines::{status, write_fault};
-pub use judgements::Verdict;
+pub use checking::check_engine;
+pub use effort::Effort;
+pub use engine_fault::{CertificateProblem, EngineFault, Problem, SlopeProblem};
+pub use fault_line::{status, write_fault};
+pub use judgement::Verdict;
 pub use method::{Method, method_named};
 pub use pattern_choice::PatternChoice;
 pub use pattern_words::{pattern_named, up_named};
 pub use slopes::slopes_engine;
 pub use solve_words::{group_named, steps_named, workers_named};
-pub use solves::solve_engine;
+pub use solving_engine::solve_engine;
 pub use stored_run::stored_check;
 pub use unwatched::Unwatched;
 
+#[cfg(test)]
+mod check_tests;
 #[cfg(test)]
 mod nets_tests;
 #[cfg(test)]
 mod slopes_tests;
 #[cfg(test)]
 mod solve_tests;
-#[cfg(test)]
-mod tests;

@@ -2,7 +2,7 @@
 
 ghost use Rattle.std.specs.Prelude.{◌≤◌, ◌^◌};
 
-use crate::efforts::Effort;
+use crate::effort::Effort;
 use crate::method::Method;
 use crate::solving::{by_machine, by_pseudoflow};
 use crate::unwatched::Unwatched;

@@ -6,7 +6,7 @@ ghost use Rattle.fixed_worth.specs.Device.{ReceivedPrefix};
 ghost use Rattle.prec_file.specs.Written.{prec_text, AreNarrow};
 ghost use Rattle.engines.specs.Slopes.{IsChoice, IsChosen, AreSlopesBy, PatternMakingFails, PairsMakingFail};
 
-use crate::engine_faults::{EngineFault, SlopeProblem};
+use crate::engine_fault::{EngineFault, SlopeProblem};
 use crate::pattern_choice::PatternChoice;
 use blocks_file::BlockModel;
 use fixed_worth::CountedWrite;

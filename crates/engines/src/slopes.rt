@@ -3,9 +3,9 @@
 ghost use Rattle.std.specs.Prelude.{◌≡◌, ◌+◌, ◌-◌, ◌^◌, ◌<◌, IfSome, IsErrOf};
 ghost use Rattle.engines.specs.Slopes.{IsChoice, GivesSlopes};
 
-use crate::engine_faults::EngineFault;
+use crate::engine_fault::EngineFault;
 use crate::inputs::blocks_from;
-use crate::judgements::Verdict;
+use crate::judgement::Verdict;
 use crate::pattern_choice::PatternChoice;
 use crate::slope_pairs::{slopes_of, write_slopes};
 use fixed_worth::{CountedRead, CountedWrite};

@@ -2,8 +2,8 @@
 
 ghost use Rattle.engines.specs.Slopes.{IsChoice};
 
-use crate::engine_faults::{EngineFault, Problem, SlopeProblem};
-use crate::judgements::Verdict;
+use crate::engine_fault::{EngineFault, Problem, SlopeProblem};
+use crate::judgement::Verdict;
 use crate::pattern_choice::PatternChoice;
 use crate::pattern_words::{pattern_named, up_named};
 use crate::slopes::slopes_engine;

@@ -1,11 +1,11 @@
 //! Mines whose certificates are known, as the engine of `solve` writes them.
 
-use crate::efforts::Effort;
-use crate::engine_faults::{EngineFault, Problem};
-use crate::judgements::Verdict;
+use crate::effort::Effort;
+use crate::engine_fault::{EngineFault, Problem};
+use crate::judgement::Verdict;
 use crate::method::{Method, method_named};
 use crate::solve_words::{group_named, steps_named, workers_named};
-use crate::solves::solve_engine;
+use crate::solving_engine::solve_engine;
 use crate::unwatched::Unwatched;
 use fixed_worth::Counted;
 use ordered_group::Group;

@@ -7,9 +7,9 @@ ghost use Rattle.engines.specs.Certifying.{IsSolution};
 ghost use Rattle.engines.specs.Solving.{UnsolvedStands, MachineStands, SolvesNet, unsolved_by};
 
 use crate::certify::{Uncertified, certified};
-use crate::efforts::Effort;
-use crate::engine_faults::EngineFault;
-use crate::judgements::Verdict;
+use crate::effort::Effort;
+use crate::engine_fault::EngineFault;
+use crate::judgement::Verdict;
 use crate::method::Method;
 use check_pit::{Certificate, laws, write_certificate};
 use closure_net::Net;

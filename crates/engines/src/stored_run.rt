@@ -1,12 +1,12 @@
 //! The run that the program carries: three blocks, of which the third must be dug for the other two.
 
 ghost use Rattle.std.specs.Prelude.{◌≡◌, ◌-◌, ◌^◌, ◌<◌, IsErrOf};
-ghost use Rattle.engines.specs.Engines.{Checks};
+ghost use Rattle.engines.specs.Checking.{Checks};
 ghost use Rattle.engines.specs.Mines.{mine_texts};
 
-use crate::checks::check_engine;
-use crate::engine_faults::EngineFault;
-use crate::judgements::Verdict;
+use crate::checking::check_engine;
+use crate::engine_fault::EngineFault;
+use crate::judgement::Verdict;
 use fixed_worth::{Counted, CountedWrite};
 use std::alloc::Global;
 

@@ -5,10 +5,10 @@ ghost use Rattle.engines.specs.Judging.{AreRead, IsGroupNamed};
 ghost use Rattle.engines.specs.Mines.{MineTexts, mine_texts};
 ghost use Rattle.engines.specs.Solving.{Solves};
 
-use crate::efforts::Effort;
-use crate::engine_faults::EngineFault;
+use crate::effort::Effort;
+use crate::engine_fault::EngineFault;
 use crate::inputs::{rests_from, upit_from};
-use crate::judgements::Verdict;
+use crate::judgement::Verdict;
 use crate::judging::nanos_of;
 use crate::solving::solve_net;
 use closure_net::{Net, laws};

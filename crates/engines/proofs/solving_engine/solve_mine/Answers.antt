@@ -1,7 +1,7 @@
 use Rattle.std.proofs.Common.{refl, sym, subst}
 use Rattle.ordered_group.specs.declared.groups.Group.{Group}
 use Rattle.engines.specs.Solving.{Solves}
-use Rattle.engines.proofs.solves.solve_mine.Goals as goal
+use Rattle.engines.proofs.solving_engine.solve_mine.Goals as goal
 
 pub returns-in-Worth-clause-answer : goal.returns-in-Worth-clause-answer
 returns-in-Worth-clause-answer g c = λ texts read.

@@ -4,10 +4,10 @@ ghost use Rattle.std.specs.Prelude.{◌≡◌, ◌+◌, ◌-◌, ◌^◌, ◌<�
 ghost use Rattle.std.specs.Io.KnownBytes.{Appends, Keeps};
 ghost use Rattle.std.specs.String.{string_bytes};
 ghost use Rattle.engines.specs.OutputLines.{judgement_line, group_mark};
-ghost use Rattle.engines.specs.Engines.{LineFails};
+ghost use Rattle.engines.specs.Checking.{LineFails};
 
-use crate::engine_faults::EngineFault;
-use crate::judgements::Judgement;
+use crate::engine_fault::EngineFault;
+use crate::judgement::Judgement;
 use fixed_worth::{CountedWrite, Nanos, WriteFault, write_text};
 use ordered_group::Group;
 use std::alloc::{AllocError, Global};

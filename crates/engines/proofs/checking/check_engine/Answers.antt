@@ -1,5 +1,5 @@
 use Rattle.engines.proofs.Complete.{complete}
-use Rattle.engines.proofs.checks.check_engine.Goals as goal
+use Rattle.engines.proofs.checking.check_engine.Goals as goal
 
 pub returns-clause-complete : goal.returns-clause-complete
 returns-clause-complete g c =

@@ -1,14 +1,14 @@
 //! The engine of `check`: bytes in, a verdict out.
 
 ghost use Rattle.std.specs.Prelude.{◌≡◌, ◌+◌, ◌-◌, ◌^◌, ◌<◌, IfSome, IsErrOf};
-ghost use Rattle.engines.specs.Engines.{Checks, SoundIsAccepted, OneFailed};
+ghost use Rattle.engines.specs.Checking.{Checks, SoundIsAccepted, OneFailed};
 ghost use Rattle.engines.specs.Mines.{mine_texts};
 
-use crate::engine_faults::EngineFault;
+use crate::engine_fault::EngineFault;
 use crate::inputs::{certificate_from, rests_from, upit_from};
-use crate::judgements::{Judgement, Verdict};
+use crate::judgement::{Judgement, Verdict};
+use crate::judgement_line::write_judgement;
 use crate::judging::judge;
-use crate::verdict_lines::write_judgement;
 use fixed_worth::{CountedRead, CountedWrite};
 use std::alloc::Global;
 

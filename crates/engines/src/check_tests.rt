@@ -1,9 +1,9 @@
 // Devices of the tests' own claim nothing of their bytes, so what is answered is asserted as the tests run.
 
-use crate::checks::check_engine;
-use crate::engine_faults::{CertificateProblem, EngineFault, Problem, SlopeProblem};
-use crate::fault_lines::{status, write_fault};
-use crate::judgements::Verdict;
+use crate::checking::check_engine;
+use crate::engine_fault::{CertificateProblem, EngineFault, Problem, SlopeProblem};
+use crate::fault_line::{status, write_fault};
+use crate::judgement::Verdict;
 use crate::stored_run::{CERTIFICATE, PRECEDENCE, VALUES, stored_check};
 use blocks_file::BlocksFault;
 use check_pit::CertFault;

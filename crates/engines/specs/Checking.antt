@@ -5,18 +5,18 @@ use Rattle.ordered_group.specs.declared.groups.Group.{Group}
 use Rattle.check_pit.specs.declared.faults.PitFault.{PitFault}
 use Rattle.check_pit.specs.Checks.{IsSound}
 use Rattle.fixed_worth.specs.Device.{ReceivedPrefix}
-use Rattle.engines.specs.declared.judgements.Judgement.{Judgement}
-use Rattle.engines.specs.declared.judgements.Judgement.TheVariants.{Accepted, Refused}
-use Rattle.engines.specs.declared.judgements.Verdict.{Verdict}
-use Rattle.engines.specs.declared.judgements.Verdict.TheVariants.{Done, No}
-use Rattle.engines.specs.declared.engine_faults.EngineFault.{EngineFault}
-use Rattle.engines.specs.declared.engine_faults.EngineFault.TheVariants as engine
-use Rattle.engines.specs.declared.engine_faults.CertificateProblem.TheVariants as certificate
+use Rattle.engines.specs.declared.judgement.Judgement.{Judgement}
+use Rattle.engines.specs.declared.judgement.Judgement.TheVariants.{Accepted, Refused}
+use Rattle.engines.specs.declared.judgement.Verdict.{Verdict}
+use Rattle.engines.specs.declared.judgement.Verdict.TheVariants.{Done, No}
+use Rattle.engines.specs.declared.engine_fault.EngineFault.{EngineFault}
+use Rattle.engines.specs.declared.engine_fault.EngineFault.TheVariants as engine
+use Rattle.engines.specs.declared.engine_fault.CertificateProblem.TheVariants as certificate
 use Rattle.engines.specs.Limits.{IsTooLong}
 use Rattle.engines.specs.Mines.{MineTexts}
 use Rattle.engines.specs.Readings.{Reads}
 use Rattle.engines.specs.Judgements.{IsAccepted, IsRefused, IsJudged}
-use Rattle.engines.specs.Faults.{Fails}
+use Rattle.engines.specs.FaultStands.{Fails}
 use Rattle.engines.specs.OutputLines.{judgement_line}
 
 -- It wrote ACCEPTED with the number of blocks and the worth of a pit that the texts prove.

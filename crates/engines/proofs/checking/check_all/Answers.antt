@@ -1,6 +1,6 @@
 use Rattle.std.proofs.lemmas.Result.{err_from_is_err_and}
 use Rattle.engines.proofs.Answered.{text_answer, judge_answer, line_answer_by, failed_answer, items_are}
-use Rattle.engines.proofs.checks.check_all.Goals as goal
+use Rattle.engines.proofs.checking.check_all.Goals as goal
 
 pub returns-in_err-text-clause-answer : goal.returns-in_err-text-clause-answer
 returns-in_err-text-clause-answer g c =

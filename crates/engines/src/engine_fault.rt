@@ -121,7 +121,7 @@ pub enum EngineFault {
 
 impl From<AllocError> for EngineFault {
     ghost use Rattle.std.specs.Prelude.{◌≡◌};
-    ghost use Rattle.engines.specs.declared.engine_faults.EngineFault.TheVariants as engine;
+    ghost use Rattle.engines.specs.declared.engine_fault.EngineFault.TheVariants as engine;
 
     ghost from_gives = { λ _ e. e ≡ engine.Memory };
 
@@ -132,7 +132,7 @@ impl From<AllocError> for EngineFault {
 
 impl From<WriteFault> for EngineFault {
     ghost use Rattle.std.specs.Prelude.{◌≡◌};
-    ghost use Rattle.engines.specs.declared.engine_faults.EngineFault.TheVariants as engine;
+    ghost use Rattle.engines.specs.declared.engine_fault.EngineFault.TheVariants as engine;
 
     ghost from_gives = { λ _ e. e ≡ engine.Device };
 

@@ -1,7 +1,7 @@
 use Rattle.std.proofs.Common.{◌∙◌}
 use Rattle.std.proofs.lemmas.Result.{err_from_is_err_and}
 use Rattle.engines.proofs.Solutions.{net_by, solved, unmade}
-use Rattle.engines.proofs.solves.solve_by.Goals as goal
+use Rattle.engines.proofs.solving_engine.solve_by.Goals as goal
 
 pub returns-in_err-net-clause-answer : goal.returns-in_err-net-clause-answer
 returns-in_err-net-clause-answer g c = λ texts read named.

@@ -1,5 +1,5 @@
 use Rattle.engines.proofs.Solutions.{solve_answer}
-use Rattle.engines.proofs.solves.solve_engine.Goals as goal
+use Rattle.engines.proofs.solving_engine.solve_engine.Goals as goal
 
 pub returns-clause-answer : goal.returns-clause-answer
 returns-clause-answer g c =

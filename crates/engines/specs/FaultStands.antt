@@ -16,12 +16,12 @@ use Rattle.check_pit.specs.Header.{header_of}
 use Rattle.check_pit.specs.Certificate.{fault_of}
 use Rattle.closure_net.specs.Network.{NetView, IsNet}
 use Rattle.closure_net.specs.Mine.{IsNetOf}
-use Rattle.engines.specs.declared.engine_faults.Problem.{Problem}
-use Rattle.engines.specs.declared.engine_faults.Problem.TheVariants as problem
-use Rattle.engines.specs.declared.engine_faults.CertificateProblem.{CertificateProblem}
-use Rattle.engines.specs.declared.engine_faults.CertificateProblem.TheVariants as certificate_problem
-use Rattle.engines.specs.declared.engine_faults.EngineFault.{EngineFault}
-use Rattle.engines.specs.declared.engine_faults.EngineFault.TheVariants as engine
+use Rattle.engines.specs.declared.engine_fault.Problem.{Problem}
+use Rattle.engines.specs.declared.engine_fault.Problem.TheVariants as problem
+use Rattle.engines.specs.declared.engine_fault.CertificateProblem.{CertificateProblem}
+use Rattle.engines.specs.declared.engine_fault.CertificateProblem.TheVariants as certificate_problem
+use Rattle.engines.specs.declared.engine_fault.EngineFault.{EngineFault}
+use Rattle.engines.specs.declared.engine_fault.EngineFault.TheVariants as engine
 use Rattle.engines.specs.Limits.{IsTooLong, IsWithinLimit}
 use Rattle.engines.specs.Mines.{MineTexts, price_wanted, mine_of, DenoteMine}
 use Rattle.engines.specs.Readings.{block_by, counts_by}

@@ -12,8 +12,8 @@ ghost use Rattle.closure_net.specs.Printed.{net_fault_text};
 ghost use Rattle.engines.specs.OutputLines.{fault_line, fault_words, problem_text, slope_text, certificate_text};
 ghost use Rattle.engines.specs.Statuses.{status_of};
 
-use crate::engine_faults::{CertificateProblem, EngineFault, Problem, SlopeProblem};
-use crate::judgements::Verdict;
+use crate::engine_fault::{CertificateProblem, EngineFault, Problem, SlopeProblem};
+use crate::judgement::Verdict;
 use blocks_file::BlocksFault;
 use check_pit::CertFault;
 use closure_net::NetFault;
