@@ -1,5 +1,5 @@
 -- From what was read to the judgement.
-use Rattle.std.proofs.Common.{◌≡◌, ℕ, ◌<◌, ℤ, pos, ◌*ℤ◌, Bool, List, length, map, get_or, refl, sym, ap, ◌∙◌, subst, arith, None, Some, Ok, inr}
+use Rattle.std.proofs.Common.{◌≡◌, ℕ, ◌<◌, ℤ, pos, Bool, List, length, map, get_or, refl, sym, ap, ◌∙◌, subst, arith, None, Some, Ok, inr}
 use Rattle.std.proofs.lemmas.List.{length-map, get_or-map}
 use Rattle.ordered_group.specs.Amount.{Amount, zero_amount}
 use Rattle.ordered_group.specs.Sums.{where_so}
@@ -9,7 +9,6 @@ use Rattle.ordered_group.specs.declared.groups.Group.{Group}
 use Rattle.ordered_group.proofs.Totals.Ranges.{total-same}
 use Rattle.prec_file.specs.Rests.{RestsView}
 use Rattle.prec_file.specs.Records as prec
-use Rattle.upit_file.specs.Records as upit
 use Rattle.closure_net.specs.Network.{NetView, FlowView, net_view, IsNet, holds_of}
 use Rattle.closure_net.specs.Closure.{IsGreatest, group_worth}
 use Rattle.closure_net.specs.Mine.{IsNetOf}
@@ -21,7 +20,7 @@ use Rattle.check_pit.specs.declared.headers.Header.{Header}
 use Rattle.check_pit.specs.Pieces.{pieces_of}
 use Rattle.check_pit.specs.Header.{header_of}
 use Rattle.engines.specs.Limits.{IsWithinLimit}
-use Rattle.engines.specs.Mines.{MineTexts, price_wanted, mine_of, DenoteMine}
+use Rattle.engines.specs.Mines.{MineTexts, precedence_of, price_wanted, mine_of, DenoteMine}
 use Rattle.engines.specs.Readings.{Reads}
 use Rattle.engines.specs.Judgements.{IsAccepted, IsRefused}
 use Rattle.engines.specs.FaultStands.{IsHeader, AreWorths, BodyFails, NetFails, Fails}
@@ -34,27 +33,15 @@ use Rattle.engines.specs.Judging.{AreRead, IsGroupNamed, of_certificate, of_mode
 use Rattle.engines.proofs.Counted.{count_in-ascending}
 use Rattle.engines.proofs.Listed.{listed_rests}
 
--- what is read of the worths
-pub worths_read : (n : ℕ) (texts : MineTexts) (read : upit.UpitView) (worths : List ℤ) → upit.Denotes n texts.values read → worths ≡ map (λ x. pos 1000 *ℤ x) read.values → AreWorths texts n worths
-worths_read n texts read worths d e =
-    let size = ap length e ∙ length-map read.values (λ x. pos 1000 *ℤ x) in
+-- the net that is made of the worths that were read
+pub net_made : (block : ℤ → ℕ → Amount) (texts : MineTexts) (rests : RestsView) (worths : List ℤ) → AreRead texts worths rests → IsNetOf block (mine_of rests.blocks texts) (net_view rests.pairs (map (λ v. block v rests.blocks) worths))
+net_made block texts rests worths a =
     record {
-      size = size ∙ d.count;
-      each = λ b h.
-          let l : b < length read.values = omega (arith, h, d.count) in
-          ap (λ xs. get_or xs b (pos 0)) e ∙ get_or-map (λ x. pos 1000 *ℤ x) read.values b (pos 0) (pos 0) l ∙ ap (λ x. pos 1000 *ℤ x) (d.worth b h);
-    }
-
--- the net that is made of them
-pub net_made : (block : ℤ → ℕ → Amount) (texts : MineTexts) (read : upit.UpitView) (rests : RestsView) (worths : List ℤ) → AreRead texts read rests → worths ≡ map (λ x. pos 1000 *ℤ x) read.values → IsNetOf block (mine_of rests.blocks texts) (net_view rests.pairs (map (λ v. block v rests.blocks) worths))
-net_made block texts read rests worths a e =
-    let w = worths_read rests.blocks texts read worths a.denotes e in
-    record {
-      blocks = length-map worths (λ v. block v rests.blocks) ∙ w.size;
+      blocks = length-map worths (λ v. block v rests.blocks) ∙ a.worths.size;
       worths = λ b h.
-          let l : b < length worths = omega (arith, h, w.size) in
-          get_or-map (λ v. block v rests.blocks) worths b (pos 0) zero_amount l ∙ ap (λ v. block v rests.blocks) (w.each b h);
-      pairs = listed_rests (prec.listed texts.precedence) rests.pairs a.pairs;
+          let l : b < length worths = omega (arith, h, a.worths.size) in
+          get_or-map (λ v. block v rests.blocks) worths b (pos 0) zero_amount l ∙ ap (λ v. block v rests.blocks) (a.worths.each b h);
+      pairs = listed_rests (prec.listed (precedence_of texts)) rests.pairs a.pairs;
     }
 
 -- What is known once the net is made and the certificate is read without a fault.
@@ -130,19 +117,19 @@ text_fails name block counts texts certificate net (cert.UnknownPair k) within m
 text_fails name block counts texts certificate net cert.Truncated within mine named header is_net of_mine f = (length net.worths, mine, (within, inr (body_fails name block counts texts certificate net _ named header is_net of_mine f)))
 text_fails name block counts texts certificate net cert.NoMemory within mine named header is_net of_mine f = tt
 
-pub worths_fail : (name : Group) (block : ℤ → ℕ → Amount) (counts : Bool) (texts : MineTexts) (read : upit.UpitView) (n : ℕ) (worths : List ℤ) (fault : NetFault) → upit.Denotes n texts.values read → IsGroupNamed name block counts → worths ≡ map (λ x. pos 1000 *ℤ x) read.values → WorthsFaultStands block n worths fault → NetFails texts n name fault
-worths_fail name block counts texts read n worths fault d named e f =
+pub worths_fail : (name : Group) (block : ℤ → ℕ → Amount) (counts : Bool) (texts : MineTexts) (n : ℕ) (worths : List ℤ) (fault : NetFault) → AreWorths texts n worths → IsGroupNamed name block counts → WorthsFaultStands block n worths fault → NetFails texts n name fault
+worths_fail name block counts texts n worths fault are named f =
     record {
       worths = worths;
-      are = worths_read n texts read worths d e;
+      are = are;
       stands = let P : (ℤ → ℕ → Amount) → Type 0 = λ b. WorthsFaultStands b n worths fault in subst P (sym named.block_is) f;
     }
 
 -- a fault in making the net
-pub net_fails : (name : Group) (block : ℤ → ℕ → Amount) (counts : Bool) (texts : MineTexts) (certificate : List ℕ) (read : upit.UpitView) (rests : RestsView) (worths : List ℤ) (fault : NetFault) → IsWithinLimit certificate → AreRead texts read rests → IsGroupNamed name block counts → IsHeader texts certificate rests.blocks name → worths ≡ map (λ x. pos 1000 *ℤ x) read.values → WorthsFaultStands block rests.blocks worths fault → Fails texts certificate (of_model fault)
-net_fails name block counts texts certificate read rests worths net.WrongLength within a named header e f = (rests.blocks, a.mine, within, name, header, worths_fail name block counts texts read rests.blocks worths net.WrongLength a.denotes named e f)
-net_fails name block counts texts certificate read rests worths net.TooLarge within a named header e f = (rests.blocks, a.mine, within, name, header, worths_fail name block counts texts read rests.blocks worths net.TooLarge a.denotes named e f)
-net_fails name block counts texts certificate read rests worths net.NoMemory within a named header e f = tt
+pub net_fails : (name : Group) (block : ℤ → ℕ → Amount) (counts : Bool) (texts : MineTexts) (certificate : List ℕ) (rests : RestsView) (worths : List ℤ) (fault : NetFault) → IsWithinLimit certificate → AreRead texts worths rests → IsGroupNamed name block counts → IsHeader texts certificate rests.blocks name → WorthsFaultStands block rests.blocks worths fault → Fails texts certificate (of_model fault)
+net_fails name block counts texts certificate rests worths net.WrongLength within a named header f = (rests.blocks, a.mine, within, name, header, worths_fail name block counts texts rests.blocks worths net.WrongLength a.worths named f)
+net_fails name block counts texts certificate rests worths net.TooLarge within a named header f = (rests.blocks, a.mine, within, name, header, worths_fail name block counts texts rests.blocks worths net.TooLarge a.worths named f)
+net_fails name block counts texts certificate rests worths net.NoMemory within a named header f = tt
 
 -- what was read of the pairs of a net, said of the net
 pub unless_moved : (fault : CertFault) (counts : Bool) (name : Group) (n m : ℕ) (ps qs : List (ℕ × ℕ)) (text : List ℕ) → n ≡ m → ps ≡ qs → UnlessMemory fault (fault_of counts name n ps text ≡ Some fault) → UnlessMemory fault (fault_of counts name m qs text ≡ Some fault)
@@ -188,12 +175,16 @@ known_at block texts certificate name n m net e f mine header of_mine =
     let M : ℕ → Type 0 = λ k. IsNetOf block (mine_of k texts) net in
     record { mine = subst D (e ∙ f) mine; header = subst H (e ∙ f) header; of_mine = subst M (e ∙ f) of_mine }
 
-pub net_known : (block : ℤ → ℕ → Amount) (texts : MineTexts) (certificate : List ℕ) (name : Group) (read : upit.UpitView) (rests : RestsView) (worths slice : List ℤ) (net : NetView) → AreRead texts read rests → IsHeader texts certificate rests.blocks name → slice ≡ worths → worths ≡ map (λ x. pos 1000 *ℤ x) read.values → net ≡ net_view rests.pairs (map (λ v. block v rests.blocks) slice) → rests.blocks ≡ length slice → NetKnown block texts certificate name net
-net_known block texts certificate name read rests worths slice net a header s e is l =
-    let made = net_made block texts read rests slice a (s ∙ e) in
+pub net_known : (block : ℤ → ℕ → Amount) (texts : MineTexts) (certificate : List ℕ) (name : Group) (rests : RestsView) (worths : List ℤ) (net : NetView) → AreRead texts worths rests → IsHeader texts certificate rests.blocks name → net ≡ net_view rests.pairs (map (λ v. block v rests.blocks) worths) → rests.blocks ≡ length worths → NetKnown block texts certificate name net
+net_known block texts certificate name rests worths net a header is l =
+    let made = net_made block texts rests worths a in
     let M : NetView → Type 0 = λ n. IsNetOf block (mine_of rests.blocks texts) n in
-    let size = sym (ap (λ (n : NetView). length n.worths) is ∙ length-map slice (λ v. block v rests.blocks)) in
-    known_at block texts certificate name rests.blocks (length slice) net l size a.mine header (subst M (sym is) made)
+    let size = sym (ap (λ (n : NetView). length n.worths) is ∙ length-map worths (λ v. block v rests.blocks)) in
+    known_at block texts certificate name rests.blocks (length worths) net l size a.mine header (subst M (sym is) made)
+
+-- what was read of worths, said of a list that is theirs
+pub read_as : (texts : MineTexts) (worths shown : List ℤ) (rests : RestsView) → shown ≡ worths → AreRead texts worths rests → AreRead texts shown rests
+read_as texts worths shown rests e a = subst (λ (ws : List ℤ). AreRead texts ws rests) (sym e) a
 
 pub header_is : (texts : MineTexts) (certificate : List ℕ) (header : Header) (n : ℕ) (group : Group) → header_of (pieces_of certificate) ≡ Ok header → header.blocks ≡ n → header.price ≡ price_wanted texts → header.group ≡ group → IsHeader texts certificate n group
 header_is texts certificate header n group e p q r = e ∙ ap Ok (λ i. record { blocks = p i; price = q i; group = r i })

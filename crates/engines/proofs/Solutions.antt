@@ -14,9 +14,9 @@ use Rattle.closure_net.specs.Faults.{WorthsFaultStands}
 use Rattle.closure_net.specs.declared.networks.NetFault.{NetFault}
 use Rattle.closure_net.specs.declared.networks.NetFault.TheVariants as net_fault
 use Rattle.workers.specs.Runs.{Settles}
-use Rattle.check_pit.specs.Checks.{FaultStands}
+use Rattle.check_pit.specs.Checks.{IsSound, FaultStands}
 use Rattle.check_pit.specs.Certificate.{Covers}
-use Rattle.check_pit.specs.ReadBack.{IsPrice, IsReadBack}
+use Rattle.check_pit.specs.ReadBack.{IsReadBack}
 use Rattle.check_pit.specs.Written.{header_with, text_of}
 use Rattle.check_pit.specs.declared.faults.PitFault.{PitFault}
 use Rattle.check_pit.specs.declared.headers.Price.{Price}
@@ -29,13 +29,13 @@ use Rattle.engines.specs.declared.judgement.Verdict.TheVariants.{Done, No}
 use Rattle.engines.specs.declared.engine_fault.EngineFault.{EngineFault}
 use Rattle.engines.specs.declared.engine_fault.EngineFault.TheVariants as engine
 use Rattle.engines.specs.Inputs.{ReadsUpit, ReadsPrec}
-use Rattle.engines.specs.Judging.{AreRead, IsGroupNamed, of_model}
-use Rattle.engines.specs.Mines.{MineTexts, mine_texts, mine_of, DenoteMine}
-use Rattle.engines.specs.Certifying.{IsSolution, IsRefusedFlow}
+use Rattle.engines.specs.Judging.{AreRead, IsGroupNamed, of_model, billionths_of}
+use Rattle.engines.specs.Mines.{MineTexts, mine_texts, price_wanted, mine_of, DenoteMine}
+use Rattle.engines.specs.Certifying.{IsRefusedFlow}
 use Rattle.engines.specs.declared.method.Method.{Method}
 use Rattle.engines.specs.Solving.{CheckLeaves, IsNoOf, IsCertificateOf, AnswersNet, SolvesNet, IsCertificate, IsNetBy, AnswersMine, Solves}
 use Rattle.engines.proofs.Answered.{read_both, keeps_self}
-use Rattle.engines.proofs.Judged.{HasRead, reads, net_made, worths_fail}
+use Rattle.engines.proofs.Judged.{HasRead, reads, net_made, read_as, worths_fail}
 use Rattle.engines.proofs.Lone.{header_alone}
 
 -- ---- the check of a run's pit
@@ -61,41 +61,37 @@ check_leaves net limit flow steps fault settles fits refused =
 pub covers : (net : NetView) (n : ℕ) (ps : List (ℕ × ℕ)) (flow : FlowView) → n ≡ length net.worths → ps ≡ net.pairs → FlowFits net flow → Covers n (length ps) flow
 covers net n ps flow e f h = record { sources = h.source ∙ sym e; rests = h.rest ∙ sym (ap length f); sinks = h.sink ∙ sym e }
 
-pub price_is : (price : Price) → price ≡ Objective → IsPrice price
-price_is price e = subst IsPrice (sym e) tt
-
-pub back_moved : (counts : Bool) (name : Group) (n m : ℕ) (ps qs : List (ℕ × ℕ)) (text : List ℕ) (price : Price) (pit : List ℕ) (flow : FlowView) → n ≡ m → ps ≡ qs → price ≡ Objective → IsReadBack counts name n ps text price pit flow → IsReadBack counts name m qs text Objective pit flow
-back_moved counts name n m ps qs text price pit flow e f g h =
+pub back_moved : (counts : Bool) (name : Group) (n m : ℕ) (ps qs : List (ℕ × ℕ)) (text : List ℕ) (price : Price) (pit : List ℕ) (flow : FlowView) → n ≡ m → ps ≡ qs → IsReadBack counts name n ps text price pit flow → IsReadBack counts name m qs text price pit flow
+back_moved counts name n m ps qs text price pit flow e f h =
     let P : ℕ → Type 0 = λ k. IsReadBack counts name k ps text price pit flow in
     let Q : List (ℕ × ℕ) → Type 0 = λ l. IsReadBack counts name m l text price pit flow in
-    let R : Price → Type 0 = λ p. IsReadBack counts name m qs text p pit flow in
-    subst R g (subst Q f (subst P e h))
+    subst Q f (subst P e h)
 
 -- what was to be written of a solution
-module _ (counts : Bool) (name : Group) (net : NetView) (method : Method) (limit blocks : ℕ) (price : Price) (pit : List ℕ) (flow : FlowView) (n : ℕ) (ps : List (ℕ × ℕ)) (s : IsSolution net blocks price pit flow) (e : n ≡ length net.worths) (f : ps ≡ net.pairs) where
+module _ (counts : Bool) (name : Group) (price : Price) (net : NetView) (method : Method) (limit blocks : ℕ) (pit : List ℕ) (flow : FlowView) (n : ℕ) (ps : List (ℕ × ℕ)) (s : IsSound net flow pit) (b : blocks ≡ length net.worths) (e : n ≡ length net.worths) (f : ps ≡ net.pairs) where
   abbrev text : List ℕ
   text = text_of (header_with blocks price name) ps pit flow
 
-  pub certified : (old new : Option (List ℕ)) → (blocks ≡ n → IsPrice price → All (λ b. b < n) pit → IsReadBack counts name n ps text price pit flow) → Appends old new text → SolvesNet counts name net method limit old new (Ok Done)
+  pub certified : (old new : Option (List ℕ)) → (blocks ≡ n → All (λ k. k < n) pit → IsReadBack counts name n ps text price pit flow) → Appends old new text → SolvesNet counts name price net method limit old new (Ok Done)
   certified old new back sent =
-      let below : All (λ b. b < n) pit = subst (λ (k : ℕ). All (λ b. b < k) pit) (sym e) s.sound.proves.of_net in
-      let read = back_moved counts name n (length net.worths) ps net.pairs text price pit flow e f s.objective (back (s.same_blocks ∙ sym e) (price_is price s.objective) below) in
-      (text, record { pit = pit; flow = flow; read = read; sound = s.sound }, sent)
+      let below : All (λ k. k < n) pit = subst (λ (k : ℕ). All (λ x. x < k) pit) (sym e) s.proves.of_net in
+      let read = back_moved counts name n (length net.worths) ps net.pairs text price pit flow e f (back (b ∙ sym e) below) in
+      (text, record { pit = pit; flow = flow; read = read; sound = s }, sent)
 
-  pub cut_short : (old new : Option (List ℕ)) → ReceivedPrefix old new text → SolvesNet counts name net method limit old new (Err engine.Device)
-  cut_short old new prefix = (text, inl (record { pit = pit; flow = flow; sound = s.sound; spelled = λ i. text_of (header_with (s.same_blocks i) (s.objective i) name) (f i) pit flow }), prefix)
+  pub cut_short : (old new : Option (List ℕ)) → ReceivedPrefix old new text → SolvesNet counts name price net method limit old new (Err engine.Device)
+  cut_short old new prefix = (text, inl (record { pit = pit; flow = flow; sound = s; spelled = λ i. text_of (header_with (b i) price name) (f i) pit flow }), prefix)
 
-pub said_no : (counts : Bool) (name : Group) (net : NetView) (method : Method) (limit : ℕ) (line : List ℕ) (old new : Option (List ℕ)) (r : Result Verdict EngineFault) → IsNoOf net method limit line
-    → MatchResult r (λ v. (v ≡ No) × Appends old new line) (λ e. (e ≡ engine.Device) × ReceivedPrefix old new line) → SolvesNet counts name net method limit old new r
-said_no counts name net method limit line old new (Ok v) h a = subst (λ (w : Verdict). SolvesNet counts name net method limit old new (Ok w)) (sym a.0) (line, h, a.1)
-said_no counts name net method limit line old new (Err e) h a = subst (λ (w : EngineFault). SolvesNet counts name net method limit old new (Err w)) (sym a.0) (line, inr h, a.1)
+pub said_no : (counts : Bool) (name : Group) (price : Price) (net : NetView) (method : Method) (limit : ℕ) (line : List ℕ) (old new : Option (List ℕ)) (r : Result Verdict EngineFault) → IsNoOf net method limit line
+    → MatchResult r (λ v. (v ≡ No) × Appends old new line) (λ e. (e ≡ engine.Device) × ReceivedPrefix old new line) → SolvesNet counts name price net method limit old new r
+said_no counts name price net method limit line old new (Ok v) h a = subst (λ (w : Verdict). SolvesNet counts name price net method limit old new (Ok w)) (sym a.0) (line, h, a.1)
+said_no counts name price net method limit line old new (Err e) h a = subst (λ (w : EngineFault). SolvesNet counts name price net method limit old new (Err w)) (sym a.0) (line, inr h, a.1)
 
 -- ---- the mine of the texts
 
-pub net_by : (block : ℤ → ℕ → Amount) (counts : Bool) (texts : MineTexts) (name : Group) (read : upit.UpitView) (rests : RestsView) (worths slice : List ℤ) (net : NetView) → AreRead texts read rests → IsGroupNamed name block counts → IsNet net → slice ≡ worths → worths ≡ map (λ x. pos 1000 *ℤ x) read.values → net ≡ net_view rests.pairs (map (λ v. block v rests.blocks) slice) → rests.blocks ≡ length slice → IsNetBy texts name net
-net_by block counts texts name read rests worths slice net a named is_net s e is l =
-    let made = net_made block texts read rests slice a (s ∙ e) in
-    let size = l ∙ sym (ap (λ (n : NetView). length n.worths) is ∙ length-map slice (λ v. block v rests.blocks)) in
+pub net_by : (block : ℤ → ℕ → Amount) (counts : Bool) (texts : MineTexts) (name : Group) (rests : RestsView) (worths : List ℤ) (net : NetView) → AreRead texts worths rests → IsGroupNamed name block counts → IsNet net → net ≡ net_view rests.pairs (map (λ v. block v rests.blocks) worths) → rests.blocks ≡ length worths → IsNetBy texts name net
+net_by block counts texts name rests worths net a named is_net is l =
+    let made = net_made block texts rests worths a in
+    let size = l ∙ sym (ap (λ (n : NetView). length n.worths) is ∙ length-map worths (λ v. block v rests.blocks)) in
     let D : ℕ → Type 0 = λ k. DenoteMine texts k in
     let N : NetView → Type 0 = λ n. IsNetOf block (mine_of rests.blocks texts) n in
     let M : ℕ → Type 0 = λ k. IsNetOf block (mine_of k texts) net in
@@ -103,19 +99,19 @@ net_by block counts texts name read rests worths slice net a named is_net s e is
     record { mine = subst D size a.mine; is_net = is_net; of_mine = subst B (sym named.block_is) (subst M size (subst N (sym is) made)) }
 
 module _ (block : ℤ → ℕ → Amount) (counts : Bool) (texts : MineTexts) (name : Group) (net : NetView) (method : Method) (limit : ℕ) (named : IsGroupNamed name block counts) (by : IsNetBy texts name net) where
-  certificate_is : (text : List ℕ) → IsCertificateOf counts name net text → IsCertificate texts name text
+  certificate_is : (text : List ℕ) → IsCertificateOf counts name (price_wanted texts) net text → IsCertificate texts name text
   certificate_is text c =
       let B : (ℤ → ℕ → Amount) → Type 0 = λ b. IsNetOf b (mine_of (length net.worths) texts) net in
       let of_mine : IsNetOf block (mine_of (length net.worths) texts) net = subst B named.block_is by.of_mine in
       let known : HasRead name block counts texts text net c.pit c.flow = record {
         mine = by.mine;
         named = named;
-        header = header_alone (record { blocks = length net.worths; group = name }) (pieces_of text) (record { blocks = length net.worths; price = Objective; group = name }) c.read.read.header;
+        header = header_alone (record { blocks = length net.worths; group = name }) (pieces_of text) (record { blocks = length net.worths; price = price_wanted texts; group = name }) c.read.read.header;
         is_net = by.is_net;
         of_mine = of_mine;
         no_fault = c.read.none;
         blocks = length net.worths;
-        price = Objective;
+        price = price_wanted texts;
         read = c.read.read;
       } in
       let greatest = (duality net c.flow (holds_of c.pit) by.is_net.rests c.sound.proves.is_flow c.sound.proves.closed c.sound.proves.tight).greatest_set in
@@ -126,11 +122,11 @@ module _ (block : ℤ → ℕ → Amount) (counts : Bool) (texts : MineTexts) (n
         proved = named.proves (mine_of (length net.worths) texts) net (holds_of c.pit) of_mine greatest;
       }
 
-  answers : (verdict : Verdict) (text : List ℕ) → AnswersNet counts name net method limit verdict text → AnswersMine texts name method limit verdict text
+  answers : (verdict : Verdict) (text : List ℕ) → AnswersNet counts name (price_wanted texts) net method limit verdict text → AnswersMine texts name method limit verdict text
   answers Done written h = certificate_is written h
   answers No written h = (net, by, h)
 
-  pub solved : (old new : Option (List ℕ)) (result : Result Verdict EngineFault) → SolvesNet counts name net method limit old new result → Solves texts name method limit old new result
+  pub solved : (old new : Option (List ℕ)) (result : Result Verdict EngineFault) → SolvesNet counts name (price_wanted texts) net method limit old new result → Solves texts name method limit old new result
   solved old new (Ok verdict) h = (h.0, answers verdict h.0 h.1, h.2)
   solved old new (Err (engine.Upit q)) h = absurd h
   solved old new (Err (engine.Prec q)) h = absurd h
@@ -144,13 +140,13 @@ module _ (block : ℤ → ℕ → Amount) (counts : Bool) (texts : MineTexts) (n
   solved old new (Err engine.Device) h = (tt, inr (net, by, h.0, h.1, h.2))
 
 -- there is no net of the mine
-pub unmade : (block : ℤ → ℕ → Amount) (counts : Bool) (texts : MineTexts) (name : Group) (read : upit.UpitView) (rests : RestsView) (worths : List ℤ) (method : Method) (limit : ℕ) (w : Option (List ℕ)) (fault : NetFault) → AreRead texts read rests → IsGroupNamed name block counts → worths ≡ map (λ x. pos 1000 *ℤ x) read.values → WorthsFaultStands block rests.blocks worths fault → Solves texts name method limit w w (Err (of_model fault))
-unmade block counts texts name read rests worths method limit w net_fault.WrongLength a named e f = ((rests.blocks, a.mine, worths_fail name block counts texts read rests.blocks worths net_fault.WrongLength a.denotes named e f), keeps_self w)
-unmade block counts texts name read rests worths method limit w net_fault.TooLarge a named e f = ((rests.blocks, a.mine, worths_fail name block counts texts read rests.blocks worths net_fault.TooLarge a.denotes named e f), keeps_self w)
-unmade block counts texts name read rests worths method limit w net_fault.NoMemory a named e f = (tt, keeps_self w)
+pub unmade : (block : ℤ → ℕ → Amount) (counts : Bool) (texts : MineTexts) (name : Group) (rests : RestsView) (worths : List ℤ) (method : Method) (limit : ℕ) (w : Option (List ℕ)) (fault : NetFault) → AreRead texts worths rests → IsGroupNamed name block counts → WorthsFaultStands block rests.blocks worths fault → Solves texts name method limit w w (Err (of_model fault))
+unmade block counts texts name rests worths method limit w net_fault.WrongLength a named f = ((rests.blocks, a.mine, worths_fail name block counts texts rests.blocks worths net_fault.WrongLength a.worths named f), keeps_self w)
+unmade block counts texts name rests worths method limit w net_fault.TooLarge a named f = ((rests.blocks, a.mine, worths_fail name block counts texts rests.blocks worths net_fault.TooLarge a.worths named f), keeps_self w)
+unmade block counts texts name rests worths method limit w net_fault.NoMemory a named f = (tt, keeps_self w)
 
 -- what holds of any texts of what was read holds where the readers tell their bytes
-pub solve_answer : (o r old new : Option (List ℕ)) (values : upit.UpitView) (rests : RestsView) (n : ℕ) (name : Group) (method : Method) (limit : ℕ) (result : Result Verdict EngineFault) → n ≡ length values.values → IfSome o (λ u. ReadsUpit u values) → IfSome r (λ p. ReadsPrec n p rests) → ((texts : MineTexts) → AreRead texts values rests → Solves texts name method limit old new result) → IfSome o (λ u. IfSome r (λ p. Solves (mine_texts u p) name method limit old new result))
-solve_answer None r old new values rests n name method limit result e a b h = tt
-solve_answer (Some u) None old new values rests n name method limit result e a b h = tt
-solve_answer (Some u) (Some p) old new values rests n name method limit result e a b h = h (mine_texts u p) (read_both u p values rests n e a b)
+pub solve_answer : (o r old new : Option (List ℕ)) (values : upit.UpitView) (rests : RestsView) (n : ℕ) (name : Group) (method : Method) (limit : ℕ) (slice worths : List ℤ) (result : Result Verdict EngineFault) → n ≡ length values.values → IfSome o (λ u. ReadsUpit u values) → IfSome r (λ p. ReadsPrec n p rests) → slice ≡ worths → worths ≡ billionths_of values.values → ((texts : MineTexts) → AreRead texts slice rests → Objective ≡ price_wanted texts → Solves texts name method limit old new result) → IfSome o (λ u. IfSome r (λ p. Solves (mine_texts u p) name method limit old new result))
+solve_answer None r old new values rests n name method limit slice worths result e a b s w h = tt
+solve_answer (Some u) None old new values rests n name method limit slice worths result e a b s w h = tt
+solve_answer (Some u) (Some p) old new values rests n name method limit slice worths result e a b s w h = h (mine_texts u p) (read_as (mine_texts u p) (billionths_of values.values) slice rests (s ∙ w) (read_both u p values rests n e a b)) refl

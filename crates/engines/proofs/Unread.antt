@@ -13,9 +13,9 @@ use Rattle.check_pit.specs.Certificate.{fault_of}
 use Rattle.check_pit.specs.declared.cert_faults.CertFault.{CertFault}
 use Rattle.engines.specs.declared.engine_fault.Problem.{Problem}
 use Rattle.engines.specs.declared.engine_fault.Problem.TheVariants as problem
-use Rattle.engines.specs.Mines.{MineTexts, mine_of, DenoteMine}
+use Rattle.engines.specs.Mines.{MineTexts, mine_texts, precedence_of, ValuesRead, WorthsRead, mine_of, DenoteMine}
 use Rattle.engines.specs.Readings.{block_by, counts_by, Reads}
-use Rattle.engines.specs.FaultStands.{UpitFails, PrecFails, ValuesRead, IsHeader, ModelFails, HeaderFails, BodyFails, PriceDiffers}
+use Rattle.engines.specs.FaultStands.{PrecFails, ValuesFail, IsHeader, ModelFails, HeaderFails, BodyFails, PriceDiffers}
 use Rattle.engines.proofs.Alone.{ok_same, nets_same}
 use Rattle.engines.proofs.Fitting.{no_model_fails}
 
@@ -25,22 +25,29 @@ never o f e g = let h : None ≡ Some f = sym e ∙ g in cc
 not_both : {A F : Type 0} (r : Result A F) (a : A) (f : F) → r ≡ Ok a → r ≡ Err f → ⊥
 not_both r a f e g = let h : Ok a ≡ Err f = sym e ∙ g in cc
 
-values_fault : (texts : MineTexts) (certificate : List ℕ) (fault : UpitFault) → Reads texts certificate → (upit.declared_of texts.values ≡ Err fault) ⊎ ((n : ℕ) × (upit.declared_of texts.values ≡ Ok n) × (upit.fault_of n texts.values ≡ Some fault)) → ⊥
-values_fault texts certificate fault r (inl e) = not_both _ _ _ r.mine.declared e
-values_fault texts certificate fault r (inr h) =
-    let n = ok_same _ _ _ r.mine.declared h.1 in
-    let P : ℕ → Type 0 = λ k. upit.fault_of k texts.values ≡ None in
-    never _ _ (subst P n r.mine.values_read) h.2
+values_fault : (text : List ℕ) (n : ℕ) (fault : UpitFault) → ValuesRead text n → (upit.declared_of text ≡ Err fault) ⊎ ((k : ℕ) × (upit.declared_of text ≡ Ok k) × (upit.fault_of k text ≡ Some fault)) → ⊥
+values_fault text n fault r (inl e) = not_both _ _ _ r.declared e
+values_fault text n fault r (inr h) =
+    let same = ok_same _ _ _ r.declared h.1 in
+    let P : ℕ → Type 0 = λ k. upit.fault_of k text ≡ None in
+    never _ _ (subst P same r.read) h.2
 
-pub upit_read : (texts : MineTexts) (certificate : List ℕ) (q : Problem UpitFault) → Reads texts certificate → UpitFails texts.values q → ⊥
-upit_read texts certificate problem.InputTooLong r h = let within = r.mine.values_within in omega (arith, within, h)
-upit_read texts certificate (problem.Fault fault) r h = values_fault texts certificate fault r h.1
+values_stand : (texts : MineTexts) (n : ℕ) (q : Problem UpitFault) → WorthsRead texts n → ValuesFail texts q → ⊥
+values_stand (mine_texts u p) n problem.InputTooLong r h = let within = r.within in omega (arith, within, h)
+values_stand (mine_texts u p) n (problem.Fault f) r h = values_fault u n f r h.1
 
-pub prec_read : (texts : MineTexts) (certificate : List ℕ) (n : ℕ) (q : Problem PrecFault) → Reads texts certificate → ValuesRead texts.values n → PrecFails n texts.precedence q → ⊥
+pub upit_read : (texts : MineTexts) (certificate : List ℕ) (q : Problem UpitFault) → Reads texts certificate → ValuesFail texts q → ⊥
+upit_read texts certificate q r h = values_stand texts r.blocks q r.mine.worths_read h
+
+-- what the blocks are worth is said of one number of blocks
+blocks_same : (texts : MineTexts) (n k : ℕ) → WorthsRead texts n → WorthsRead texts k → n ≡ k
+blocks_same (mine_texts u p) n k a b = ok_same _ _ _ a.declared b.declared
+
+pub prec_read : (texts : MineTexts) (certificate : List ℕ) (n : ℕ) (q : Problem PrecFault) → Reads texts certificate → WorthsRead texts n → PrecFails n (precedence_of texts) q → ⊥
 prec_read texts certificate n problem.InputTooLong r v h = let within = r.mine.precedence_within in omega (arith, within, h)
-prec_read texts certificate n (problem.Fault fault) r v h =
-    let e = ok_same _ _ _ r.mine.declared v.declared in
-    let P : ℕ → Type 0 = λ k. prec.fault_of k texts.precedence ≡ None in
+prec_read texts certificate n (problem.Fault f) r v h =
+    let e = blocks_same texts _ _ r.mine.worths_read v in
+    let P : ℕ → Type 0 = λ k. prec.fault_of k (precedence_of texts) ≡ None in
     never _ _ (subst P e r.mine.precedence_read) h.1
 
 pub price_read : (texts : MineTexts) (certificate : List ℕ) (n : ℕ) → Reads texts certificate → PriceDiffers texts certificate n → ⊥
@@ -50,7 +57,7 @@ pub header_read : (texts : MineTexts) (certificate : List ℕ) (n : ℕ) (fault 
 header_read texts certificate n fault r m (inl e) = not_both _ _ _ r.header e
 header_read texts certificate n fault r m (inr h) =
     let e = ok_same _ _ _ h.1 r.header in
-    let b = ok_same _ _ _ r.mine.declared m.declared in
+    let b = blocks_same texts _ _ r.mine.worths_read m.worths_read in
     h.2 (ap (λ (z : Header). z.blocks) e ∙ b)
 
 pub model_read : (texts : MineTexts) (certificate : List ℕ) (n : ℕ) (group : Group) (fault : NetFault) → Reads texts certificate → IsHeader texts certificate n group → ModelFails texts n group fault → ⊥

@@ -23,19 +23,13 @@ use Rattle.engines.specs.declared.engine_fault.CertificateProblem.TheVariants as
 use Rattle.engines.specs.declared.engine_fault.EngineFault.{EngineFault}
 use Rattle.engines.specs.declared.engine_fault.EngineFault.TheVariants as engine
 use Rattle.engines.specs.Limits.{IsTooLong, IsWithinLimit}
-use Rattle.engines.specs.Mines.{MineTexts, price_wanted, mine_of, DenoteMine}
+use Rattle.engines.specs.Mines.{MineTexts, mine_texts, precedence_of, price_wanted, worth_by, WorthsRead, DenoteMine, mine_of}
 use Rattle.engines.specs.Readings.{block_by, counts_by}
 
 -- the values are no text of values: too long, or a fault of the header, or one by the number of blocks that it declares
 abbrev pub UpitFails : List ℕ → Problem UpitFault → Type 0
 UpitFails text problem.InputTooLong = IsTooLong text
 UpitFails text (problem.Fault fault) = IsWithinLimit text × ((upit.declared_of text ≡ Err fault) ⊎ ((n : ℕ) × (upit.declared_of text ≡ Ok n) × (upit.fault_of n text ≡ Some fault)))
-
--- The first text isn't too long, declares n blocks and has no fault.
-pub record ValuesRead (text : List ℕ) (n : ℕ) : Type 0 where
-  pub within : IsWithinLimit text
-  pub declared : upit.declared_of text ≡ Ok n
-  pub read : upit.fault_of n text ≡ None
 
 abbrev pub PrecFails : ℕ → List ℕ → Problem PrecFault → Type 0
 PrecFails n text problem.InputTooLong = IsTooLong text
@@ -48,7 +42,7 @@ IsHeader texts certificate n group = header_of (pieces_of certificate) ≡ Ok (r
 -- the worths of the mine's blocks, in a list
 pub record AreWorths (texts : MineTexts) (n : ℕ) (worths : List ℤ) : Type 0 where
   pub size : length worths ≡ n
-  pub each : (b : ℕ) → b < n → slice_index_or worths b (pos 0) ≡ (mine_of n texts).worth b
+  pub each : (b : ℕ) → b < n → slice_index_or worths b (pos 0) ≡ worth_by texts b
 
 -- no net of these worths: an amount doesn't fit
 pub record NetFails (texts : MineTexts) (n : ℕ) (group : Group) (fault : NetFault) : Type 0 where
@@ -83,10 +77,18 @@ CertificateFails texts certificate n certificate_problem.InputTooLong = IsTooLon
 CertificateFails texts certificate n certificate_problem.WrongPrice = IsWithinLimit certificate × PriceDiffers texts certificate n
 CertificateFails texts certificate n (certificate_problem.Fault fault) = IsWithinLimit certificate × (HeaderFails certificate n fault ⊎ BodyFails texts certificate n fault)
 
+-- a fault of the values
+abbrev pub ValuesFail : MineTexts → Problem UpitFault → Type 0
+ValuesFail (mine_texts values precedence) p = UpitFails values p
+
+-- a fault of the precedence, where what the blocks are worth is read
+abbrev pub PrecedenceFails : MineTexts → Problem PrecFault → Type 0
+PrecedenceFails texts p = (n : ℕ) × WorthsRead texts n × PrecFails n (precedence_of texts) p
+
 -- Why a check answers a fault of the texts of a mine or of its certificate's. Want of memory and a failing device say nothing of them.
 abbrev pub Fails : MineTexts → List ℕ → EngineFault → Type 0
-Fails texts certificate (engine.Upit p) = UpitFails texts.values p
-Fails texts certificate (engine.Prec p) = (n : ℕ) × ValuesRead texts.values n × PrecFails n texts.precedence p
+Fails texts certificate (engine.Upit p) = ValuesFail texts p
+Fails texts certificate (engine.Prec p) = PrecedenceFails texts p
 Fails texts certificate (engine.Model fault) = (n : ℕ) × DenoteMine texts n × IsWithinLimit certificate × (group : Group) × IsHeader texts certificate n group × ModelFails texts n group fault
 Fails texts certificate (engine.Certificate p) = (n : ℕ) × DenoteMine texts n × CertificateFails texts certificate n p
 Fails texts certificate (engine.Blocks p) = ⊥

@@ -7,7 +7,8 @@ use Rattle.engines.specs.declared.engine_fault.EngineFault.{EngineFault}
 use Rattle.engines.specs.declared.engine_fault.EngineFault.TheVariants as engine
 use Rattle.engines.specs.declared.engine_fault.CertificateProblem.TheVariants as certificate
 use Rattle.engines.specs.Limits.{IsTooLong, IsWithinLimit}
-use Rattle.engines.specs.FaultStands.{UpitFails, PrecFails, ValuesRead}
+use Rattle.engines.specs.Mines.{ValuesRead}
+use Rattle.engines.specs.FaultStands.{UpitFails, PrecFails}
 
 -- why a text isn't read: for want of memory or by a failing device, or it is too long, which is told by a fault of its own
 abbrev pub TextFails : EngineFault → List ℕ → EngineFault → Type 0

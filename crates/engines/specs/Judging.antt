@@ -1,10 +1,9 @@
 -- What judging a certificate starts from, and what it gives.
-use Rattle.std.specs.Prelude.{◌≡◌, ℕ, ℤ, Bool, List, Result, Ok, Err}
+use Rattle.std.specs.Prelude.{◌≡◌, ℕ, ℤ, pos, ◌*ℤ◌, Bool, List, map, Result, Ok, Err}
 use Rattle.ordered_group.specs.Amount.{Amount}
 use Rattle.ordered_group.specs.declared.groups.Group.{Group}
 use Rattle.prec_file.specs.Rests.{RestsView, ArePairsOf}
 use Rattle.prec_file.specs.Records as prec
-use Rattle.upit_file.specs.Records as upit
 use Rattle.closure_net.specs.Network.{NetView}
 use Rattle.closure_net.specs.Closure.{IsGreatest}
 use Rattle.closure_net.specs.Mine.{Mine, IsNetOf}
@@ -16,16 +15,20 @@ use Rattle.check_pit.specs.declared.cert_faults.CertFault.{CertFault}
 use Rattle.check_pit.specs.declared.cert_faults.CertFault.TheVariants as cert
 use Rattle.closure_net.specs.declared.networks.NetFault.{NetFault}
 use Rattle.closure_net.specs.declared.networks.NetFault.TheVariants as net
-use Rattle.engines.specs.Mines.{MineTexts, DenoteMine}
+use Rattle.engines.specs.Mines.{MineTexts, precedence_of, DenoteMine}
 use Rattle.engines.specs.Readings.{block_by, counts_by, IsProvedPit}
 use Rattle.engines.specs.Judgements.{IsJudged}
-use Rattle.engines.specs.FaultStands.{Fails}
+use Rattle.engines.specs.FaultStands.{AreWorths, Fails}
 
--- The values and the pairs that were read are those of the texts.
-pub record AreRead (texts : MineTexts) (read : upit.UpitView) (rests : RestsView) : Type 0 where
+-- the billionths of numbers of millionths
+abbrev pub billionths_of : List ℤ → List ℤ
+billionths_of values = map (λ x. pos 1000 *ℤ x) values
+
+-- The worths, in billionths, and the pairs that were read are those of the texts.
+pub record AreRead (texts : MineTexts) (nanos : List ℤ) (rests : RestsView) : Type 0 where
   pub mine : DenoteMine texts rests.blocks
-  pub denotes : upit.Denotes rests.blocks texts.values read
-  pub pairs : ArePairsOf (prec.listed texts.precedence) rests.pairs
+  pub worths : AreWorths texts rests.blocks nanos
+  pub pairs : ArePairsOf (prec.listed (precedence_of texts)) rests.pairs
 
 -- The group with this name counts a block so, and what sums to most by it is proved.
 pub record IsGroupNamed (name : Group) (block : ℤ → ℕ → Amount) (counts : Bool) : Type 0 where

@@ -1,5 +1,5 @@
 -- The mine that texts denote.
-use Rattle.std.specs.Prelude.{◌≡◌, ℕ, pos, ◌*ℤ◌, ◌==◌, ◌&&◌, Bool, not, List, None, Ok}
+use Rattle.std.specs.Prelude.{◌≡◌, ℕ, ℤ, pos, ◌*ℤ◌, ◌==◌, ◌&&◌, Bool, not, List, None, Ok}
 use Rattle.std.specs.List.{list_any}
 use Rattle.closure_net.specs.Mine.{Mine}
 use Rattle.prec_file.specs.Records as prec
@@ -8,36 +8,42 @@ use Rattle.check_pit.specs.declared.headers.Price.{Price}
 use Rattle.check_pit.specs.declared.headers.Price.TheVariants.{Objective}
 use Rattle.engines.specs.Limits.{IsWithinLimit}
 
--- The texts that denote a mine: the values of its blocks, and what rests on what. A model whose blocks have prices in place of
--- values is denoted by other texts, and comes as another case.
-pub record MineTexts : Type 0 where
-  pub values : List ℕ
-  pub precedence : List ℕ
+-- The texts that denote a mine: the values of its blocks, and their precedence.
+pub data MineTexts : Type 0 where
+  mine_texts : (values precedence : List ℕ) → MineTexts
 
--- the texts of a mine by their bytes
-abbrev pub mine_texts : List ℕ → List ℕ → MineTexts
-mine_texts values precedence = record { values = values; precedence = precedence }
-
--- the price that a certificate names where blocks have values
-abbrev pub price_of_values : Price
-price_of_values = Objective
+-- the text of the precedence
+abbrev pub precedence_of : MineTexts → List ℕ
+precedence_of (mine_texts values precedence) = precedence
 
 -- the price that a certificate for these texts names
 abbrev pub price_wanted : MineTexts → Price
-price_wanted texts = price_of_values
+price_wanted (mine_texts values precedence) = Objective
+
+-- what block b is worth, in billionths: by its value in millionths
+abbrev pub worth_by : MineTexts → ℕ → ℤ
+worth_by (mine_texts values precedence) b = pos 1000 *ℤ upit.value_at values b
 
 -- b rests on p where the pair is listed and they are two blocks
 abbrev pub rests_by : List (ℕ × ℕ) → ℕ → ℕ → Bool
 rests_by listed b p = not (b == p) && list_any (λ q. (q.0 == b) && (q.1 == p)) listed
 
--- The mine of n blocks: who rests on whom is by the precedence, and each worth, in billionths, by the value in millionths.
+-- The mine of n blocks: who rests on whom is by the precedence.
 abbrev pub mine_of : ℕ → MineTexts → Mine
-mine_of n texts = record { blocks = n; rests = rests_by (prec.listed texts.precedence); worth = λ b. pos 1000 *ℤ upit.value_at texts.values b }
+mine_of n texts = record { blocks = n; rests = rests_by (prec.listed (precedence_of texts)); worth = worth_by texts }
 
--- The texts denote a mine of n blocks: neither is too long, the values are of n blocks, and neither has a fault.
+-- The text of values isn't too long, declares n blocks and has no fault.
+pub record ValuesRead (text : List ℕ) (n : ℕ) : Type 0 where
+  pub within : IsWithinLimit text
+  pub declared : upit.declared_of text ≡ Ok n
+  pub read : upit.fault_of n text ≡ None
+
+-- the texts that say what the blocks are worth are read, and say it of n blocks
+abbrev pub WorthsRead : MineTexts → ℕ → Type 0
+WorthsRead (mine_texts values precedence) n = ValuesRead values n
+
+-- The texts denote a mine of n blocks: what blocks are worth is read, and the precedence isn't too long and has no fault.
 pub record DenoteMine (texts : MineTexts) (n : ℕ) : Type 0 where
-  pub values_within : IsWithinLimit texts.values
-  pub precedence_within : IsWithinLimit texts.precedence
-  pub declared : upit.declared_of texts.values ≡ Ok n
-  pub values_read : upit.fault_of n texts.values ≡ None
-  pub precedence_read : prec.fault_of n texts.precedence ≡ None
+  pub worths_read : WorthsRead texts n
+  pub precedence_within : IsWithinLimit (precedence_of texts)
+  pub precedence_read : prec.fault_of n (precedence_of texts) ≡ None

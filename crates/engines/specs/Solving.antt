@@ -13,6 +13,7 @@ use Rattle.check_pit.specs.Checks.{IsOfNet, IsSound, FaultStands}
 use Rattle.check_pit.specs.ReadBack.{IsReadBack}
 use Rattle.check_pit.specs.Written.{header_with, text_of}
 use Rattle.check_pit.specs.declared.faults.PitFault.TheVariants as pit_fault
+use Rattle.check_pit.specs.declared.headers.Price.{Price}
 use Rattle.engines.specs.declared.judgement.Judgement.TheVariants.{Refused}
 use Rattle.engines.specs.declared.judgement.Verdict.{Verdict}
 use Rattle.engines.specs.declared.judgement.Verdict.TheVariants.{Done, No}
@@ -22,8 +23,8 @@ use Rattle.engines.specs.declared.solving.Unsolved.{Unsolved}
 use Rattle.engines.specs.declared.solving.Unsolved.TheVariants.{Unsettled, TooLarge, GaveUp, NoMemory, NoThread, Stranger}
 use Rattle.engines.specs.declared.method.Method.{Method}
 use Rattle.engines.specs.declared.method.Method.TheVariants.{Pseudoflow}
-use Rattle.engines.specs.FaultStands.{UpitFails, PrecFails, ModelFails, ValuesRead}
-use Rattle.engines.specs.Mines.{MineTexts, price_of_values, mine_of, DenoteMine}
+use Rattle.engines.specs.FaultStands.{ValuesFail, PrecedenceFails, ModelFails}
+use Rattle.engines.specs.Mines.{MineTexts, price_wanted, mine_of, DenoteMine}
 use Rattle.engines.specs.OutputLines.{judgement_line}
 use Rattle.engines.specs.Readings.{block_by, Reads, IsProvedPit}
 
@@ -67,10 +68,10 @@ unsolved_by run.NoMemory = NoMemory
 unsolved_by run.NoThread = NoThread
 
 -- the text is that of one pit and one flow of the net, and the flow proves the pit
-pub record IsCertificateOf (counts : Bool) (name : Group) (net : NetView) (text : List ℕ) : Type 0 where
+pub record IsCertificateOf (counts : Bool) (name : Group) (price : Price) (net : NetView) (text : List ℕ) : Type 0 where
   pub pit : List ℕ
   pub flow : FlowView
-  pub read : IsReadBack counts name (length net.worths) net.pairs text price_of_values pit flow
+  pub read : IsReadBack counts name (length net.worths) net.pairs text price pit flow
   pub sound : IsSound net flow pit
 
 -- the lines of an answer without a certificate
@@ -85,29 +86,29 @@ abbrev pub IsNoOf : NetView → Method → ℕ → List ℕ → Type 0
 IsNoOf net method limit text = ((method ≡ Pseudoflow) × (text ≡ unsettled_line)) ⊎ (IsCutOff net limit × (text ≡ unsettled_line)) ⊎ (SomeNumberLeaves net limit × (text ≡ too_large_line))
 
 -- the text that answers for a net
-abbrev pub AnswersNet : Bool → Group → NetView → Method → ℕ → Verdict → List ℕ → Type 0
-AnswersNet counts name net method limit Done text = IsCertificateOf counts name net text
-AnswersNet counts name net method limit No text = IsNoOf net method limit text
+abbrev pub AnswersNet : Bool → Group → Price → NetView → Method → ℕ → Verdict → List ℕ → Type 0
+AnswersNet counts name price net method limit Done text = IsCertificateOf counts name price net text
+AnswersNet counts name price net method limit No text = IsNoOf net method limit text
 
 -- the text of a pit and a flow of the net, in which the flow proves the pit
-pub record IsTextOf (name : Group) (net : NetView) (text : List ℕ) : Type 0 where
+pub record IsTextOf (name : Group) (price : Price) (net : NetView) (text : List ℕ) : Type 0 where
   pub pit : List ℕ
   pub flow : FlowView
   pub sound : IsSound net flow pit
-  pub spelled : text ≡ text_of (header_with (length net.worths) price_of_values name) net.pairs pit flow
+  pub spelled : text ≡ text_of (header_with (length net.worths) price name) net.pairs pit flow
 
 -- a text that was to be written for a net
-abbrev pub IsDueFor : Group → NetView → Method → ℕ → List ℕ → Type 0
-IsDueFor name net method limit text = IsTextOf name net text ⊎ IsNoOf net method limit text
+abbrev pub IsDueFor : Group → Price → NetView → Method → ℕ → List ℕ → Type 0
+IsDueFor name price net method limit text = IsTextOf name price net text ⊎ IsNoOf net method limit text
 
 -- what is written with it: all of it, or nothing where memory or a thread is wanted, or a front of it where a device fails
-abbrev pub SolvesNet : Bool → Group → NetView → Method → ℕ → Option (List ℕ) → Option (List ℕ) → Result Verdict EngineFault → Type 0
-SolvesNet counts name net method limit old new (Ok verdict) = (text : List ℕ) × AnswersNet counts name net method limit verdict text × Appends old new text
-SolvesNet counts name net method limit old new (Err engine.Memory) = Keeps old new
-SolvesNet counts name net method limit old new (Err engine.Thread) = Keeps old new
-SolvesNet counts name net method limit old new (Err engine.Stranger) = Keeps old new
-SolvesNet counts name net method limit old new (Err engine.Device) = (text : List ℕ) × IsDueFor name net method limit text × ReceivedPrefix old new text
-SolvesNet counts name net method limit old new (Err _) = ⊥
+abbrev pub SolvesNet : Bool → Group → Price → NetView → Method → ℕ → Option (List ℕ) → Option (List ℕ) → Result Verdict EngineFault → Type 0
+SolvesNet counts name price net method limit old new (Ok verdict) = (text : List ℕ) × AnswersNet counts name price net method limit verdict text × Appends old new text
+SolvesNet counts name price net method limit old new (Err engine.Memory) = Keeps old new
+SolvesNet counts name price net method limit old new (Err engine.Thread) = Keeps old new
+SolvesNet counts name price net method limit old new (Err engine.Stranger) = Keeps old new
+SolvesNet counts name price net method limit old new (Err engine.Device) = (text : List ℕ) × IsDueFor name price net method limit text × ReceivedPrefix old new text
+SolvesNet counts name price net method limit old new (Err _) = ⊥
 
 -- ---- the texts of a mine
 
@@ -132,8 +133,8 @@ AnswersMine texts name method limit No text = (net : NetView) × IsNetBy texts n
 -- Why the engine answers a fault: it stands, and none before it does. Want of memory, of a thread, a failing device and a board that
 -- comes back as another's say nothing of the texts.
 abbrev pub SolveFails : MineTexts → Group → EngineFault → Type 0
-SolveFails texts name (engine.Upit p) = UpitFails texts.values p
-SolveFails texts name (engine.Prec p) = (n : ℕ) × ValuesRead texts.values n × PrecFails n texts.precedence p
+SolveFails texts name (engine.Upit p) = ValuesFail texts p
+SolveFails texts name (engine.Prec p) = PrecedenceFails texts p
 SolveFails texts name (engine.Model fault) = (n : ℕ) × DenoteMine texts n × ModelFails texts n name fault
 SolveFails texts name engine.Memory = Unit {0}
 SolveFails texts name engine.Thread = Unit {0}
@@ -143,7 +144,7 @@ SolveFails texts name _ = ⊥
 
 -- nothing was written, or a front of an answer
 abbrev pub WritesSolveFront : MineTexts → Group → Method → ℕ → Option (List ℕ) → Option (List ℕ) → Type 0
-WritesSolveFront texts name method limit old new = Keeps old new ⊎ ((net : NetView) × IsNetBy texts name net × (text : List ℕ) × IsDueFor name net method limit text × ReceivedPrefix old new text)
+WritesSolveFront texts name method limit old new = Keeps old new ⊎ ((net : NetView) × IsNetBy texts name net × (text : List ℕ) × IsDueFor name (price_wanted texts) net method limit text × ReceivedPrefix old new text)
 
 -- what is in the writer at a fault: what was there before, unless a device failed
 abbrev pub SolveAtFault : MineTexts → Group → Method → ℕ → Option (List ℕ) → Option (List ℕ) → EngineFault → Type 0

@@ -1,14 +1,24 @@
-//! The certificate that a flow gives, whatever engine made it: the one place where a solver's answer is trusted or not.
+//! The pit that a flow proves, whatever engine made it: the one place where a solver's answer is trusted or not.
 
 ghost use Rattle.std.specs.Prelude.{◌≡◌, MatchResult};
-ghost use Rattle.engines.specs.Certifying.{IsSolution, UncertifiedStands};
+ghost use Rattle.check_pit.specs.Checks.{IsSound};
+ghost use Rattle.engines.specs.Certifying.{UncertifiedStands};
 
-use check_pit::{Certificate, PitFault, Price, check};
-use closure_net::{Flow, Net, pit_of};
+use check_pit::{PitFault, check};
+use closure_net::{Flow, Net, Pit, pit_of};
 use ordered_group::OrderedGroup;
 use std::alloc::Global;
 
-/// Why a flow gives no certificate.
+/// A pit of a net with a flow that proves it: a check has accepted them.
+#[derive(Drop)]
+pub struct Solution<G: OrderedGroup> {
+    /// The pit.
+    pub pit: Pit,
+    /// The flow.
+    pub flow: Flow<G>,
+}
+
+/// Why a flow proves no pit.
 #[derive(Clone, Copy, Debug, PartialEq, Eq)]
 pub enum Uncertified {
     /// Memory was refused.
@@ -17,7 +27,7 @@ pub enum Uncertified {
     Refused(PitFault),
 }
 
-/// Checks a flow of any origin, with the pit of the blocks that the source reaches in it, and gives their certificate.
+/// Checks a flow of any origin, with the pit of the blocks that the source reaches in it, and gives both.
 ///
 /// Nothing is asked of the flow: it may have wrong lengths, negative amounts, or prove nothing. So an engine that
 /// makes flows needs no proof of being right.
@@ -28,9 +38,9 @@ pub fn certified<G: OrderedGroup>(
     alloc: Global,
     net: &Net<G>,
     flow: Flow<G>,
-) -> Result<Certificate<G>, Uncertified>
+) -> Result<Solution<G>, Uncertified>
     ensures { MatchResult result
-        (λ c. IsSolution net.now c.blocks c.price c.pit c.flow)
+        (λ s. IsSound net.now s.flow s.pit)
         (λ why. UncertifiedStands net.now flow why) }
 {
     if !flow.fits(net) {
@@ -43,10 +53,5 @@ pub fn certified<G: OrderedGroup>(
         Ok(_) => {}
         Err(fault) => return Err(Uncertified::Refused(fault)),
     }
-    Ok(Certificate {
-        blocks: net.len(),
-        price: Price::Objective,
-        pit,
-        flow,
-    })
+    Ok(Solution { pit, flow })
 }

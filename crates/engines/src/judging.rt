@@ -6,9 +6,10 @@ ghost use Rattle.ordered_group.specs.Amount.{FitsPair};
 ghost use Rattle.closure_net.specs.Closure.{group_worth, IsGreatest};
 ghost use Rattle.closure_net.specs.Mine.{IsNetOf};
 ghost use Rattle.engines.specs.Limits.{IsWithinLimit};
-ghost use Rattle.engines.specs.Mines.{MineTexts, DenoteMine, mine_of};
+ghost use Rattle.check_pit.specs.declared.headers.Price.TheVariants.{Objective};
+ghost use Rattle.engines.specs.Mines.{MineTexts, DenoteMine, mine_of, price_wanted};
 ghost use Rattle.engines.specs.FaultStands.{IsHeader};
-ghost use Rattle.engines.specs.Judging.{AreRead, IsGroupNamed, Judges};
+ghost use Rattle.engines.specs.Judging.{AreRead, IsGroupNamed, Judges, billionths_of};
 
 use crate::engine_fault::{CertificateProblem, EngineFault};
 use crate::judgement::Judgement;
@@ -28,7 +29,7 @@ pub fn judge(
     certificate: &[u8],
 ) -> Result<Judgement, EngineFault>
     requires { IsWithinLimit certificate.now }
-    ensures judged { (texts : MineTexts) → AreRead texts upit.now rests → Judges texts certificate.now result }
+    ensures judged { (texts : MineTexts) → AreRead texts (billionths_of upit.now.values) rests → price_wanted texts ≡ Objective → Judges texts certificate.now result }
     ensures no_device { ¬ IsErrOf result EngineFault.Device }
 {
     laws::greatest_set_is_richest_pit();
@@ -43,26 +44,27 @@ pub fn judge(
             return Err(EngineFault::Certificate(CertificateProblem::WrongPrice));
         }
     }
+    let nanos = nanos_of(alloc, upit)?;
+    let nanos = nanos.as_slice();
     match header.group {
-        Group::Worth => judge_by::<Worth>(alloc, upit, rests, certificate),
-        Group::Pair => judge_by::<WorthSize>(alloc, upit, rests, certificate),
+        Group::Worth => judge_by::<Worth>(alloc, nanos, rests, certificate),
+        Group::Pair => judge_by::<WorthSize>(alloc, nanos, rests, certificate),
     }
 }
 
 // The same, where the header is read and the amounts are of the group G.
 fn judge_by<G: OrderedGroup>(
     alloc: Global,
-    upit: &Upit,
+    nanos: &[i128],
     rests: Rests,
     certificate: &[u8],
 ) -> Result<Judgement, EngineFault>
     requires { IsWithinLimit certificate.now }
-    ensures judged { (texts : MineTexts) → AreRead texts upit.now rests → IsGroupNamed G.name G.block_parts G.counts
+    ensures judged { (texts : MineTexts) → AreRead texts nanos.now rests → IsGroupNamed G.name G.block_parts G.counts
         → IsHeader texts certificate.now rests.blocks G.name → Judges texts certificate.now result }
     ensures no_device { ¬ IsErrOf result EngineFault.Device }
 {
-    let nanos = nanos_of(alloc, upit)?;
-    let net = Net::<G>::of_worths(alloc, rests, nanos.as_slice())?;
+    let net = Net::<G>::of_worths(alloc, rests, nanos)?;
     judge_for(alloc, &net, certificate)
 }
 
@@ -130,7 +132,7 @@ fn known_to_fit<G: OrderedGroup>(amount: G)
 
 /// The worth of each block in billionths.
 pub fn nanos_of(alloc: Global, upit: &Upit) -> Result<Vec<i128>, AllocError>
-    ensures { IfOk result (λ v. v.items ≡ map (λ x. pos 1000 *ℤ x) upit.now.values) }
+    ensures { IfOk result (λ v. v.items ≡ billionths_of upit.now.values) }
 {
     let mut nanos: Vec<i128> = Vec::new(alloc);
     for b in 0..upit.len() {

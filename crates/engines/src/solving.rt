@@ -3,15 +3,16 @@
 ghost use Rattle.std.specs.Prelude.{◌≡◌, ◌+◌, ◌-◌, ◌^◌, ◌<◌, ◌↔◌, IfSome, MatchResult, OnOk, IfErr, IfOk, Ok, Err, IsErrOf};
 ghost use Rattle.std.specs.Io.KnownBytes.{Appends};
 ghost use Rattle.fixed_worth.specs.Device.{ReceivedPrefix};
-ghost use Rattle.engines.specs.Certifying.{IsSolution};
+ghost use Rattle.check_pit.specs.Checks.{IsSound};
+ghost use Rattle.check_pit.specs.ReadBack.{IsPrice};
 ghost use Rattle.engines.specs.Solving.{UnsolvedStands, MachineStands, SolvesNet, unsolved_by};
 
-use crate::certify::{Uncertified, certified};
+use crate::certify::{Solution, Uncertified, certified};
 use crate::effort::Effort;
 use crate::engine_fault::EngineFault;
 use crate::judgement::Verdict;
 use crate::method::Method;
-use check_pit::{Certificate, laws, write_certificate};
+use check_pit::{Certificate, Price, laws, write_certificate};
 use closure_net::Net;
 use fixed_worth::{CountedWrite, WriteFault, write_text};
 use ordered_group::OrderedGroup;
@@ -21,7 +22,7 @@ use std::sync::Wait;
 use std::thread::Threads;
 use workers::{Gate, Locked, Shared, SolveFault, TurnBoard, solve};
 
-/// Why there is no certificate of a net.
+/// Why there is no pit with a flow that proves it.
 #[derive(Clone, Copy, Debug, PartialEq, Eq)]
 pub enum Unsolved {
     /// The machine's run made all its steps and some block isn't done.
@@ -51,14 +52,14 @@ fn unsolved_by(fault: SolveFault) -> Unsolved
     }
 }
 
-/// The certificate that pseudoflow's flow gives. None where it gives no flow, or one that the check refuses.
+/// The pit that pseudoflow's flow proves. None where it gives no flow, or one that the check refuses.
 pub fn by_pseudoflow<G: OrderedGroup, P: Progress>(
     alloc: Global,
     net: &Net<G>,
     turns: u64,
     progress: &P,
-) -> Result<Option<Certificate<G>>, AllocError>
-    ensures { IfOk result (λ found. IfSome found (λ c. IsSolution net.now c.blocks c.price c.pit c.flow)) }
+) -> Result<Option<Solution<G>>, AllocError>
+    ensures { IfOk result (λ found. IfSome found (λ s. IsSound net.now s.flow s.pit)) }
 {
     let flow = match pseudoflow::solve(alloc, net, turns, progress) {
         Ok(flow) => flow,
@@ -66,24 +67,24 @@ pub fn by_pseudoflow<G: OrderedGroup, P: Progress>(
         Err(_) => return Ok(None),
     };
     match certified(alloc, net, flow) {
-        Ok(certificate) => Ok(Some(certificate)),
+        Ok(solution) => Ok(Some(solution)),
         Err(Uncertified::NoMemory) => Err(AllocError),
         Err(Uncertified::Refused(_)) => Ok(None),
     }
 }
 
-/// The certificate that a run of the push-relabel machine gives.
+/// The pit that a run of the push-relabel machine proves.
 pub fn by_machine<G: OrderedGroup, R: Threads + Wait + Sync, T: Gate>(
     rt: &R,
     alloc: Global,
     net: &Net<G>,
     effort: Effort,
     gate: &T,
-) -> Result<Certificate<G>, Unsolved>
+) -> Result<Solution<G>, Unsolved>
 where
     Locked<TurnBoard<G>>: Shared,
     ensures { MatchResult result
-        (λ c. IsSolution net.now c.blocks c.price c.pit c.flow)
+        (λ s. IsSound net.now s.flow s.pit)
         (λ unsolved. MachineStands net.now effort.steps unsolved) }
 {
     laws::tight_closed_pit_is_refused_for_size_only();
@@ -92,7 +93,7 @@ where
         Err(fault) => return Err(unsolved_by(fault)),
     };
     match certified(alloc, net, flow) {
-        Ok(certificate) => Ok(certificate),
+        Ok(solution) => Ok(solution),
         Err(Uncertified::NoMemory) => Err(Unsolved::NoMemory),
         // what the source reaches in a greatest flow is closed and tight, so only sums that overflow are left
         Err(Uncertified::Refused(_)) => Err(Unsolved::TooLarge),
@@ -107,17 +108,17 @@ fn by_machine_first<G: OrderedGroup, R: Threads + Wait + Sync, T: Gate + Progres
     net: &Net<G>,
     effort: Effort,
     gate: &T,
-) -> Result<Certificate<G>, Unsolved>
+) -> Result<Solution<G>, Unsolved>
 where
     Locked<TurnBoard<G>>: Shared,
     ensures { MatchResult result
-        (λ c. IsSolution net.now c.blocks c.price c.pit c.flow)
+        (λ s. IsSound net.now s.flow s.pit)
         (λ unsolved. MachineStands net.now effort.steps unsolved) }
 {
     match by_machine(rt, alloc, net, effort, gate) {
         Err(Unsolved::TooLarge) if effort.method == Method::Auto => {
             match by_pseudoflow(alloc, net, effort.steps, gate) {
-                Ok(Some(certificate)) => Ok(certificate),
+                Ok(Some(solution)) => Ok(solution),
                 Ok(None) => Err(Unsolved::TooLarge),
                 Err(_) => Err(Unsolved::NoMemory),
             }
@@ -126,56 +127,64 @@ where
     }
 }
 
-/// The certificate of a net, made by the effort's method.
+/// A pit of a net with a flow that proves it, made by the effort's method.
 pub fn solution_of<G: OrderedGroup, R: Threads + Wait + Sync, T: Gate + Progress>(
     rt: &R,
     alloc: Global,
     net: &Net<G>,
     effort: Effort,
     gate: &T,
-) -> Result<Certificate<G>, Unsolved>
+) -> Result<Solution<G>, Unsolved>
 where
     Locked<TurnBoard<G>>: Shared,
     ensures { MatchResult result
-        (λ c. IsSolution net.now c.blocks c.price c.pit c.flow)
+        (λ s. IsSound net.now s.flow s.pit)
         (λ unsolved. UnsolvedStands net.now effort.method effort.steps unsolved) }
 {
     if !effort.method.begins_with_pseudoflow(net.len()) {
         return by_machine_first(rt, alloc, net, effort, gate);
     }
     match by_pseudoflow(alloc, net, effort.steps, gate) {
-        Ok(Some(certificate)) => Ok(certificate),
+        Ok(Some(solution)) => Ok(solution),
         Ok(None) if effort.method == Method::Pseudoflow => Err(Unsolved::GaveUp),
         Ok(None) => by_machine(rt, alloc, net, effort, gate),
         Err(_) => Err(Unsolved::NoMemory),
     }
 }
 
-/// Writes the certificate of a net, or a line that says why there is none.
+/// Writes the certificate of a net at this price, or a line that says why there is none.
 pub fn solve_net<G: OrderedGroup, R: Threads + Wait + Sync, T: Gate + Progress, W: CountedWrite>(
     rt: &R,
     alloc: Global,
     net: &Net<G>,
+    price: Price,
     effort: Effort,
     gate: &T,
     out: &mut W,
 ) -> Result<Verdict, EngineFault>
 where
     Locked<TurnBoard<G>>: Shared,
-    requires { W.failed out.old < 2 ^ 64 - 1 }
-    ensures answer { SolvesNet G.counts G.name net.now effort.method effort.steps (W.contents out.old) (W.contents out.new) result }
+    requires price { IsPrice price }
+    requires room { W.failed out.old < 2 ^ 64 - 1 }
+    ensures answer { SolvesNet G.counts G.name price net.now effort.method effort.steps (W.contents out.old) (W.contents out.new) result }
     ensures device { IsErrOf result EngineFault.Device ↔ (W.failed out.new ≡ W.failed out.old + 1) }
     ensures kept { ¬ IsErrOf result EngineFault.Device → W.failed out.new ≡ W.failed out.old }
 {
     let _worths = net.worths();
-    let certificate = match solution_of(rt, alloc, net, effort, gate) {
-        Ok(certificate) => certificate,
+    let solution = match solution_of(rt, alloc, net, effort, gate) {
+        Ok(solution) => solution,
         Err(Unsolved::Unsettled) => return write_no(b"UNSETTLED\n", out),
         Err(Unsolved::GaveUp) => return write_no(b"UNSETTLED\n", out),
         Err(Unsolved::TooLarge) => return write_no(b"REFUSED TooLarge\n", out),
         Err(Unsolved::NoMemory) => return Err(EngineFault::Memory),
         Err(Unsolved::NoThread) => return Err(EngineFault::Thread),
         Err(Unsolved::Stranger) => return Err(EngineFault::Stranger),
+    };
+    let certificate = Certificate {
+        blocks: net.len(),
+        price,
+        pit: solution.pit,
+        flow: solution.flow,
     };
     write_certificate(&certificate, net.rests(), out)?;
     Ok(Verdict::Done)

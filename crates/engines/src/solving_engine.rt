@@ -2,7 +2,8 @@
 
 ghost use Rattle.std.specs.Prelude.{◌≡◌, ◌+◌, ◌-◌, ◌^◌, ◌<◌, ◌↔◌, ℕ, List, IfSome, IsErrOf};
 ghost use Rattle.engines.specs.Judging.{AreRead, IsGroupNamed};
-ghost use Rattle.engines.specs.Mines.{MineTexts, mine_texts};
+ghost use Rattle.check_pit.specs.ReadBack.{IsPrice};
+ghost use Rattle.engines.specs.Mines.{MineTexts, mine_texts, price_wanted};
 ghost use Rattle.engines.specs.Solving.{Solves};
 
 use crate::effort::Effort;
@@ -11,6 +12,7 @@ use crate::inputs::{rests_from, upit_from};
 use crate::judgement::Verdict;
 use crate::judging::nanos_of;
 use crate::solving::solve_net;
+use check_pit::Price;
 use closure_net::{Net, laws};
 use fixed_worth::{CountedRead, CountedWrite};
 use ordered_group::{Group, OrderedGroup, Worth, WorthSize};
@@ -19,7 +21,6 @@ use pseudoflow::Progress;
 use std::alloc::Global;
 use std::sync::Wait;
 use std::thread::Threads;
-use upit_file::Upit;
 use workers::{Gate, Locked, Shared, TurnBoard};
 
 /// Finds the best pit of the mine of two texts, and writes its certificate.
@@ -72,30 +73,34 @@ pub fn solve_engine<
 {
     let upit = upit_from(alloc, upit)?;
     let rests = rests_from(alloc, prec, upit.len())?;
-    solve_mine(rt, alloc, &upit, rests, group, effort, gate, out)
+    let nanos = nanos_of(alloc, &upit)?;
+    let price = Price::Objective;
+    solve_mine(rt, alloc, nanos.as_slice(), rests, price, group, effort, gate, out)
 }
 
 // The same, where the mine is read.
 fn solve_mine<R: Threads + Wait + Sync, T: Gate + Progress, W: CountedWrite>(
     rt: &R,
     alloc: Global,
-    upit: &Upit,
+    nanos: &[i128],
     rests: Rests,
+    price: Price,
     group: Group,
     effort: Effort,
     gate: &T,
     out: &mut W,
 ) -> Result<Verdict, EngineFault>
-    requires { W.failed out.old < 2 ^ 64 - 1 }
-    ensures answer { (texts : MineTexts) → AreRead texts upit.now rests → Solves texts group effort.method effort.steps (W.contents out.old) (W.contents out.new) result }
+    requires price { IsPrice price }
+    requires room { W.failed out.old < 2 ^ 64 - 1 }
+    ensures answer { (texts : MineTexts) → AreRead texts nanos.now rests → price ≡ price_wanted texts → Solves texts group effort.method effort.steps (W.contents out.old) (W.contents out.new) result }
     ensures device { IsErrOf result EngineFault.Device ↔ (W.failed out.new ≡ W.failed out.old + 1) }
     ensures kept { ¬ IsErrOf result EngineFault.Device → W.failed out.new ≡ W.failed out.old }
 {
     laws::greatest_set_is_richest_pit();
     laws::greatest_set_is_best_pit::<WorthSize>();
     match group {
-        Group::Worth => solve_by::<Worth, R, T, W>(rt, alloc, upit, rests, effort, gate, out),
-        Group::Pair => solve_by::<WorthSize, R, T, W>(rt, alloc, upit, rests, effort, gate, out),
+        Group::Worth => solve_by::<Worth, R, T, W>(rt, alloc, nanos, rests, price, effort, gate, out),
+        Group::Pair => solve_by::<WorthSize, R, T, W>(rt, alloc, nanos, rests, price, effort, gate, out),
     }
 }
 
@@ -103,22 +108,23 @@ fn solve_mine<R: Threads + Wait + Sync, T: Gate + Progress, W: CountedWrite>(
 fn solve_by<G: OrderedGroup, R: Threads + Wait + Sync, T: Gate + Progress, W: CountedWrite>(
     rt: &R,
     alloc: Global,
-    upit: &Upit,
+    nanos: &[i128],
     rests: Rests,
+    price: Price,
     effort: Effort,
     gate: &T,
     out: &mut W,
 ) -> Result<Verdict, EngineFault>
 where
     Locked<TurnBoard<G>>: Shared,
-    requires { W.failed out.old < 2 ^ 64 - 1 }
-    ensures answer { (texts : MineTexts) → AreRead texts upit.now rests → IsGroupNamed G.name G.block_parts G.counts
+    requires price { IsPrice price }
+    requires room { W.failed out.old < 2 ^ 64 - 1 }
+    ensures answer { (texts : MineTexts) → AreRead texts nanos.now rests → price ≡ price_wanted texts → IsGroupNamed G.name G.block_parts G.counts
         → Solves texts G.name effort.method effort.steps (W.contents out.old) (W.contents out.new) result }
     ensures device { IsErrOf result EngineFault.Device ↔ (W.failed out.new ≡ W.failed out.old + 1) }
     ensures kept { ¬ IsErrOf result EngineFault.Device → W.failed out.new ≡ W.failed out.old }
 {
-    let nanos = nanos_of(alloc, upit)?;
-    let net = Net::<G>::of_worths(alloc, rests, nanos.as_slice())?;
+    let net = Net::<G>::of_worths(alloc, rests, nanos)?;
     let _worths = net.worths();
-    solve_net(rt, alloc, &net, effort, gate, out)
+    solve_net(rt, alloc, &net, price, effort, gate, out)
 }
