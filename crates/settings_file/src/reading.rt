@@ -1,9 +1,10 @@
 //! Reading a text.
 
-ghost use Rattle.std.specs.Prelude.{◌≡◌, Ok, Err, IfOk, IfSome, MatchResult, option_map};
+ghost use Rattle.std.specs.Prelude.{◌≡◌, Ok, Err, IfOk, IfErr, IfSome, MatchResult, option_map};
 ghost use Rattle.toml.specs.View.{table_view};
 ghost use Rattle.settings_file.specs.Keys.{all_known};
 ghost use Rattle.settings_file.specs.Values.{factors_of, offsets_of, AreFactors};
+ghost use Rattle.settings_file.specs.Internal.{IsGoodUpToFactors};
 ghost use Rattle.settings_file.specs.Settings.{said_at, settings_in, ReadsSettings};
 
 use crate::arrays::{factors_in, offsets_in};
@@ -61,9 +62,10 @@ fn offsets_at(alloc: Global, table: &Table) -> Result<Option<Vec<(i32, i32, i32)
 
 // What the table says, or its first fault.
 fn settings_of(alloc: Global, table: &Table) -> Result<Settings, SettingsFault>
-    ensures { MatchResult result
+    ensures value { MatchResult result
         (λ s. settings_in (table_view table.now) ≡ Ok s)
         (λ e. ¬ (e ≡ SettingsFault.NoMemory) → settings_in (table_view table.now) ≡ Err e) }
+    ensures early { IfErr result (λ e. e ≡ SettingsFault.NoMemory → IsGoodUpToFactors (table_view table.now)) }
 {
     if !has_only_keys(table) {
         return Err(SettingsFault::UnknownKey);

@@ -1,6 +1,6 @@
 //! Reading one number.
 
-ghost use Rattle.std.specs.Prelude.{◌≡◌, ◌≤◌, IfSome, IfOk};
+ghost use Rattle.std.specs.Prelude.{◌≡◌, ◌≤◌, IfSome, IfOk, IfErr};
 ghost use Rattle.toml.specs.View.{view, table_view};
 ghost use Rattle.settings_file.specs.Values.{whole_within, offset_number};
 ghost use Rattle.settings_file.specs.Settings.{said_at};
@@ -51,6 +51,7 @@ pub(crate) fn number_in_i32(value: &Value) -> Option<i32>
 pub(crate) fn number_at(table: &Table, key: Key, most: u32) -> Result<Option<u32>, SettingsFault>
     ensures value { result ≡ said_at key (whole_within most) (table_view table.now) }
     ensures bound { IfOk result (λ o. IfSome o (λ n. n ≤ most)) }
+    ensures fault { IfErr result (λ e. e ≡ SettingsFault.BadValue key) }
 {
     match table.get(key.name()) {
         Some(value) => match number_within(value, most) {
