@@ -1,0 +1,2 @@
+pub mod ReadArrays
+pub mod Ascending

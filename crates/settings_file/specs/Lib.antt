@@ -1,0 +1,5 @@
+pub mod Keys
+pub mod Values
+pub mod Settings
+pub mod FaultText
+pub mod Internal

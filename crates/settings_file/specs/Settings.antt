@@ -1,0 +1,75 @@
+-- What a text says as settings: a TOML document, and what its table has at each key.
+use Rattle.std.specs.Prelude.{◌≡◌, ◌≤◌, ℕ, IfSome, cond, ℤ, List, Option, Some, None, Result, Ok, Err, IsUtf8}
+use Rattle.toml.specs.Parse.{parse_document}
+use Rattle.toml.specs.Data.{Data, Members, get_member}
+use Rattle.settings_file.specs.declared.keys.Key.{Key}
+use Rattle.settings_file.specs.declared.keys.Key.TheVariants.{Revenue, Cost, Tonnes, Factors, Report, Offsets}
+use Rattle.settings_file.specs.declared.faults.SettingsFault.{SettingsFault}
+use Rattle.settings_file.specs.declared.faults.SettingsFault.TheVariants.{NotToml, UnknownKey, BadValue, NoMemory}
+use Rattle.settings_file.specs.Keys.{key_name, all_known}
+use Rattle.settings_file.specs.Values.{whole_within, factors_of, offsets_of, AreFactors}
+
+-- What the type shows: the value of each key, where the text has the key.
+pub record SettingsView : Type 0 where
+  pub revenue : Option ℕ
+  pub cost : Option ℕ
+  pub tonnes : Option ℕ
+  pub factors : Option (List ℕ)
+  pub report : Option ℕ
+  pub offsets : Option (List (ℤ × ℤ × ℤ))
+
+-- What is known of settings that were read: columns are numbered from 0 to 65,535, and factors are from 0 to 10,000.
+pub record IsSettings (s : SettingsView) : Type 0 where
+  pub revenue : IfSome s.revenue (λ column. column ≤ 65535)
+  pub cost : IfSome s.cost (λ column. column ≤ 65535)
+  pub tonnes : IfSome s.tonnes (λ column. column ≤ 65535)
+  pub factors : IfSome s.factors AreFactors
+  pub report : IfSome s.report (λ factor. factor ≤ 10000)
+
+-- What a table says at a key whose value has to read so: a missing key says nothing, and a value that doesn't read is bad.
+abbrev pub or_bad : {V : Type 0} → Key → Option V → Result (Option V) SettingsFault
+or_bad key (Some v) = Ok (Some v)
+or_bad key None = Err (BadValue key)
+
+abbrev pub said : {V : Type 0} → Key → (Data → Option V) → Option Data → Result (Option V) SettingsFault
+said key reads None = Ok None
+said key reads (Some d) = or_bad key (reads d)
+
+abbrev pub said_at : {V : Type 0} → Key → (Data → Option V) → Members → Result (Option V) SettingsFault
+said_at key reads ms = said key reads (get_member (key_name key) ms)
+
+-- The first fault, or what the next step says.
+abbrev pub then_with : {A B : Type 0} → Result A SettingsFault → (A → Result B SettingsFault) → Result B SettingsFault
+then_with (Ok x) next = next x
+then_with (Err e) next = Err e
+
+-- The value of each key, or the first key, in this order, whose value is bad.
+abbrev pub values_in : Members → Result SettingsView SettingsFault
+values_in ms =
+    then_with (said_at Revenue (whole_within 65535) ms) (λ revenue.
+    then_with (said_at Cost (whole_within 65535) ms) (λ cost.
+    then_with (said_at Tonnes (whole_within 65535) ms) (λ tonnes.
+    then_with (said_at Factors factors_of ms) (λ factors.
+    then_with (said_at Report (whole_within 10000) ms) (λ report.
+    then_with (said_at Offsets offsets_of ms) (λ offsets.
+    Ok (record { revenue = revenue; cost = cost; tonnes = tonnes; factors = factors; report = report; offsets = offsets })))))))
+
+-- A name that is no key comes before all bad values.
+abbrev pub settings_in : Members → Result SettingsView SettingsFault
+settings_in ms = cond (all_known ms) (values_in ms) (Err UnknownKey)
+
+-- The text is a TOML document with these members.
+pub record IsDocument (text : List ℕ) (ms : Members) : Type 0 where
+  pub utf8 : IsUtf8 text
+  pub parsed : parse_document text ≡ Some ms
+
+-- The text is a document with members of which this holds.
+abbrev pub Says : List ℕ → (Members → Type 0) → Type 0
+Says text P = (ms : Members) × IsDocument text ms × P ms
+
+-- What the reader answers for a text. Memory is refused only where the text is UTF-8.
+abbrev pub ReadsSettings : List ℕ → Result SettingsView SettingsFault → Type 0
+ReadsSettings text (Ok s) = Says text (λ ms. settings_in ms ≡ Ok s)
+ReadsSettings text (Err NotToml) = IsUtf8 text → parse_document text ≡ None
+ReadsSettings text (Err NoMemory) = IsUtf8 text
+ReadsSettings text (Err fault) = Says text (λ ms. settings_in ms ≡ Err fault)

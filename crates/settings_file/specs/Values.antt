@@ -1,0 +1,81 @@
+-- What one value of a TOML document reads as.
+use Rattle.std.specs.Bool.{nat_le, nat_lt}
+use Rattle.std.specs.Prelude.{ℕ, ◌<◌, ◌≤◌, ◌&&◌, Bool, true, cond, ℤ, pos, negsuc, List, [], ◌∷◌, length, slice_index, Option, Some, None}
+use Rattle.std.specs.List.{All}
+use Rattle.toml.specs.Data.{Data, Items, no_items, item, as_integer, as_array}
+
+-- A whole number from 0 to the most, and nothing else.
+abbrev pub whole_upto : ℕ → Option ℤ → Option ℕ
+whole_upto most (Some (pos n)) = cond (nat_le n most) (Some n) None
+whole_upto most (Some (negsuc n)) = None
+whole_upto most None = None
+
+abbrev pub whole_within : ℕ → Data → Option ℕ
+whole_within most d = whole_upto most (as_integer d)
+
+-- A whole number from -2^31 to 2^31 - 1, and nothing else. (negsuc n is -1 - n.)
+abbrev pub whole_in_i32 : Option ℤ → Option ℤ
+whole_in_i32 (Some (pos n)) = cond (nat_le n 2147483647) (Some (pos n)) None
+whole_in_i32 (Some (negsuc n)) = cond (nat_le n 2147483647) (Some (negsuc n)) None
+whole_in_i32 None = None
+
+abbrev pub offset_number : Data → Option ℤ
+offset_number d = whole_in_i32 (as_integer d)
+
+-- What each item reads as, in order, and nothing where one doesn't read.
+abbrev pub put_first : {V : Type 0} → Option V → Option (List V) → Option (List V)
+put_first (Some v) (Some vs) = Some (v ∷ vs)
+put_first (Some v) None = None
+put_first None o = None
+
+unfoldable pub all_read : {V : Type 0} → (Data → Option V) → Items → Option (List V)
+all_read reads no_items = Some []
+all_read reads (item d ds) = put_first (reads d) (all_read reads ds)
+
+-- Each number is above the one before it.
+abbrev pub is_below_first : ℕ → List ℕ → Bool
+is_below_first n [] = true
+is_below_first n (m ∷ ms) = nat_lt n m
+
+unfoldable pub are_ascending : List ℕ → Bool
+are_ascending [] = true
+are_ascending (n ∷ ns) = is_below_first n ns && are_ascending ns
+
+-- Factors: an array of 1 to 64 whole numbers from 0 to 10,000, each above the one before it.
+abbrev pub if_factors : Option (List ℕ) → Option (List ℕ)
+if_factors (Some ns) = cond ((nat_le 1 (length ns) && nat_le (length ns) 64) && are_ascending ns) (Some ns) None
+if_factors None = None
+
+abbrev pub factors_of_items : Option Items → Option (List ℕ)
+factors_of_items (Some ds) = if_factors (all_read (whole_within 10000) ds)
+factors_of_items None = None
+
+abbrev pub factors_of : Data → Option (List ℕ)
+factors_of d = factors_of_items (as_array d)
+
+-- An offset: an array of three whole numbers.
+abbrev pub three : Option ℤ → Option ℤ → Option ℤ → Option (ℤ × ℤ × ℤ)
+three (Some x) (Some y) (Some z) = Some (x, y, z)
+three _ _ _ = None
+
+abbrev pub offset_of_items : Option Items → Option (ℤ × ℤ × ℤ)
+offset_of_items (Some (item x (item y (item z no_items)))) = three (offset_number x) (offset_number y) (offset_number z)
+offset_of_items _ = None
+
+abbrev pub offset_of : Data → Option (ℤ × ℤ × ℤ)
+offset_of d = offset_of_items (as_array d)
+
+-- Offsets: an array of any number of them.
+abbrev pub offsets_of_items : Option Items → Option (List (ℤ × ℤ × ℤ))
+offsets_of_items (Some ds) = all_read offset_of ds
+offsets_of_items None = None
+
+abbrev pub offsets_of : Data → Option (List (ℤ × ℤ × ℤ))
+offsets_of d = offsets_of_items (as_array d)
+
+-- What is known of factors that were read.
+pub record AreFactors (ns : List ℕ) : Type 0 where
+  pub some : 1 ≤ length ns
+  pub few : length ns ≤ 64
+  pub ascending : (i j : ℕ) → i < j → j < length ns → slice_index ns i < slice_index ns j
+  pub bounded : All (λ n. n ≤ 10000) ns

@@ -1,0 +1,24 @@
+//! Reads settings: the TOML text that says which columns of a block model hold revenue, cost and tonnes, at which
+//! factors shells are drawn, and which offsets a slope has.
+//!
+//! It stands on the kit's `toml`, which parses the text into a table of values.
+//!
+//! Upward it promises: [`read_settings`] gives exactly what `specs/Settings` says that the text denotes, or its first
+//! fault. A document is what `toml`'s own grammar says; `specs/Keys` has the keys and `specs/Values` what a value at
+//! one of them may be. Which keys a command needs is the command's matter: it answers [`SettingsFault::Missing`].
+#![tactic(auto)]
+
+mod arrays;
+mod faults;
+mod keys;
+mod reading;
+mod settings;
+mod values;
+
+pub use faults::SettingsFault;
+pub use keys::Key;
+pub use reading::read_settings;
+pub use settings::Settings;
+
+#[cfg(test)]
+mod tests;

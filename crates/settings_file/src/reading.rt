@@ -1,0 +1,105 @@
+//! Reading a text.
+
+ghost use Rattle.std.specs.Prelude.{◌≡◌, Ok, Err, IfOk, IfErr, IfSome, MatchResult, option_map};
+ghost use Rattle.toml.specs.View.{table_view};
+ghost use Rattle.settings_file.specs.Keys.{all_known};
+ghost use Rattle.settings_file.specs.Values.{factors_of, offsets_of, AreFactors};
+ghost use Rattle.settings_file.specs.Internal.{IsGoodUpToFactors};
+ghost use Rattle.settings_file.specs.Settings.{said_at, settings_in, ReadsSettings};
+
+use crate::arrays::{factors_in, offsets_in};
+use crate::faults::SettingsFault;
+use crate::keys::{Key, is_key};
+use crate::settings::Settings;
+use crate::values::{MOST_COLUMN, MOST_FACTOR, number_at};
+use std::alloc::Global;
+use toml::Table;
+
+// Whether every name of the table is a key.
+fn has_only_keys(table: &Table) -> bool
+    ensures { result ≡ all_known (table_view table.now) }
+{
+    for name in table.keys() {
+        if !is_key(name.as_str()) {
+            return false;
+        }
+    }
+    true
+}
+
+// The factors of the table.
+fn factors_at(alloc: Global, table: &Table) -> Result<Option<Vec<u32>>, SettingsFault>
+    ensures value { MatchResult result
+        (λ o. said_at Key.Factors factors_of (table_view table.now) ≡ Ok (option_map (λ v. v.items) o))
+        (λ e. ¬ (e ≡ SettingsFault.NoMemory) → said_at Key.Factors factors_of (table_view table.now) ≡ Err e) }
+    ensures form { IfOk result (λ o. IfSome o (λ v. AreFactors v.items)) }
+{
+    match table.get(Key::Factors.name()) {
+        Some(value) => match factors_in(alloc, value) {
+            Ok(Some(factors)) => Ok(Some(factors)),
+            Ok(None) => Err(SettingsFault::BadValue(Key::Factors)),
+            Err(_) => Err(SettingsFault::NoMemory),
+        },
+        None => Ok(None),
+    }
+}
+
+// The offsets of the table.
+fn offsets_at(alloc: Global, table: &Table) -> Result<Option<Vec<(i32, i32, i32)>>, SettingsFault>
+    ensures { MatchResult result
+        (λ o. said_at Key.Offsets offsets_of (table_view table.now) ≡ Ok (option_map (λ v. v.items) o))
+        (λ e. ¬ (e ≡ SettingsFault.NoMemory) → said_at Key.Offsets offsets_of (table_view table.now) ≡ Err e) }
+{
+    match table.get(Key::Offsets.name()) {
+        Some(value) => match offsets_in(alloc, value) {
+            Ok(Some(offsets)) => Ok(Some(offsets)),
+            Ok(None) => Err(SettingsFault::BadValue(Key::Offsets)),
+            Err(_) => Err(SettingsFault::NoMemory),
+        },
+        None => Ok(None),
+    }
+}
+
+// What the table says, or its first fault.
+fn settings_of(alloc: Global, table: &Table) -> Result<Settings, SettingsFault>
+    ensures value { MatchResult result
+        (λ s. settings_in (table_view table.now) ≡ Ok s)
+        (λ e. ¬ (e ≡ SettingsFault.NoMemory) → settings_in (table_view table.now) ≡ Err e) }
+    ensures early { IfErr result (λ e. e ≡ SettingsFault.NoMemory → IsGoodUpToFactors (table_view table.now)) }
+{
+    if !has_only_keys(table) {
+        return Err(SettingsFault::UnknownKey);
+    }
+    let revenue = number_at(table, Key::Revenue, MOST_COLUMN)?;
+    let cost = number_at(table, Key::Cost, MOST_COLUMN)?;
+    let tonnes = number_at(table, Key::Tonnes, MOST_COLUMN)?;
+    let factors = factors_at(alloc, table)?;
+    let report = number_at(table, Key::Report, MOST_FACTOR)?;
+    let offsets = offsets_at(alloc, table)?;
+    Ok(Settings::of(revenue, cost, tonnes, factors, report, offsets))
+}
+
+/// What a text says as settings.
+///
+/// # Errors
+/// In this order: `NotToml` where the text is no TOML document, `UnknownKey` where a name of its table is no key, and
+/// `BadValue` with the first key whose value has a wrong kind or is out of its range; or `NoMemory` where memory is
+/// refused. Never `Missing`.
+pub fn read_settings(alloc: Global, bytes: &[u8]) -> Result<Settings, SettingsFault>
+    ensures { ReadsSettings bytes.now result }
+{
+    let text = match std::str::from_utf8(bytes) {
+        Ok(text) => text,
+        Err(_) => return Err(SettingsFault::NotToml),
+    };
+    match toml::table_from_str(alloc, text) {
+        Ok(table) => settings_of(alloc, &table),
+        Err(e) => {
+            if e.is_memory() {
+                Err(SettingsFault::NoMemory)
+            } else {
+                Err(SettingsFault::NotToml)
+            }
+        }
+    }
+}

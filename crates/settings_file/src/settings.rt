@@ -1,0 +1,109 @@
+//! What settings say.
+
+ghost use Rattle.std.specs.Prelude.{◌≡◌, ◌≤◌, IfSome, option_map};
+ghost use Rattle.settings_file.specs.Values.{AreFactors};
+ghost use Rattle.settings_file.specs.Settings.{SettingsView, IsSettings};
+
+use std::marker::Model;
+
+/// What settings say: the value of each key, where the text has the key.
+#[derive(Drop)]
+pub struct Settings {
+    revenue: Option<u32>,
+    cost: Option<u32>,
+    tonnes: Option<u32>,
+    factors: Option<Vec<u32>>,
+    report: Option<u32>,
+    offsets: Option<Vec<(i32, i32, i32)>>,
+}
+
+impl Model for Settings {
+    ghost use Rattle.std.specs.Prelude.{option_map};
+    ghost use Rattle.settings_file.specs.Settings.{SettingsView, IsSettings};
+
+    ghost Value = { SettingsView };
+
+    ghost view = { λ s. record { revenue = s.revenue; cost = s.cost; tonnes = s.tonnes; factors = option_map (λ v. v.items) s.factors; report = s.report; offsets = option_map (λ v. v.items) s.offsets } };
+
+    ghost invariant = { λ s. IsSettings (record { revenue = s.revenue; cost = s.cost; tonnes = s.tonnes; factors = option_map (λ v. v.items) s.factors; report = s.report; offsets = option_map (λ v. v.items) s.offsets }) };
+}
+
+impl Settings {
+    pub(crate) fn of(
+        revenue: Option<u32>,
+        cost: Option<u32>,
+        tonnes: Option<u32>,
+        factors: Option<Vec<u32>>,
+        report: Option<u32>,
+        offsets: Option<Vec<(i32, i32, i32)>>,
+    ) -> Settings
+        requires revenue { IfSome revenue (λ column. column ≤ 65535) }
+        requires cost { IfSome cost (λ column. column ≤ 65535) }
+        requires tonnes { IfSome tonnes (λ column. column ≤ 65535) }
+        requires factors { IfSome factors (λ v. AreFactors v.items) }
+        requires report { IfSome report (λ factor. factor ≤ 10000) }
+        ensures { result ≡ record { revenue = revenue; cost = cost; tonnes = tonnes; factors = option_map (λ v. v.items) factors; report = report; offsets = option_map (λ v. v.items) offsets } }
+    {
+        Settings {
+            revenue,
+            cost,
+            tonnes,
+            factors,
+            report,
+            offsets,
+        }
+    }
+
+    /// The number of the column of revenues.
+    pub fn revenue(&self) -> Option<u32>
+        ensures value { result ≡ self.now.revenue }
+        ensures bound { IfSome result (λ column. column ≤ 65535) }
+    {
+        self.revenue
+    }
+
+    /// The number of the column of costs.
+    pub fn cost(&self) -> Option<u32>
+        ensures value { result ≡ self.now.cost }
+        ensures bound { IfSome result (λ column. column ≤ 65535) }
+    {
+        self.cost
+    }
+
+    /// The number of the column of tonnes.
+    pub fn tonnes(&self) -> Option<u32>
+        ensures value { result ≡ self.now.tonnes }
+        ensures bound { IfSome result (λ column. column ≤ 65535) }
+    {
+        self.tonnes
+    }
+
+    /// The factors of the shells in thousandths: 1 to 64 of them, each from 0 to 10,000 and above the one before it.
+    pub fn factors(&self) -> Option<&[u32]>
+        ensures value { option_map (λ s. s.now) result ≡ self.now.factors }
+        ensures form { IfSome result (λ s. AreFactors s.now) }
+    {
+        match &self.factors {
+            Some(factors) => Some(factors.as_slice()),
+            None => None,
+        }
+    }
+
+    /// The factor of the report in thousandths, which need not be one of [`Settings::factors`].
+    pub fn report(&self) -> Option<u32>
+        ensures value { result ≡ self.now.report }
+        ensures bound { IfSome result (λ factor. factor ≤ 10000) }
+    {
+        self.report
+    }
+
+    /// The offsets of a slope, (dx, dy, dz) each, from a block to a predecessor.
+    pub fn offsets(&self) -> Option<&[(i32, i32, i32)]>
+        ensures { option_map (λ s. s.now) result ≡ self.now.offsets }
+    {
+        match &self.offsets {
+            Some(offsets) => Some(offsets.as_slice()),
+            None => None,
+        }
+    }
+}

@@ -1,0 +1,63 @@
+//! Reading one number.
+
+ghost use Rattle.std.specs.Prelude.{◌≡◌, ◌≤◌, IfSome, IfOk, IfErr};
+ghost use Rattle.toml.specs.View.{view, table_view};
+ghost use Rattle.settings_file.specs.Values.{whole_within, offset_number};
+ghost use Rattle.settings_file.specs.Settings.{said_at};
+
+use crate::faults::SettingsFault;
+use crate::keys::Key;
+use toml::{Table, Value};
+
+pub(crate) const MOST_COLUMN: u32 = 65_535;
+
+// In thousandths.
+pub(crate) const MOST_FACTOR: u32 = 10_000;
+
+// The whole number from 0 to `most` that a value is.
+pub(crate) fn number_within(value: &Value, most: u32) -> Option<u32>
+    ensures value { result ≡ whole_within most (view value.now) }
+    ensures bound { IfSome result (λ n. n ≤ most) }
+{
+    match value.as_integer() {
+        Some(number) => {
+            if 0 <= number && number <= most as i64 {
+                Some(number as u32)
+            } else {
+                None
+            }
+        }
+        None => None,
+    }
+}
+
+// The whole number in an i32 that a value is.
+pub(crate) fn number_in_i32(value: &Value) -> Option<i32>
+    ensures { result ≡ offset_number (view value.now) }
+{
+    match value.as_integer() {
+        Some(number) => {
+            if -2_147_483_648 <= number && number <= 2_147_483_647 {
+                Some(number as i32)
+            } else {
+                None
+            }
+        }
+        None => None,
+    }
+}
+
+// The whole number from 0 to `most` at a key, or `None` where the table doesn't have the key.
+pub(crate) fn number_at(table: &Table, key: Key, most: u32) -> Result<Option<u32>, SettingsFault>
+    ensures value { result ≡ said_at key (whole_within most) (table_view table.now) }
+    ensures bound { IfOk result (λ o. IfSome o (λ n. n ≤ most)) }
+    ensures fault { IfErr result (λ e. e ≡ SettingsFault.BadValue key) }
+{
+    match table.get(key.name()) {
+        Some(value) => match number_within(value, most) {
+            Some(number) => Ok(Some(number)),
+            None => Err(SettingsFault::BadValue(key)),
+        },
+        None => Ok(None),
+    }
+}
