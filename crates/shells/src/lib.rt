@@ -28,3 +28,5 @@ pub use series_fault::SeriesFault;
 pub use shell_series::Series;
 pub use thousandths::Factor;
 
+#[cfg(test)]
+mod tests;

@@ -45,7 +45,5 @@ pub(crate) fn is_over<G: OrderedGroup>(
 ) -> bool
     ensures { IsTrue result ↔ IsOver G.block_parts rests.now.pairs prices.now factor net.now }
 {
-    net.len() == prices.len()
-        && same_pairs(net.rests(), rests)
-        && has_worths(prices, factor, net)
+    net.len() == prices.len() && same_pairs(net.rests(), rests) && has_worths(prices, factor, net)
 }
