@@ -27,3 +27,4 @@ pub use networks::{Net, NetFault};
 pub use pits::Pit;
 pub use ports::{Port, PortKind};
 pub use reaching::pit_of;
+pub use sameness::same_pairs;

@@ -5,8 +5,8 @@ ghost use Rattle.std.specs.Prelude.{◌≡◌, ◌↔◌, IsTrue, map};
 use ordered_group::{OrderedGroup, same};
 use prec_file::Rests;
 
-// Whether the pairs are the same.
-pub(crate) fn same_pairs(a: &Rests, b: &Rests) -> bool
+/// Whether both have the same pairs. Linear in their number, and takes no memory.
+pub fn same_pairs(a: &Rests, b: &Rests) -> bool
     ensures { IsTrue result ↔ (a.now.pairs ≡ b.now.pairs) }
 {
     if a.pairs() != b.pairs() {

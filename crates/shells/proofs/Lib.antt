@@ -1,0 +1,5 @@
+pub mod Rising
+pub mod OverNets
+pub mod Factors
+pub mod Pushes
+pub mod Shells

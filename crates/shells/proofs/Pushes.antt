@@ -1,0 +1,111 @@
+-- A push keeps a series.
+use Rattle.std.proofs.Common.{◌≡◌, ℕ, ◌<◌, ◌≤◌, Bool, true, false, IsTrue, List, [], ◌∷◌, ◌++◌, length, length-append, Option, Some, None, inl, inr, sym, subst, refl, ap, ◌∙◌, arith}
+use Rattle.std.specs.Prelude.{◌==◌, ◌&&◌}
+use Rattle.std.specs.List.{Contains}
+use Rattle.std.proofs.lemmas.Bool.{le-leb, lt-leb, cases_lt, eqb-true, and_parts}
+use Rattle.std.proofs.lemmas.List.{get_or_past}
+use Rattle.std.proofs.lemmas.List.Elements.{Contains-append_left, Contains-append_right, Contains-append_cases}
+use Rattle.std.proofs.lemmas.List.Folds.{Any-from_list_any}
+use Rattle.std.proofs.lemmas.Option.{same_Some}
+use Rattle.prec_file.specs.Rests.{IsRests}
+use Rattle.ordered_group.proofs.BlockSets.{worth_in-same, count_in-same}
+use Rattle.closure_net.specs.Mine.{Mine, worth_of, count_of, AreSame, IsBest}
+use Rattle.shells.specs.Prices.{PricesView}
+use Rattle.shells.specs.Series.{mine_at, SeriesView, shell_at, is_upto, upto, IsSeries, IsAbove, with_shell, IsPushed}
+use Rattle.shells.proofs.Rising.{best_is_nested}
+use Rattle.shells.proofs.Factors.{one_last, rising_more}
+
+-- ---- the best pit is one set of blocks
+
+-- who rests on whom concerns blocks of the mine alone
+pub record IsOwn (mine : Mine) : Type 0 where
+  pub own : (b p : ℕ) → IsTrue (mine.rests b p) → (b < mine.blocks) × (p < mine.blocks)
+
+pub best_of_same : (mine : Mine) (e c : ℕ → Bool) → IsOwn mine → IsBest mine e → AreSame mine c e → IsBest mine c
+best_of_same mine e c o h s =
+    let worth : worth_of mine c ≡ worth_of mine e = worth_in-same mine.worth c e mine.blocks s in
+    let count : count_of mine c ≡ count_of mine e = count_in-same c e mine.blocks s in
+    record {
+      is_pit = λ b p r t. let i = o.own b p r in s p i.1 ∙ h.is_pit b p r (sym (s b i.0) ∙ t);
+      most = λ d pit. rw worth (h.most d pit);
+      fewest = λ d pit differ same. rw count (h.fewest d pit (λ k. differ (λ b l. k b l ∙ sym (s b l))) (same ∙ worth));
+    }
+
+-- ---- one push
+
+-- what the shells up to k are after a push at k
+at_new : (o : Option ℕ) (t : Bool) (k : ℕ) → ((x : ℕ) → o ≡ Some x → (x ≤ k) × (t ≡ true)) → is_upto (with_shell o t k) k ≡ t
+at_new (Some x) t k h = let i = h x refl in le-leb x k i.0 ∙ sym i.1
+at_new None true k h = le-leb k k (omega arith)
+at_new None false k h = refl
+
+-- and up to an earlier factor
+at_old : (o : Option ℕ) (t : Bool) (j k : ℕ) → j < k → is_upto (with_shell o t k) j ≡ is_upto o j
+at_old (Some x) t j k l = refl
+at_old None true j k l = lt-leb k j l
+at_old None false j k l = refl
+
+module _ (s t : SeriesView) (k : ℕ) (e : ℕ → Bool) (h : IsSeries s) (above : IsAbove s.factors k) (best : IsBest (mine_at s.pairs s.prices k) e)
+    (own : IsOwn (mine_at s.pairs s.prices k)) (pushed : IsPushed s t k e) where
+  -- a block with a shell is in the best pit at the higher factor
+  pub has_shell : (b x : ℕ) → b < length s.prices.revenue → shell_at s.shells b ≡ Some x → (x ≤ k) × (e b ≡ true)
+  has_shell b x l is =
+      let known = h.known b x is in
+      let lower : x < k = above x known in
+      let le : x ≤ k = omega (arith, lower) in
+      let held : IsTrue (upto s.shells x b) = ap (λ o. is_upto o x) is ∙ le-leb x x (omega arith) in
+      (le, best_is_nested s.pairs s.prices x k (upto s.shells x) e h.prices.revenues le (h.best x known) best b l held)
+
+  inside : (b : ℕ) → b < length s.prices.revenue → b < length s.shells
+  inside b l = rw h.shells l
+
+  pub new_is_best : IsBest (mine_at s.pairs s.prices k) (upto t.shells k)
+  new_is_best = best_of_same (mine_at s.pairs s.prices k) e (upto t.shells k) own best
+      (λ b l. ap (λ o. is_upto o k) (pushed.shells b (inside b l)) ∙ at_new (shell_at s.shells b) (e b) k (λ x is. has_shell b x l is))
+
+  pub old_is_best : (j : ℕ) → Contains s.factors j → IsOwn (mine_at s.pairs s.prices j) → IsBest (mine_at s.pairs s.prices j) (upto t.shells j)
+  old_is_best j c o = best_of_same (mine_at s.pairs s.prices j) (upto s.shells j) (upto t.shells j) o (h.best j c)
+      (λ b l. ap (λ o. is_upto o j) (pushed.shells b (inside b l)) ∙ at_old (shell_at s.shells b) (e b) j k (above j c))
+
+-- ---- the parts of what a series is
+
+pub mine_is_own : (pairs : List (ℕ × ℕ)) (table : PricesView) (k : ℕ) → IsRests (record { blocks = length table.revenue; pairs = pairs }) → IsOwn (mine_at pairs table k)
+mine_is_own pairs table k r = record {
+  own = λ b p held.
+      let some = Any-from_list_any (λ (q : ℕ × ℕ). (q.0 == b) && (q.1 == p)) pairs held in
+      let parts = and_parts (some.1.0 == b) (some.1.1 == p) some.4 in
+      let first = eqb-true some.1.0 b parts.0 in
+      let second = eqb-true some.1.1 p parts.1 in
+      let known = r.known some.0 some.1 some.2 in
+      let at = some.3 in
+      let low : (some.1.0 < length table.revenue) × (some.1.1 < length table.revenue) = subst (λ (q : ℕ × ℕ). (q.0 < length table.revenue) × (q.1 < length table.revenue)) at known in
+      (subst (λ x. x < length table.revenue) first low.0, subst (λ x. x < length table.revenue) second low.1);
+}
+
+shell_known : (o : Option ℕ) (t : Bool) (k x : ℕ) (factors : List ℕ) → ((y : ℕ) → o ≡ Some y → Contains factors y) → with_shell o t k ≡ Some x → Contains (factors ++ k ∷ []) x
+shell_known (Some y) t k x factors h e = Contains-append_left factors (k ∷ []) x (subst (Contains factors) (same_Some _ _ e) (h y refl))
+shell_known None true k x factors h e = Contains-append_right factors (k ∷ []) x (subst (Contains (k ∷ [])) (same_Some _ _ e) (0, omega arith, refl))
+shell_known None false k x factors h e = absurd cc
+
+pub push_keeps : (s t : SeriesView) (k : ℕ) (e : ℕ → Bool) → IsSeries s → IsAbove s.factors k → length s.factors < 64 → IsBest (mine_at s.pairs s.prices k) e → IsPushed s t k e → IsSeries t
+push_keeps s t k e h above room best p =
+    let own = λ (j : ℕ). mine_is_own s.pairs s.prices j h.rests in
+    record {
+      rests = rw (p.pairs, p.prices) h.rests;
+      prices = rw p.prices h.prices;
+      shells = rw (p.size, p.prices) h.shells;
+      few = rw p.factors (omega (arith, length-append s.factors (k ∷ []), room));
+      rising = rw p.factors (rising_more s.factors k h.rising above);
+      known = λ b x is. rw p.factors (elim (cases_lt b (length s.shells)) [
+        | inl l ↦ shell_known (shell_at s.shells b) (e b) k x s.factors (h.known b) (sym (p.shells b l) ∙ is)
+        | inr past ↦
+            let none : shell_at t.shells b ≡ None = get_or_past t.shells b None (rw p.size past) in
+            absurd (let bad : None ≡ Some x = sym none ∙ is in cc)
+      ]);
+      best = λ j c.
+          let held : Contains (s.factors ++ k ∷ []) j = subst (λ xs. Contains xs j) p.factors c in
+          rw (p.pairs, p.prices) (elim (Contains-append_cases s.factors (k ∷ []) j held) [
+            | inl old ↦ old_is_best s t k e h above best (own k) p j old (own j)
+            | inr new ↦ subst (λ m. IsBest (mine_at s.pairs s.prices m) (upto t.shells m)) (sym (one_last k j new)) (new_is_best s t k e h above best (own k) p)
+          ]);
+    }

@@ -1,0 +1,32 @@
+//! Prices, and the shells of a mine: its best pits at rising prices, one within the next.
+//!
+//! A table of prices has each block's revenue and cost. At a factor, a number of thousandths, that
+//! share of the revenue counts, so that a block is worth more, or as much, at a higher factor where
+//! no revenue is negative. Then the best pit at a lower factor lies within that at a higher one, and
+//! a block's shell is the lowest factor of a series whose best pit holds it (Lerchs and Grossmann,
+//! 1965, make their phases so).
+//!
+//! Stands on `check_pit`, `closure_net`, `ordered_group`, `prec_file`, `fixed_worth` and the kit's
+//! `rayon`. Promises upward: `worth` and `worths_at` are exact; a `Series` takes nothing but pits that
+//! were checked over its own pairs and its own prices at that factor, so that at each of its factors
+//! the blocks with a shell of at most that factor are the best pit; and `laws` has the nesting of
+//! accepted pits for all who check pits at two factors.
+#![tactic(auto)]
+
+pub mod laws;
+mod marking;
+mod matching;
+mod price_tables;
+mod prices_fault;
+mod series_fault;
+mod shell_series;
+mod thousandths;
+
+pub use price_tables::Prices;
+pub use prices_fault::PricesFault;
+pub use series_fault::SeriesFault;
+pub use shell_series::Series;
+pub use thousandths::Factor;
+
+#[cfg(test)]
+mod tests;

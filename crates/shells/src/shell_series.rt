@@ -1,0 +1,165 @@
+//! Series of shells.
+
+ghost use Rattle.std.specs.Prelude.{◌≡◌, ◌<◌, ◌≤◌, ◌↔◌, length, IsTrue, OnOk, IfErr, MatchResult};
+ghost use Rattle.closure_net.specs.Mine.{IsBest};
+ghost use Rattle.closure_net.specs.Network.{holds_of};
+ghost use Rattle.shells.specs.Prices.{blocks_of};
+ghost use Rattle.shells.specs.Series.{mine_at, shell_at, opened, OpenFaultStands, IsAbove, IsOver, IsPushed, IsShell, IsSeries, PushFaultStands};
+
+use crate::marking::{give_shells, is_above_all};
+use crate::matching::is_over;
+use crate::price_tables::Prices;
+use crate::series_fault::SeriesFault;
+use crate::thousandths::Factor;
+use check_pit::Accepted;
+use closure_net::{Pit, laws};
+use ordered_group::{OrderedGroup, SizeGroup};
+use prec_file::Rests;
+use std::alloc::Global;
+use std::marker::Model;
+
+/// The shells of a mine: at each of its rising factors the blocks with a shell of at most that factor
+/// are the best pit, and so each pit lies within the next.
+#[derive(Drop)]
+pub struct Series {
+    rests: Rests,
+    prices: Prices,
+    // the thousandths of each push; memory for 64 is kept
+    factors: Vec<u32>,
+    // by block, the lowest of them whose best pit holds it
+    shells: Vec<Option<u32>>,
+}
+
+impl Model for Series {
+    ghost use Rattle.std.specs.Prelude.{vec_capacity};
+    ghost use Rattle.shells.specs.Series.{SeriesView};
+    ghost use Rattle.shells.specs.Internal.{IsHeld};
+
+    ghost Value = { SeriesView };
+
+    ghost view = { λ s. record { pairs = s.rests.pairs; prices = s.prices; factors = s.factors.items; shells = s.shells.items } };
+
+    ghost invariant = { λ s. IsHeld (record { pairs = s.rests.pairs; prices = s.prices; factors = s.factors.items; shells = s.shells.items }) (vec_capacity s.factors) };
+}
+
+impl Series {
+    /// The series of these pairs and prices with no factor yet: no block has a shell.
+    ///
+    /// # Errors
+    /// `WrongModel` where there are more or fewer prices than blocks; then `NoMemory`.
+    pub fn open(alloc: Global, rests: Rests, prices: Prices) -> Result<Series, SeriesFault>
+        ensures { MatchResult result
+            (λ s. (s ≡ opened rests.pairs prices) × (rests.blocks ≡ blocks_of prices))
+            (λ e. OpenFaultStands rests.blocks prices e) }
+    {
+        let blocks = prices.len();
+        if rests.len() != blocks {
+            return Err(SeriesFault::WrongModel);
+        }
+        let factors = Vec::with_capacity(alloc, 64)?;
+        let shells = vec![in alloc; None; blocks as usize]?;
+        Ok(Series {
+            rests,
+            prices,
+            factors,
+            shells,
+        })
+    }
+
+    /// Adds a pit that was accepted at a factor above the others: each of its blocks that has no
+    /// shell gets this one. Takes no memory.
+    ///
+    /// # Errors
+    /// In this order, and then nothing is changed: `NotHigher` where the factor isn't above each that
+    /// is held; `WrongModel` where the accepted net doesn't have the pairs of the series, or the
+    /// worths of its blocks at the factor; `Full` where 64 are held.
+    pub fn push<G: SizeGroup>(
+        &mut self,
+        factor: Factor,
+        accepted: &Accepted<'_, G>,
+    ) -> Result<(), SeriesFault>
+        ensures pushed { OnOk result (IsPushed self.old self.new factor (holds_of accepted.now.pit)) }
+        ensures best { OnOk result (IsBest (mine_at self.old.pairs self.old.prices factor) (holds_of accepted.now.pit)) }
+        ensures refused { IfErr result (λ e. (self.new ≡ self.old) × PushFaultStands G.block_parts self.old factor accepted.now.net e) }
+    {
+        laws::greatest_set_is_best_pit::<G>();
+        if !self.is_higher(factor) {
+            return Err(SeriesFault::NotHigher);
+        }
+        if !self.is_model_of(factor, accepted) {
+            return Err(SeriesFault::WrongModel);
+        }
+        if self.is_full() {
+            return Err(SeriesFault::Full);
+        }
+        self.put(factor.get(), accepted.pit());
+        Ok(())
+    }
+
+    // Whether the factor is above each that is held.
+    fn is_higher(&self, factor: Factor) -> bool
+        ensures { IsTrue result ↔ IsAbove self.now.factors factor }
+    {
+        is_above_all(self.factors(), factor.get())
+    }
+
+    // Whether the pit was accepted over the pairs of the series, and its prices at the factor.
+    fn is_model_of<G: OrderedGroup>(&self, factor: Factor, accepted: &Accepted<'_, G>) -> bool
+        ensures { IsTrue result ↔ IsOver G.block_parts self.now.pairs self.now.prices factor accepted.now.net }
+    {
+        is_over(&self.rests, &self.prices, factor, accepted.net())
+    }
+
+    // Whether no further factor is taken.
+    fn is_full(&self) -> bool
+        ensures full { IsTrue result ↔ (length self.now.factors ≡ 64) }
+        ensures most { length self.now.factors ≤ 64 }
+    {
+        self.factors().len() == 64
+    }
+
+    // Adds the best pit at a factor above the others.
+    fn put(&mut self, k: u32, pit: &Pit)
+        requires above { IsAbove self.old.factors k }
+        requires best { IsBest (mine_at self.old.pairs self.old.prices k) (holds_of pit.now) }
+        requires room { length self.old.factors < 64 }
+        ensures { IsPushed self.old self.new k (holds_of pit.now) }
+    {
+        give_shells(self.shells.as_mut_slice(), pit, k);
+        self.factors.push_reserved(k);
+    }
+
+    /// The shell of block b, in thousandths: the lowest factor whose best pit holds it, or `None`
+    /// where none does.
+    pub fn shell_of(&self, b: u32) -> Option<u32>
+        requires { b < blocks_of self.now.prices }
+        ensures is { result ≡ shell_at self.now.shells b }
+        ensures shell { IsShell self.now b result }
+    {
+        let _factors = self.factors();
+        self.shell(b)
+    }
+
+    // What is kept as the block's shell.
+    fn shell(&self, b: u32) -> Option<u32>
+        requires { b < blocks_of self.now.prices }
+        ensures { result ≡ shell_at self.now.shells b }
+    {
+        self.shells[b as usize]
+    }
+
+    /// The factors in thousandths, ascending: at most 64.
+    pub fn factors(&self) -> &[u32]
+        ensures is { result.now ≡ self.now.factors }
+        ensures series { IsSeries self.now }
+    {
+        self.factors.as_slice()
+    }
+
+    /// The prices.
+    pub fn prices(&self) -> &Prices
+        ensures { result.now ≡ self.now.prices }
+    {
+        &self.prices
+    }
+}
