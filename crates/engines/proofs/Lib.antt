@@ -1,6 +1,7 @@
 pub mod Counted
 pub mod Listed
 pub mod Judged
+pub mod Priced
 pub mod Answered
 pub mod Alone
 pub mod Fitting

@@ -134,6 +134,8 @@ module _ (block : ℤ → ℕ → Amount) (counts : Bool) (texts : MineTexts) (n
   solved old new (Err (engine.Certificate q)) h = absurd h
   solved old new (Err (engine.Blocks q)) h = absurd h
   solved old new (Err (engine.Slope q)) h = absurd h
+  solved old new (Err (engine.Settings q)) h = absurd h
+  solved old new (Err (engine.Prices q)) h = absurd h
   solved old new (Err engine.Memory) h = (tt, h)
   solved old new (Err engine.Thread) h = (tt, h)
   solved old new (Err engine.Stranger) h = (tt, h)

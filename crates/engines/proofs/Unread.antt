@@ -1,5 +1,13 @@
 -- Where the texts are read, no fault of a text stands.
-use Rattle.std.proofs.Common.{◌≡◌, ℕ, List, arith, sym, ap, ◌∙◌, subst, Option, Some, None, Result, Ok, Err, ◌⊎◌, inl, inr}
+use Rattle.std.proofs.Common.{◌≡◌, ℕ, ◌≤◌, ◌^◌, List, length, get_or, refl, arith, sym, ap, ◌∙◌, subst, Bool, true, false, cond, Option, Some, None, unwrap_or, Result, Ok, Err, ◌⊎◌, inl, inr}
+use Rattle.std.specs.Prelude.{nat_lt}
+use Rattle.std.specs.Option.{option_or}
+use Rattle.std.proofs.lemmas.Bool.Decides.{nat_tests}
+use Rattle.std.proofs.lemmas.Int.{ints}
+use Rattle.std.proofs.lemmas.List.FromFn.{length-map-range_with_len}
+use Rattle.settings_file.specs.Settings.{settings_of}
+use Rattle.blocks_file.specs.Records as blocks
+use Rattle.blocks_file.specs.declared.faults.BlocksFault.TheVariants as blocks_fault
 use Rattle.ordered_group.specs.declared.groups.Group.{Group}
 use Rattle.prec_file.specs.Records as prec
 use Rattle.prec_file.specs.declared.prec_fault.PrecFault.{PrecFault}
@@ -13,9 +21,16 @@ use Rattle.check_pit.specs.Certificate.{fault_of}
 use Rattle.check_pit.specs.declared.cert_faults.CertFault.{CertFault}
 use Rattle.engines.specs.declared.engine_fault.Problem.{Problem}
 use Rattle.engines.specs.declared.engine_fault.Problem.TheVariants as problem
-use Rattle.engines.specs.Mines.{MineTexts, mine_texts, precedence_of, ValuesRead, WorthsRead, mine_of, DenoteMine}
+use Rattle.blocks_file.specs.declared.faults.BlocksFault.{BlocksFault}
+use Rattle.settings_file.specs.declared.faults.SettingsFault.{SettingsFault}
+use Rattle.settings_file.specs.declared.faults.SettingsFault.TheVariants as settings_fault
+use Rattle.settings_file.proofs.Known.{no_settings_fault}
+use Rattle.shells.specs.declared.prices_fault.PricesFault.{PricesFault}
+use Rattle.shells.specs.declared.prices_fault.PricesFault.TheVariants as prices_fault
+use Rattle.engines.specs.PricedTexts.{price_keys, cell, table_of, ColumnsKnown, PricesRead, SettingsFails, PricesFail}
+use Rattle.engines.specs.Mines.{MineTexts, mine_texts, priced_texts, precedence_of, ValuesRead, WorthsRead, mine_of, DenoteMine}
 use Rattle.engines.specs.Readings.{block_by, counts_by, Reads}
-use Rattle.engines.specs.FaultStands.{PrecFails, ValuesFail, IsHeader, ModelFails, HeaderFails, BodyFails, PriceDiffers}
+use Rattle.engines.specs.FaultStands.{PrecFails, ValuesFail, SettingsFail, BlocksFail, TableFails, IsHeader, ModelFails, HeaderFails, BodyFails, PriceDiffers}
 use Rattle.engines.proofs.Alone.{ok_same, nets_same}
 use Rattle.engines.proofs.Fitting.{no_model_fails}
 
@@ -36,12 +51,74 @@ values_stand : (texts : MineTexts) (n : ℕ) (q : Problem UpitFault) → WorthsR
 values_stand (mine_texts u p) n problem.InputTooLong r h = let within = r.within in omega (arith, within, h)
 values_stand (mine_texts u p) n (problem.Fault f) r h = values_fault u n f r h.1
 
+values_stand (priced_texts s b p k) n q r h = h
+
+-- what the settings name is one thing
+columns_stand : (settings : List ℕ) (q : Problem SettingsFault) → ColumnsKnown settings → SettingsFails price_keys settings q → ⊥
+columns_stand settings problem.InputTooLong c h = let within = c.within in omega (arith, within, h)
+columns_stand settings (problem.Fault settings_fault.NotToml) c h = no_settings_fault settings _ settings_fault.NotToml c.read (λ e. let z : settings_fault.NotToml ≡ settings_fault.NoMemory = e in cc) h.1
+columns_stand settings (problem.Fault settings_fault.UnknownKey) c h = no_settings_fault settings _ settings_fault.UnknownKey c.read (λ e. let z : settings_fault.UnknownKey ≡ settings_fault.NoMemory = e in cc) h.1
+columns_stand settings (problem.Fault (settings_fault.BadValue key)) c h = no_settings_fault settings _ (settings_fault.BadValue key) c.read (λ e. let z : (settings_fault.BadValue key) ≡ settings_fault.NoMemory = e in cc) h.1
+columns_stand settings (problem.Fault (settings_fault.Missing key)) c h = never _ _ c.said h.1.1
+columns_stand settings (problem.Fault settings_fault.NoMemory) c h = h.1
+
+settings_stand : (texts : MineTexts) (n : ℕ) (q : Problem SettingsFault) → WorthsRead texts n → SettingsFail texts q → ⊥
+settings_stand (mine_texts u p) n q r h = h
+settings_stand (priced_texts s b p k) n q r h = columns_stand s q r.columns h
+
+pub settings_read : (texts : MineTexts) (certificate : List ℕ) (q : Problem SettingsFault) → Reads texts certificate → SettingsFail texts q → ⊥
+settings_read texts certificate q r h = settings_stand texts r.blocks q r.mine.worths_read h
+
+blocks_stand : (texts : MineTexts) (n : ℕ) (q : Problem BlocksFault) → WorthsRead texts n → BlocksFail texts q → ⊥
+blocks_stand (mine_texts u p) n q r h = h
+blocks_stand (priced_texts s b p k) n problem.InputTooLong r h = let within = r.within in omega (arith, within, h.1)
+blocks_stand (priced_texts s b p k) n (problem.Fault f) r h = never _ _ r.read h.1.1
+
+pub blocks_read : (texts : MineTexts) (certificate : List ℕ) (q : Problem BlocksFault) → Reads texts certificate → BlocksFail texts q → ⊥
+blocks_read texts certificate q r h = blocks_stand texts r.blocks q r.mine.worths_read h
+
+or_first : {F : Type 0} (a b : Option F) → option_or a b ≡ None → a ≡ None
+or_first None b h = refl
+or_first (Some x) b h = absurd cc
+
+or_second : {F : Type 0} (a b : Option F) → option_or a b ≡ None → b ≡ None
+or_second None b h = h
+or_second (Some x) b h = absurd cc
+
+few_records : (records : List ℕ) (t : Bool) → nat_lt (2 ^ 24) (length records) ≡ t → cond t (Some (blocks_fault.TooMany (get_or records (2 ^ 24) 0))) None ≡ None → length records ≤ 2 ^ 24
+few_records records true e h = absurd cc
+few_records records false e h = grind (arith, nat_tests)
+
+-- a text without a fault has at most 2^24 blocks
+few_blocks : (text chosen : List ℕ) → blocks.fault_of chosen text ≡ None → blocks.count_of text ≤ 2 ^ 24
+few_blocks text chosen h =
+    let records = blocks.record_lines (blocks.lines_in text) in
+    few_records records (nat_lt (2 ^ 24) (length records)) refl (or_second (blocks.long_fault (blocks.lines_in text)) (blocks.many_fault (blocks.lines_in text)) (or_first _ _ h))
+
+-- the columns of a text of blocks have one length, and no revenue is negative
+table_stands : (settings text : List ℕ) (n : ℕ) (fault : PricesFault) → PricesRead settings text n → PricesFail settings text fault → ⊥
+table_stands settings text n prices_fault.WrongLength r h =
+    let revenues = length-map-range_with_len (cell text (unwrap_or (settings_of settings).revenue 0)) 0 (blocks.count_of text) in
+    let costs = length-map-range_with_len (cell text (unwrap_or (settings_of settings).cost 0)) 0 (blocks.count_of text) in
+    elim h.stands [ inl ne ↦ ne (revenues ∙ sym costs) | inr many ↦ omega (arith, many, revenues, few_blocks text _ r.read) ]
+table_stands settings text n (prices_fault.NegativeRevenue b) r h =
+    let first = h.stands.2 in
+    omega (arith, ints, first.negative, r.revenues b first.block)
+
+prices_stand : (texts : MineTexts) (n : ℕ) (fault : PricesFault) → WorthsRead texts n → TableFails texts fault → ⊥
+prices_stand (mine_texts u p) n fault r h = h
+prices_stand (priced_texts s b p k) n fault r h = table_stands s b n fault r h
+
+pub prices_read : (texts : MineTexts) (certificate : List ℕ) (fault : PricesFault) → Reads texts certificate → TableFails texts fault → ⊥
+prices_read texts certificate fault r h = prices_stand texts r.blocks fault r.mine.worths_read h
+
 pub upit_read : (texts : MineTexts) (certificate : List ℕ) (q : Problem UpitFault) → Reads texts certificate → ValuesFail texts q → ⊥
 upit_read texts certificate q r h = values_stand texts r.blocks q r.mine.worths_read h
 
 -- what the blocks are worth is said of one number of blocks
 blocks_same : (texts : MineTexts) (n k : ℕ) → WorthsRead texts n → WorthsRead texts k → n ≡ k
 blocks_same (mine_texts u p) n k a b = ok_same _ _ _ a.declared b.declared
+blocks_same (priced_texts s t p f) n k a b = sym a.count ∙ b.count
 
 pub prec_read : (texts : MineTexts) (certificate : List ℕ) (n : ℕ) (q : Problem PrecFault) → Reads texts certificate → WorthsRead texts n → PrecFails n (precedence_of texts) q → ⊥
 prec_read texts certificate n problem.InputTooLong r v h = let within = r.mine.precedence_within in omega (arith, within, h)

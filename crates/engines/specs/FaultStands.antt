@@ -22,8 +22,12 @@ use Rattle.engines.specs.declared.engine_fault.CertificateProblem.{CertificatePr
 use Rattle.engines.specs.declared.engine_fault.CertificateProblem.TheVariants as certificate_problem
 use Rattle.engines.specs.declared.engine_fault.EngineFault.{EngineFault}
 use Rattle.engines.specs.declared.engine_fault.EngineFault.TheVariants as engine
+use Rattle.blocks_file.specs.declared.faults.BlocksFault.{BlocksFault}
+use Rattle.settings_file.specs.declared.faults.SettingsFault.{SettingsFault}
+use Rattle.shells.specs.declared.prices_fault.PricesFault.{PricesFault}
 use Rattle.engines.specs.Limits.{IsTooLong, IsWithinLimit}
-use Rattle.engines.specs.Mines.{MineTexts, mine_texts, precedence_of, price_wanted, worth_by, WorthsRead, DenoteMine, mine_of}
+use Rattle.engines.specs.PricedTexts.{price_keys, SettingsFails, PricedBlocksFail, PricesFail}
+use Rattle.engines.specs.Mines.{MineTexts, mine_texts, priced_texts, precedence_of, price_wanted, worth_by, WorthsRead, DenoteMine, mine_of}
 use Rattle.engines.specs.Readings.{block_by, counts_by}
 
 -- the values are no text of values: too long, or a fault of the header, or one by the number of blocks that it declares
@@ -77,9 +81,22 @@ CertificateFails texts certificate n certificate_problem.InputTooLong = IsTooLon
 CertificateFails texts certificate n certificate_problem.WrongPrice = IsWithinLimit certificate × PriceDiffers texts certificate n
 CertificateFails texts certificate n (certificate_problem.Fault fault) = IsWithinLimit certificate × (HeaderFails certificate n fault ⊎ BodyFails texts certificate n fault)
 
--- a fault of the values
+-- a fault of the values, of settings, of blocks or of prices, where the mine is denoted by such texts
 abbrev pub ValuesFail : MineTexts → Problem UpitFault → Type 0
 ValuesFail (mine_texts values precedence) p = UpitFails values p
+ValuesFail (priced_texts settings blocks precedence factor) p = ⊥
+
+abbrev pub SettingsFail : MineTexts → Problem SettingsFault → Type 0
+SettingsFail (mine_texts values precedence) p = ⊥
+SettingsFail (priced_texts settings blocks precedence factor) p = SettingsFails price_keys settings p
+
+abbrev pub BlocksFail : MineTexts → Problem BlocksFault → Type 0
+BlocksFail (mine_texts values precedence) p = ⊥
+BlocksFail (priced_texts settings blocks precedence factor) p = PricedBlocksFail settings blocks p
+
+abbrev pub TableFails : MineTexts → PricesFault → Type 0
+TableFails (mine_texts values precedence) fault = ⊥
+TableFails (priced_texts settings blocks precedence factor) fault = PricesFail settings blocks fault
 
 -- a fault of the precedence, where what the blocks are worth is read
 abbrev pub PrecedenceFails : MineTexts → Problem PrecFault → Type 0
@@ -91,7 +108,9 @@ Fails texts certificate (engine.Upit p) = ValuesFail texts p
 Fails texts certificate (engine.Prec p) = PrecedenceFails texts p
 Fails texts certificate (engine.Model fault) = (n : ℕ) × DenoteMine texts n × IsWithinLimit certificate × (group : Group) × IsHeader texts certificate n group × ModelFails texts n group fault
 Fails texts certificate (engine.Certificate p) = (n : ℕ) × DenoteMine texts n × CertificateFails texts certificate n p
-Fails texts certificate (engine.Blocks p) = ⊥
+Fails texts certificate (engine.Settings p) = SettingsFail texts p
+Fails texts certificate (engine.Blocks p) = BlocksFail texts p
+Fails texts certificate (engine.Prices fault) = TableFails texts fault
 Fails texts certificate (engine.Slope p) = ⊥
 Fails texts certificate engine.Memory = Unit {0}
 Fails texts certificate engine.Device = Unit {0}

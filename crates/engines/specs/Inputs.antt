@@ -1,12 +1,20 @@
 -- What reading each input of an engine gives, and when it answers a fault.
-use Rattle.std.specs.Prelude.{◌≡◌, ◌⊎◌, ℕ, List, length, None}
+use Rattle.std.specs.Prelude.{◌≡◌, ◌⊎◌, ℕ, List, [], length, Some, None, Ok}
 use Rattle.prec_file.specs.Rests.{RestsView, ArePairsOf}
 use Rattle.prec_file.specs.Records as prec
 use Rattle.upit_file.specs.Records as upit
 use Rattle.engines.specs.declared.engine_fault.EngineFault.{EngineFault}
 use Rattle.engines.specs.declared.engine_fault.EngineFault.TheVariants as engine
 use Rattle.engines.specs.declared.engine_fault.CertificateProblem.TheVariants as certificate
+use Rattle.blocks_file.specs.Records as blocks
+use Rattle.settings_file.specs.Settings.{SettingsView, ReadsSettings, first_missing}
+use Rattle.settings_file.specs.declared.keys.Key.{Key}
+use Rattle.settings_file.specs.declared.faults.SettingsFault.TheVariants as settings_fault
+use Rattle.shells.specs.Prices.{PricesView, PricesFaultStands}
+use Rattle.engines.specs.declared.engine_fault.Problem.TheVariants as problem
 use Rattle.engines.specs.Limits.{IsTooLong, IsWithinLimit}
+use Rattle.engines.specs.PricedTexts.{price_columns, table_by, SettingsFaultStands}
+use Rattle.engines.specs.Slopes.{BlocksFails}
 use Rattle.engines.specs.Mines.{ValuesRead}
 use Rattle.engines.specs.FaultStands.{UpitFails, PrecFails}
 
@@ -44,3 +52,32 @@ TextReadFails text (engine.Certificate certificate.InputTooLong) = IsTooLong tex
 TextReadFails text engine.Memory = Unit {0}
 TextReadFails text engine.Device = Unit {0}
 TextReadFails text _ = ⊥
+
+-- the settings are those of the text
+abbrev pub ReadsSettingsText : List ℕ → SettingsView → Type 0
+ReadsSettingsText text said = IsWithinLimit text × ReadsSettings text (Ok said)
+
+-- a fault of the text of settings, want of memory or a failing device; that a key is missing is told later
+abbrev pub SettingsReadFails : List ℕ → EngineFault → Type 0
+SettingsReadFails text (engine.Settings problem.InputTooLong) = IsTooLong text
+SettingsReadFails text (engine.Settings (problem.Fault fault)) = IsWithinLimit text × SettingsFaultStands [] text fault
+SettingsReadFails text engine.Memory = Unit {0}
+SettingsReadFails text engine.Device = Unit {0}
+SettingsReadFails text _ = ⊥
+
+-- of these keys this is the first at which settings say nothing
+abbrev pub IsMissing : List Key → SettingsView → EngineFault → Type 0
+IsMissing needed said fault = (key : Key) × (fault ≡ engine.Settings (problem.Fault (settings_fault.Missing key))) × (first_missing needed said ≡ Some key)
+
+-- the prices are those of the text of blocks, of which settings name the columns
+pub record ReadsPrices (said : SettingsView) (text : List ℕ) (table : PricesView) : Type 0 where
+  pub within : IsWithinLimit text
+  pub read : blocks.fault_of (price_columns said) text ≡ None
+  pub is : table ≡ table_by said text
+
+abbrev pub PricesReadFail : SettingsView → List ℕ → EngineFault → Type 0
+PricesReadFail said text (engine.Blocks p) = BlocksFails (price_columns said) text p
+PricesReadFail said text (engine.Prices fault) = IsWithinLimit text × (blocks.fault_of (price_columns said) text ≡ None) × PricesFaultStands (table_by said text).revenue (table_by said text).cost fault
+PricesReadFail said text engine.Memory = Unit {0}
+PricesReadFail said text engine.Device = Unit {0}
+PricesReadFail said text _ = ⊥

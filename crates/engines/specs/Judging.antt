@@ -15,7 +15,14 @@ use Rattle.check_pit.specs.declared.cert_faults.CertFault.{CertFault}
 use Rattle.check_pit.specs.declared.cert_faults.CertFault.TheVariants as cert
 use Rattle.closure_net.specs.declared.networks.NetFault.{NetFault}
 use Rattle.closure_net.specs.declared.networks.NetFault.TheVariants as net
-use Rattle.engines.specs.Mines.{MineTexts, precedence_of, DenoteMine}
+use Rattle.check_pit.specs.Pieces.{pieces_of}
+use Rattle.check_pit.specs.Header.{header_of}
+use Rattle.check_pit.specs.declared.headers.Header.{Header}
+use Rattle.check_pit.specs.declared.headers.Price.{Price}
+use Rattle.check_pit.specs.declared.headers.Price.TheVariants.{Objective, Factor}
+use Rattle.shells.specs.Prices.{PricesView, blocks_of}
+use Rattle.engines.specs.PricedTexts.{table_of}
+use Rattle.engines.specs.Mines.{MineTexts, priced_texts, precedence_of, DenoteMine}
 use Rattle.engines.specs.Readings.{block_by, counts_by, IsProvedPit}
 use Rattle.engines.specs.Judgements.{IsJudged}
 use Rattle.engines.specs.FaultStands.{AreWorths, Fails}
@@ -29,6 +36,25 @@ pub record AreRead (texts : MineTexts) (nanos : List ℤ) (rests : RestsView) : 
   pub mine : DenoteMine texts rests.blocks
   pub worths : AreWorths texts rests.blocks nanos
   pub pairs : ArePairsOf (prec.listed (precedence_of texts)) rests.pairs
+
+-- The prices and the pairs that were read are those of the texts, at whatever factor.
+pub record ArePricesRead (settings blocks precedence : List ℕ) (prices : PricesView) (rests : RestsView) : Type 0 where
+  pub mine : (factor : ℕ) → DenoteMine (priced_texts settings blocks precedence factor) rests.blocks
+  pub table : prices ≡ table_of settings blocks
+  pub size : blocks_of prices ≡ rests.blocks
+  pub pairs : ArePairsOf (prec.listed precedence) rests.pairs
+
+-- the factor that a certificate names: 0 where it names none
+abbrev pub factor_at : Price → ℕ
+factor_at Objective = 0
+factor_at (Factor factor) = factor
+
+abbrev pub factor_named : Result Header CertFault → ℕ
+factor_named (Ok header) = factor_at header.price
+factor_named (Err fault) = 0
+
+abbrev pub factor_in : List ℕ → ℕ
+factor_in certificate = factor_named (header_of (pieces_of certificate))
 
 -- The group with this name counts a block so, and what sums to most by it is proved.
 pub record IsGroupNamed (name : Group) (block : ℤ → ℕ → Amount) (counts : Bool) : Type 0 where

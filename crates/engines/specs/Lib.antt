@@ -1,4 +1,5 @@
 pub mod Limits
+pub mod PricedTexts
 pub mod Mines
 pub mod Readings
 pub mod Judgements

@@ -5,24 +5,31 @@ use Rattle.closure_net.specs.Mine.{Mine}
 use Rattle.prec_file.specs.Records as prec
 use Rattle.upit_file.specs.Records as upit
 use Rattle.check_pit.specs.declared.headers.Price.{Price}
-use Rattle.check_pit.specs.declared.headers.Price.TheVariants.{Objective}
+use Rattle.check_pit.specs.declared.headers.Price.TheVariants.{Objective, Factor}
+use Rattle.shells.specs.Prices.{worth_at}
 use Rattle.engines.specs.Limits.{IsWithinLimit}
+use Rattle.engines.specs.PricedTexts.{table_of, PricesRead}
 
--- The texts that denote a mine: the values of its blocks, and their precedence.
+-- The texts that denote a mine: the values of its blocks and their precedence; or settings, blocks with columns of
+-- prices, the precedence, and the factor in thousandths at which the blocks' revenues count.
 pub data MineTexts : Type 0 where
   mine_texts : (values precedence : List ℕ) → MineTexts
+  priced_texts : (settings blocks precedence : List ℕ) (factor : ℕ) → MineTexts
 
 -- the text of the precedence
 abbrev pub precedence_of : MineTexts → List ℕ
 precedence_of (mine_texts values precedence) = precedence
+precedence_of (priced_texts settings blocks precedence factor) = precedence
 
 -- the price that a certificate for these texts names
 abbrev pub price_wanted : MineTexts → Price
 price_wanted (mine_texts values precedence) = Objective
+price_wanted (priced_texts settings blocks precedence factor) = Factor factor
 
--- what block b is worth, in billionths: by its value in millionths
+-- what block b is worth, in billionths: by its value in millionths, or by the prices at the factor
 abbrev pub worth_by : MineTexts → ℕ → ℤ
 worth_by (mine_texts values precedence) b = pos 1000 *ℤ upit.value_at values b
+worth_by (priced_texts settings blocks precedence factor) b = worth_at (table_of settings blocks) factor b
 
 -- b rests on p where the pair is listed and they are two blocks
 abbrev pub rests_by : List (ℕ × ℕ) → ℕ → ℕ → Bool
@@ -41,6 +48,7 @@ pub record ValuesRead (text : List ℕ) (n : ℕ) : Type 0 where
 -- the texts that say what the blocks are worth are read, and say it of n blocks
 abbrev pub WorthsRead : MineTexts → ℕ → Type 0
 WorthsRead (mine_texts values precedence) n = ValuesRead values n
+WorthsRead (priced_texts settings blocks precedence factor) n = PricesRead settings blocks n
 
 -- The texts denote a mine of n blocks: what blocks are worth is read, and the precedence isn't too long and has no fault.
 pub record DenoteMine (texts : MineTexts) (n : ℕ) : Type 0 where

@@ -8,6 +8,8 @@ use Rattle.upit_file.specs.Faults.{upit_fault_text}
 use Rattle.prec_file.specs.Printed.{prec_fault_text}
 use Rattle.blocks_file.specs.Printed.{blocks_fault_text}
 use Rattle.slope.specs.Printed.{pattern_fault_text, slope_fault_text}
+use Rattle.settings_file.specs.FaultText.{settings_fault_text}
+use Rattle.shells.specs.FaultText.{prices_fault_text}
 use Rattle.check_pit.specs.FaultText.{fault_text}
 use Rattle.check_pit.specs.PrintedFaults.{pit_fault_text}
 use Rattle.engines.specs.declared.judgement.Judgement.{Judgement}
@@ -54,6 +56,8 @@ abbrev pub fault_words : EngineFault → List ℕ
 fault_words (engine.Blocks p) = codes "blocks " ++ problem_text blocks_fault_text p
 fault_words (engine.Upit p) = codes "upit " ++ problem_text upit_fault_text p
 fault_words (engine.Prec p) = codes "prec " ++ problem_text prec_fault_text p
+fault_words (engine.Settings p) = codes "settings " ++ problem_text settings_fault_text p
+fault_words (engine.Prices fault) = codes "prices " ++ prices_fault_text fault
 fault_words (engine.Slope p) = codes "slope " ++ slope_text p
 fault_words (engine.Model fault) = codes "model " ++ net_fault_text fault
 fault_words (engine.Certificate p) = codes "certificate " ++ certificate_text p

@@ -44,9 +44,9 @@ IsChosen Five offsets = AreOffsets (Contains five_offsets) offsets
 IsChosen Nine offsets = AreOffsets (Contains nine_offsets) offsets
 IsChosen (Cone levels run rise) offsets = AreOffsets (IsInCone levels run rise) offsets
 
--- the text isn't too long and has no fault, and these are its blocks; no column is chosen
-abbrev pub ReadsBlocks : List ℕ → BlocksView → Type 0
-ReadsBlocks text m = IsWithinLimit text × (blocks.fault_of [] text ≡ None) × Denotes [] text m
+-- the text isn't too long and has no fault, and these are its blocks with the chosen columns
+abbrev pub ReadsBlocks : List ℕ → List ℕ → BlocksView → Type 0
+ReadsBlocks chosen text m = IsWithinLimit text × (blocks.fault_of chosen text ≡ None) × Denotes chosen text m
 
 -- The pairs are those that a pattern gives of a model.
 pub record AreSlopesBy (m : BlocksView) (choice : PatternChoice) (up : Up) (rests : RestsView) : Type 0 where
@@ -57,13 +57,13 @@ pub record AreSlopesBy (m : BlocksView) (choice : PatternChoice) (up : Up) (rest
 -- The pairs are those that a pattern gives of the blocks of a text.
 pub record AreSlopesOf (text : List ℕ) (choice : PatternChoice) (up : Up) (rests : RestsView) : Type 0 where
   pub model : BlocksView
-  pub read : ReadsBlocks text model
+  pub read : ReadsBlocks [] text model
   pub slopes : AreSlopesBy model choice up rests
 
 -- the text is no text of blocks: it is too long, or has this fault
-abbrev pub BlocksFails : List ℕ → Problem BlocksFault → Type 0
-BlocksFails text problem.InputTooLong = IsTooLong text
-BlocksFails text (problem.Fault fault) = IsWithinLimit text × (blocks.fault_of [] text ≡ Some fault)
+abbrev pub BlocksFails : List ℕ → List ℕ → Problem BlocksFault → Type 0
+BlocksFails chosen text problem.InputTooLong = IsTooLong text
+BlocksFails chosen text (problem.Fault fault) = IsWithinLimit text × (blocks.fault_of chosen text ≡ Some fault)
 
 -- there is no such pattern: a cone has too many offsets, and nothing else can be wrong
 abbrev pub PatternFails : PatternChoice → PatternFault → Type 0
@@ -82,8 +82,8 @@ SlopeFails m choice up (of.Pairs fault) = (offsets : List Offset) × IsChosen ch
 
 -- Why the engine answers a fault: it stands, and none before it does. Want of memory and a failing device say nothing of the text.
 abbrev pub SlopesFail : List ℕ → PatternChoice → Up → EngineFault → Type 0
-SlopesFail text choice up (engine.Blocks p) = BlocksFails text p
-SlopesFail text choice up (engine.Slope p) = (m : BlocksView) × ReadsBlocks text m × SlopeFails m choice up p
+SlopesFail text choice up (engine.Blocks p) = BlocksFails [] text p
+SlopesFail text choice up (engine.Slope p) = (m : BlocksView) × ReadsBlocks [] text m × SlopeFails m choice up p
 SlopesFail text choice up engine.Memory = Unit {0}
 SlopesFail text choice up engine.Device = Unit {0}
 SlopesFail text choice up _ = ⊥
@@ -110,11 +110,11 @@ GivesSlopes text choice up old new (Ok No) = ⊥
 GivesSlopes text choice up old new (Err fault) = SlopesFail text choice up fault × SlopesAtFault text choice up old new fault
 
 -- how reading the blocks fails
-abbrev pub BlocksReadFails : List ℕ → EngineFault → Type 0
-BlocksReadFails text (engine.Blocks p) = BlocksFails text p
-BlocksReadFails text engine.Memory = Unit {0}
-BlocksReadFails text engine.Device = Unit {0}
-BlocksReadFails text _ = ⊥
+abbrev pub BlocksReadFails : List ℕ → List ℕ → EngineFault → Type 0
+BlocksReadFails chosen text (engine.Blocks p) = BlocksFails chosen text p
+BlocksReadFails chosen text engine.Memory = Unit {0}
+BlocksReadFails chosen text engine.Device = Unit {0}
+BlocksReadFails chosen text _ = ⊥
 
 -- how making the pattern fails
 abbrev pub PatternMakingFails : PatternChoice → EngineFault → Type 0

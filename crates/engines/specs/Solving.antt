@@ -23,7 +23,7 @@ use Rattle.engines.specs.declared.solving.Unsolved.{Unsolved}
 use Rattle.engines.specs.declared.solving.Unsolved.TheVariants.{Unsettled, TooLarge, GaveUp, NoMemory, NoThread, Stranger}
 use Rattle.engines.specs.declared.method.Method.{Method}
 use Rattle.engines.specs.declared.method.Method.TheVariants.{Pseudoflow}
-use Rattle.engines.specs.FaultStands.{ValuesFail, PrecedenceFails, ModelFails}
+use Rattle.engines.specs.FaultStands.{ValuesFail, SettingsFail, BlocksFail, TableFails, PrecedenceFails, ModelFails}
 use Rattle.engines.specs.Mines.{MineTexts, price_wanted, mine_of, DenoteMine}
 use Rattle.engines.specs.OutputLines.{judgement_line}
 use Rattle.engines.specs.Readings.{block_by, Reads, IsProvedPit}
@@ -134,6 +134,9 @@ AnswersMine texts name method limit No text = (net : NetView) × IsNetBy texts n
 -- comes back as another's say nothing of the texts.
 abbrev pub SolveFails : MineTexts → Group → EngineFault → Type 0
 SolveFails texts name (engine.Upit p) = ValuesFail texts p
+SolveFails texts name (engine.Settings p) = SettingsFail texts p
+SolveFails texts name (engine.Blocks p) = BlocksFail texts p
+SolveFails texts name (engine.Prices fault) = TableFails texts fault
 SolveFails texts name (engine.Prec p) = PrecedenceFails texts p
 SolveFails texts name (engine.Model fault) = (n : ℕ) × DenoteMine texts n × ModelFails texts n name fault
 SolveFails texts name engine.Memory = Unit {0}

@@ -5,6 +5,8 @@ use check_pit::CertFault;
 use closure_net::NetFault;
 use fixed_worth::WriteFault;
 use prec_file::PrecFault;
+use settings_file::SettingsFault;
+use shells::PricesFault;
 use slope::{PatternFault, SlopeFault};
 use std::alloc::AllocError;
 use std::fmt;
@@ -96,6 +98,12 @@ pub enum EngineFault {
     /// The precedence.
     #[error("prec {0}")]
     Prec(Problem<PrecFault>),
+    /// The settings.
+    #[error("settings {0}")]
+    Settings(Problem<SettingsFault>),
+    /// The revenues and costs of the blocks.
+    #[error("prices {0}")]
+    Prices(PricesFault),
     /// The pattern, or the pairs that it gives.
     #[error("slope {0}")]
     Slope(SlopeProblem),

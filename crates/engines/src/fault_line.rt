@@ -9,6 +9,9 @@ ghost use Rattle.slope.specs.Printed.{pattern_fault_text, slope_fault_text};
 ghost use Rattle.upit_file.specs.Faults.{upit_fault_text, at_line};
 ghost use Rattle.prec_file.specs.Printed.{prec_fault_text};
 ghost use Rattle.closure_net.specs.Printed.{net_fault_text};
+ghost use Rattle.settings_file.specs.Keys.{key_name};
+ghost use Rattle.settings_file.specs.FaultText.{settings_fault_text};
+ghost use Rattle.shells.specs.FaultText.{prices_fault_text};
 ghost use Rattle.engines.specs.OutputLines.{fault_line, fault_words, problem_text, slope_text, certificate_text};
 ghost use Rattle.engines.specs.Statuses.{status_of};
 
@@ -19,6 +22,8 @@ use check_pit::CertFault;
 use closure_net::NetFault;
 use fixed_worth::{CountedWrite, ShortLine, WriteFault, write_text};
 use prec_file::PrecFault;
+use settings_file::{Key, SettingsFault};
+use shells::PricesFault;
 use slope::{PatternFault, SlopeFault};
 use upit_file::UpitFault;
 
@@ -74,6 +79,14 @@ fn push_words(line: &mut ShortLine, fault: &EngineFault)
             line.push(b"prec ");
             push_prec(line, problem);
         }
+        EngineFault::Settings(problem) => {
+            line.push(b"settings ");
+            push_settings(line, problem);
+        }
+        EngineFault::Prices(fault) => {
+            line.push(b"prices ");
+            push_prices(line, fault);
+        }
         EngineFault::Slope(problem) => {
             line.push(b"slope ");
             push_slope(line, problem);
@@ -120,6 +133,45 @@ fn push_blocks(line: &mut ShortLine, problem: &Problem<BlocksFault>)
         Problem::Fault(BlocksFault::Repeated(n)) => push_at(line, b"Repeated", *n),
         Problem::Fault(BlocksFault::TooMany(n)) => push_at(line, b"TooMany", *n),
         Problem::Fault(BlocksFault::NoMemory) => line.push(b"NoMemory"),
+    }
+}
+
+// A name, and a key in parentheses.
+fn push_key(line: &mut ShortLine, name: &[u8], key: Key)
+    requires room { length line.old ≤ 64 }
+    requires short { length name.now ≤ 16 }
+    ensures text { line.new ≡ line.old ++ (name.now ++ (codes "(" ++ (key_name key ++ codes ")"))) }
+    ensures length { length line.new ≤ length line.old + 60 }
+{
+    line.push(name);
+    line.push(b"(");
+    line.push(key.name().as_bytes());
+    line.push(b")");
+}
+
+fn push_settings(line: &mut ShortLine, problem: &Problem<SettingsFault>)
+    requires { length line.old ≤ 64 }
+    ensures text { line.new ≡ line.old ++ problem_text settings_fault_text problem.now }
+    ensures length { length line.new ≤ length line.old + 60 }
+{
+    match problem {
+        Problem::InputTooLong => line.push(b"InputTooLong"),
+        Problem::Fault(SettingsFault::NotToml) => line.push(b"NotToml"),
+        Problem::Fault(SettingsFault::UnknownKey) => line.push(b"UnknownKey"),
+        Problem::Fault(SettingsFault::BadValue(key)) => push_key(line, b"BadValue", *key),
+        Problem::Fault(SettingsFault::Missing(key)) => push_key(line, b"Missing", *key),
+        Problem::Fault(SettingsFault::NoMemory) => line.push(b"NoMemory"),
+    }
+}
+
+fn push_prices(line: &mut ShortLine, fault: &PricesFault)
+    requires { length line.old ≤ 64 }
+    ensures text { line.new ≡ line.old ++ prices_fault_text fault.now }
+    ensures length { length line.new ≤ length line.old + 60 }
+{
+    match fault {
+        PricesFault::WrongLength => line.push(b"WrongLength"),
+        PricesFault::NegativeRevenue(b) => push_at(line, b"NegativeRevenue", u64::from(*b)),
     }
 }
 

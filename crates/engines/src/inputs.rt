@@ -15,8 +15,8 @@ use upit_file::{Upit, UpitFault, declared_blocks, read_upit};
 // The most bytes of an input.
 const LONGEST: u64 = 1 << 32;
 
-// All bytes of an input; the fault of one that has too many is handed in.
-fn text_from<R: CountedRead>(
+/// All bytes of an input; the fault of one that has too many is handed in.
+pub fn text_from<R: CountedRead>(
     alloc: Global,
     from: &mut R,
     too_long: EngineFault,
@@ -36,15 +36,21 @@ fn text_from<R: CountedRead>(
     }
 }
 
-/// The blocks of a text and their places, without columns.
-pub fn blocks_from<R: CountedRead>(alloc: Global, from: &mut R) -> Result<BlockModel, EngineFault>
-    requires { R.failed from.old < 2 ^ 64 - 1 }
-    ensures read { IfSome (R.remaining from.old) (λ text. MatchResult result (ReadsBlocks text) (BlocksReadFails text)) }
+/// The blocks of a text with their places and the chosen columns, at most eight.
+pub fn blocks_from<R: CountedRead>(
+    alloc: Global,
+    from: &mut R,
+    columns: &[u32],
+) -> Result<BlockModel, EngineFault>
+    requires few { length columns.now ≤ 8 }
+    requires room { R.failed from.old < 2 ^ 64 - 1 }
+    ensures read { IfSome (R.remaining from.old) (λ text. MatchResult result (ReadsBlocks columns.now text) (BlocksReadFails columns.now text)) }
+    ensures columns { IfOk result (λ m. length m.columns ≡ length columns.now) }
     ensures device { IsErrOf result EngineFault.Device ↔ (R.failed from.new ≡ R.failed from.old + 1) }
     ensures kept { ¬ IsErrOf result EngineFault.Device → R.failed from.new ≡ R.failed from.old }
 {
     let text = text_from(alloc, from, EngineFault::Blocks(Problem::InputTooLong))?;
-    match read_blocks(alloc, text.as_slice(), &[]) {
+    match read_blocks(alloc, text.as_slice(), columns) {
         Ok(model) => Ok(model),
         Err(BlocksFault::NoMemory) => Err(EngineFault::Memory),
         Err(fault) => Err(EngineFault::Blocks(Problem::Fault(fault))),

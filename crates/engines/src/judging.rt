@@ -1,24 +1,28 @@
 //! Judging a certificate for a mine that was read.
 
-ghost use Rattle.std.specs.Prelude.{◌≡◌, ◌≤◌, ◌*ℤ◌, pos, ℕ, List, length, map, IfOk, IsErrOf};
+ghost use Rattle.std.specs.Prelude.{◌≡◌, ◌≤◌, ◌*ℤ◌, pos, ℕ, List, length, map, Ok, IfOk, MatchResult, IsErrOf};
+ghost use Rattle.check_pit.specs.Pieces.{pieces_of};
+ghost use Rattle.check_pit.specs.Header.{header_of};
 ghost use Rattle.closure_net.specs.Network.{holds_of, IsAscending};
 ghost use Rattle.ordered_group.specs.Amount.{FitsPair};
 ghost use Rattle.closure_net.specs.Closure.{group_worth, IsGreatest};
 ghost use Rattle.closure_net.specs.Mine.{IsNetOf};
 ghost use Rattle.engines.specs.Limits.{IsWithinLimit};
 ghost use Rattle.check_pit.specs.declared.headers.Price.TheVariants.{Objective};
-ghost use Rattle.engines.specs.Mines.{MineTexts, DenoteMine, mine_of, price_wanted};
-ghost use Rattle.engines.specs.FaultStands.{IsHeader};
-ghost use Rattle.engines.specs.Judging.{AreRead, IsGroupNamed, Judges, billionths_of};
+ghost use Rattle.engines.specs.Mines.{MineTexts, priced_texts, DenoteMine, mine_of, price_wanted};
+ghost use Rattle.engines.specs.FaultStands.{IsHeader, Fails};
+ghost use Rattle.engines.specs.Judging.{AreRead, ArePricesRead, IsGroupNamed, Judges, billionths_of, factor_in};
 
 use crate::engine_fault::{CertificateProblem, EngineFault};
 use crate::judgement::Judgement;
-use check_pit::{Accepted, CertFault, Price, check, read_certificate, reading};
+use check_pit::{Accepted, CertFault, Header, Price, check, read_certificate, reading};
 use closure_net::{Net, laws};
 use fixed_worth::Micros;
 use ordered_group::{Group, OrderedGroup, Worth, WorthSize};
 use prec_file::Rests;
+use shells::{Factor, Prices};
 use std::alloc::{AllocError, Global};
+use std::thread::Threads;
 use upit_file::Upit;
 
 /// What a certificate proves for the mine of these values and pairs, or why it can't be judged.
@@ -32,12 +36,7 @@ pub fn judge(
     ensures judged { (texts : MineTexts) → AreRead texts (billionths_of upit.now.values) rests → price_wanted texts ≡ Objective → Judges texts certificate.now result }
     ensures no_device { ¬ IsErrOf result EngineFault.Device }
 {
-    laws::greatest_set_is_richest_pit();
-    laws::greatest_set_is_best_pit::<WorthSize>();
-    let header = reading::header(certificate)?;
-    if header.blocks != rests.len() {
-        return Err(EngineFault::from(CertFault::Number(2)));
-    }
+    let header = header_for(certificate, rests.len())?;
     match header.price {
         Price::Objective => {}
         Price::Factor(_) => {
@@ -45,14 +44,74 @@ pub fn judge(
         }
     }
     let nanos = nanos_of(alloc, upit)?;
-    let nanos = nanos.as_slice();
-    match header.group {
+    judge_in(alloc, header.group, nanos.as_slice(), rests, certificate)
+}
+
+/// What a certificate proves for the mine of these prices, at the factor that it names, and of these pairs; or why it
+/// can't be judged.
+pub fn judge_priced<R: Threads + Sync>(
+    rt: &R,
+    alloc: Global,
+    prices: &Prices,
+    rests: Rests,
+    certificate: &[u8],
+) -> Result<Judgement, EngineFault>
+    requires { IsWithinLimit certificate.now }
+    ensures judged { (settings blocks precedence : List ℕ) → ArePricesRead settings blocks precedence prices.now rests
+        → Judges (priced_texts settings blocks precedence (factor_in certificate.now)) certificate.now result }
+    ensures no_device { ¬ IsErrOf result EngineFault.Device }
+{
+    let header = header_for(certificate, rests.len())?;
+    let thousandths = match header.price {
+        Price::Factor(thousandths) => thousandths,
+        Price::Objective => {
+            return Err(EngineFault::Certificate(CertificateProblem::WrongPrice));
+        }
+    };
+    let Some(factor) = Factor::new(thousandths) else {
+        // a header's factor is at most 10,000
+        unreachable!();
+    };
+    let nanos = prices.worths_at(rt, alloc, factor)?;
+    judge_in(alloc, header.group, nanos.as_slice(), rests, certificate)
+}
+
+// The header of a certificate for a mine of n blocks.
+fn header_for(certificate: &[u8], n: u32) -> Result<Header, EngineFault>
+    requires { IsWithinLimit certificate.now }
+    ensures read { MatchResult result
+        (λ header. (header_of (pieces_of certificate.now) ≡ Ok header) × (header.blocks ≡ n))
+        (λ fault. (texts : MineTexts) → DenoteMine texts n → Fails texts certificate.now fault) }
+    ensures no_device { ¬ IsErrOf result EngineFault.Device }
+{
+    let header = reading::header(certificate)?;
+    if header.blocks != n {
+        return Err(EngineFault::from(CertFault::Number(2)));
+    }
+    Ok(header)
+}
+
+// What the certificate proves, where its header is read and the blocks are worth so many billionths.
+fn judge_in(
+    alloc: Global,
+    group: Group,
+    nanos: &[i128],
+    rests: Rests,
+    certificate: &[u8],
+) -> Result<Judgement, EngineFault>
+    requires { IsWithinLimit certificate.now }
+    ensures judged { (texts : MineTexts) → AreRead texts nanos.now rests → IsHeader texts certificate.now rests.blocks group → Judges texts certificate.now result }
+    ensures no_device { ¬ IsErrOf result EngineFault.Device }
+{
+    laws::greatest_set_is_richest_pit();
+    laws::greatest_set_is_best_pit::<WorthSize>();
+    match group {
         Group::Worth => judge_by::<Worth>(alloc, nanos, rests, certificate),
         Group::Pair => judge_by::<WorthSize>(alloc, nanos, rests, certificate),
     }
 }
 
-// The same, where the header is read and the amounts are of the group G.
+// The same in amounts of the group G.
 fn judge_by<G: OrderedGroup>(
     alloc: Global,
     nanos: &[i128],

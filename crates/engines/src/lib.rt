@@ -19,6 +19,7 @@ mod judging;
 mod method;
 mod pattern_choice;
 mod pattern_words;
+mod priced_inputs;
 mod slope_pairs;
 mod slopes;
 mod solve_words;

@@ -41,7 +41,7 @@ pub fn slopes_engine<B: CountedRead, W: CountedWrite>(
     ensures device { IsErrOf result EngineFault.Device → B.failed blocks.new + W.failed out.new ≡ B.failed blocks.old + W.failed out.old + 1 }
     ensures kept { ¬ IsErrOf result EngineFault.Device → (B.failed blocks.new ≡ B.failed blocks.old) × (W.failed out.new ≡ W.failed out.old) }
 {
-    let model = blocks_from(alloc, blocks)?;
+    let model = blocks_from(alloc, blocks, &[])?;
     let rests = slopes_of(alloc, &model, pattern, up)?;
     write_slopes(&rests, out)?;
     Ok(Verdict::Done)

@@ -1,2 +1,3 @@
 pub mod ReadArrays
 pub mod Ascending
+pub mod Known

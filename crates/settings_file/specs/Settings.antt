@@ -1,5 +1,5 @@
 -- What a text says as settings: a TOML document, and what its table has at each key.
-use Rattle.std.specs.Prelude.{◌≡◌, ◌≤◌, ℕ, IfSome, cond, ℤ, List, Option, Some, None, Result, Ok, Err, IsUtf8}
+use Rattle.std.specs.Prelude.{◌≡◌, ◌≤◌, ℕ, IfSome, Bool, cond, ℤ, List, [], ◌∷◌, Option, Some, None, is_some, Result, Ok, Err, IsUtf8}
 use Rattle.toml.specs.Parse.{parse_document}
 use Rattle.toml.specs.Data.{Data, Members, get_member}
 use Rattle.settings_file.specs.declared.keys.Key.{Key}
@@ -73,3 +73,34 @@ ReadsSettings text (Ok s) = Says text (λ ms. settings_in ms ≡ Ok s)
 ReadsSettings text (Err NotToml) = IsUtf8 text → parse_document text ≡ None
 ReadsSettings text (Err NoMemory) = IsUtf8 text
 ReadsSettings text (Err fault) = Says text (λ ms. settings_in ms ≡ Err fault)
+
+-- what settings say, or nothing at any key where there is a fault
+abbrev pub said_or_nothing : Result SettingsView SettingsFault → SettingsView
+said_or_nothing (Ok s) = s
+said_or_nothing (Err e) = record { revenue = None; cost = None; tonnes = None; factors = None; report = None; offsets = None }
+
+abbrev pub settings_by : Option Members → SettingsView
+settings_by (Some ms) = said_or_nothing (settings_in ms)
+settings_by None = said_or_nothing (Err NotToml)
+
+-- what a text says as settings: nothing at any key where it has a fault
+unfoldable pub settings_of : List ℕ → SettingsView
+settings_of text = settings_by (parse_document text)
+
+-- the text has no fault
+abbrev pub AreSettings : List ℕ → Type 0
+AreSettings text = ReadsSettings text (Ok (settings_of text))
+
+-- whether there is something at a key
+abbrev pub is_said : SettingsView → Key → Bool
+is_said s Revenue = is_some s.revenue
+is_said s Cost = is_some s.cost
+is_said s Tonnes = is_some s.tonnes
+is_said s Factors = is_some s.factors
+is_said s Report = is_some s.report
+is_said s Offsets = is_some s.offsets
+
+-- the first of these keys at which there is nothing
+abbrev pub first_missing : List Key → SettingsView → Option Key
+first_missing [] s = None
+first_missing (key ∷ keys) s = cond (is_said s key) (first_missing keys s) (Some key)

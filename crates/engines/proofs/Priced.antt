@@ -1,0 +1,165 @@
+-- From prices that were read to the worths of the mine at a factor.
+use Rattle.std.proofs.Common.{◌≡◌, ℕ, ◌<◌, ◌≤◌, ℤ, pos, List, [], ◌∷◌, length, map, get_or, refl, sym, ap, ◌∙◌, subst, arith, cond, ltb, Bool, true, false, Option, Some, None, unwrap_or, Result, Ok, Err, IfSome}
+use Rattle.std.specs.List.{range_with_len}
+use Rattle.std.specs.Result.{result_unwrap_or}
+use Rattle.std.specs.Str.{bytes_eq}
+use Rattle.std.proofs.lemmas.List.FromFn.{length-map-range_with_len, get_or-map-range_with_len}
+use lib.Chars.{codes}
+use Rattle.blocks_file.specs.Records as blocks
+use Rattle.blocks_file.specs.Denotes.{BlocksView, Denotes}
+use Rattle.prec_file.specs.Rests.{RestsView}
+use Rattle.closure_net.proofs.SameLists.{same_at_default}
+use Rattle.settings_file.specs.declared.faults.SettingsFault.{SettingsFault}
+use Rattle.settings_file.specs.declared.faults.SettingsFault.TheVariants as settings_fault
+use Rattle.settings_file.specs.Settings.{SettingsView, ReadsSettings, settings_of, first_missing}
+use Rattle.settings_file.proofs.Known.{settings_are, settings_read, never_missing}
+use Rattle.shells.specs.declared.prices_fault.PricesFault.{PricesFault}
+use Rattle.prec_file.specs.Records as prec
+use Rattle.shells.specs.Prices.{PricesView, NoneNegative, PricesFaultStands, blocks_of, worth_at, worths_at}
+use Rattle.check_pit.specs.Pieces.{Piece, piece_at, read_line, words_of, number_below}
+use Rattle.check_pit.specs.Header.{header_of, price_in, price_said, or_number, factor_of, value_behind, version_in, blocks_in, group_in}
+use Rattle.check_pit.specs.ReadBack.{IsPrice}
+use Rattle.check_pit.specs.declared.headers.Header.{Header}
+use Rattle.check_pit.specs.declared.headers.Price.{Price}
+use Rattle.check_pit.specs.declared.headers.Price.TheVariants.{Objective, Factor}
+use Rattle.check_pit.specs.declared.cert_faults.LineFault.{LineFault}
+use Rattle.check_pit.proofs.Going.{text_read, below_limit}
+use Rattle.check_pit.proofs.Wants.{joined}
+use Rattle.engines.specs.Mines.{priced_texts}
+use Rattle.engines.specs.declared.engine_fault.EngineFault.{EngineFault}
+use Rattle.engines.specs.declared.engine_fault.EngineFault.TheVariants as engine
+use Rattle.engines.specs.Slopes.{ReadsBlocks, BlocksFails, BlocksReadFails}
+use Rattle.engines.specs.Inputs.{ReadsSettingsText, ReadsPrices, ReadsPrec, PricesReadFail}
+use Rattle.engines.specs.PricedTexts.{cell, cells, values_of, table_by, table_of, price_keys, price_columns, ColumnsKnown, SettingsFaultStands}
+use Rattle.engines.specs.Judging.{AreRead, ArePricesRead}
+
+-- the worths at a factor are those of the mine
+pub worths_priced : (settings text precedence : List ℕ) (table : PricesView) (rests : RestsView) (k : ℕ) → ArePricesRead settings text precedence table rests → AreRead (priced_texts settings text precedence k) (worths_at table k) rests
+worths_priced settings text precedence table rests k a = record {
+  mine = a.mine k;
+  worths = record {
+    size = length-map-range_with_len (worth_at table k) 0 (blocks_of table) ∙ a.size;
+    each = λ b h.
+        let l : b < blocks_of table = omega (arith, h, a.size) in
+        get_or-map-range_with_len (worth_at table k) 0 (blocks_of table) b b (pos 0) l (omega arith) ∙ ap (λ (t : PricesView). worth_at t k b) a.table;
+  };
+  pairs = a.pairs;
+}
+
+-- a chosen column of a model is that of its text
+pub column_is : (chosen text : List ℕ) (m : BlocksView) (i : ℕ) → Denotes chosen text m → i < length chosen → values_of m i ≡ cells text (get_or chosen i 0)
+column_is chosen text m i d h =
+    let column = get_or m.columns i [] in
+    let size = length-map-range_with_len (λ b. get_or column b (pos 0)) 0 m.blocks in
+    let most = length-map-range_with_len (cell text (get_or chosen i 0)) 0 (blocks.count_of text) in
+    same_at_default (pos 0) (values_of m i) (cells text (get_or chosen i 0)) (size ∙ d.count ∙ sym most) (λ b l.
+    let below : b < m.blocks = omega (arith, l, size) in
+    let inside : b < blocks.count_of text = omega (arith, below, d.count) in
+    get_or-map-range_with_len (λ c. get_or column c (pos 0)) 0 m.blocks b b (pos 0) below (omega arith) ∙ d.value i b h below
+    ∙ sym (get_or-map-range_with_len (cell text (get_or chosen i 0)) 0 (blocks.count_of text) b b (pos 0) inside (omega arith)))
+
+-- the prices that are made of the columns of a model are those of its text
+pub table_is : (revenue cost : ℕ) (said : SettingsView) (text : List ℕ) (m : BlocksView) (table : PricesView) → revenue ∷ cost ∷ [] ≡ price_columns said → Denotes (revenue ∷ cost ∷ []) text m
+    → table ≡ record { revenue = values_of m 0; cost = values_of m 1 } → table ≡ table_by said text
+table_is revenue cost said text m table e d is =
+    let first = ap (λ (cs : List ℕ). get_or cs 0 0) e in
+    let second = ap (λ (cs : List ℕ). get_or cs 1 0) e in
+    let r = column_is (revenue ∷ cost ∷ []) text m 0 d (omega arith) ∙ ap (cells text) first in
+    let c = column_is (revenue ∷ cost ∷ []) text m 1 d (omega arith) ∙ ap (cells text) second in
+    is ∙ λ i. record { revenue = r i; cost = c i }
+
+-- ---- the factor of a header
+
+factor_below : (word : List ℕ) (o : Option ℕ) (price : Price) → number_below 10001 word ≡ o → or_number (factor_of o) ≡ Ok price → IsPrice price
+factor_below word (Some k) price e h =
+    let same : Factor k ≡ price = ap (λ (r : Result Price LineFault). result_unwrap_or r price) h in
+    let k_below = below_limit 10001 k word e in
+    subst IsPrice same (omega (arith, k_below))
+factor_below word None price e h = absurd cc
+
+word_price : (word : List ℕ) (t : Bool) (price : Price) → cond t (Ok Objective) (or_number (factor_of (number_below 10001 word))) ≡ Ok price → IsPrice price
+word_price word true price h = subst IsPrice (ap (λ (r : Result Price LineFault). result_unwrap_or r price) h) tt
+word_price word false price h = factor_below word (number_below 10001 word) price refl h
+
+price_bound : (o : Option (List ℕ)) (price : Price) → price_said o ≡ Ok price → IsPrice price
+price_bound (Some word) price h = word_price word (bytes_eq word (codes "OBJECTIVE")) price h
+price_bound None price h = absurd cc
+
+-- the factor of a header that is read is at most 10,000
+pub header_price : (ps : List Piece) (header : Header) → header_of ps ≡ Ok header → IsPrice header.price
+header_price ps header e =
+    let q = joined (read_line version_in 1 (piece_at ps 0)) (read_line (blocks_in None) 2 (piece_at ps 1)) (read_line price_in 3 (piece_at ps 2)) (read_line (group_in None) 4 (piece_at ps 3)) header e in
+    price_bound (value_behind (codes "PRICE") (words_of (piece_at ps 2).text)) header.price (text_read price_in 3 (piece_at ps 2) header.price q.price)
+
+-- ---- settings and prices
+
+-- what a reader tells of a text is a fault of it
+pub fault_stands : (text : List ℕ) (fault : SettingsFault) → ¬ (fault ≡ settings_fault.NoMemory) → ReadsSettings text (Err fault) → SettingsFaultStands [] text fault
+fault_stands text settings_fault.NotToml ne h = h
+fault_stands text settings_fault.UnknownKey ne h = h
+fault_stands text (settings_fault.BadValue key) ne h = h
+fault_stands text (settings_fault.Missing key) ne h = absurd (never_missing text key h)
+fault_stands text settings_fault.NoMemory ne h = ne refl
+
+-- the prices were made of the columns of the text
+pub prices_made : (o : Option (List ℕ)) (revenue cost : ℕ) (said : SettingsView) (m : BlocksView) (table : PricesView) → revenue ∷ cost ∷ [] ≡ price_columns said → IfSome o (λ text. ReadsBlocks (revenue ∷ cost ∷ []) text m)
+    → table ≡ record { revenue = values_of m 0; cost = values_of m 1 } → IfSome o (λ text. ReadsPrices said text table)
+prices_made None revenue cost said m table e h is = tt
+prices_made (Some text) revenue cost said m table e h is =
+    let F : List ℕ → Type 0 = λ chosen. blocks.fault_of chosen text ≡ None in
+    record { within = h.0; read = subst F e h.1; is = table_is revenue cost said text m table e h.2 is }
+
+-- no prices are made of them
+pub prices_fail : (o : Option (List ℕ)) (revenue cost : ℕ) (said : SettingsView) (m : BlocksView) (rs cs : List ℤ) (fault : PricesFault) → revenue ∷ cost ∷ [] ≡ price_columns said → IfSome o (λ text. ReadsBlocks (revenue ∷ cost ∷ []) text m)
+    → rs ≡ values_of m 0 → cs ≡ values_of m 1 → PricesFaultStands rs cs fault → IfSome o (λ text. PricesReadFail said text (engine.Prices fault))
+prices_fail None revenue cost said m rs cs fault e h p q f = tt
+prices_fail (Some text) revenue cost said m rs cs fault e h p q f =
+    let F : List ℕ → Type 0 = λ chosen. blocks.fault_of chosen text ≡ None in
+    let table = table_is revenue cost said text m (record { revenue = values_of m 0; cost = values_of m 1 }) e h.2 refl in
+    let S : PricesView → Type 0 = λ t. PricesFaultStands t.revenue t.cost fault in
+    let stands : PricesFaultStands (values_of m 0) (values_of m 1) fault = subst (λ (xs : List ℤ). PricesFaultStands (values_of m 0) xs fault) q (subst (λ (xs : List ℤ). PricesFaultStands xs cs fault) p f) in
+    (h.0, subst F e h.1, subst S table stands)
+
+-- the blocks were not read
+pub blocks_fail : (o : Option (List ℕ)) (revenue cost : ℕ) (said : SettingsView) (fault : EngineFault) → revenue ∷ cost ∷ [] ≡ price_columns said → IfSome o (λ text. BlocksReadFails (revenue ∷ cost ∷ []) text fault) → IfSome o (λ text. PricesReadFail said text fault)
+blocks_fail None revenue cost said fault e h = tt
+blocks_fail (Some text) revenue cost said (engine.Blocks p) e h = subst (λ (chosen : List ℕ). BlocksFails chosen text p) e h
+blocks_fail (Some text) revenue cost said engine.Memory e h = tt
+blocks_fail (Some text) revenue cost said engine.Device e h = tt
+blocks_fail (Some text) revenue cost said (engine.Settings p) e h = absurd h
+blocks_fail (Some text) revenue cost said (engine.Prices p) e h = absurd h
+blocks_fail (Some text) revenue cost said (engine.Upit p) e h = absurd h
+blocks_fail (Some text) revenue cost said (engine.Prec p) e h = absurd h
+blocks_fail (Some text) revenue cost said (engine.Slope p) e h = absurd h
+blocks_fail (Some text) revenue cost said (engine.Model p) e h = absurd h
+blocks_fail (Some text) revenue cost said (engine.Certificate p) e h = absurd h
+blocks_fail (Some text) revenue cost said engine.Thread e h = absurd h
+blocks_fail (Some text) revenue cost said engine.Stranger e h = absurd h
+
+-- memory is refused
+pub memory_fails : (o : Option (List ℕ)) (said : SettingsView) → IfSome o (λ text. PricesReadFail said text engine.Memory)
+memory_fails None said = tt
+memory_fails (Some text) said = tt
+
+-- the texts that price blocks, and the precedence, were read
+pub all_read : (settings text precedence : List ℕ) (said : SettingsView) (table : PricesView) (rests : RestsView) (n : ℕ) → n ≡ blocks_of table → NoneNegative table → first_missing price_keys said ≡ None → ReadsSettingsText settings said → ReadsPrices said text table → ReadsPrec n precedence rests
+    → ArePricesRead settings text precedence table rests
+all_read settings text precedence said table rests n e positive whole s t p =
+    let known = settings_are settings said s.1 in
+    let is : table ≡ table_of settings text = t.is ∙ ap (λ (v : SettingsView). table_by v text) (sym known) in
+    let size : blocks_of table ≡ rests.blocks = sym e ∙ sym p.2 in
+    let count = sym (length-map-range_with_len (cell text (unwrap_or said.revenue 0)) 0 (blocks.count_of text)) ∙ ap blocks_of (sym t.is) ∙ size in
+    let M : SettingsView → Type 0 = λ v. first_missing price_keys v ≡ None in
+    let C : SettingsView → Type 0 = λ v. blocks.fault_of (price_columns v) text ≡ None in
+    let columns : ColumnsKnown settings = record { within = s.0; read = settings_read settings said s.1; said = subst M (sym known) whole } in
+    let F : ℕ → Type 0 = λ k. prec.fault_of k precedence ≡ None in
+    record {
+      mine = λ factor. record {
+        worths_read = record { columns = columns; within = t.within; read = subst C (sym known) t.read; count = count; revenues = subst NoneNegative is positive };
+        precedence_within = p.0;
+        precedence_read = subst F (sym p.2) p.1;
+      };
+      table = is;
+      size = size;
+      pairs = p.3;
+    }

@@ -1,0 +1,14 @@
+use Rattle.std.proofs.Common.{refl, sym, subst}
+use Rattle.ordered_group.specs.declared.groups.Group.{Group}
+use Rattle.engines.specs.FaultStands.{IsHeader}
+use Rattle.engines.proofs.judging.judge_in.Goals as goal
+
+pub returns-in-Worth-clause-judged : goal.returns-in-Worth-clause-judged
+returns-in-Worth-clause-judged c = λ texts read header.
+    let P : Group → Type 0 = λ k. IsHeader texts c.args.certificate.now c.args.rests.blocks k in
+    c.judge_by.ensures.judged texts read (record { block_is = refl; counts_is = refl; proves = c.greatest_set_is_richest_pit.ensures }) (subst P c.in-Worth.is header)
+
+pub returns-in-Pair-clause-judged : goal.returns-in-Pair-clause-judged
+returns-in-Pair-clause-judged c = λ texts read header.
+    let P : Group → Type 0 = λ k. IsHeader texts c.args.certificate.now c.args.rests.blocks k in
+    c.judge_by-in-Pair.ensures.judged texts read (record { block_is = refl; counts_is = refl; proves = c.greatest_set_is_best_pit.ensures }) (subst P c.in-Pair.is header)
