@@ -5,7 +5,7 @@ use Rattle.toml.specs.Data.{Data, Members, get_member}
 use Rattle.settings_file.specs.declared.keys.Key.{Key}
 use Rattle.settings_file.specs.declared.keys.Key.TheVariants.{Revenue, Cost, Tonnes, Factors, Report, Offsets}
 use Rattle.settings_file.specs.declared.faults.SettingsFault.{SettingsFault}
-use Rattle.settings_file.specs.declared.faults.SettingsFault.TheVariants.{NotToml, UnknownKey, BadValue, NoMemory}
+use Rattle.settings_file.specs.declared.faults.SettingsFault.TheVariants.{NotToml, UnknownKey, BadValue, Missing, NoMemory}
 use Rattle.settings_file.specs.Keys.{key_name, all_known}
 use Rattle.settings_file.specs.Values.{whole_within, factors_of, offsets_of, AreFactors}
 
@@ -67,11 +67,13 @@ pub record IsDocument (text : List ℕ) (ms : Members) : Type 0 where
 abbrev pub Says : List ℕ → (Members → Type 0) → Type 0
 Says text P = (ms : Members) × IsDocument text ms × P ms
 
--- What the reader answers for a text. Memory is refused only where the text is UTF-8.
+-- What the reader answers for a text. Memory is asked for only where the text is UTF-8, and a missing key is no fault of the
+-- text.
 abbrev pub ReadsSettings : List ℕ → Result SettingsView SettingsFault → Type 0
 ReadsSettings text (Ok s) = Says text (λ ms. settings_in ms ≡ Ok s)
 ReadsSettings text (Err NotToml) = IsUtf8 text → parse_document text ≡ None
 ReadsSettings text (Err NoMemory) = IsUtf8 text
+ReadsSettings text (Err (Missing key)) = ⊥
 ReadsSettings text (Err fault) = Says text (λ ms. settings_in ms ≡ Err fault)
 
 -- what settings say, or nothing at any key where there is a fault

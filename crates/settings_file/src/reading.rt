@@ -1,9 +1,10 @@
 //! Reading a text.
 
-ghost use Rattle.std.specs.Prelude.{◌≡◌, Ok, Err, IfOk, IfErr, IfSome, MatchResult, option_map};
+ghost use Rattle.std.specs.Prelude.{◌≡◌, ◌⊎◌, Ok, Err, IfOk, IfErr, IfSome, MatchResult, option_map};
 ghost use Rattle.toml.specs.View.{table_view};
 ghost use Rattle.settings_file.specs.Keys.{all_known};
 ghost use Rattle.settings_file.specs.Values.{factors_of, offsets_of, AreFactors};
+ghost use Rattle.settings_file.specs.declared.keys.Key.{Key};
 ghost use Rattle.settings_file.specs.Internal.{IsGoodUpToFactors};
 ghost use Rattle.settings_file.specs.Settings.{said_at, settings_in, ReadsSettings};
 
@@ -33,6 +34,7 @@ fn factors_at(alloc: Global, table: &Table) -> Result<Option<Vec<u32>>, Settings
         (λ o. said_at Key.Factors factors_of (table_view table.now) ≡ Ok (option_map (λ v. v.items) o))
         (λ e. ¬ (e ≡ SettingsFault.NoMemory) → said_at Key.Factors factors_of (table_view table.now) ≡ Err e) }
     ensures form { IfOk result (λ o. IfSome o (λ v. AreFactors v.items)) }
+    ensures fault { IfErr result (λ e. (e ≡ SettingsFault.BadValue Key.Factors) ⊎ (e ≡ SettingsFault.NoMemory)) }
 {
     match table.get(Key::Factors.name()) {
         Some(value) => match factors_in(alloc, value) {
@@ -46,9 +48,10 @@ fn factors_at(alloc: Global, table: &Table) -> Result<Option<Vec<u32>>, Settings
 
 // The offsets of the table.
 fn offsets_at(alloc: Global, table: &Table) -> Result<Option<Vec<(i32, i32, i32)>>, SettingsFault>
-    ensures { MatchResult result
+    ensures value { MatchResult result
         (λ o. said_at Key.Offsets offsets_of (table_view table.now) ≡ Ok (option_map (λ v. v.items) o))
         (λ e. ¬ (e ≡ SettingsFault.NoMemory) → said_at Key.Offsets offsets_of (table_view table.now) ≡ Err e) }
+    ensures fault { IfErr result (λ e. (e ≡ SettingsFault.BadValue Key.Offsets) ⊎ (e ≡ SettingsFault.NoMemory)) }
 {
     match table.get(Key::Offsets.name()) {
         Some(value) => match offsets_in(alloc, value) {
@@ -66,6 +69,7 @@ fn settings_of(alloc: Global, table: &Table) -> Result<Settings, SettingsFault>
         (λ s. settings_in (table_view table.now) ≡ Ok s)
         (λ e. ¬ (e ≡ SettingsFault.NoMemory) → settings_in (table_view table.now) ≡ Err e) }
     ensures early { IfErr result (λ e. e ≡ SettingsFault.NoMemory → IsGoodUpToFactors (table_view table.now)) }
+    ensures present { IfErr result (λ e. (key : Key) → ¬ (e ≡ SettingsFault.Missing key)) }
 {
     if !has_only_keys(table) {
         return Err(SettingsFault::UnknownKey);
