@@ -177,7 +177,7 @@ fn worths_by_threads_are_those_of_the_blocks(rt: HostRuntime) -> Result<(), Fail
     let mut revenue = Vec::new(rt.alloc());
     let mut cost = Vec::new(rt.alloc());
     for b in 0..5_000i64 {
-        revenue.push(Micros::new(b * 1_000_003 % 977_777).ok_or("revenue")?)?;
+        revenue.push(Micros::new(b % 977).ok_or("revenue")?)?;
         cost.push(Micros::new(b - 2_500).ok_or("cost")?)?;
     }
     let prices = Prices::new(revenue, cost).ok().ok_or("prices")?;
