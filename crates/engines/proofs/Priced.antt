@@ -12,7 +12,7 @@ use Rattle.closure_net.proofs.SameLists.{same_at_default}
 use Rattle.settings_file.specs.declared.faults.SettingsFault.{SettingsFault}
 use Rattle.settings_file.specs.declared.faults.SettingsFault.TheVariants as settings_fault
 use Rattle.settings_file.specs.Settings.{SettingsView, ReadsSettings, settings_of, first_missing}
-use Rattle.settings_file.proofs.Known.{settings_are, settings_read, never_missing}
+use Rattle.settings_file.proofs.Known.{settings_are, settings_read}
 use Rattle.shells.specs.declared.prices_fault.PricesFault.{PricesFault}
 use Rattle.prec_file.specs.Records as prec
 use Rattle.shells.specs.Prices.{PricesView, NoneNegative, PricesFaultStands, blocks_of, worth_at, worths_at}
@@ -98,7 +98,7 @@ pub fault_stands : (text : List ℕ) (fault : SettingsFault) → ¬ (fault ≡ s
 fault_stands text settings_fault.NotToml ne h = h
 fault_stands text settings_fault.UnknownKey ne h = h
 fault_stands text (settings_fault.BadValue key) ne h = h
-fault_stands text (settings_fault.Missing key) ne h = absurd (never_missing text key h)
+fault_stands text (settings_fault.Missing key) ne h = absurd h
 fault_stands text settings_fault.NoMemory ne h = ne refl
 
 -- the prices were made of the columns of the text

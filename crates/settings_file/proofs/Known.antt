@@ -1,14 +1,11 @@
 -- A text has one meaning as settings, or one fault.
-use Rattle.std.proofs.Common.{◌≡◌, ℕ, Bool, true, false, cond, List, Option, Some, None, Result, Ok, Err, refl, sym, ap, ◌∙◌, subst}
+use Rattle.std.proofs.Common.{◌≡◌, ℕ, List, Option, Some, None, Result, Ok, Err, refl, sym, ap, ◌∙◌, subst}
 use Rattle.toml.specs.Parse.{parse_document}
-use Rattle.toml.specs.Data.{Data, Members, get_member}
+use Rattle.toml.specs.Data.{Members}
 use Rattle.settings_file.specs.declared.keys.Key.{Key}
 use Rattle.settings_file.specs.declared.faults.SettingsFault.{SettingsFault}
 use Rattle.settings_file.specs.declared.faults.SettingsFault.TheVariants.{NotToml, UnknownKey, BadValue, Missing, NoMemory}
-use Rattle.settings_file.specs.declared.keys.Key.TheVariants.{Revenue, Cost, Tonnes, Factors, Report, Offsets}
-use Rattle.settings_file.specs.Keys.{key_name, all_known}
-use Rattle.settings_file.specs.Values.{whole_within, factors_of, offsets_of}
-use Rattle.settings_file.specs.Settings.{SettingsView, or_bad, said, said_at, then_with, values_in, settings_in, settings_by, said_or_nothing, settings_of, Says, ReadsSettings, AreSettings}
+use Rattle.settings_file.specs.Settings.{SettingsView, settings_in, settings_by, said_or_nothing, settings_of, Says, ReadsSettings, AreSettings}
 
 -- what was read is what the text says
 pub settings_are : (text : List ℕ) (s : SettingsView) → ReadsSettings text (Ok s) → settings_of text ≡ s
@@ -34,41 +31,5 @@ pub no_settings_fault : (text : List ℕ) (s : SettingsView) (fault : SettingsFa
 no_settings_fault text s NotToml h ne k = let g : Some h.0 ≡ None = sym h.1.parsed ∙ k h.1.utf8 in cc
 no_settings_fault text s UnknownKey h ne k = no_fault text s UnknownKey h k
 no_settings_fault text s (BadValue key) h ne k = no_fault text s (BadValue key) h k
-no_settings_fault text s (Missing key) h ne k = no_fault text s (Missing key) h k
+no_settings_fault text s (Missing key) h ne k = k
 no_settings_fault text s NoMemory h ne k = ne refl
-
--- ---- a reader tells of no missing key
-
-IsBad : SettingsFault → Type 0
-IsBad fault = (key : Key) × (fault ≡ BadValue key)
-
-bad_or : {V : Type 0} (key : Key) (o : Option V) (e : SettingsFault) → or_bad key o ≡ Err e → e ≡ BadValue key
-bad_or key (Some v) e h = absurd cc
-bad_or key None e h = cc
-
-bad_said : {V : Type 0} (key : Key) (reads : Data → Option V) (o : Option Data) (e : SettingsFault) → said key reads o ≡ Err e → e ≡ BadValue key
-bad_said key reads None e h = absurd cc
-bad_said key reads (Some d) e h = bad_or key (reads d) e h
-
-then_bad : {A B : Type 0} (r : Result A SettingsFault) (next : A → Result B SettingsFault) → ((x : SettingsFault) → r ≡ Err x → IsBad x) → ((a : A) (x : SettingsFault) → next a ≡ Err x → IsBad x) → (e : SettingsFault) → then_with r next ≡ Err e → IsBad e
-then_bad (Ok a) next p q e h = q a e h
-then_bad (Err x) next p q e h = let same : x ≡ e = cc in subst IsBad same (p x refl)
-
-said_bad : {V : Type 0} (key : Key) (reads : Data → Option V) (ms : Members) (x : SettingsFault) → said_at key reads ms ≡ Err x → IsBad x
-said_bad key reads ms x h = (key, bad_said key reads (get_member (key_name key) ms) x h)
-
-values_bad : (ms : Members) (e : SettingsFault) → values_in ms ≡ Err e → IsBad e
-values_bad ms =
-    then_bad _ _ (said_bad Revenue (whole_within 65535) ms) (λ revenue.
-    then_bad _ _ (said_bad Cost (whole_within 65535) ms) (λ cost.
-    then_bad _ _ (said_bad Tonnes (whole_within 65535) ms) (λ tonnes.
-    then_bad _ _ (said_bad Factors factors_of ms) (λ factors.
-    then_bad _ _ (said_bad Report (whole_within 10000) ms) (λ report.
-    then_bad _ _ (said_bad Offsets offsets_of ms) (λ offsets x h. absurd cc))))))
-
-missing_none : (ms : Members) (key : Key) (t : Bool) → cond t (values_in ms) (Err UnknownKey) ≡ Err (Missing key) → ⊥
-missing_none ms key true h = let b = values_bad ms (Missing key) h in let z : Missing key ≡ BadValue b.0 = b.1 in cc
-missing_none ms key false h = cc
-
-pub never_missing : (text : List ℕ) (key : Key) → ReadsSettings text (Err (Missing key)) → ⊥
-never_missing text key h = missing_none h.0 key (all_known h.0) h.2

@@ -14,9 +14,13 @@ use Rattle.shells.specs.Prices.{PricesView, blocks_of, worth_at, IsTable}
 abbrev pub rests_by : List (ℕ × ℕ) → ℕ → ℕ → Bool
 rests_by pairs b p = list_any (λ q. (q.0 == b) && (q.1 == p)) pairs
 
--- the mine of these pairs, at so many thousandths of the revenues
+-- the mine of these prices at so many thousandths of the revenues, whose blocks rest on each other in this way
+abbrev pub priced : (ℕ → ℕ → Bool) → PricesView → ℕ → Mine
+priced above table k = record { blocks = blocks_of table; rests = above; worth = worth_at table k }
+
+-- the mine of these pairs and prices
 abbrev pub mine_at : List (ℕ × ℕ) → PricesView → ℕ → Mine
-mine_at pairs table k = record { blocks = blocks_of table; rests = rests_by pairs; worth = worth_at table k }
+mine_at pairs table k = priced (rests_by pairs) table k
 
 -- pairs and prices, the factors pushed so far, and the shell of each block, if it has one
 pub record SeriesView : Type 0 where

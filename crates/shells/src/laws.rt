@@ -4,7 +4,7 @@ ghost use Rattle.shells.specs.Nesting.{BestPitsAreNested, AcceptedPitsAreNested}
 
 use ordered_group::SizeGroup;
 
-/// The best pit at a factor lies within the best pit at a higher one.
+/// The best pit at a factor lies within the best pit at a higher one, whatever rests on what.
 pub fn best_pits_at_factors_are_nested()
     ensures { BestPitsAreNested }
 {}

@@ -1,9 +1,7 @@
 //! Three blocks at three prices, and a series that is full.
 
-ghost use Rattle.std.specs.Prelude.{◌≤◌, ◌^◌};
-
 use crate::{Factor, Prices, PricesFault, Series, SeriesFault};
-use check_pit::check;
+use check_pit::{Accepted, check};
 use closure_net::{Carried, Flow, Net, Pit};
 use fixed_worth::Micros;
 use ordered_group::WorthSize;
@@ -12,59 +10,63 @@ use std::alloc::Global;
 use std::test::Fail;
 use std::thread::Threads;
 
-fn column(alloc: Global, fields: &[&str]) -> Result<Vec<Micros>, Fail> {
+fn column(alloc: Global, millionths: &[i64]) -> Result<Vec<Micros>, Fail> {
     let mut amounts = Vec::new(alloc);
-    for field in fields {
-        amounts.push(Micros::from_text(field.as_bytes()).ok().ok_or("amount")?)?;
+    for amount in millionths {
+        amounts.push(Micros::new(*amount).ok_or("amount")?)?;
     }
     Ok(amounts)
 }
 
-fn prices(
+fn table(
     alloc: Global,
-    revenue: &[&str],
-    cost: &[&str],
+    revenue: &[i64],
+    cost: &[i64],
 ) -> Result<Result<Prices, PricesFault>, Fail> {
-    Ok(Prices::new(column(alloc, revenue)?, column(alloc, cost)?))
+    let revenue = column(alloc, revenue)?;
+    let cost = column(alloc, cost)?;
+    Ok(Prices::new(revenue, cost))
 }
 
-fn factor(thousandths: u32) -> Result<Factor, Fail> {
-    Ok(Factor::new(thousandths).ok_or("factor")?)
+fn prices(alloc: Global, revenue: &[i64], cost: &[i64]) -> Result<Prices, Fail> {
+    match table(alloc, revenue, cost)? {
+        Ok(prices) => Ok(prices),
+        Err(_) => Err(Fail::from("prices")),
+    }
 }
 
-fn rests(alloc: Global, n: u32, pairs: &[(u32, u32)]) -> Result<Rests, Fail>
-    requires { n ≤ 2 ^ 24 }
-{
-    Ok(Rests::from_pairs(alloc, n, pairs).ok().ok_or("pairs")?)
+// The first of three blocks rests on the second.
+fn rests(alloc: Global) -> Result<Rests, Fail> {
+    match Rests::from_pairs(alloc, 3, &[(0, 1)]) {
+        Ok(rests) => Ok(rests),
+        Err(_) => Err(Fail::from("pairs")),
+    }
 }
 
-// The first of three blocks rests on the second, which earns nothing.
-fn three_blocks(alloc: Global) -> Result<Series, Fail> {
-    let prices = prices(alloc, &["10", "0", "4"], &["4", "5", "1"])?
-        .ok()
-        .ok_or("prices")?;
-    Ok(
-        Series::open(alloc, rests(alloc, 3, &[(0, 1)])?, prices)
-            .ok()
-            .ok_or("series")?,
-    )
+fn opened(alloc: Global, prices: Prices) -> Result<Series, Fail> {
+    match Series::open(alloc, rests(alloc)?, prices) {
+        Ok(series) => Ok(series),
+        Err(_) => Err(Fail::from("series")),
+    }
 }
 
 fn net_at(
     rt: &(impl Threads + Sync),
     alloc: Global,
-    series: &Series,
+    prices: &Prices,
     thousandths: u32,
 ) -> Result<Net<WorthSize>, Fail> {
-    let worths = series.prices().worths_at(rt, alloc, factor(thousandths)?)?;
-    let rests = rests(alloc, 3, &[(0, 1)])?;
-    Ok(Net::of_worths(alloc, rests, &worths).ok().ok_or("net")?)
+    let factor = Factor::new(thousandths).ok_or("factor")?;
+    let worths = prices.worths_at(rt, alloc, factor)?;
+    match Net::of_worths(alloc, rests(alloc)?, &worths) {
+        Ok(net) => Ok(net),
+        Err(_) => Err(Fail::from("net")),
+    }
 }
 
 // So much goes from the source to the first block, from there to the second, and to the sink.
-fn through(alloc: Global, nanos: i128, size: i128) -> Result<Flow<WorthSize>, Fail> {
+fn through(alloc: Global, some: WorthSize) -> Result<Flow<WorthSize>, Fail> {
     let none = WorthSize { nanos: 0, size: 0 };
-    let some = WorthSize { nanos, size };
     Ok(Flow::new(
         Vec::from_slice(alloc, &[some, none, none])?,
         Carried::from_list(Vec::from_slice(alloc, &[some])?),
@@ -76,54 +78,89 @@ fn pit_of(alloc: Global, blocks: &[u32]) -> Result<Pit, Fail> {
     Ok(Pit::new(Vec::from_slice(alloc, blocks)?).ok_or("pit")?)
 }
 
-fn shells_of(alloc: Global, series: &Series) -> Result<Vec<Option<u32>>, Fail> {
-    let mut shells = Vec::new(alloc);
-    for b in 0..series.prices().len() {
-        shells.push(series.shell_of(b))?;
+// Why a series doesn't take the pit at a factor.
+fn refusal(
+    series: &mut Series,
+    thousandths: u32,
+    pit: &Accepted<'_, WorthSize>,
+) -> Option<SeriesFault> {
+    match Factor::new(thousandths) {
+        Some(factor) => series.push(factor, pit).err(),
+        None => Some(SeriesFault::NoMemory),
     }
-    Ok(shells)
+}
+
+// A pit with the flow that proves it at a factor.
+#[derive(Clone, Copy)]
+struct Proved<'a> {
+    at: u32,
+    pit: &'a [u32],
+    carried: WorthSize,
+}
+
+// Checks a pit at its factor, and adds it at another.
+fn added(
+    rt: &(impl Threads + Sync),
+    alloc: Global,
+    series: &mut Series,
+    proved: Proved<'_>,
+    thousandths: u32,
+) -> Result<Option<SeriesFault>, Fail> {
+    let net = net_at(rt, alloc, series.prices(), proved.at)?;
+    let pit = pit_of(alloc, proved.pit)?;
+    let flow = through(alloc, proved.carried)?;
+    match check(&net, &pit, &flow) {
+        Ok(accepted) => Ok(refusal(series, thousandths, &accepted)),
+        Err(_) => Err(Fail::from("refused")),
+    }
+}
+
+// Whether these are the shells of all blocks.
+fn has_shells(series: &Series, shells: &[Option<u32>]) -> bool {
+    for b in 0..series.prices().len() {
+        if shells.get(b as usize) != Some(&series.shell_of(b)) {
+            return false;
+        }
+    }
+    true
 }
 
 #[test]
 fn each_block_has_the_lowest_factor_that_digs_it(rt: HostRuntime) -> Result<(), Fail> {
     let alloc = rt.alloc();
-    let mut series = three_blocks(alloc)?;
-    let low = net_at(&rt, alloc, &series, 500)?;
-    let high = net_at(&rt, alloc, &series, 1_000)?;
-    let (last, all) = (pit_of(alloc, &[2])?, pit_of(alloc, &[0, 1, 2])?);
-    let half = check(&low, &last, &through(alloc, 1_000_000_000, -1)?)
-        .ok()
-        .ok_or("half")?;
-    let whole = check(&high, &all, &through(alloc, 5_000_000_000, 1)?)
-        .ok()
-        .ok_or("whole")?;
-    assert_eq!(rt;
-        half.worth(),
-        WorthSize {
+    let prices = prices(
+        alloc,
+        &[10_000_000, 0, 4_000_000],
+        &[4_000_000, 5_000_000, 1_000_000],
+    )?;
+    let mut series = opened(alloc, prices)?;
+    let low = Proved {
+        at: 500,
+        pit: &[2],
+        carried: WorthSize {
             nanos: 1_000_000_000,
-            size: -1
-        }
-    );
-    assert_eq!(rt;
-        whole.worth(),
-        WorthSize {
-            nanos: 4_000_000_000,
-            size: -3
-        }
-    );
-    assert_eq!(rt; series.push(factor(500)?, &half), Ok(()));
-    assert_eq!(rt; series.push(factor(1_000)?, &whole), Ok(()));
-    assert_eq!(rt;
-        series.push(factor(1_000)?, &whole),
-        Err(SeriesFault::NotHigher)
-    );
-    assert_eq!(rt;
-        series.push(factor(1_200)?, &whole),
-        Err(SeriesFault::WrongModel)
-    );
-    assert_eq!(rt; series.factors(), [500, 1_000].as_slice());
-    let shells = shells_of(alloc, &series)?;
-    assert!(rt; shells.as_slice() == [Some(1_000), Some(1_000), Some(500)].as_slice());
+            size: -1,
+        },
+    };
+    let high = Proved {
+        at: 1_000,
+        pit: &[0, 1, 2],
+        carried: WorthSize {
+            nanos: 5_000_000_000,
+            size: 1,
+        },
+    };
+    let pushes = [
+        (low, 500, None),
+        (high, 1_000, None),
+        (high, 1_000, Some(SeriesFault::NotHigher)),
+        (high, 1_200, Some(SeriesFault::WrongModel)),
+    ];
+    for (proved, factor, fault) in pushes {
+        assert!(rt; added(&rt, alloc, &mut series, proved, factor)? == fault);
+    }
+    assert!(rt; series.factors() == [500, 1_000].as_slice());
+    assert!(rt; has_shells(&series, &[Some(1_000), Some(1_000), Some(500)]));
     Ok(())
 }
 
@@ -131,61 +168,72 @@ fn each_block_has_the_lowest_factor_that_digs_it(rt: HostRuntime) -> Result<(), 
 #[test]
 fn a_series_holds_sixty_four_factors(rt: HostRuntime) -> Result<(), Fail> {
     let alloc = rt.alloc();
-    let waste = prices(alloc, &["0", "0", "0"], &["1", "1", "1"])?
-        .ok()
-        .ok_or("prices")?;
-    let mut series = Series::open(alloc, rests(alloc, 3, &[(0, 1)])?, waste)
-        .ok()
-        .ok_or("series")?;
-    let net = net_at(&rt, alloc, &series, 0)?;
-    let nothing = pit_of(alloc, &[])?;
-    let accepted = check(&net, &nothing, &through(alloc, 0, 0)?)
-        .ok()
-        .ok_or("refused")?;
-    for k in 0..64 {
-        assert_eq!(rt; series.push(factor(k)?, &accepted), Ok(()));
+    let prices = prices(alloc, &[0, 0, 0], &[1, 1, 1])?;
+    let mut series = opened(alloc, prices)?;
+    let nothing = Proved {
+        at: 0,
+        pit: &[],
+        carried: WorthSize { nanos: 0, size: 0 },
+    };
+    for k in 0..65 {
+        let fault = if k < 64 {
+            None
+        } else {
+            Some(SeriesFault::Full)
+        };
+        assert!(rt; added(&rt, alloc, &mut series, nothing, k)? == fault);
     }
-    assert_eq!(rt; series.push(factor(64)?, &accepted), Err(SeriesFault::Full));
-    assert_eq!(rt; series.factors().len(), 64);
-    let shells = shells_of(alloc, &series)?;
-    assert!(rt; shells.as_slice() == [None, None, None].as_slice());
+    assert!(rt; has_shells(&series, &[None, None, None]));
     Ok(())
 }
 
 #[test]
-fn faulty_tables_are_refused(rt: HostRuntime) -> Result<(), Fail> {
+fn faults_are_told_in_order(rt: HostRuntime) -> Result<(), Fail> {
     let alloc = rt.alloc();
-    let length = prices(alloc, &["-1"], &[])?.err().ok_or("length")?;
-    let negative = prices(alloc, &["10", "-1", "-2"], &["4", "5", "1"])?
-        .err()
-        .ok_or("negative")?;
-    assert_eq!(rt; length.to_string(alloc)?.as_str(), "WrongLength");
-    assert_eq!(rt; negative.to_string(alloc)?.as_str(), "NegativeRevenue(1)");
+    let tables: [(&[i64], &[i64], &str); 2] = [
+        (&[-1], &[], "WrongLength"),
+        (&[10, -1, -2], &[4, 5, 1], "NegativeRevenue(1)"),
+    ];
+    for (revenue, cost, text) in tables {
+        let fault = table(alloc, revenue, cost)?.err().ok_or("priced")?;
+        assert!(rt; fault.to_string(alloc)?.as_str() == text);
+    }
     assert!(rt; Factor::new(10_001).is_none());
-    let two = prices(alloc, &["1", "1"], &["1", "1"])?
-        .ok()
-        .ok_or("prices")?;
-    let fault = Series::open(alloc, rests(alloc, 3, &[])?, two)
+    Ok(())
+}
+
+#[test]
+fn a_series_has_a_price_for_each_block(rt: HostRuntime) -> Result<(), Fail> {
+    let alloc = rt.alloc();
+    let two = prices(alloc, &[1, 1], &[1, 1])?;
+    let fault = Series::open(alloc, rests(alloc)?, two)
         .err()
         .ok_or("opened")?;
-    assert_eq!(rt; fault.to_string(alloc)?.as_str(), "WrongModel");
+    assert!(rt; fault.to_string(alloc)?.as_str() == "WrongModel");
     Ok(())
+}
+
+fn many_prices(alloc: Global) -> Result<Prices, Fail> {
+    let mut revenue = Vec::new(alloc);
+    let mut cost = Vec::new(alloc);
+    for b in 0..5_000i64 {
+        revenue.push(Micros::new(b % 977).ok_or("revenue")?)?;
+        cost.push(Micros::new(b - 2_500).ok_or("cost")?)?;
+    }
+    match Prices::new(revenue, cost) {
+        Ok(prices) => Ok(prices),
+        Err(_) => Err(Fail::from("prices")),
+    }
 }
 
 #[test]
 fn worths_by_threads_are_those_of_the_blocks(rt: HostRuntime) -> Result<(), Fail> {
-    let mut revenue = Vec::new(rt.alloc());
-    let mut cost = Vec::new(rt.alloc());
-    for b in 0..5_000i64 {
-        revenue.push(Micros::new(b * 1_000_003 % 977_777).ok_or("revenue")?)?;
-        cost.push(Micros::new(b - 2_500).ok_or("cost")?)?;
-    }
-    let prices = Prices::new(revenue, cost).ok().ok_or("prices")?;
-    let factor = factor(730)?;
+    let prices = many_prices(rt.alloc())?;
+    let factor = Factor::new(730).ok_or("factor")?;
     let worths = prices.worths_at(&rt, rt.alloc(), factor)?;
-    assert_eq!(rt; worths.len(), 5_000);
+    assert!(rt; worths.len() == 5_000);
     for b in 0..prices.len() {
-        assert!(rt; worths[b as usize] == prices.worth(b, factor));
+        assert!(rt; worths.get(b as usize) == Some(&prices.worth(b, factor)));
     }
     Ok(())
 }
