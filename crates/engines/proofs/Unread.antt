@@ -27,7 +27,7 @@ use Rattle.settings_file.specs.declared.faults.SettingsFault.TheVariants as sett
 use Rattle.settings_file.proofs.Known.{no_settings_fault}
 use Rattle.shells.specs.declared.prices_fault.PricesFault.{PricesFault}
 use Rattle.shells.specs.declared.prices_fault.PricesFault.TheVariants as prices_fault
-use Rattle.engines.specs.PricedTexts.{price_keys, cell, table_of, ColumnsKnown, PricesRead, SettingsFails, PricesFail}
+use Rattle.engines.specs.PricedTexts.{price_keys, price_columns, cell, table_of, ColumnsKnown, PricesRead, SettingsFails, PricesFail}
 use Rattle.engines.specs.Mines.{MineTexts, mine_texts, priced_texts, precedence_of, ValuesRead, WorthsRead, mine_of, DenoteMine}
 use Rattle.engines.specs.Readings.{block_by, counts_by, Reads}
 use Rattle.engines.specs.FaultStands.{PrecFails, ValuesFail, SettingsFail, BlocksFail, TableFails, IsHeader, ModelFails, HeaderFails, BodyFails, PriceDiffers}
@@ -100,7 +100,7 @@ table_stands : (settings text : List ℕ) (n : ℕ) (fault : PricesFault) → Pr
 table_stands settings text n prices_fault.WrongLength r h =
     let revenues = length-map-range_with_len (cell text (unwrap_or (settings_of settings).revenue 0)) 0 (blocks.count_of text) in
     let costs = length-map-range_with_len (cell text (unwrap_or (settings_of settings).cost 0)) 0 (blocks.count_of text) in
-    elim h.stands [ inl ne ↦ ne (revenues ∙ sym costs) | inr many ↦ omega (arith, many, revenues, few_blocks text _ r.read) ]
+    elim h.stands [ inl ne ↦ ne (revenues ∙ sym costs) | inr many ↦ omega (arith, many, revenues, few_blocks text (price_columns (settings_of settings)) r.read) ]
 table_stands settings text n (prices_fault.NegativeRevenue b) r h =
     let first = h.stands.2 in
     omega (arith, ints, first.negative, r.revenues b first.block)

@@ -3,6 +3,7 @@ use Rattle.std.proofs.lemmas.Result.{err_from_is_err_and}
 use Rattle.check_pit.specs.declared.headers.Price.{Price}
 use Rattle.check_pit.specs.declared.headers.Price.TheVariants.{Objective, Factor}
 use Rattle.check_pit.specs.ReadBack.{IsPrice}
+use Rattle.check_pit.specs.Pieces.{pieces_of}
 use Rattle.shells.specs.Prices.{worths_at}
 use Rattle.engines.specs.Judging.{factor_in, factor_at, factor_named}
 use Rattle.engines.specs.Mines.{priced_texts, DenoteMine}
@@ -25,7 +26,7 @@ returns-in-Objective-clause-judged g c = λ settings text precedence read.
 
 pub unreachable-requires : goal.unreachable-requires
 unreachable-requires g c =
-    let low : c.in-Factor.thousandths ≤ 10000 = subst IsPrice c.in-Factor.is (header_price _ c.in_ok-header.header c.in_ok-header.ensures.read.0) in
+    let low : c.in-Factor.thousandths ≤ 10000 = subst IsPrice c.in-Factor.is (header_price (pieces_of c.args.certificate.now) c.in_ok-header.header c.in_ok-header.ensures.read.0) in
     c.in_default.ensures low
 
 pub returns-clause-judged : goal.returns-clause-judged

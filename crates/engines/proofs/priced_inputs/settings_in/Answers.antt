@@ -1,4 +1,4 @@
 use Rattle.engines.proofs.priced_inputs.settings_in.Goals as goal
 
-pub returns-clause-read : goal.returns-clause-read
-returns-clause-read c = ?
+pub returns-in-Err-clause-read : goal.returns-in-Err-clause-read
+returns-in-Err-clause-read c = ?
