@@ -14,7 +14,8 @@ use Rattle.engines.specs.FaultStands.{Fails}
 use Rattle.engines.specs.Inputs.{ReadsUpit, ReadsPrec, TextReadFails}
 use Rattle.engines.specs.Judgements.{IsJudged}
 use Rattle.engines.specs.Mines.{MineTexts, mine_texts}
-use Rattle.engines.specs.Judging.{AreRead, Judges}
+use Rattle.engines.specs.Judging.{Judges}
+use Rattle.engines.specs.ReadMines.{AreRead}
 use Rattle.engines.specs.OutputLines.{judgement_line}
 use Rattle.engines.specs.Verdicts.{verdict_of}
 use Rattle.engines.specs.Checking.{Checks, WritesAtFault, LineFails}

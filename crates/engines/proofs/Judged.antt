@@ -1,5 +1,5 @@
 -- From what was read to the judgement.
-use Rattle.std.proofs.Common.{◌≡◌, ℕ, ◌<◌, ℤ, pos, ◌*ℤ◌, Bool, List, length, map, get_or, refl, sym, ap, ◌∙◌, subst, arith, None, Some, Ok, inr}
+use Rattle.std.proofs.Common.{◌≡◌, ℕ, ◌<◌, ℤ, pos, ◌*ℤ◌, Bool, List, length, map, get_or, refl, sym, ap, ◌∙◌, subst, arith, None, Some, Ok, inl, inr}
 use Rattle.std.proofs.lemmas.List.{length-map, get_or-map}
 use Rattle.ordered_group.specs.Amount.{Amount, zero_amount}
 use Rattle.ordered_group.specs.Sums.{where_so}
@@ -20,6 +20,7 @@ use Rattle.check_pit.specs.declared.headers.Price.{Price}
 use Rattle.check_pit.specs.declared.headers.Header.{Header}
 use Rattle.check_pit.specs.Pieces.{pieces_of}
 use Rattle.check_pit.specs.Header.{header_of}
+use Rattle.engines.specs.declared.engine_fault.EngineFault.{EngineFault}
 use Rattle.engines.specs.Limits.{IsWithinLimit}
 use Rattle.engines.specs.Mines.{MineTexts, price_wanted, mine_of, DenoteMine}
 use Rattle.engines.specs.Readings.{Reads}
@@ -30,7 +31,8 @@ use Rattle.closure_net.specs.declared.networks.NetFault.{NetFault}
 use Rattle.closure_net.specs.declared.networks.NetFault.TheVariants as net
 use Rattle.check_pit.specs.declared.cert_faults.CertFault.{CertFault}
 use Rattle.check_pit.specs.declared.cert_faults.CertFault.TheVariants as cert
-use Rattle.engines.specs.Judging.{AreRead, IsGroupNamed, of_certificate, of_model}
+use Rattle.engines.specs.Judging.{of_certificate}
+use Rattle.engines.specs.ReadMines.{AreRead, IsGroupNamed, nanos_of, IsMadeNet, of_model, NetMakingFails}
 use Rattle.engines.proofs.Counted.{count_in-ascending}
 use Rattle.engines.proofs.Listed.{listed_rests}
 
@@ -138,11 +140,19 @@ worths_fail name block counts texts read n worths fault d named e f =
       stands = let P : (ℤ → ℕ → Amount) → Type 0 = λ b. WorthsFaultStands b n worths fault in subst P (sym named.block_is) f;
     }
 
+worths_fault : (name : Group) (block : ℤ → ℕ → Amount) (counts : Bool) (texts : MineTexts) (certificate : List ℕ) (read : upit.UpitView) (rests : RestsView) (fault : NetFault) → IsWithinLimit certificate → AreRead texts read rests → IsGroupNamed name block counts → IsHeader texts certificate rests.blocks name → WorthsFaultStands block rests.blocks (nanos_of read.values) fault → Fails texts certificate (of_model fault)
+worths_fault name block counts texts certificate read rests net.WrongLength within a named header f = (rests.blocks, a.mine, within, name, header, worths_fail name block counts texts read rests.blocks (nanos_of read.values) net.WrongLength a.denotes named refl f)
+worths_fault name block counts texts certificate read rests net.TooLarge within a named header f = (rests.blocks, a.mine, within, name, header, worths_fail name block counts texts read rests.blocks (nanos_of read.values) net.TooLarge a.denotes named refl f)
+worths_fault name block counts texts certificate read rests net.NoMemory within a named header f = tt
+
 -- a fault in making the net
-pub net_fails : (name : Group) (block : ℤ → ℕ → Amount) (counts : Bool) (texts : MineTexts) (certificate : List ℕ) (read : upit.UpitView) (rests : RestsView) (worths : List ℤ) (fault : NetFault) → IsWithinLimit certificate → AreRead texts read rests → IsGroupNamed name block counts → IsHeader texts certificate rests.blocks name → worths ≡ map (λ x. pos 1000 *ℤ x) read.values → WorthsFaultStands block rests.blocks worths fault → Fails texts certificate (of_model fault)
-net_fails name block counts texts certificate read rests worths net.WrongLength within a named header e f = (rests.blocks, a.mine, within, name, header, worths_fail name block counts texts read rests.blocks worths net.WrongLength a.denotes named e f)
-net_fails name block counts texts certificate read rests worths net.TooLarge within a named header e f = (rests.blocks, a.mine, within, name, header, worths_fail name block counts texts read rests.blocks worths net.TooLarge a.denotes named e f)
-net_fails name block counts texts certificate read rests worths net.NoMemory within a named header e f = tt
+pub net_fails : (name : Group) (block : ℤ → ℕ → Amount) (counts : Bool) (texts : MineTexts) (certificate : List ℕ) (read : upit.UpitView) (rests : RestsView) (fault : EngineFault) → IsWithinLimit certificate → AreRead texts read rests → IsGroupNamed name block counts → IsHeader texts certificate rests.blocks name → NetMakingFails block read.values rests fault → Fails texts certificate fault
+net_fails name block counts texts certificate read rests fault within a named header h =
+    let P : EngineFault → Type 0 = λ e. Fails texts certificate e in
+    elim h [
+      | inl memory ↦ subst P (sym memory) tt
+      | inr stands ↦ subst P (sym stands.1) (worths_fault name block counts texts certificate read rests stands.0 within a named header stands.2)
+    ]
 
 -- what was read of the pairs of a net, said of the net
 pub unless_moved : (fault : CertFault) (counts : Bool) (name : Group) (n m : ℕ) (ps qs : List (ℕ × ℕ)) (text : List ℕ) → n ≡ m → ps ≡ qs → UnlessMemory fault (fault_of counts name n ps text ≡ Some fault) → UnlessMemory fault (fault_of counts name m qs text ≡ Some fault)
@@ -188,12 +198,12 @@ known_at block texts certificate name n m net e f mine header of_mine =
     let M : ℕ → Type 0 = λ k. IsNetOf block (mine_of k texts) net in
     record { mine = subst D (e ∙ f) mine; header = subst H (e ∙ f) header; of_mine = subst M (e ∙ f) of_mine }
 
-pub net_known : (block : ℤ → ℕ → Amount) (texts : MineTexts) (certificate : List ℕ) (name : Group) (read : upit.UpitView) (rests : RestsView) (worths slice : List ℤ) (net : NetView) → AreRead texts read rests → IsHeader texts certificate rests.blocks name → slice ≡ worths → worths ≡ map (λ x. pos 1000 *ℤ x) read.values → net ≡ net_view rests.pairs (map (λ v. block v rests.blocks) slice) → rests.blocks ≡ length slice → NetKnown block texts certificate name net
-net_known block texts certificate name read rests worths slice net a header s e is l =
-    let made = net_made block texts read rests slice a (s ∙ e) in
+pub net_known : (block : ℤ → ℕ → Amount) (texts : MineTexts) (certificate : List ℕ) (name : Group) (read : upit.UpitView) (rests : RestsView) (net : NetView) → AreRead texts read rests → IsHeader texts certificate rests.blocks name → IsMadeNet block read.values rests net → NetKnown block texts certificate name net
+net_known block texts certificate name read rests net a header h =
+    let made = net_made block texts read rests (nanos_of read.values) a refl in
     let M : NetView → Type 0 = λ n. IsNetOf block (mine_of rests.blocks texts) n in
-    let size = sym (ap (λ (n : NetView). length n.worths) is ∙ length-map slice (λ v. block v rests.blocks)) in
-    known_at block texts certificate name rests.blocks (length slice) net l size a.mine header (subst M (sym is) made)
+    let size = sym (ap (λ (n : NetView). length n.worths) h.0 ∙ length-map (nanos_of read.values) (λ v. block v rests.blocks)) in
+    known_at block texts certificate name rests.blocks (length (nanos_of read.values)) net h.1 size a.mine header (subst M (sym h.0) made)
 
 pub header_is : (texts : MineTexts) (certificate : List ℕ) (header : Header) (n : ℕ) (group : Group) → header_of (pieces_of certificate) ≡ Ok header → header.blocks ≡ n → header.price ≡ price_wanted texts → header.group ≡ group → IsHeader texts certificate n group
 header_is texts certificate header n group e p q r = e ∙ ap Ok (λ i. record { blocks = p i; price = q i; group = r i })

@@ -29,7 +29,7 @@ use Rattle.engines.specs.declared.judgement.Verdict.TheVariants.{Done, No}
 use Rattle.engines.specs.declared.engine_fault.EngineFault.{EngineFault}
 use Rattle.engines.specs.declared.engine_fault.EngineFault.TheVariants as engine
 use Rattle.engines.specs.Inputs.{ReadsUpit, ReadsPrec}
-use Rattle.engines.specs.Judging.{AreRead, IsGroupNamed, of_model}
+use Rattle.engines.specs.ReadMines.{AreRead, IsGroupNamed, nanos_of, IsMadeNet, of_model, NetMakingFails}
 use Rattle.engines.specs.Mines.{MineTexts, mine_texts, mine_of, DenoteMine}
 use Rattle.engines.specs.Certifying.{IsSolution, IsRefusedFlow}
 use Rattle.engines.specs.declared.method.Method.{Method}
@@ -92,15 +92,15 @@ said_no counts name net method limit line old new (Err e) h a = subst (λ (w : E
 
 -- ---- the mine of the texts
 
-pub net_by : (block : ℤ → ℕ → Amount) (counts : Bool) (texts : MineTexts) (name : Group) (read : upit.UpitView) (rests : RestsView) (worths slice : List ℤ) (net : NetView) → AreRead texts read rests → IsGroupNamed name block counts → IsNet net → slice ≡ worths → worths ≡ map (λ x. pos 1000 *ℤ x) read.values → net ≡ net_view rests.pairs (map (λ v. block v rests.blocks) slice) → rests.blocks ≡ length slice → IsNetBy texts name net
-net_by block counts texts name read rests worths slice net a named is_net s e is l =
-    let made = net_made block texts read rests slice a (s ∙ e) in
-    let size = l ∙ sym (ap (λ (n : NetView). length n.worths) is ∙ length-map slice (λ v. block v rests.blocks)) in
+pub net_by : (block : ℤ → ℕ → Amount) (counts : Bool) (texts : MineTexts) (name : Group) (read : upit.UpitView) (rests : RestsView) (net : NetView) → AreRead texts read rests → IsGroupNamed name block counts → IsNet net → IsMadeNet block read.values rests net → IsNetBy texts name net
+net_by block counts texts name read rests net a named is_net h =
+    let made = net_made block texts read rests (nanos_of read.values) a refl in
+    let size = h.1 ∙ sym (ap (λ (n : NetView). length n.worths) h.0 ∙ length-map (nanos_of read.values) (λ v. block v rests.blocks)) in
     let D : ℕ → Type 0 = λ k. DenoteMine texts k in
     let N : NetView → Type 0 = λ n. IsNetOf block (mine_of rests.blocks texts) n in
     let M : ℕ → Type 0 = λ k. IsNetOf block (mine_of k texts) net in
     let B : (ℤ → ℕ → Amount) → Type 0 = λ b. IsNetOf b (mine_of (length net.worths) texts) net in
-    record { mine = subst D size a.mine; is_net = is_net; of_mine = subst B (sym named.block_is) (subst M size (subst N (sym is) made)) }
+    record { mine = subst D size a.mine; is_net = is_net; of_mine = subst B (sym named.block_is) (subst M size (subst N (sym h.0) made)) }
 
 module _ (block : ℤ → ℕ → Amount) (counts : Bool) (texts : MineTexts) (name : Group) (net : NetView) (method : Method) (limit : ℕ) (named : IsGroupNamed name block counts) (by : IsNetBy texts name net) where
   certificate_is : (text : List ℕ) → IsCertificateOf counts name net text → IsCertificate texts name text
@@ -143,11 +143,19 @@ module _ (block : ℤ → ℕ → Amount) (counts : Bool) (texts : MineTexts) (n
   solved old new (Err engine.Stranger) h = (tt, h)
   solved old new (Err engine.Device) h = (tt, inr (net, by, h.0, h.1, h.2))
 
+unmade_by : (block : ℤ → ℕ → Amount) (counts : Bool) (texts : MineTexts) (name : Group) (read : upit.UpitView) (rests : RestsView) (method : Method) (limit : ℕ) (w : Option (List ℕ)) (fault : NetFault) → AreRead texts read rests → IsGroupNamed name block counts → WorthsFaultStands block rests.blocks (nanos_of read.values) fault → Solves texts name method limit w w (Err (of_model fault))
+unmade_by block counts texts name read rests method limit w net_fault.WrongLength a named f = ((rests.blocks, a.mine, worths_fail name block counts texts read rests.blocks (nanos_of read.values) net_fault.WrongLength a.denotes named refl f), keeps_self w)
+unmade_by block counts texts name read rests method limit w net_fault.TooLarge a named f = ((rests.blocks, a.mine, worths_fail name block counts texts read rests.blocks (nanos_of read.values) net_fault.TooLarge a.denotes named refl f), keeps_self w)
+unmade_by block counts texts name read rests method limit w net_fault.NoMemory a named f = (tt, keeps_self w)
+
 -- there is no net of the mine
-pub unmade : (block : ℤ → ℕ → Amount) (counts : Bool) (texts : MineTexts) (name : Group) (read : upit.UpitView) (rests : RestsView) (worths : List ℤ) (method : Method) (limit : ℕ) (w : Option (List ℕ)) (fault : NetFault) → AreRead texts read rests → IsGroupNamed name block counts → worths ≡ map (λ x. pos 1000 *ℤ x) read.values → WorthsFaultStands block rests.blocks worths fault → Solves texts name method limit w w (Err (of_model fault))
-unmade block counts texts name read rests worths method limit w net_fault.WrongLength a named e f = ((rests.blocks, a.mine, worths_fail name block counts texts read rests.blocks worths net_fault.WrongLength a.denotes named e f), keeps_self w)
-unmade block counts texts name read rests worths method limit w net_fault.TooLarge a named e f = ((rests.blocks, a.mine, worths_fail name block counts texts read rests.blocks worths net_fault.TooLarge a.denotes named e f), keeps_self w)
-unmade block counts texts name read rests worths method limit w net_fault.NoMemory a named e f = (tt, keeps_self w)
+pub unmade : (block : ℤ → ℕ → Amount) (counts : Bool) (texts : MineTexts) (name : Group) (read : upit.UpitView) (rests : RestsView) (method : Method) (limit : ℕ) (w : Option (List ℕ)) (fault : EngineFault) → AreRead texts read rests → IsGroupNamed name block counts → NetMakingFails block read.values rests fault → Solves texts name method limit w w (Err fault)
+unmade block counts texts name read rests method limit w fault a named h =
+    let P : EngineFault → Type 0 = λ e. Solves texts name method limit w w (Err e) in
+    elim h [
+      | inl memory ↦ subst P (sym memory) (tt, keeps_self w)
+      | inr stands ↦ subst P (sym stands.1) (unmade_by block counts texts name read rests method limit w stands.0 a named stands.2)
+    ]
 
 -- what holds of any texts of what was read holds where the readers tell their bytes
 pub solve_answer : (o r old new : Option (List ℕ)) (values : upit.UpitView) (rests : RestsView) (n : ℕ) (name : Group) (method : Method) (limit : ℕ) (result : Result Verdict EngineFault) → n ≡ length values.values → IfSome o (λ u. ReadsUpit u values) → IfSome r (λ p. ReadsPrec n p rests) → ((texts : MineTexts) → AreRead texts values rests → Solves texts name method limit old new result) → IfSome o (λ u. IfSome r (λ p. Solves (mine_texts u p) name method limit old new result))

@@ -1,6 +1,7 @@
 pub mod Limits
 pub mod Mines
 pub mod Readings
+pub mod ReadMines
 pub mod Judgements
 pub mod FaultStands
 pub mod OutputLines

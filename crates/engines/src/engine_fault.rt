@@ -143,7 +143,7 @@ impl From<WriteFault> for EngineFault {
 
 impl From<NetFault> for EngineFault {
     ghost use Rattle.std.specs.Prelude.{◌≡◌};
-    ghost use Rattle.engines.specs.Judging.{of_model};
+    ghost use Rattle.engines.specs.ReadMines.{of_model};
 
     ghost from_gives = { λ fault e. e ≡ of_model fault };
 

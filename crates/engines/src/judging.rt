@@ -1,6 +1,6 @@
 //! Judging a certificate for a mine that was read.
 
-ghost use Rattle.std.specs.Prelude.{◌≡◌, ◌≤◌, ◌*ℤ◌, pos, ℕ, List, length, map, IfOk, IsErrOf};
+ghost use Rattle.std.specs.Prelude.{◌≡◌, ◌≤◌, ℕ, List, length, IsErrOf};
 ghost use Rattle.closure_net.specs.Network.{holds_of, IsAscending};
 ghost use Rattle.ordered_group.specs.Amount.{FitsPair};
 ghost use Rattle.closure_net.specs.Closure.{group_worth, IsGreatest};
@@ -8,16 +8,17 @@ ghost use Rattle.closure_net.specs.Mine.{IsNetOf};
 ghost use Rattle.engines.specs.Limits.{IsWithinLimit};
 ghost use Rattle.engines.specs.Mines.{MineTexts, DenoteMine, mine_of};
 ghost use Rattle.engines.specs.FaultStands.{IsHeader};
-ghost use Rattle.engines.specs.Judging.{AreRead, IsGroupNamed, Judges};
+ghost use Rattle.engines.specs.Judging.{Judges};
+ghost use Rattle.engines.specs.ReadMines.{AreRead, IsGroupNamed};
 
 use crate::engine_fault::{CertificateProblem, EngineFault};
 use crate::judgement::Judgement;
+use crate::mines::net_of;
 use check_pit::{Accepted, CertFault, Price, check, read_certificate, reading};
 use closure_net::{Net, laws};
-use fixed_worth::Micros;
 use ordered_group::{Group, OrderedGroup, Worth, WorthSize};
 use prec_file::Rests;
-use std::alloc::{AllocError, Global};
+use std::alloc::Global;
 use upit_file::Upit;
 
 /// What a certificate proves for the mine of these values and pairs, or why it can't be judged.
@@ -31,6 +32,7 @@ pub fn judge(
     ensures judged { (texts : MineTexts) → AreRead texts upit.now rests → Judges texts certificate.now result }
     ensures no_device { ¬ IsErrOf result EngineFault.Device }
 {
+    // proof: a greatest set of the net is a pit that is worth most, and of amounts with sizes the best one
     laws::greatest_set_is_richest_pit();
     laws::greatest_set_is_best_pit::<WorthSize>();
     let header = reading::header(certificate)?;
@@ -61,8 +63,7 @@ fn judge_by<G: OrderedGroup>(
         → IsHeader texts certificate.now rests.blocks G.name → Judges texts certificate.now result }
     ensures no_device { ¬ IsErrOf result EngineFault.Device }
 {
-    let nanos = nanos_of(alloc, upit)?;
-    let net = Net::<G>::of_worths(alloc, rests, nanos.as_slice())?;
+    let net = net_of::<G>(alloc, upit, rests)?;
     judge_for(alloc, &net, certificate)
 }
 
@@ -78,6 +79,7 @@ fn judge_for<G: OrderedGroup>(
         → Judges texts certificate.now result }
     ensures no_device { ¬ IsErrOf result EngineFault.Device }
 {
+    // proof: what is known of every net, that its pairs are of its blocks and in order
     let _worths = net.worths();
     let rests = net.rests();
     let certificate = read_certificate::<G>(alloc, certificate, rests)?;
@@ -101,6 +103,7 @@ fn size_of<G: OrderedGroup>(accepted: &Accepted<'_, G>) -> u32
     ensures most { result ≤ length accepted.now.net.worths }
     ensures ascending { IsAscending accepted.now.pit }
 {
+    // proof: a net has at most 2^24 blocks
     let _size = accepted.net().len();
     let blocks = accepted.pit().blocks();
     blocks.len() as u32
@@ -114,6 +117,7 @@ fn worth_of<G: OrderedGroup>(accepted: &Accepted<'_, G>, count: u32) -> i128
 {
     let size = accepted.net().len();
     let sum = accepted.worth();
+    // proof: the numbers of the sum fit their types
     known_to_fit(sum);
     match sum.nanos_of_set(size, count) {
         Some(worth) => worth,
@@ -125,23 +129,6 @@ fn worth_of<G: OrderedGroup>(accepted: &Accepted<'_, G>, count: u32) -> i128
 fn known_to_fit<G: OrderedGroup>(amount: G)
     ensures { FitsPair (G.parts_of amount) }
 {
+    // proof: what `parts` returns fits its type
     let (_worth, _count) = amount.parts();
-}
-
-/// The worth of each block in billionths.
-pub fn nanos_of(alloc: Global, upit: &Upit) -> Result<Vec<i128>, AllocError>
-    ensures { IfOk result (λ v. v.items ≡ map (λ x. pos 1000 *ℤ x) upit.now.values) }
-{
-    let mut nanos: Vec<i128> = Vec::new(alloc);
-    for b in 0..upit.len() {
-        nanos.push(billionths(upit.value(b)))?;
-    }
-    Ok(nanos)
-}
-
-// The billionths of a value.
-fn billionths(value: Micros) -> i128
-    ensures { result ≡ pos 1000 *ℤ value }
-{
-    1000 * i128::from(value.get())
 }

@@ -17,6 +17,7 @@ mod judgement;
 mod judgement_line;
 mod judging;
 mod method;
+mod mines;
 mod pattern_choice;
 mod pattern_words;
 mod slope_pairs;

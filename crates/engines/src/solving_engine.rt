@@ -1,17 +1,17 @@
 //! The engine of `solve`: the bytes of a mine in, a certificate of its best pit out.
 
 ghost use Rattle.std.specs.Prelude.{◌≡◌, ◌+◌, ◌-◌, ◌^◌, ◌<◌, ◌↔◌, ℕ, List, IfSome, IsErrOf};
-ghost use Rattle.engines.specs.Judging.{AreRead, IsGroupNamed};
 ghost use Rattle.engines.specs.Mines.{MineTexts, mine_texts};
+ghost use Rattle.engines.specs.ReadMines.{AreRead, IsGroupNamed};
 ghost use Rattle.engines.specs.Solving.{Solves};
 
 use crate::effort::Effort;
 use crate::engine_fault::EngineFault;
 use crate::inputs::{rests_from, upit_from};
 use crate::judgement::Verdict;
-use crate::judging::nanos_of;
+use crate::mines::net_of;
 use crate::solving::solve_net;
-use closure_net::{Net, laws};
+use closure_net::laws;
 use fixed_worth::{CountedRead, CountedWrite};
 use ordered_group::{Group, OrderedGroup, Worth, WorthSize};
 use prec_file::Rests;
@@ -91,6 +91,7 @@ fn solve_mine<R: Threads + Wait + Sync, T: Gate + Progress, W: CountedWrite>(
     ensures device { IsErrOf result EngineFault.Device ↔ (W.failed out.new ≡ W.failed out.old + 1) }
     ensures kept { ¬ IsErrOf result EngineFault.Device → W.failed out.new ≡ W.failed out.old }
 {
+    // proof: a greatest set of the net is a pit that is worth most, and of amounts with sizes the best one
     laws::greatest_set_is_richest_pit();
     laws::greatest_set_is_best_pit::<WorthSize>();
     match group {
@@ -117,8 +118,8 @@ where
     ensures device { IsErrOf result EngineFault.Device ↔ (W.failed out.new ≡ W.failed out.old + 1) }
     ensures kept { ¬ IsErrOf result EngineFault.Device → W.failed out.new ≡ W.failed out.old }
 {
-    let nanos = nanos_of(alloc, upit)?;
-    let net = Net::<G>::of_worths(alloc, rests, nanos.as_slice())?;
+    let net = net_of::<G>(alloc, upit, rests)?;
+    // proof: what is known of every net, that its pairs are of its blocks and in order
     let _worths = net.worths();
     solve_net(rt, alloc, &net, effort, gate, out)
 }

@@ -1,4 +1,3 @@
-use Rattle.std.proofs.Common.{◌∙◌}
 use Rattle.std.proofs.lemmas.Result.{err_from_is_err_and}
 use Rattle.engines.proofs.Solutions.{net_by, solved, unmade}
 use Rattle.engines.proofs.solving_engine.solve_by.Goals as goal
@@ -6,12 +5,12 @@ use Rattle.engines.proofs.solving_engine.solve_by.Goals as goal
 pub returns-in_err-net-clause-answer : goal.returns-in_err-net-clause-answer
 returns-in_err-net-clause-answer g c = λ texts read named.
     let w = g.W.Write.contents c.args.out.now in
-    let p = err_from_is_err_and c.from_residual-in_err-net.result c.from_residual-in_err-net.ensures.1 in
+    let p = err_from_is_err_and c.from_residual.result c.from_residual.ensures.1 in
     rw (p.1, p.2)
-    (unmade g.G.OrderedGroup.block_parts g.G.OrderedGroup.counts texts g.G.OrderedGroup.name c.args.upit.now c.args.rests c.as_slice.result.now c.args.effort.method c.args.effort.steps w c.in_err-net.field-0.0 read named (c.as_slice.ensures.value ∙ c.in_ok-nanos.ensures) c.in_err-net.ensures)
+    (unmade g.G.OrderedGroup.block_parts g.G.OrderedGroup.counts texts g.G.OrderedGroup.name c.args.upit.now c.args.rests c.args.effort.method c.args.effort.steps w c.in_err-net.field-0.0 read named c.in_err-net.ensures)
 
 pub returns-clause-answer : goal.returns-clause-answer
 returns-clause-answer g c = λ texts read named.
-    let by = net_by g.G.OrderedGroup.block_parts g.G.OrderedGroup.counts texts g.G.OrderedGroup.name c.args.upit.now c.args.rests c.in_ok-nanos.nanos.items c.as_slice.result.now c.in_ok-net.net read named c.worths-worths.ensures.net c.as_slice.ensures.value c.in_ok-nanos.ensures c.in_ok-net.ensures.0 c.in_ok-net.ensures.1 in
+    let by = net_by g.G.OrderedGroup.block_parts g.G.OrderedGroup.counts texts g.G.OrderedGroup.name c.args.upit.now c.args.rests c.in_ok-net.net read named c.worths-worths.ensures.net c.in_ok-net.ensures in
     solved g.G.OrderedGroup.block_parts g.G.OrderedGroup.counts texts g.G.OrderedGroup.name c.in_ok-net.net c.args.effort.method c.args.effort.steps named by
     (g.W.Write.contents c.args.out.now) (g.W.Write.contents c.solve_net.new.out) c.solve_net.result c.solve_net.ensures.answer

@@ -2,7 +2,7 @@ use Rattle.std.proofs.Common.{◌≡◌, pos, ◌*ℤ◌, ◌+◌, ◌<◌, leng
 use Rattle.std.specs.Int.{w128}
 use Rattle.std.proofs.lemmas.Int.{to_z-of_z}
 use Rattle.std.proofs.lemmas.List.{take_more, map_push}
-use Rattle.engines.proofs.judging.nanos_of.Goals as goal
+use Rattle.engines.proofs.mines.nanos_of.Goals as goal
 
 next : (f : ℤ → ℤ) (xs : List ℤ) (i : ℕ) (ys zs : List ℤ) (y : ℤ) → i < length xs → ys ≡ map f (take i xs) → zs ≡ ys ++ y ∷ [] → y ≡ f (get_or xs i (pos 0)) → zs ≡ map f (take (i + 1) xs)
 next f xs i ys zs y h so is e =
