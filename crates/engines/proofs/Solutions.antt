@@ -1,5 +1,5 @@
 -- From a run to what is written of it.
-use Rattle.std.proofs.Common.{◌≡◌, ℕ, ℤ, pos, ◌*ℤ◌, ◌<◌, Bool, List, length, map, refl, sym, ap, ◌∙◌, subst, Option, Some, None, Result, Ok, Err, inl, inr, IfSome, All}
+use Rattle.std.proofs.Common.{◌≡◌, ℕ, ℤ, ◌<◌, Bool, List, length, refl, sym, ap, ◌∙◌, subst, Option, Some, None, Result, Ok, Err, inl, inr, IfSome, All}
 use Rattle.std.proofs.lemmas.List.{length-map}
 use Rattle.std.specs.Io.KnownBytes.{Appends}
 use Rattle.std.specs.Prelude.{MatchResult}
@@ -8,7 +8,7 @@ use Rattle.ordered_group.specs.Amount.{Amount}
 use Rattle.ordered_group.specs.declared.groups.Group.{Group}
 use Rattle.prec_file.specs.Rests.{RestsView}
 use Rattle.upit_file.specs.Records as upit
-use Rattle.closure_net.specs.Network.{NetView, FlowView, net_view, IsNet, FlowFits, holds_of}
+use Rattle.closure_net.specs.Network.{NetView, FlowView, IsNet, FlowFits, holds_of}
 use Rattle.closure_net.specs.Mine.{IsNetOf}
 use Rattle.closure_net.specs.Faults.{WorthsFaultStands}
 use Rattle.closure_net.specs.declared.networks.NetFault.{NetFault}
