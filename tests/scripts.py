@@ -1,4 +1,5 @@
-"""Tests of this repository's own scripts, on a repository of one small crate that is made for them."""
+"""Tests of this repository's own scripts, on a repository of one small crate that is made for them; and of the version that the program tells."""
+import re
 import shutil
 import subprocess
 import tempfile
@@ -86,13 +87,27 @@ def a_failed_proof_fails_the_example(tree):
     return status != 0 and "small NOT PROVED" in said and "logic=not-proved" in said and "ACCEPTED" not in said, said
 
 
+def version_is_up_to_date(top):
+    """Whether `pit --version` tells the changelog's newest version and the kit that is installed."""
+    kit = subprocess.run(["rt", "version"], stdin=subprocess.DEVNULL, stdout=subprocess.PIPE, text=True).stdout.strip()
+    newest = re.search(r"^## (\S+)", (top / "CHANGELOG.md").read_text(), re.M)[1]
+    told = re.search(r'VERSION: &str = "([^"]*)"', (top / "crates/command_line/src/version.rt").read_text())[1]
+    wanted = "%s\n%s" % (newest, kit)
+    case = (top / "tests/cases/usage/version/stdout").read_text()
+    well = told == wanted and case == "pit %s\n" % wanted and "`%s`" % kit in (top / "README.md").read_text()
+    return well, "version.rt has %r, usage/version has %r, wanted is %r, in README too" % (told, case, wanted)
+
+
 # the build comes first: the copies in which edits are tried begin with what it made
 CASES = [a_build_says_what_it_proved, refused_edits_pass, an_accepted_edit_fails, a_failed_proof_fails_the_example]
 
 
 def test(top):
     """Runs the tests, and gives how many passed and failed."""
-    passed = failed = 0
+    well, said = version_is_up_to_date(top)
+    if not well:
+        print("version_is_up_to_date: failed:\n%s" % said)
+    passed, failed = int(well), int(not well)
     with tempfile.TemporaryDirectory(prefix="pit-scripts-") as room:
         tree = repository(top, room)
         for case in CASES:

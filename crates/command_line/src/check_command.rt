@@ -1,6 +1,6 @@
 //! The command `check`.
 
-use crate::options::{PREC_HELP, STATUSES, UPIT_HELP, file_option, text_of};
+use crate::options::{PREC_HELP, STATUSES, UPIT_HELP, file_option, text_of, verbose_option};
 use clap::{Arg, ArgAction, ArgMatches, Command};
 use std::alloc::{AllocError, Global};
 
@@ -10,12 +10,13 @@ const DETAILS: &str = "Checks a certificate: does its flow prove that its pit is
 
 Prints ACCEPTED, the number of blocks and the worth, or REFUSED and the reason. What is accepted is proved: with each block the pit holds all its predecessors, and no such pit is worth more.";
 
-/// The files of a check.
+/// The files of a check, and whether it is told why one failed.
 #[derive(Clone, Copy)]
 pub struct CheckWords<'a> {
     pub prec: &'a str,
     pub upit: &'a str,
     pub certificate: &'a str,
+    pub verbose: bool,
 }
 
 /// The command.
@@ -32,7 +33,8 @@ pub fn check_command<'a>(alloc: Global) -> Result<Command<'a>, AllocError> {
                 .required(true)
                 .action(ArgAction::Set)
                 .help("The pit and its flow: a PITCERT text"),
-        )
+        )?
+        .arg(verbose_option(alloc))
 }
 
 /// The words that were given.
@@ -41,5 +43,6 @@ pub fn check_words<'a>(words: &ArgMatches<'a>) -> CheckWords<'a> {
         prec: text_of(words, "prec"),
         upit: text_of(words, "upit"),
         certificate: text_of(words, "certificate"),
+        verbose: words.get_flag("verbose"),
     }
 }

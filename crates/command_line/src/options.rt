@@ -33,6 +33,14 @@ pub fn file_option<'a>(alloc: Global, name: &'a str, help: &'a str) -> Arg<'a> {
     named_option(alloc, name, "FILE", help).required(true)
 }
 
+/// The option that asks why a file failed.
+pub fn verbose_option<'a>(alloc: Global) -> Arg<'a> {
+    Arg::new(alloc, "verbose")
+        .long("verbose")
+        .action(ArgAction::SetTrue)
+        .help("Tells on standard error which file failed, and the system's reason")
+}
+
 /// A word that clap made sure of.
 pub fn text_of<'a>(words: &ArgMatches<'a>, name: &str) -> &'a str {
     words.get_str(name).unwrap_or("")

@@ -1,13 +1,14 @@
 //! Reading the words: one request, or an answer that prints itself.
 
 use crate::check_command::{CheckWords, check_command, check_words};
+use crate::declined::Declined;
 use crate::options::STATUSES;
 use crate::slopes_command::{SlopesWords, slopes_command, slopes_words};
 use crate::solve_command::{SolveWords, solve_command, solve_words};
+use crate::version::VERSION;
 use clap::error::ErrorKind;
 use clap::{Command, Error};
 use std::alloc::{AllocError, Global};
-use std::io;
 
 const ABOUT: &str =
     "Finds the ultimate pit of a block model, proves it, and checks the proof of any solver";
@@ -23,40 +24,14 @@ pub enum Request<'a> {
     Solve(SolveWords<'a>),
 }
 
-/// Why the words ask for nothing that can be done: a help text was asked for, or a word is wrong, or memory was refused.
-#[derive(Drop)]
-pub struct Declined {
-    error: Error,
-}
-
-impl Declined {
-    /// Whether memory was refused.
-    pub fn is_want_of_memory(&self) -> bool {
-        self.error.kind() == ErrorKind::OutOfMemory
-    }
-
-    /// Prints the help on standard output, or what is wrong on standard error.
-    ///
-    /// # Errors
-    /// That of the output.
-    pub fn print<R: Print + Eprint>(&self, rt: &R) -> io::Result<()> {
-        self.error.print(rt)
-    }
-
-    /// The exit status: 0 for a help text, else 2.
-    pub fn status(&self) -> u8 {
-        self.error.exit_code() as u8
-    }
-}
-
 /// Reads the words, of which the first is the program's name.
 ///
 /// # Errors
-/// `Declined` where they ask for a help text, or aren't a request.
+/// `Declined` where they ask for a help text or the version, or aren't a request.
 pub fn request_of<'a>(alloc: Global, words: &'a [String]) -> Result<Request<'a>, Declined> {
     match parsed(alloc, words) {
         Ok(request) => Ok(request),
-        Err(error) => Err(Declined { error }),
+        Err(error) => Err(Declined::by(error)),
     }
 }
 
@@ -76,6 +51,7 @@ fn pit_command<'a>(alloc: Global) -> Result<Command<'a>, AllocError> {
     let solve = solve_command(alloc)?;
     Command::new(alloc, "pit")
         .about(ABOUT)
+        .version(VERSION)
         .after_help(STATUSES)
         .subcommand_required(true)
         .subcommand(check)?

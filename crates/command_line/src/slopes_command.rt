@@ -1,6 +1,6 @@
 //! The command `slopes`.
 
-use crate::options::{STATUSES, file_option, named_option, text_of};
+use crate::options::{STATUSES, file_option, named_option, text_of, verbose_option};
 use clap::{ArgMatches, Command};
 use std::alloc::{AllocError, Global};
 
@@ -15,12 +15,14 @@ Patterns:
   nine                  the square of nine blocks above (1:9)
   cone:LEVELS:RUN:RISE  on each of LEVELS levels above, the blocks within level * RUN / RISE blocks of the axis; each number is from 1 to 1000";
 
-/// The words of a slope request: the file of blocks, the pattern's name and, where it was given, the direction's.
+/// The words of a slope request: the file of blocks, the pattern's name and, where it was given, the direction's, and
+/// whether it is told why the file failed.
 #[derive(Clone, Copy)]
 pub struct SlopesWords<'a> {
     pub blocks: &'a str,
     pub pattern: &'a str,
     pub up: Option<&'a str>,
+    pub verbose: bool,
 }
 
 /// The command.
@@ -42,7 +44,8 @@ pub fn slopes_command<'a>(alloc: Global) -> Result<Command<'a>, AllocError> {
             "up",
             "WAY",
             "Which way is up: plus, where a greater z is higher (the default), or minus",
-        ))
+        ))?
+        .arg(verbose_option(alloc))
 }
 
 /// The words that were given.
@@ -51,5 +54,6 @@ pub fn slopes_words<'a>(words: &ArgMatches<'a>) -> SlopesWords<'a> {
         blocks: text_of(words, "blocks"),
         pattern: text_of(words, "pattern"),
         up: words.get_str("up"),
+        verbose: words.get_flag("verbose"),
     }
 }

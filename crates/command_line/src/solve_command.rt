@@ -1,6 +1,8 @@
 //! The command `solve`.
 
-use crate::options::{PREC_HELP, STATUSES, UPIT_HELP, file_option, named_option, text_of};
+use crate::options::{
+    PREC_HELP, STATUSES, UPIT_HELP, file_option, named_option, text_of, verbose_option,
+};
 use clap::{Arg, ArgAction, ArgMatches, Command};
 use std::alloc::{AllocError, Global};
 
@@ -16,7 +18,7 @@ Methods:
   push-relabel  the push-relabel machine alone: each step is proved, and it is slow beyond some thousand blocks";
 
 /// The words of a request to solve: the files, and where they were given the method, the kind of amount, the steps and
-/// the workers, and whether progress is shown.
+/// the workers, and whether progress is shown and it is told why a file failed.
 #[derive(Clone, Copy)]
 pub struct SolveWords<'a> {
     pub prec: &'a str,
@@ -26,6 +28,7 @@ pub struct SolveWords<'a> {
     pub steps: Option<&'a str>,
     pub workers: Option<&'a str>,
     pub progress: bool,
+    pub verbose: bool,
 }
 
 /// The command.
@@ -76,7 +79,8 @@ fn with_limits<'a>(alloc: Global, command: Command<'a>) -> Result<Command<'a>, A
                 .long("progress")
                 .action(ArgAction::SetTrue)
                 .help("Tells on standard error, once a second, how far the run is"),
-        )
+        )?
+        .arg(verbose_option(alloc))
 }
 
 /// The words that were given.
@@ -89,5 +93,6 @@ pub fn solve_words<'a>(words: &ArgMatches<'a>) -> SolveWords<'a> {
         steps: words.get_str("steps"),
         workers: words.get_str("workers"),
         progress: words.get_flag("progress"),
+        verbose: words.get_flag("verbose"),
     }
 }

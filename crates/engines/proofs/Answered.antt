@@ -16,7 +16,8 @@ use Rattle.engines.specs.Inputs.{ReadsUpit, ReadsPrec, TextReadFails}
 use Rattle.engines.specs.Judgements.{IsJudged}
 use Rattle.check_pit.specs.declared.headers.Price.TheVariants.{Objective}
 use Rattle.engines.specs.Mines.{MineTexts, mine_texts, price_wanted, ValuesRead}
-use Rattle.engines.specs.Judging.{AreRead, Judges, billionths_of}
+use Rattle.engines.specs.Judging.{Judges}
+use Rattle.engines.specs.ReadMines.{AreRead, billionths_of}
 use Rattle.engines.specs.OutputLines.{judgement_line}
 use Rattle.engines.specs.Verdicts.{verdict_of}
 use Rattle.engines.specs.Checking.{Checks, WritesAtFault, LineFails}
@@ -26,7 +27,7 @@ keeps_self None = tt
 keeps_self (Some xs) = refl
 
 -- nothing was written: so it is at any fault
-at_fault : (texts : MineTexts) (c : List ℕ) (old new : Option (List ℕ)) (fault : EngineFault) → Keeps old new → WritesAtFault texts c old new fault
+pub at_fault : (texts : MineTexts) (c : List ℕ) (old new : Option (List ℕ)) (fault : EngineFault) → Keeps old new → WritesAtFault texts c old new fault
 at_fault texts c old new (engine.Upit q) k = k
 at_fault texts c old new (engine.Prec q) k = k
 at_fault texts c old new (engine.Model q) k = k
@@ -68,7 +69,7 @@ read_both u p values rests n e a b =
       pairs = b.3;
     }
 
-text_stands : (texts : MineTexts) (c : List ℕ) (worths : List ℤ) (rests : RestsView) (fault : EngineFault) → AreRead texts worths rests → TextReadFails c fault → Fails texts c fault
+pub text_stands : (texts : MineTexts) (c : List ℕ) (worths : List ℤ) (rests : RestsView) (fault : EngineFault) → AreRead texts worths rests → TextReadFails c fault → Fails texts c fault
 text_stands texts c worths rests (engine.Upit q) a h = absurd h
 text_stands texts c worths rests (engine.Prec q) a h = absurd h
 text_stands texts c worths rests (engine.Model q) a h = absurd h
@@ -91,7 +92,7 @@ text_answer (Some u) None s w values rests n fault e a b h = tt
 text_answer (Some u) (Some p) None w values rests n fault e a b h = tt
 text_answer (Some u) (Some p) (Some c) w values rests n fault e a b h = (text_stands (mine_texts u p) c (billionths_of values.values) rests fault (read_both u p values rests n e a b) h, at_fault (mine_texts u p) c w w fault (keeps_self w))
 
-judged_at : (texts : MineTexts) (c text : List ℕ) (answer : Result Judgement EngineFault) → text ≡ c → Judges texts text answer → Judges texts c answer
+pub judged_at : (texts : MineTexts) (c text : List ℕ) (answer : Result Judgement EngineFault) → text ≡ c → Judges texts text answer → Judges texts c answer
 judged_at texts c text answer e h = let P : List ℕ → Type 0 = λ t. Judges texts t answer in subst P e h
 
 -- it could not be judged
@@ -101,7 +102,7 @@ judge_answer (Some u) None s w values rests text n fault e a b t h = tt
 judge_answer (Some u) (Some p) None w values rests text n fault e a b t h = tt
 judge_answer (Some u) (Some p) (Some c) w values rests text n fault e a b t h = (judged_at (mine_texts u p) c text (Err fault) t (h (mine_texts u p) (read_both u p values rests n e a b) refl), at_fault (mine_texts u p) c w w fault (keeps_self w))
 
-written : (texts : MineTexts) (c : List ℕ) (old new : Option (List ℕ)) (judgement : Judgement) → IsJudged texts c judgement → Appends old new (judgement_line judgement) → Checks texts c old new (Ok (verdict_of judgement))
+pub written : (texts : MineTexts) (c : List ℕ) (old new : Option (List ℕ)) (judgement : Judgement) → IsJudged texts c judgement → Appends old new (judgement_line judgement) → Checks texts c old new (Ok (verdict_of judgement))
 written texts c old new (Accepted group count worth) h k = record { group = group; count = count; worth = worth; accepted = h; written = k }
 written texts c old new (Refused fault) h k = record { fault = fault; refused = h; written = k }
 
@@ -112,7 +113,7 @@ line_answer (Some u) None s old new values rests text n j e a b t h k = tt
 line_answer (Some u) (Some p) None old new values rests text n j e a b t h k = tt
 line_answer (Some u) (Some p) (Some c) old new values rests text n j e a b t h k = written (mine_texts u p) c old new j (judged_at (mine_texts u p) c text (Ok j) t (h (mine_texts u p) (read_both u p values rests n e a b) refl)) k
 
-line_failed : (texts : MineTexts) (c : List ℕ) (old new : Option (List ℕ)) (judgement : Judgement) (fault : EngineFault) → IsJudged texts c judgement → LineFails old new (judgement_line judgement) fault → Checks texts c old new (Err fault)
+pub line_failed : (texts : MineTexts) (c : List ℕ) (old new : Option (List ℕ)) (judgement : Judgement) (fault : EngineFault) → IsJudged texts c judgement → LineFails old new (judgement_line judgement) fault → Checks texts c old new (Err fault)
 line_failed texts c old new j (engine.Upit q) h k = absurd k
 line_failed texts c old new j (engine.Prec q) h k = absurd k
 line_failed texts c old new j (engine.Model q) h k = absurd k

@@ -10,7 +10,7 @@ use Rattle.engines.proofs.Alone.{sound_stands}
 use Rattle.engines.specs.declared.engine_fault.CertificateProblem.TheVariants as problem
 use Rattle.engines.proofs.Unread.{upit_read, settings_read, blocks_read, prices_read, prec_read, model_read, price_read, header_read, body_read}
 
-complete_at : (texts : MineTexts) (c : List ℕ) (old new : Option (List ℕ)) (answer : Result Verdict EngineFault) → Checks texts c old new answer → SoundIsAccepted texts c answer
+pub complete_at : (texts : MineTexts) (c : List ℕ) (old new : Option (List ℕ)) (answer : Result Verdict EngineFault) → Checks texts c old new answer → SoundIsAccepted texts c answer
 complete_at texts c old new (Ok Done) h read s = tt
 complete_at texts c old new (Ok No) h read s = sound_stands texts c read h.refused.read h.fault s h.refused.stands
 complete_at texts c old new (Err (engine.Upit q)) h read s = upit_read texts c q read h.0

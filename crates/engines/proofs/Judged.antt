@@ -19,6 +19,7 @@ use Rattle.check_pit.specs.declared.headers.Price.{Price}
 use Rattle.check_pit.specs.declared.headers.Header.{Header}
 use Rattle.check_pit.specs.Pieces.{pieces_of}
 use Rattle.check_pit.specs.Header.{header_of}
+use Rattle.engines.specs.declared.engine_fault.EngineFault.{EngineFault}
 use Rattle.engines.specs.Limits.{IsWithinLimit}
 use Rattle.engines.specs.Mines.{MineTexts, precedence_of, price_wanted, mine_of, DenoteMine}
 use Rattle.engines.specs.Readings.{Reads}
@@ -29,7 +30,8 @@ use Rattle.closure_net.specs.declared.networks.NetFault.{NetFault}
 use Rattle.closure_net.specs.declared.networks.NetFault.TheVariants as net
 use Rattle.check_pit.specs.declared.cert_faults.CertFault.{CertFault}
 use Rattle.check_pit.specs.declared.cert_faults.CertFault.TheVariants as cert
-use Rattle.engines.specs.Judging.{AreRead, IsGroupNamed, of_certificate, of_model}
+use Rattle.engines.specs.Judging.{of_certificate}
+use Rattle.engines.specs.ReadMines.{AreRead, IsGroupNamed, of_model}
 use Rattle.engines.proofs.Counted.{count_in-ascending}
 use Rattle.engines.proofs.Listed.{listed_rests}
 
@@ -124,6 +126,11 @@ worths_fail name block counts texts n worths fault are named f =
       are = are;
       stands = let P : (ℤ → ℕ → Amount) → Type 0 = λ b. WorthsFaultStands b n worths fault in subst P (sym named.block_is) f;
     }
+
+worths_fault : (name : Group) (block : ℤ → ℕ → Amount) (counts : Bool) (texts : MineTexts) (certificate : List ℕ) (read : upit.UpitView) (rests : RestsView) (fault : NetFault) → IsWithinLimit certificate → AreRead texts read rests → IsGroupNamed name block counts → IsHeader texts certificate rests.blocks name → WorthsFaultStands block rests.blocks (nanos_of read.values) fault → Fails texts certificate (of_model fault)
+worths_fault name block counts texts certificate read rests net.WrongLength within a named header f = (rests.blocks, a.mine, within, name, header, worths_fail name block counts texts read rests.blocks (nanos_of read.values) net.WrongLength a.denotes named refl f)
+worths_fault name block counts texts certificate read rests net.TooLarge within a named header f = (rests.blocks, a.mine, within, name, header, worths_fail name block counts texts read rests.blocks (nanos_of read.values) net.TooLarge a.denotes named refl f)
+worths_fault name block counts texts certificate read rests net.NoMemory within a named header f = tt
 
 -- a fault in making the net
 pub net_fails : (name : Group) (block : ℤ → ℕ → Amount) (counts : Bool) (texts : MineTexts) (certificate : List ℕ) (rests : RestsView) (worths : List ℤ) (fault : NetFault) → IsWithinLimit certificate → AreRead texts worths rests → IsGroupNamed name block counts → IsHeader texts certificate rests.blocks name → WorthsFaultStands block rests.blocks worths fault → Fails texts certificate (of_model fault)

@@ -2,6 +2,7 @@ pub mod Counted
 pub mod Listed
 pub mod Judged
 pub mod Priced
+pub mod PricedAnswers
 pub mod Answered
 pub mod Alone
 pub mod Fitting

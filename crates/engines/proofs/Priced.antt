@@ -29,9 +29,10 @@ use Rattle.engines.specs.Mines.{priced_texts}
 use Rattle.engines.specs.declared.engine_fault.EngineFault.{EngineFault}
 use Rattle.engines.specs.declared.engine_fault.EngineFault.TheVariants as engine
 use Rattle.engines.specs.Slopes.{ReadsBlocks, BlocksFails, BlocksReadFails}
-use Rattle.engines.specs.Inputs.{ReadsSettingsText, ReadsPrices, ReadsPrec, PricesReadFail}
+use Rattle.engines.specs.Inputs.{ReadsSettingsText, SettingsReadFails, ReadsPrices, ReadsPrec, PricesReadFail}
 use Rattle.engines.specs.PricedTexts.{cell, cells, values_of, table_by, table_of, price_keys, price_columns, ColumnsKnown, SettingsFaultStands}
-use Rattle.engines.specs.Judging.{AreRead, ArePricesRead}
+use Rattle.engines.specs.Limits.{IsWithinLimit}
+use Rattle.engines.specs.ReadMines.{AreRead, ArePricesRead, of_settings}
 
 -- the worths at a factor are those of the mine
 pub worths_priced : (settings text precedence : List ℕ) (table : PricesView) (rests : RestsView) (k : ℕ) → ArePricesRead settings text precedence table rests → AreRead (priced_texts settings text precedence k) (worths_at table k) rests
@@ -93,13 +94,13 @@ header_price ps header e =
 
 -- ---- settings and prices
 
--- what a reader tells of a text is a fault of it
-pub fault_stands : (text : List ℕ) (fault : SettingsFault) → ¬ (fault ≡ settings_fault.NoMemory) → ReadsSettings text (Err fault) → SettingsFaultStands [] text fault
-fault_stands text settings_fault.NotToml ne h = h
-fault_stands text settings_fault.UnknownKey ne h = h
-fault_stands text (settings_fault.BadValue key) ne h = h
-fault_stands text (settings_fault.Missing key) ne h = absurd h
-fault_stands text settings_fault.NoMemory ne h = ne refl
+-- what the reader tells of a text of settings stands in it
+pub settings_told : (text : List ℕ) (fault : SettingsFault) → IsWithinLimit text → ReadsSettings text (Err fault) → SettingsReadFails text (of_settings fault)
+settings_told text settings_fault.NotToml within h = (within, h)
+settings_told text settings_fault.UnknownKey within h = (within, h)
+settings_told text (settings_fault.BadValue key) within h = (within, h)
+settings_told text (settings_fault.Missing key) within h = absurd h
+settings_told text settings_fault.NoMemory within h = tt
 
 -- the prices were made of the columns of the text
 pub prices_made : (o : Option (List ℕ)) (revenue cost : ℕ) (said : SettingsView) (m : BlocksView) (table : PricesView) → revenue ∷ cost ∷ [] ≡ price_columns said → IfSome o (λ text. ReadsBlocks (revenue ∷ cost ∷ []) text m)

@@ -13,7 +13,7 @@ use Rattle.settings_file.specs.declared.faults.SettingsFault.TheVariants as sett
 use Rattle.shells.specs.Prices.{PricesView, PricesFaultStands}
 use Rattle.engines.specs.declared.engine_fault.Problem.TheVariants as problem
 use Rattle.engines.specs.Limits.{IsTooLong, IsWithinLimit}
-use Rattle.engines.specs.PricedTexts.{price_columns, table_by, SettingsFaultStands}
+use Rattle.engines.specs.PricedTexts.{price_keys, price_columns, table_by, PricesRead, SettingsFaultStands, SettingsFails, PricedBlocksFail, PricesFail}
 use Rattle.engines.specs.Slopes.{BlocksFails}
 use Rattle.engines.specs.Mines.{ValuesRead}
 use Rattle.engines.specs.FaultStands.{UpitFails, PrecFails}
@@ -81,3 +81,13 @@ PricesReadFail said text (engine.Prices fault) = IsWithinLimit text × (blocks.f
 PricesReadFail said text engine.Memory = Unit {0}
 PricesReadFail said text engine.Device = Unit {0}
 PricesReadFail said text _ = ⊥
+
+-- why the texts of a mine of prices aren't read
+abbrev pub PricedMineFails : List ℕ → List ℕ → List ℕ → EngineFault → Type 0
+PricedMineFails settings text precedence (engine.Settings p) = SettingsFails price_keys settings p
+PricedMineFails settings text precedence (engine.Blocks p) = PricedBlocksFail settings text p
+PricedMineFails settings text precedence (engine.Prices fault) = PricesFail settings text fault
+PricedMineFails settings text precedence (engine.Prec p) = (n : ℕ) × PricesRead settings text n × PrecFails n precedence p
+PricedMineFails settings text precedence engine.Memory = Unit {0}
+PricedMineFails settings text precedence engine.Device = Unit {0}
+PricedMineFails settings text precedence _ = ⊥

@@ -2,6 +2,7 @@ pub mod Limits
 pub mod PricedTexts
 pub mod Mines
 pub mod Readings
+pub mod ReadMines
 pub mod Judgements
 pub mod FaultStands
 pub mod OutputLines

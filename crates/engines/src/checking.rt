@@ -42,26 +42,6 @@ pub fn check_engine<U: CountedRead, P: CountedRead, C: CountedRead, W: CountedWr
     ensures device { IsErrOf result EngineFault.Device → OneFailed (U.failed upit.old) (P.failed prec.old) (C.failed certificate.old) (W.failed out.old) (U.failed upit.new) (P.failed prec.new) (C.failed certificate.new) (W.failed out.new) }
     ensures kept { ¬ IsErrOf result EngineFault.Device → (U.failed upit.new ≡ U.failed upit.old) × (P.failed prec.new ≡ P.failed prec.old) × (C.failed certificate.new ≡ C.failed certificate.old) × (W.failed out.new ≡ W.failed out.old) }
 {
-    check_all(alloc, upit, prec, certificate, out)
-}
-
-// The same, without what follows from its answer.
-fn check_all<U: CountedRead, P: CountedRead, C: CountedRead, W: CountedWrite>(
-    alloc: Global,
-    upit: &mut U,
-    prec: &mut P,
-    certificate: &mut C,
-    out: &mut W,
-) -> Result<Verdict, EngineFault>
-    requires upit_room { U.failed upit.old < 2 ^ 64 - 1 }
-    requires prec_room { P.failed prec.old < 2 ^ 64 - 1 }
-    requires certificate_room { C.failed certificate.old < 2 ^ 64 - 1 }
-    requires out_room { W.failed out.old < 2 ^ 64 - 1 }
-    ensures answer { IfSome (U.remaining upit.old) (λ u. IfSome (P.remaining prec.old) (λ p. IfSome (C.remaining certificate.old) (λ c.
-        Checks (mine_texts u p) c (W.contents out.old) (W.contents out.new) result))) }
-    ensures device { IsErrOf result EngineFault.Device → OneFailed (U.failed upit.old) (P.failed prec.old) (C.failed certificate.old) (W.failed out.old) (U.failed upit.new) (P.failed prec.new) (C.failed certificate.new) (W.failed out.new) }
-    ensures kept { ¬ IsErrOf result EngineFault.Device → (U.failed upit.new ≡ U.failed upit.old) × (P.failed prec.new ≡ P.failed prec.old) × (C.failed certificate.new ≡ C.failed certificate.old) × (W.failed out.new ≡ W.failed out.old) }
-{
     let upit = upit_from(alloc, upit)?;
     let rests = rests_from(alloc, prec, upit.len())?;
     let text = certificate_from(alloc, certificate)?;

@@ -151,7 +151,7 @@ impl From<WriteFault> for EngineFault {
 
 impl From<NetFault> for EngineFault {
     ghost use Rattle.std.specs.Prelude.{◌≡◌};
-    ghost use Rattle.engines.specs.Judging.{of_model};
+    ghost use Rattle.engines.specs.ReadMines.{of_model};
 
     ghost from_gives = { λ fault e. e ≡ of_model fault };
 
@@ -173,6 +173,20 @@ impl From<CertFault> for EngineFault {
         match fault {
             CertFault::NoMemory => EngineFault::Memory,
             fault => EngineFault::Certificate(CertificateProblem::Fault(fault)),
+        }
+    }
+}
+
+impl From<SettingsFault> for EngineFault {
+    ghost use Rattle.std.specs.Prelude.{◌≡◌};
+    ghost use Rattle.engines.specs.ReadMines.{of_settings};
+
+    ghost from_gives = { λ fault e. e ≡ of_settings fault };
+
+    fn from(fault: SettingsFault) -> EngineFault {
+        match fault {
+            SettingsFault::NoMemory => EngineFault::Memory,
+            fault => EngineFault::Settings(Problem::Fault(fault)),
         }
     }
 }

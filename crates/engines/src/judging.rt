@@ -1,6 +1,6 @@
 //! Judging a certificate for a mine that was read.
 
-ghost use Rattle.std.specs.Prelude.{◌≡◌, ◌≤◌, ◌*ℤ◌, pos, ℕ, List, length, map, Ok, IfOk, MatchResult, IsErrOf};
+ghost use Rattle.std.specs.Prelude.{◌≡◌, ◌≤◌, ℕ, List, length, Ok, MatchResult, IsErrOf};
 ghost use Rattle.check_pit.specs.Pieces.{pieces_of};
 ghost use Rattle.check_pit.specs.Header.{header_of};
 ghost use Rattle.closure_net.specs.Network.{holds_of, IsAscending};
@@ -11,17 +11,18 @@ ghost use Rattle.engines.specs.Limits.{IsWithinLimit};
 ghost use Rattle.check_pit.specs.declared.headers.Price.TheVariants.{Objective};
 ghost use Rattle.engines.specs.Mines.{MineTexts, priced_texts, DenoteMine, mine_of, price_wanted};
 ghost use Rattle.engines.specs.FaultStands.{IsHeader, Fails};
-ghost use Rattle.engines.specs.Judging.{AreRead, ArePricesRead, IsGroupNamed, Judges, billionths_of, factor_in};
+ghost use Rattle.engines.specs.Judging.{Judges, factor_in};
+ghost use Rattle.engines.specs.ReadMines.{AreRead, ArePricesRead, IsGroupNamed, billionths_of};
 
 use crate::engine_fault::{CertificateProblem, EngineFault};
 use crate::judgement::Judgement;
+use crate::mines::nanos_of;
 use check_pit::{Accepted, CertFault, Header, Price, check, read_certificate, reading};
 use closure_net::{Net, laws};
-use fixed_worth::Micros;
 use ordered_group::{Group, OrderedGroup, Worth, WorthSize};
 use prec_file::Rests;
 use shells::{Factor, Prices};
-use std::alloc::{AllocError, Global};
+use std::alloc::Global;
 use std::thread::Threads;
 use upit_file::Upit;
 
@@ -103,6 +104,7 @@ fn judge_in(
     ensures judged { (texts : MineTexts) → AreRead texts nanos.now rests → IsHeader texts certificate.now rests.blocks group → Judges texts certificate.now result }
     ensures no_device { ¬ IsErrOf result EngineFault.Device }
 {
+    // proof: a greatest set of the net is a pit that is worth most, and of amounts with sizes the best one
     laws::greatest_set_is_richest_pit();
     laws::greatest_set_is_best_pit::<WorthSize>();
     match group {
@@ -139,6 +141,7 @@ fn judge_for<G: OrderedGroup>(
         → Judges texts certificate.now result }
     ensures no_device { ¬ IsErrOf result EngineFault.Device }
 {
+    // proof: what is known of every net, that its pairs are of its blocks and in order
     let _worths = net.worths();
     let rests = net.rests();
     let certificate = read_certificate::<G>(alloc, certificate, rests)?;
@@ -162,6 +165,7 @@ fn size_of<G: OrderedGroup>(accepted: &Accepted<'_, G>) -> u32
     ensures most { result ≤ length accepted.now.net.worths }
     ensures ascending { IsAscending accepted.now.pit }
 {
+    // proof: a net has at most 2^24 blocks
     let _size = accepted.net().len();
     let blocks = accepted.pit().blocks();
     blocks.len() as u32
@@ -175,6 +179,7 @@ fn worth_of<G: OrderedGroup>(accepted: &Accepted<'_, G>, count: u32) -> i128
 {
     let size = accepted.net().len();
     let sum = accepted.worth();
+    // proof: the numbers of the sum fit their types
     known_to_fit(sum);
     match sum.nanos_of_set(size, count) {
         Some(worth) => worth,
@@ -186,23 +191,6 @@ fn worth_of<G: OrderedGroup>(accepted: &Accepted<'_, G>, count: u32) -> i128
 fn known_to_fit<G: OrderedGroup>(amount: G)
     ensures { FitsPair (G.parts_of amount) }
 {
+    // proof: what `parts` returns fits its type
     let (_worth, _count) = amount.parts();
-}
-
-/// The worth of each block in billionths.
-pub fn nanos_of(alloc: Global, upit: &Upit) -> Result<Vec<i128>, AllocError>
-    ensures { IfOk result (λ v. v.items ≡ billionths_of upit.now.values) }
-{
-    let mut nanos: Vec<i128> = Vec::new(alloc);
-    for b in 0..upit.len() {
-        nanos.push(billionths(upit.value(b)))?;
-    }
-    Ok(nanos)
-}
-
-// The billionths of a value.
-fn billionths(value: Micros) -> i128
-    ensures { result ≡ pos 1000 *ℤ value }
-{
-    1000 * i128::from(value.get())
 }

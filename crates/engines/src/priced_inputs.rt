@@ -4,12 +4,14 @@ ghost use Rattle.std.specs.Prelude.{◌≡◌, ◌+◌, ◌-◌, ◌^◌, ◌<�
 ghost use Rattle.settings_file.specs.Settings.{SettingsView, first_missing};
 ghost use Rattle.engines.specs.Limits.{IsWithinLimit};
 ghost use Rattle.engines.specs.PricedTexts.{price_keys, price_columns, values_of};
-ghost use Rattle.engines.specs.Inputs.{ReadsSettingsText, SettingsReadFails, IsMissing, ReadsPrices, PricesReadFail};
+ghost use Rattle.engines.specs.ReadMines.{ArePricesRead};
+ghost use Rattle.engines.specs.Inputs.{ReadsSettingsText, SettingsReadFails, IsMissing, ReadsPrices, PricesReadFail, PricedMineFails};
 
 use crate::engine_fault::{EngineFault, Problem};
-use crate::inputs::{blocks_from, text_from};
+use crate::inputs::{blocks_from, rests_from, text_from};
 use blocks_file::BlockModel;
 use fixed_worth::{CountedRead, Micros};
+use prec_file::Rests;
 use settings_file::{Key, Settings, SettingsFault, read_settings};
 use shells::Prices;
 use std::alloc::{AllocError, Global};
@@ -31,11 +33,7 @@ fn settings_in(alloc: Global, text: &[u8]) -> Result<Settings, EngineFault>
     ensures read { MatchResult result (ReadsSettingsText text.now) (SettingsReadFails text.now) }
     ensures no_device { ¬ IsErrOf result EngineFault.Device }
 {
-    match read_settings(alloc, text) {
-        Ok(settings) => Ok(settings),
-        Err(SettingsFault::NoMemory) => Err(EngineFault::Memory),
-        Err(fault) => Err(EngineFault::Settings(Problem::Fault(fault))),
-    }
+    Ok(read_settings(alloc, text)?)
 }
 
 /// The columns of blocks that have their prices.
@@ -101,4 +99,40 @@ fn column_of(alloc: Global, model: &BlockModel, i: u32) -> Result<Vec<Micros>, A
         values.push(model.column(i, b))?;
     }
     Ok(values)
+}
+
+/// A mine whose blocks have prices: its revenues and costs, and its precedence.
+#[derive(Drop)]
+pub struct PricedMine {
+    /// The prices of the blocks.
+    pub prices: Prices,
+    /// Which block rests on which.
+    pub rests: Rests,
+}
+
+/// The mine that settings, blocks and a precedence denote, but for the factor: the texts are read in this order, each
+/// to its end.
+///
+/// # Errors
+/// In this order: `Settings` for a fault of this text or a missing key; `Blocks`; `Prices` for a negative revenue;
+/// `Prec`. `Memory` where memory is refused, `Device` where a read fails.
+pub fn priced_mine_from<S: CountedRead, B: CountedRead, P: CountedRead>(
+    alloc: Global,
+    settings: &mut S,
+    blocks: &mut B,
+    prec: &mut P,
+) -> Result<PricedMine, EngineFault>
+    requires settings_room { S.failed settings.old < 2 ^ 64 - 1 }
+    requires blocks_room { B.failed blocks.old < 2 ^ 64 - 1 }
+    requires prec_room { P.failed prec.old < 2 ^ 64 - 1 }
+    ensures read { IfSome (S.remaining settings.old) (λ s. IfSome (B.remaining blocks.old) (λ b. IfSome (P.remaining prec.old) (λ p.
+        MatchResult result (λ mine. ArePricesRead s b p mine.prices mine.rests) (PricedMineFails s b p)))) }
+    ensures device { IsErrOf result EngineFault.Device → S.failed settings.new + B.failed blocks.new + P.failed prec.new ≡ S.failed settings.old + B.failed blocks.old + P.failed prec.old + 1 }
+    ensures kept { ¬ IsErrOf result EngineFault.Device → (S.failed settings.new ≡ S.failed settings.old) × (B.failed blocks.new ≡ B.failed blocks.old) × (P.failed prec.new ≡ P.failed prec.old) }
+{
+    let settings = settings_from(alloc, settings)?;
+    let columns = price_columns(&settings)?;
+    let prices = prices_from(alloc, blocks, columns)?;
+    let rests = rests_from(alloc, prec, prices.len())?;
+    Ok(PricedMine { prices, rests })
 }

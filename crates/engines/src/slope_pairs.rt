@@ -44,6 +44,7 @@ pub fn slopes_of(
     ensures no_device { ¬ IsErrOf result EngineFault.Device }
 {
     let pattern = pattern_for(alloc, choice)?;
+    // proof: a block has no more predecessors than a pattern has offsets
     laws::slopes_are_narrow(&pattern);
     match rests_of(alloc, model, &pattern, up) {
         Ok(rests) => Ok(rests),

@@ -87,6 +87,7 @@ where
         (λ s. IsSound net.now s.flow s.pit)
         (λ unsolved. MachineStands net.now effort.steps unsolved) }
 {
+    // proof: the check of a closed pit that its flow makes tight can fail for a sum that overflows alone
     laws::tight_closed_pit_is_refused_for_size_only();
     let flow = match solve(rt, alloc, net, effort.workers, effort.steps, gate) {
         Ok(solved) => solved.flow,
@@ -170,6 +171,7 @@ where
     ensures device { IsErrOf result EngineFault.Device ↔ (W.failed out.new ≡ W.failed out.old + 1) }
     ensures kept { ¬ IsErrOf result EngineFault.Device → W.failed out.new ≡ W.failed out.old }
 {
+    // proof: what is known of every net, that its pairs are of its blocks and in order
     let _worths = net.worths();
     let solution = match solution_of(rt, alloc, net, effort, gate) {
         Ok(solution) => solution,

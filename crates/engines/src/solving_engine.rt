@@ -1,7 +1,7 @@
 //! The engine of `solve`: the bytes of a mine in, a certificate of its best pit out.
 
 ghost use Rattle.std.specs.Prelude.{◌≡◌, ◌+◌, ◌-◌, ◌^◌, ◌<◌, ◌↔◌, ℕ, List, IfSome, IsErrOf};
-ghost use Rattle.engines.specs.Judging.{AreRead, IsGroupNamed};
+ghost use Rattle.engines.specs.ReadMines.{AreRead, IsGroupNamed};
 ghost use Rattle.check_pit.specs.ReadBack.{IsPrice};
 ghost use Rattle.engines.specs.Mines.{MineTexts, mine_texts, price_wanted};
 ghost use Rattle.engines.specs.Solving.{Solves};
@@ -10,7 +10,7 @@ use crate::effort::Effort;
 use crate::engine_fault::EngineFault;
 use crate::inputs::{rests_from, upit_from};
 use crate::judgement::Verdict;
-use crate::judging::nanos_of;
+use crate::mines::net_of;
 use crate::solving::solve_net;
 use check_pit::Price;
 use closure_net::{Net, laws};
@@ -78,8 +78,8 @@ pub fn solve_engine<
     solve_mine(rt, alloc, nanos.as_slice(), rests, price, group, effort, gate, out)
 }
 
-// The same, where the mine is read.
-fn solve_mine<R: Threads + Wait + Sync, T: Gate + Progress, W: CountedWrite>(
+/// The same, where the mine is read, and its blocks are worth so many billionths at a price.
+pub fn solve_mine<R: Threads + Wait + Sync, T: Gate + Progress, W: CountedWrite>(
     rt: &R,
     alloc: Global,
     nanos: &[i128],
@@ -96,6 +96,7 @@ fn solve_mine<R: Threads + Wait + Sync, T: Gate + Progress, W: CountedWrite>(
     ensures device { IsErrOf result EngineFault.Device ↔ (W.failed out.new ≡ W.failed out.old + 1) }
     ensures kept { ¬ IsErrOf result EngineFault.Device → W.failed out.new ≡ W.failed out.old }
 {
+    // proof: a greatest set of the net is a pit that is worth most, and of amounts with sizes the best one
     laws::greatest_set_is_richest_pit();
     laws::greatest_set_is_best_pit::<WorthSize>();
     match group {

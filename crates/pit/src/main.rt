@@ -4,21 +4,20 @@
 //! the words of the command line, to files and to standard output, and the exit status is given.
 #![tactic(auto)]
 
-ghost use Rattle.std.specs.Prelude.{◌≤◌, IfSome};
-ghost use Rattle.engines.specs.Slopes.{IsChoice};
-
 mod files;
 mod progress;
+mod slopes_words;
 mod solve_words;
+mod told;
 
-use command_line::{Request, SlopesWords, SolveWords, request_of};
-use engines::{
-    EngineFault, Unwatched, Verdict, pattern_named, status, stored_check, up_named, write_fault,
+use command_line::{
+    Declined, Request, SlopesWords, SolveWords, WrongWord, declined_for, request_of,
 };
+use engines::{EngineFault, Unwatched, Verdict, status, stored_check, write_fault};
 use files::{check_files, slopes_file, solve_files};
 use fixed_worth::Counted;
 use progress::Meter;
-use slope::Up;
+use slopes_words::{pattern_asked, up_asked};
 use solve_words::{effort_asked, group_asked};
 use std::process::ExitCode;
 use std::rt::{Clock, Env, Files};
@@ -34,7 +33,7 @@ const USAGE: u8 = 2;
 enum Ending {
     // An engine answered.
     Answered(Verdict),
-    // A help text was printed, or what is wrong with the words; with this exit status.
+    // A help text or the version was printed, or what is wrong with the words; with this exit status.
     Printed(u8),
 }
 
@@ -67,11 +66,7 @@ fn run<R: Files + Print + Eprint + Env + Clock + Threads + Wait + Sync + AllocGl
     }
     match request_of(rt.alloc(), words.as_slice()) {
         Ok(request) => answer(rt, request),
-        Err(declined) if declined.is_want_of_memory() => Err(EngineFault::Memory),
-        Err(declined) => match declined.print(rt) {
-            Ok(()) => Ok(Ending::Printed(declined.status())),
-            Err(_) => Err(EngineFault::Device),
-        },
+        Err(declined) => printed(rt, &declined),
     }
 }
 
@@ -92,8 +87,13 @@ fn solve<R: Files + Print + Eprint + Clock + Threads + Wait + Sync + AllocGlobal
     rt: &R,
     words: SolveWords<'_>,
 ) -> Result<Ending, EngineFault> {
-    let (Some(group), Some(effort)) = (group_asked(words), effort_asked(words)) else {
-        return usage(rt);
+    let group = match group_asked(words) {
+        Ok(group) => group,
+        Err(wrong) => return refused(rt, wrong),
+    };
+    let effort = match effort_asked(words) {
+        Ok(effort) => effort,
+        Err(wrong) => return refused(rt, wrong),
     };
     let verdict = if words.progress {
         solve_files(rt, words, group, effort, &Meter::new(rt, effort.steps))?
@@ -108,22 +108,37 @@ fn slopes<R: Files + Print + Eprint + AllocGlobal>(
     rt: &R,
     words: SlopesWords<'_>,
 ) -> Result<Ending, EngineFault> {
-    let (Some(pattern), Some(up)) = (pattern_named(words.pattern.as_bytes()), up_asked(words))
-    else {
-        return usage(rt);
+    let pattern = match pattern_asked(words) {
+        Ok(pattern) => pattern,
+        Err(wrong) => return refused(rt, wrong),
     };
-    Ok(Ending::Answered(slopes_file(rt, words.blocks, pattern, up)?))
+    let up = match up_asked(words) {
+        Ok(up) => up,
+        Err(wrong) => return refused(rt, wrong),
+    };
+    Ok(Ending::Answered(slopes_file(rt, words, pattern, up)?))
 }
 
-// Which way is up: a greater z, where no word says.
-fn up_asked(words: SlopesWords<'_>) -> Option<Up> {
-    match words.up {
-        Some(word) => up_named(word.as_bytes()),
-        None => Some(Up::PlusZ),
+// A word names nothing that its option takes.
+fn refused<R: Print + Eprint + AllocGlobal>(
+    rt: &R,
+    wrong: WrongWord<'_>,
+) -> Result<Ending, EngineFault> {
+    printed(rt, &declined_for(rt.alloc(), wrong))
+}
+
+// The words are no request, and the reason is printed, or the help or version that they ask for.
+fn printed<R: Print + Eprint>(rt: &R, declined: &Declined) -> Result<Ending, EngineFault> {
+    if declined.is_want_of_memory() {
+        return Err(EngineFault::Memory);
+    }
+    match declined.print(rt) {
+        Ok(()) => Ok(Ending::Printed(declined.status())),
+        Err(_) => Err(EngineFault::Device),
     }
 }
 
-// The words can't be read at all, or a word names nothing that there is.
+// The words can't be read at all.
 fn usage<R: Eprint>(rt: &R) -> Result<Ending, EngineFault> {
     match rt.eprintln("fault: usage") {
         Ok(()) => Ok(Ending::Printed(USAGE)),

@@ -1,5 +1,5 @@
 use Rattle.std.proofs.Common.{◌∙◌, refl, sym}
-use Rattle.engines.specs.Judging.{billionths_of}
+use Rattle.engines.specs.ReadMines.{billionths_of}
 use Rattle.engines.proofs.Judged.{header_is, read_as}
 use Rattle.engines.proofs.judging.judge.Goals as goal
 

@@ -1,0 +1,228 @@
+-- From the parts of an engine over prices to its answer, where the readers tell their bytes.
+use Rattle.std.proofs.Common.{◌≡◌, ℕ, ℤ, List, [], refl, sym, ap, ◌∙◌, subst, Option, Some, None, Result, Ok, Err, inl, inr, IfSome, length, unwrap_or, map}
+use Rattle.std.proofs.lemmas.List.FromFn.{length-map-range_with_len}
+use Rattle.std.specs.Io.KnownBytes.{Appends, Keeps}
+use Rattle.blocks_file.specs.Records as blocks
+use Rattle.prec_file.specs.Rests.{RestsView}
+use Rattle.settings_file.specs.declared.keys.Key.{Key}
+use Rattle.settings_file.specs.declared.faults.SettingsFault.{SettingsFault}
+use Rattle.settings_file.specs.declared.faults.SettingsFault.TheVariants as settings_fault
+use Rattle.settings_file.specs.Settings.{SettingsView, settings_of, first_missing}
+use Rattle.settings_file.proofs.Known.{settings_are, settings_read}
+use Rattle.shells.specs.Prices.{PricesView, PricesFaultStands, NoneNegative, blocks_of}
+use Rattle.engines.specs.declared.judgement.Judgement.{Judgement}
+use Rattle.engines.specs.declared.judgement.Verdict.{Verdict}
+use Rattle.engines.specs.declared.engine_fault.EngineFault.{EngineFault}
+use Rattle.engines.specs.declared.engine_fault.EngineFault.TheVariants as engine
+use Rattle.engines.specs.declared.engine_fault.Problem.TheVariants as problem
+use Rattle.engines.specs.declared.method.Method.{Method}
+use Rattle.ordered_group.specs.declared.groups.Group.{Group}
+use Rattle.engines.specs.Slopes.{BlocksFails}
+use Rattle.engines.specs.PricedTexts.{price_keys, price_columns, cell, table_by, table_of, ColumnsKnown, PricesRead, SettingsFaultStands, SettingsFails}
+use Rattle.engines.specs.Inputs.{ReadsSettingsText, SettingsReadFails, IsMissing, ReadsPrices, PricesReadFail, ReadsPrec, PrecReadFails, TextReadFails, PricedMineFails}
+use Rattle.engines.specs.Mines.{MineTexts, priced_texts, price_wanted}
+use Rattle.engines.specs.ReadMines.{AreRead, ArePricesRead}
+use Rattle.engines.specs.Judging.{Judges, factor_in}
+use Rattle.engines.specs.OutputLines.{judgement_line}
+use Rattle.engines.specs.Verdicts.{verdict_of}
+use Rattle.engines.specs.FaultStands.{Fails}
+use Rattle.engines.specs.Checking.{Checks, SoundIsAccepted, LineFails}
+use Rattle.engines.specs.Solving.{Solves, SolveFails}
+use Rattle.engines.proofs.Answered.{keeps_self, at_fault, text_stands, judged_at, written, line_failed}
+use Rattle.engines.proofs.Complete.{complete_at}
+use Rattle.engines.proofs.Priced.{all_read, worths_priced}
+
+-- ---- readers that tell their bytes
+
+pub under3 : (o q r : Option (List ℕ)) (P Q : List ℕ → List ℕ → List ℕ → Type 0) → IfSome o (λ s. IfSome q (λ b. IfSome r (λ p. P s b p))) → ((s b p : List ℕ) → P s b p → Q s b p) → IfSome o (λ s. IfSome q (λ b. IfSome r (λ p. Q s b p)))
+under3 None q r P Q h f = tt
+under3 (Some s) None r P Q h f = tt
+under3 (Some s) (Some b) None P Q h f = tt
+under3 (Some s) (Some b) (Some p) P Q h f = f s b p h
+
+pub under4 : (o q r t : Option (List ℕ)) (P : List ℕ → List ℕ → List ℕ → Type 0) (R : List ℕ → Type 0) (Q : List ℕ → List ℕ → List ℕ → List ℕ → Type 0) → IfSome o (λ s. IfSome q (λ b. IfSome r (λ p. P s b p))) → IfSome t R
+    → ((s b p c : List ℕ) → P s b p → R c → Q s b p c) → IfSome o (λ s. IfSome q (λ b. IfSome r (λ p. IfSome t (λ c. Q s b p c))))
+under4 None q r t P R Q h k f = tt
+under4 (Some s) None r t P R Q h k f = tt
+under4 (Some s) (Some b) None t P R Q h k f = tt
+under4 (Some s) (Some b) (Some p) None P R Q h k f = tt
+under4 (Some s) (Some b) (Some p) (Some c) P R Q h k f = f s b p c h k
+
+pub all4 : (o q r t : Option (List ℕ)) (P Q : List ℕ → List ℕ → List ℕ → List ℕ → Type 0) → IfSome o (λ s. IfSome q (λ b. IfSome r (λ p. IfSome t (λ c. P s b p c)))) → ((s b p c : List ℕ) → P s b p c → Q s b p c) → IfSome o (λ s. IfSome q (λ b. IfSome r (λ p. IfSome t (λ c. Q s b p c))))
+all4 None q r t P Q h f = tt
+all4 (Some s) None r t P Q h f = tt
+all4 (Some s) (Some b) None t P Q h f = tt
+all4 (Some s) (Some b) (Some p) None P Q h f = tt
+all4 (Some s) (Some b) (Some p) (Some c) P Q h f = f s b p c h
+
+pub anything : (o : Option (List ℕ)) → IfSome o (λ c. Unit {0})
+anything None = tt
+anything (Some c) = tt
+
+-- ---- the texts of a mine of prices
+
+settings_fail : (s b p : List ℕ) (e : EngineFault) → SettingsReadFails s e → PricedMineFails s b p e
+settings_fail s b p (engine.Settings problem.InputTooLong) h = h
+settings_fail s b p (engine.Settings (problem.Fault settings_fault.NotToml)) h = h
+settings_fail s b p (engine.Settings (problem.Fault settings_fault.UnknownKey)) h = h
+settings_fail s b p (engine.Settings (problem.Fault (settings_fault.BadValue key))) h = h
+settings_fail s b p (engine.Settings (problem.Fault (settings_fault.Missing key))) h = absurd (let z : None ≡ Some key = h.1.1 in cc)
+settings_fail s b p (engine.Settings (problem.Fault settings_fault.NoMemory)) h = h
+settings_fail s b p engine.Memory h = tt
+settings_fail s b p engine.Device h = tt
+settings_fail s b p (engine.Blocks q) h = absurd h
+settings_fail s b p (engine.Prices q) h = absurd h
+settings_fail s b p (engine.Upit q) h = absurd h
+settings_fail s b p (engine.Prec q) h = absurd h
+settings_fail s b p (engine.Slope q) h = absurd h
+settings_fail s b p (engine.Model q) h = absurd h
+settings_fail s b p (engine.Certificate q) h = absurd h
+settings_fail s b p engine.Thread h = absurd h
+settings_fail s b p engine.Stranger h = absurd h
+
+pub settings_answer : (o q r : Option (List ℕ)) (e : EngineFault) → IfSome o (λ s. SettingsReadFails s e) → IfSome o (λ s. IfSome q (λ b. IfSome r (λ p. PricedMineFails s b p e)))
+settings_answer None q r e h = tt
+settings_answer (Some s) None r e h = tt
+settings_answer (Some s) (Some b) None e h = tt
+settings_answer (Some s) (Some b) (Some p) e h = settings_fail s b p e h
+
+missing_at : (s b p : List ℕ) (said : SettingsView) (e : EngineFault) → ReadsSettingsText s said → IsMissing price_keys said e → PricedMineFails s b p e
+missing_at s b p said e a m =
+    let known = settings_are s said a.1 in
+    let M : SettingsView → Type 0 = λ v. first_missing price_keys v ≡ Some m.0 in
+    let P : EngineFault → Type 0 = λ f. PricedMineFails s b p f in
+    subst P (sym m.1) (a.0, (settings_read s said a.1, subst M (sym known) m.2))
+
+pub missing_answer : (o q r : Option (List ℕ)) (said : SettingsView) (e : EngineFault) → IfSome o (λ s. ReadsSettingsText s said) → IsMissing price_keys said e → IfSome o (λ s. IfSome q (λ b. IfSome r (λ p. PricedMineFails s b p e)))
+missing_answer None q r said e h m = tt
+missing_answer (Some s) None r said e h m = tt
+missing_answer (Some s) (Some b) None said e h m = tt
+missing_answer (Some s) (Some b) (Some p) said e h m = missing_at s b p said e h m
+
+columns_known : (s : List ℕ) (said : SettingsView) → ReadsSettingsText s said → first_missing price_keys said ≡ None → ColumnsKnown s
+columns_known s said a whole =
+    let M : SettingsView → Type 0 = λ v. first_missing price_keys v ≡ None in
+    record { within = a.0; read = settings_read s said a.1; said = subst M (sym (settings_are s said a.1)) whole }
+
+prices_fail_at : (s b p : List ℕ) (said : SettingsView) (e : EngineFault) → ReadsSettingsText s said → first_missing price_keys said ≡ None → PricesReadFail said b e → PricedMineFails s b p e
+prices_fail_at s b p said (engine.Blocks q) a whole h =
+    (columns_known s said a whole, subst (λ (v : SettingsView). BlocksFails (price_columns v) b q) (sym (settings_are s said a.1)) h)
+prices_fail_at s b p said (engine.Prices f) a whole h =
+    let known = sym (settings_are s said a.1) in
+    let F : SettingsView → Type 0 = λ v. blocks.fault_of (price_columns v) b ≡ None in
+    let S : SettingsView → Type 0 = λ v. PricesFaultStands (table_by v b).revenue (table_by v b).cost f in
+    record { columns = columns_known s said a whole; within = h.0; read = subst F known h.1; stands = subst S known h.2 }
+prices_fail_at s b p said engine.Memory a whole h = tt
+prices_fail_at s b p said engine.Device a whole h = tt
+prices_fail_at s b p said (engine.Settings q) a whole h = absurd h
+prices_fail_at s b p said (engine.Upit q) a whole h = absurd h
+prices_fail_at s b p said (engine.Prec q) a whole h = absurd h
+prices_fail_at s b p said (engine.Slope q) a whole h = absurd h
+prices_fail_at s b p said (engine.Model q) a whole h = absurd h
+prices_fail_at s b p said (engine.Certificate q) a whole h = absurd h
+prices_fail_at s b p said engine.Thread a whole h = absurd h
+prices_fail_at s b p said engine.Stranger a whole h = absurd h
+
+pub prices_answer : (o q r : Option (List ℕ)) (said : SettingsView) (e : EngineFault) → IfSome o (λ s. ReadsSettingsText s said) → first_missing price_keys said ≡ None → IfSome q (λ b. PricesReadFail said b e) → IfSome o (λ s. IfSome q (λ b. IfSome r (λ p. PricedMineFails s b p e)))
+prices_answer None q r said e a whole h = tt
+prices_answer (Some s) None r said e a whole h = tt
+prices_answer (Some s) (Some b) None said e a whole h = tt
+prices_answer (Some s) (Some b) (Some p) said e a whole h = prices_fail_at s b p said e a whole h
+
+-- prices that were read are of the blocks of the text
+priced : (s b : List ℕ) (said : SettingsView) (table : PricesView) (n : ℕ) → n ≡ blocks_of table → NoneNegative table → first_missing price_keys said ≡ None → ReadsSettingsText s said → ReadsPrices said b table → PricesRead s b n
+priced s b said table n e positive whole a t =
+    let known = sym (settings_are s said a.1) in
+    let is : table ≡ table_of s b = t.is ∙ ap (λ (v : SettingsView). table_by v b) known in
+    let C : SettingsView → Type 0 = λ v. blocks.fault_of (price_columns v) b ≡ None in
+    let count = sym (length-map-range_with_len (cell b (unwrap_or said.revenue 0)) 0 (blocks.count_of b)) ∙ ap blocks_of (sym t.is) ∙ sym e in
+    record { columns = columns_known s said a whole; within = t.within; read = subst C known t.read; count = count; revenues = subst NoneNegative is positive }
+
+prec_fails_at : (s b p : List ℕ) (said : SettingsView) (table : PricesView) (n : ℕ) (e : EngineFault) → n ≡ blocks_of table → NoneNegative table → first_missing price_keys said ≡ None → ReadsSettingsText s said → ReadsPrices said b table → PrecReadFails n p e → PricedMineFails s b p e
+prec_fails_at s b p said table n (engine.Prec q) size positive whole a t h = (n, priced s b said table n size positive whole a t, h)
+prec_fails_at s b p said table n engine.Memory size positive whole a t h = tt
+prec_fails_at s b p said table n engine.Device size positive whole a t h = tt
+prec_fails_at s b p said table n (engine.Settings q) size positive whole a t h = absurd h
+prec_fails_at s b p said table n (engine.Blocks q) size positive whole a t h = absurd h
+prec_fails_at s b p said table n (engine.Prices q) size positive whole a t h = absurd h
+prec_fails_at s b p said table n (engine.Upit q) size positive whole a t h = absurd h
+prec_fails_at s b p said table n (engine.Slope q) size positive whole a t h = absurd h
+prec_fails_at s b p said table n (engine.Model q) size positive whole a t h = absurd h
+prec_fails_at s b p said table n (engine.Certificate q) size positive whole a t h = absurd h
+prec_fails_at s b p said table n engine.Thread size positive whole a t h = absurd h
+prec_fails_at s b p said table n engine.Stranger size positive whole a t h = absurd h
+
+pub prec_answer : (o q r : Option (List ℕ)) (said : SettingsView) (table : PricesView) (n : ℕ) (e : EngineFault) → n ≡ blocks_of table → NoneNegative table → first_missing price_keys said ≡ None → IfSome o (λ s. ReadsSettingsText s said) → IfSome q (λ b. ReadsPrices said b table) → IfSome r (λ p. PrecReadFails n p e)
+    → IfSome o (λ s. IfSome q (λ b. IfSome r (λ p. PricedMineFails s b p e)))
+prec_answer None q r said table n e size positive whole a t h = tt
+prec_answer (Some s) None r said table n e size positive whole a t h = tt
+prec_answer (Some s) (Some b) None said table n e size positive whole a t h = tt
+prec_answer (Some s) (Some b) (Some p) said table n e size positive whole a t h = prec_fails_at s b p said table n e size positive whole a t h
+
+pub mine_answer : (o q r : Option (List ℕ)) (said : SettingsView) (table : PricesView) (rests : RestsView) (n : ℕ) → n ≡ blocks_of table → NoneNegative table → first_missing price_keys said ≡ None → IfSome o (λ s. ReadsSettingsText s said) → IfSome q (λ b. ReadsPrices said b table) → IfSome r (λ p. ReadsPrec n p rests)
+    → IfSome o (λ s. IfSome q (λ b. IfSome r (λ p. ArePricesRead s b p table rests)))
+mine_answer None q r said table rests n size positive whole a t h = tt
+mine_answer (Some s) None r said table rests n size positive whole a t h = tt
+mine_answer (Some s) (Some b) None said table rests n size positive whole a t h = tt
+mine_answer (Some s) (Some b) (Some p) said table rests n size positive whole a t h = all_read s b p said table rests n size positive whole a t h
+
+-- ---- a check
+
+mine_stands : (s b p c : List ℕ) (k : ℕ) (e : EngineFault) → PricedMineFails s b p e → Fails (priced_texts s b p k) c e
+mine_stands s b p c k (engine.Settings q) h = h
+mine_stands s b p c k (engine.Blocks q) h = h
+mine_stands s b p c k (engine.Prices q) h = h
+mine_stands s b p c k (engine.Prec q) h = h
+mine_stands s b p c k engine.Memory h = tt
+mine_stands s b p c k engine.Device h = tt
+mine_stands s b p c k (engine.Upit q) h = absurd h
+mine_stands s b p c k (engine.Slope q) h = absurd h
+mine_stands s b p c k (engine.Model q) h = absurd h
+mine_stands s b p c k (engine.Certificate q) h = absurd h
+mine_stands s b p c k engine.Thread h = absurd h
+mine_stands s b p c k engine.Stranger h = absurd h
+
+-- the texts of the mine were not read
+pub unread : (s b p c : List ℕ) (w : Option (List ℕ)) (e : EngineFault) → PricedMineFails s b p e → Checks (priced_texts s b p (factor_in c)) c w w (Err e)
+unread s b p c w e h = (mine_stands s b p c (factor_in c) e h, at_fault (priced_texts s b p (factor_in c)) c w w e (keeps_self w))
+
+-- the certificate was not read
+pub text_unread : (s b p c : List ℕ) (w : Option (List ℕ)) (table : PricesView) (rests : RestsView) (e : EngineFault) → ArePricesRead s b p table rests → TextReadFails c e → Checks (priced_texts s b p (factor_in c)) c w w (Err e)
+text_unread s b p c w table rests e a h =
+    let texts = priced_texts s b p (factor_in c) in
+    (text_stands texts c _ rests e (worths_priced s b p table rests (factor_in c) a) h, at_fault texts c w w e (keeps_self w))
+
+judged_as : (s b p c text : List ℕ) (answer : Result Judgement EngineFault) → text ≡ c → Judges (priced_texts s b p (factor_in text)) text answer → Judges (priced_texts s b p (factor_in c)) c answer
+judged_as s b p c text answer e h = let P : List ℕ → Type 0 = λ t. Judges (priced_texts s b p (factor_in t)) t answer in subst P e h
+
+-- it could not be judged
+pub unjudged : (s b p c text : List ℕ) (w : Option (List ℕ)) (e : EngineFault) → text ≡ c → Judges (priced_texts s b p (factor_in text)) text (Err e) → Checks (priced_texts s b p (factor_in c)) c w w (Err e)
+unjudged s b p c text w e is h = (judged_as s b p c text (Err e) is h, at_fault (priced_texts s b p (factor_in c)) c w w e (keeps_self w))
+
+-- the line was written, or could not be
+pub told : (s b p c text : List ℕ) (old new : Option (List ℕ)) (judgement : Judgement) (verdict : Verdict) → verdict ≡ verdict_of judgement → text ≡ c → Judges (priced_texts s b p (factor_in text)) text (Ok judgement) → Appends old new (judgement_line judgement) → Checks (priced_texts s b p (factor_in c)) c old new (Ok verdict)
+told s b p c text old new judgement verdict v is h k =
+    let P : Verdict → Type 0 = λ x. Checks (priced_texts s b p (factor_in c)) c old new (Ok x) in
+    subst P (sym v) (written (priced_texts s b p (factor_in c)) c old new judgement (judged_as s b p c text (Ok judgement) is h) k)
+
+pub untold : (s b p c text : List ℕ) (old new : Option (List ℕ)) (judgement : Judgement) (e : EngineFault) → text ≡ c → Judges (priced_texts s b p (factor_in text)) text (Ok judgement) → LineFails old new (judgement_line judgement) e → Checks (priced_texts s b p (factor_in c)) c old new (Err e)
+untold s b p c text old new judgement e is h k = line_failed (priced_texts s b p (factor_in c)) c old new judgement e (judged_as s b p c text (Ok judgement) is h) k
+
+pub complete4 : (o q r t : Option (List ℕ)) (old new : Option (List ℕ)) (answer : Result Verdict EngineFault) → IfSome o (λ s. IfSome q (λ b. IfSome r (λ p. IfSome t (λ c. Checks (priced_texts s b p (factor_in c)) c old new answer)))) → IfSome o (λ s. IfSome q (λ b. IfSome r (λ p. IfSome t (λ c. SoundIsAccepted (priced_texts s b p (factor_in c)) c answer))))
+complete4 o q r t old new answer h = all4 o q r t _ _ h (λ s b p c k. complete_at (priced_texts s b p (factor_in c)) c old new answer k)
+
+-- ---- a solution
+
+solve_stands : (s b p : List ℕ) (k : ℕ) (name : Group) (e : EngineFault) → PricedMineFails s b p e → SolveFails (priced_texts s b p k) name e
+solve_stands s b p k name (engine.Settings q) h = h
+solve_stands s b p k name (engine.Blocks q) h = h
+solve_stands s b p k name (engine.Prices q) h = h
+solve_stands s b p k name (engine.Prec q) h = h
+solve_stands s b p k name engine.Memory h = tt
+solve_stands s b p k name engine.Device h = tt
+solve_stands s b p k name (engine.Upit q) h = absurd h
+solve_stands s b p k name (engine.Slope q) h = absurd h
+solve_stands s b p k name (engine.Model q) h = absurd h
+solve_stands s b p k name (engine.Certificate q) h = absurd h
+solve_stands s b p k name engine.Thread h = absurd h
+solve_stands s b p k name engine.Stranger h = absurd h

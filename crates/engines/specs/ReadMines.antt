@@ -1,0 +1,53 @@
+-- What is known of a mine that was read.
+use Rattle.std.specs.Prelude.{◌≡◌, ℕ, ℤ, pos, ◌*ℤ◌, Bool, List, map}
+use Rattle.ordered_group.specs.Amount.{Amount}
+use Rattle.ordered_group.specs.declared.groups.Group.{Group}
+use Rattle.prec_file.specs.Rests.{RestsView, ArePairsOf}
+use Rattle.prec_file.specs.Records as prec
+use Rattle.closure_net.specs.Network.{NetView}
+use Rattle.closure_net.specs.Closure.{IsGreatest}
+use Rattle.closure_net.specs.Mine.{Mine, IsNetOf}
+use Rattle.closure_net.specs.declared.networks.NetFault.{NetFault}
+use Rattle.closure_net.specs.declared.networks.NetFault.TheVariants as net_fault
+use Rattle.settings_file.specs.declared.faults.SettingsFault.{SettingsFault}
+use Rattle.settings_file.specs.declared.faults.SettingsFault.TheVariants as settings_fault
+use Rattle.shells.specs.Prices.{PricesView, blocks_of}
+use Rattle.engines.specs.declared.engine_fault.EngineFault.{EngineFault}
+use Rattle.engines.specs.declared.engine_fault.EngineFault.TheVariants as engine
+use Rattle.engines.specs.declared.engine_fault.Problem.TheVariants as problem
+use Rattle.engines.specs.PricedTexts.{table_of}
+use Rattle.engines.specs.Mines.{MineTexts, priced_texts, precedence_of, DenoteMine}
+use Rattle.engines.specs.Readings.{block_by, counts_by, IsProvedPit}
+use Rattle.engines.specs.FaultStands.{AreWorths}
+
+-- the billionths of numbers of millionths
+abbrev pub billionths_of : List ℤ → List ℤ
+billionths_of values = map (λ x. pos 1000 *ℤ x) values
+
+-- The worths, in billionths, and the pairs that were read are those of the texts.
+pub record AreRead (texts : MineTexts) (nanos : List ℤ) (rests : RestsView) : Type 0 where
+  pub mine : DenoteMine texts rests.blocks
+  pub worths : AreWorths texts rests.blocks nanos
+  pub pairs : ArePairsOf (prec.listed (precedence_of texts)) rests.pairs
+
+-- The prices and the pairs that were read are those of the texts, at whatever factor.
+pub record ArePricesRead (settings blocks precedence : List ℕ) (prices : PricesView) (rests : RestsView) : Type 0 where
+  pub mine : (factor : ℕ) → DenoteMine (priced_texts settings blocks precedence factor) rests.blocks
+  pub table : prices ≡ table_of settings blocks
+  pub size : blocks_of prices ≡ rests.blocks
+  pub pairs : ArePairsOf (prec.listed precedence) rests.pairs
+
+-- The group with this name counts a block so, and what sums to most by it is proved.
+pub record IsGroupNamed (name : Group) (block : ℤ → ℕ → Amount) (counts : Bool) : Type 0 where
+  pub block_is : block_by name ≡ block
+  pub counts_is : counts_by name ≡ counts
+  pub proves : (mine : Mine) (net : NetView) (e : ℕ → Bool) → IsNetOf block mine net → IsGreatest net e → IsProvedPit name mine e
+
+-- the engine's fault of a net's, and of settings: want of memory is one of its own
+abbrev pub of_model : NetFault → EngineFault
+of_model net_fault.NoMemory = engine.Memory
+of_model fault = engine.Model fault
+
+abbrev pub of_settings : SettingsFault → EngineFault
+of_settings settings_fault.NoMemory = engine.Memory
+of_settings fault = engine.Settings (problem.Fault fault)

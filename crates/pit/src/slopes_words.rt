@@ -1,0 +1,29 @@
+//! What the words of `slopes` ask for, or the word that names nothing that there is.
+
+ghost use Rattle.std.specs.Prelude.{IfOk};
+ghost use Rattle.engines.specs.Slopes.{IsChoice};
+
+use command_line::{NamedOption, SlopesWords, WrongWord};
+use engines::{PatternChoice, pattern_named, up_named};
+use slope::Up;
+
+/// Which blocks above a block are its predecessors.
+pub fn pattern_asked<'a>(words: SlopesWords<'a>) -> Result<PatternChoice, WrongWord<'a>>
+    ensures { IfOk result IsChoice }
+{
+    pattern_named(words.pattern.as_bytes()).ok_or(WrongWord {
+        option: NamedOption::Pattern,
+        word: words.pattern,
+    })
+}
+
+/// Which way is up: a greater z, where no word says.
+pub fn up_asked<'a>(words: SlopesWords<'a>) -> Result<Up, WrongWord<'a>> {
+    match words.up {
+        Some(word) => up_named(word.as_bytes()).ok_or(WrongWord {
+            option: NamedOption::Up,
+            word,
+        }),
+        None => Ok(Up::PlusZ),
+    }
+}

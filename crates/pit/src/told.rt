@@ -1,0 +1,85 @@
+//! Files and the output, which tell why they failed where that is asked for.
+
+use std::fs::File;
+use std::io;
+use std::io::{Printer, Read, Write};
+use std::rt::Files;
+
+/// A file or the output under its name. Where a call on it fails, it tells the system's reason on standard error, if that
+/// was asked for, and hands the failure on.
+#[derive(Drop)]
+pub struct Told<'a, R, D> {
+    rt: &'a R,
+    is_asked: bool,
+    name: &'a str,
+    device: D,
+}
+
+/// Opens a file to be read.
+///
+/// # Errors
+/// That of the system, of which it tells.
+pub fn opened<'a, R: Files + Eprint>(
+    rt: &'a R,
+    is_asked: bool,
+    name: &'a str,
+) -> io::Result<Told<'a, R, R::File>> {
+    match File::open(rt, name) {
+        Ok(device) => Ok(Told {
+            rt,
+            is_asked,
+            name,
+            device,
+        }),
+        Err(error) => {
+            tell(rt, is_asked, "open", name, error);
+            Err(error)
+        }
+    }
+}
+
+/// Standard output.
+pub fn output<'a, R: Print + Eprint>(rt: &'a R, is_asked: bool) -> Told<'a, R, Printer<'a, R>> {
+    Told {
+        rt,
+        is_asked,
+        name: "standard output",
+        device: io::writer(rt),
+    }
+}
+
+impl<R: Eprint, D: Read> Read for Told<'_, R, D> {
+    fn read(&mut self, buf: &mut [u8]) -> io::Result<usize> {
+        match self.device.read(buf) {
+            Ok(count) => Ok(count),
+            Err(error) => {
+                tell(self.rt, self.is_asked, "read", self.name, error);
+                Err(error)
+            }
+        }
+    }
+}
+
+impl<R: Eprint, D: Write> Write for Told<'_, R, D> {
+    fn write(&mut self, buf: &[u8]) -> io::Result<usize> {
+        match self.device.write(buf) {
+            Ok(count) => Ok(count),
+            Err(error) => {
+                tell(self.rt, self.is_asked, "write to", self.name, error);
+                Err(error)
+            }
+        }
+    }
+
+    fn flush(&mut self) -> io::Result<()> {
+        self.device.flush()
+    }
+}
+
+// Tells what couldn't be done with what, and why. The engine answers by the failure itself, so nothing depends on whether
+// anybody can be told.
+fn tell<R: Eprint>(rt: &R, is_asked: bool, what: &str, name: &str, why: io::Error) {
+    if is_asked {
+        let _ = rt.eprintln(format_args!("reason: cannot {what} {name}: {why}"));
+    }
+}
