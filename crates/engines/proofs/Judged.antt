@@ -127,11 +127,6 @@ worths_fail name block counts texts n worths fault are named f =
       stands = let P : (ℤ → ℕ → Amount) → Type 0 = λ b. WorthsFaultStands b n worths fault in subst P (sym named.block_is) f;
     }
 
-worths_fault : (name : Group) (block : ℤ → ℕ → Amount) (counts : Bool) (texts : MineTexts) (certificate : List ℕ) (read : upit.UpitView) (rests : RestsView) (fault : NetFault) → IsWithinLimit certificate → AreRead texts read rests → IsGroupNamed name block counts → IsHeader texts certificate rests.blocks name → WorthsFaultStands block rests.blocks (nanos_of read.values) fault → Fails texts certificate (of_model fault)
-worths_fault name block counts texts certificate read rests net.WrongLength within a named header f = (rests.blocks, a.mine, within, name, header, worths_fail name block counts texts read rests.blocks (nanos_of read.values) net.WrongLength a.denotes named refl f)
-worths_fault name block counts texts certificate read rests net.TooLarge within a named header f = (rests.blocks, a.mine, within, name, header, worths_fail name block counts texts read rests.blocks (nanos_of read.values) net.TooLarge a.denotes named refl f)
-worths_fault name block counts texts certificate read rests net.NoMemory within a named header f = tt
-
 -- a fault in making the net
 pub net_fails : (name : Group) (block : ℤ → ℕ → Amount) (counts : Bool) (texts : MineTexts) (certificate : List ℕ) (rests : RestsView) (worths : List ℤ) (fault : NetFault) → IsWithinLimit certificate → AreRead texts worths rests → IsGroupNamed name block counts → IsHeader texts certificate rests.blocks name → WorthsFaultStands block rests.blocks worths fault → Fails texts certificate (of_model fault)
 net_fails name block counts texts certificate rests worths net.WrongLength within a named header f = (rests.blocks, a.mine, within, name, header, worths_fail name block counts texts rests.blocks worths net.WrongLength a.worths named f)

@@ -27,7 +27,7 @@ use Rattle.engines.specs.OutputLines.{judgement_line}
 use Rattle.engines.specs.Verdicts.{verdict_of}
 use Rattle.engines.specs.FaultStands.{Fails}
 use Rattle.engines.specs.Checking.{Checks, SoundIsAccepted, LineFails}
-use Rattle.engines.specs.Solving.{Solves, SolveFails}
+use Rattle.engines.specs.Solving.{Solves}
 use Rattle.engines.proofs.Answered.{keeps_self, at_fault, text_stands, judged_at, written, line_failed}
 use Rattle.engines.proofs.Complete.{complete_at}
 use Rattle.engines.proofs.Priced.{all_read, worths_priced}
@@ -213,16 +213,17 @@ complete4 o q r t old new answer h = all4 o q r t _ _ h (λ s b p c k. complete_
 
 -- ---- a solution
 
-solve_stands : (s b p : List ℕ) (k : ℕ) (name : Group) (e : EngineFault) → PricedMineFails s b p e → SolveFails (priced_texts s b p k) name e
-solve_stands s b p k name (engine.Settings q) h = h
-solve_stands s b p k name (engine.Blocks q) h = h
-solve_stands s b p k name (engine.Prices q) h = h
-solve_stands s b p k name (engine.Prec q) h = h
-solve_stands s b p k name engine.Memory h = tt
-solve_stands s b p k name engine.Device h = tt
-solve_stands s b p k name (engine.Upit q) h = absurd h
-solve_stands s b p k name (engine.Slope q) h = absurd h
-solve_stands s b p k name (engine.Model q) h = absurd h
-solve_stands s b p k name (engine.Certificate q) h = absurd h
-solve_stands s b p k name engine.Thread h = absurd h
-solve_stands s b p k name engine.Stranger h = absurd h
+-- the texts of the mine were not read
+pub unread_to_solve : (s b p : List ℕ) (k : ℕ) (name : Group) (method : Method) (limit : ℕ) (w : Option (List ℕ)) (e : EngineFault) → PricedMineFails s b p e → Solves (priced_texts s b p k) name method limit w w (Err e)
+unread_to_solve s b p k name method limit w (engine.Settings q) h = (h, keeps_self w)
+unread_to_solve s b p k name method limit w (engine.Blocks q) h = (h, keeps_self w)
+unread_to_solve s b p k name method limit w (engine.Prices q) h = (h, keeps_self w)
+unread_to_solve s b p k name method limit w (engine.Prec q) h = (h, keeps_self w)
+unread_to_solve s b p k name method limit w engine.Memory h = (tt, keeps_self w)
+unread_to_solve s b p k name method limit w engine.Device h = (tt, inl (keeps_self w))
+unread_to_solve s b p k name method limit w (engine.Upit q) h = absurd h
+unread_to_solve s b p k name method limit w (engine.Slope q) h = absurd h
+unread_to_solve s b p k name method limit w (engine.Model q) h = absurd h
+unread_to_solve s b p k name method limit w (engine.Certificate q) h = absurd h
+unread_to_solve s b p k name method limit w engine.Thread h = absurd h
+unread_to_solve s b p k name method limit w engine.Stranger h = absurd h

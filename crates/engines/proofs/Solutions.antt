@@ -8,7 +8,7 @@ use Rattle.ordered_group.specs.Amount.{Amount}
 use Rattle.ordered_group.specs.declared.groups.Group.{Group}
 use Rattle.prec_file.specs.Rests.{RestsView}
 use Rattle.upit_file.specs.Records as upit
-use Rattle.closure_net.specs.Network.{NetView, FlowView, IsNet, FlowFits, holds_of}
+use Rattle.closure_net.specs.Network.{NetView, FlowView, net_view, IsNet, FlowFits, holds_of}
 use Rattle.closure_net.specs.Mine.{IsNetOf}
 use Rattle.closure_net.specs.Faults.{WorthsFaultStands}
 use Rattle.closure_net.specs.declared.networks.NetFault.{NetFault}
@@ -96,7 +96,7 @@ net_by block counts texts name rests worths net a named is_net is l =
     let N : NetView → Type 0 = λ n. IsNetOf block (mine_of rests.blocks texts) n in
     let M : ℕ → Type 0 = λ k. IsNetOf block (mine_of k texts) net in
     let B : (ℤ → ℕ → Amount) → Type 0 = λ b. IsNetOf b (mine_of (length net.worths) texts) net in
-    record { mine = subst D size a.mine; is_net = is_net; of_mine = subst B (sym named.block_is) (subst M size (subst N (sym h.0) made)) }
+    record { mine = subst D size a.mine; is_net = is_net; of_mine = subst B (sym named.block_is) (subst M size (subst N (sym is) made)) }
 
 module _ (block : ℤ → ℕ → Amount) (counts : Bool) (texts : MineTexts) (name : Group) (net : NetView) (method : Method) (limit : ℕ) (named : IsGroupNamed name block counts) (by : IsNetBy texts name net) where
   certificate_is : (text : List ℕ) → IsCertificateOf counts name (price_wanted texts) net text → IsCertificate texts name text
@@ -140,11 +140,6 @@ module _ (block : ℤ → ℕ → Amount) (counts : Bool) (texts : MineTexts) (n
   solved old new (Err engine.Thread) h = (tt, h)
   solved old new (Err engine.Stranger) h = (tt, h)
   solved old new (Err engine.Device) h = (tt, inr (net, by, h.0, h.1, h.2))
-
-unmade_by : (block : ℤ → ℕ → Amount) (counts : Bool) (texts : MineTexts) (name : Group) (read : upit.UpitView) (rests : RestsView) (method : Method) (limit : ℕ) (w : Option (List ℕ)) (fault : NetFault) → AreRead texts read rests → IsGroupNamed name block counts → WorthsFaultStands block rests.blocks (nanos_of read.values) fault → Solves texts name method limit w w (Err (of_model fault))
-unmade_by block counts texts name read rests method limit w net_fault.WrongLength a named f = ((rests.blocks, a.mine, worths_fail name block counts texts read rests.blocks (nanos_of read.values) net_fault.WrongLength a.denotes named refl f), keeps_self w)
-unmade_by block counts texts name read rests method limit w net_fault.TooLarge a named f = ((rests.blocks, a.mine, worths_fail name block counts texts read rests.blocks (nanos_of read.values) net_fault.TooLarge a.denotes named refl f), keeps_self w)
-unmade_by block counts texts name read rests method limit w net_fault.NoMemory a named f = (tt, keeps_self w)
 
 -- there is no net of the mine
 pub unmade : (block : ℤ → ℕ → Amount) (counts : Bool) (texts : MineTexts) (name : Group) (rests : RestsView) (worths : List ℤ) (method : Method) (limit : ℕ) (w : Option (List ℕ)) (fault : NetFault) → AreRead texts worths rests → IsGroupNamed name block counts → WorthsFaultStands block rests.blocks worths fault → Solves texts name method limit w w (Err (of_model fault))

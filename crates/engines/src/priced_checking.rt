@@ -58,8 +58,9 @@ pub fn check_priced_engine<
         × (C.failed certificate.new ≡ C.failed certificate.old) × (W.failed out.new ≡ W.failed out.old) }
 {
     let mine = priced_mine_from(alloc, settings, blocks, prec)?;
+    let rests = mine.rests;
     let text = certificate_from(alloc, certificate)?;
-    let judgement = judge_priced(rt, alloc, &mine.prices, mine.rests, text.as_slice())?;
+    let judgement = judge_priced(rt, alloc, &mine.prices, rests, text.as_slice())?;
     write_judgement(alloc, judgement, out)?;
     Ok(judgement.verdict())
 }

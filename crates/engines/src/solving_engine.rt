@@ -10,7 +10,7 @@ use crate::effort::Effort;
 use crate::engine_fault::EngineFault;
 use crate::inputs::{rests_from, upit_from};
 use crate::judgement::Verdict;
-use crate::mines::net_of;
+use crate::mines::nanos_of;
 use crate::solving::solve_net;
 use check_pit::Price;
 use closure_net::{Net, laws};
