@@ -20,6 +20,7 @@ pub mod laws;
 mod marks;
 mod opening;
 mod operations;
+mod predicates;
 mod pushing;
 mod reading;
 mod refusals;
@@ -29,7 +30,6 @@ mod state;
 mod stepping;
 #[cfg(test)]
 mod tests;
-mod tests_of_amounts;
 
 pub use machine_law::{Best, Event, Kind, Operation};
 pub use refusals::{ReplayFault, StepRefusal};

@@ -17,7 +17,7 @@ ghost use Rattle.async_step.specs.Answers.{IsStateOf, IsWaiting};
 use crate::marks::Marks;
 use crate::opening::{busy_marks, idle_operations, positives, waiting_marks, zeros};
 use crate::operations::{choose, see};
-use crate::tests_of_amounts::{is_busy, is_idle, is_positive, is_waiting, is_zero};
+use crate::predicates::{is_busy, is_idle, is_positive, is_waiting, is_zero};
 use closure_net::{Carried, Flow, Net, Port};
 use machine_law::Operation;
 use ordered_group::OrderedGroup;

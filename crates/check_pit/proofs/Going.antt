@@ -8,10 +8,10 @@ use Rattle.fixed_worth.specs.declared.numerals.NumberFault.{NumberFault}
 use Rattle.fixed_worth.specs.Numeral.{plain_of}
 use Rattle.ordered_group.specs.Amount.{Amount, zero_amount}
 use Rattle.ordered_group.specs.Sums.{amount_at}
-use Rattle.check_pit.specs.declared.cert_faults.CertFault.{CertFault}
-use Rattle.check_pit.specs.declared.cert_faults.CertFault.TheVariants as fault
-use Rattle.check_pit.specs.declared.cert_faults.LineFault.{LineFault}
-use Rattle.check_pit.specs.declared.cert_faults.LineFault.TheVariants.{Text, Number}
+use Rattle.check_pit.specs.declared.cert_fault.CertFault.{CertFault}
+use Rattle.check_pit.specs.declared.cert_fault.CertFault.TheVariants as fault
+use Rattle.check_pit.specs.declared.cert_fault.LineFault.{LineFault}
+use Rattle.check_pit.specs.declared.cert_fault.LineFault.TheVariants.{Text, Number}
 use Rattle.check_pit.specs.declared.lines_of_body.Kind.{Kind}
 use Rattle.check_pit.specs.declared.lines_of_body.Kind.TheVariants.{Pit, Source, Rest, Sink, End}
 use Rattle.check_pit.specs.declared.lines_of_body.BodyLine.{BodyLine}

@@ -10,8 +10,8 @@ use Rattle.check_pit.specs.Fits.{BalanceFits, BalanceOverflows, SumsFit, SomeSum
 use Rattle.check_pit.specs.Checks.{ProvesPit, Sizes, NoneBelowZero, KeepsWithin, PassesSigns, PassesCapacities, AllWithin, AllBalanced, BalancedWhileFit, IsOpen, FaultHolds, FaultStands}
 use Rattle.check_pit.specs.Closing.{IsFirstOpen}
 use Rattle.check_pit.specs.Balances.{ComesTo, BalanceFault}
-use Rattle.check_pit.specs.declared.faults.PitFault.{PitFault}
-use Rattle.check_pit.specs.declared.faults.PitFault.TheVariants.{WrongSize, NotClosed, Negative, OverCapacity, Unbalanced, NotTight, TooLarge}
+use Rattle.check_pit.specs.declared.pit_fault.PitFault.{PitFault}
+use Rattle.check_pit.specs.declared.pit_fault.PitFault.TheVariants.{WrongSize, NotClosed, Negative, OverCapacity, Unbalanced, NotTight, TooLarge}
 
 -- what passes every test but the last is a flow
 pub flow_found : (net : NetView) (flow : FlowView) (pit : List ℕ) → Sizes net flow pit → NoneBelowZero flow → AllWithin net flow → AllBalanced net flow → IsFlow net flow

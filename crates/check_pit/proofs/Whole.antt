@@ -8,11 +8,11 @@ use Rattle.ordered_group.specs.Amount.{Amount, zero_amount}
 use Rattle.ordered_group.specs.Sums.{amount_at}
 use Rattle.prec_file.specs.Rests.{IsRests}
 use Rattle.closure_net.specs.Network.{FlowView, IsAscending}
-use Rattle.check_pit.specs.declared.headers.Header.{Header}
-use Rattle.check_pit.specs.declared.headers.Wanted.{Wanted}
-use Rattle.check_pit.specs.declared.headers.Price.{Price}
+use Rattle.check_pit.specs.declared.header.Header.{Header}
+use Rattle.check_pit.specs.declared.header.Wanted.{Wanted}
+use Rattle.check_pit.specs.declared.header.Price.{Price}
 use Rattle.check_pit.specs.declared.lines_of_body.BodyLine.{BodyLine}
-use Rattle.check_pit.specs.declared.cert_faults.CertFault.{CertFault}
+use Rattle.check_pit.specs.declared.cert_fault.CertFault.{CertFault}
 use Rattle.check_pit.specs.Pieces.{Piece, Unread, pieces_of}
 use Rattle.check_pit.specs.Header.{header_for}
 use Rattle.check_pit.specs.BodyLines.{body_fault, lines_in}

@@ -5,10 +5,10 @@ use Rattle.std.specs.Ordering.{int_eq, nat_cmp, ordering_then, is_lt}
 use lib.Chars.{codes}
 use Rattle.fixed_worth.specs.declared.numerals.NumberFault.{NumberFault}
 use Rattle.fixed_worth.specs.Numeral.{plain_of}
-use Rattle.check_pit.specs.declared.cert_faults.CertFault.{CertFault}
-use Rattle.check_pit.specs.declared.cert_faults.CertFault.TheVariants as fault
-use Rattle.check_pit.specs.declared.cert_faults.LineFault.{LineFault}
-use Rattle.check_pit.specs.declared.cert_faults.LineFault.TheVariants.{Text, Number}
+use Rattle.check_pit.specs.declared.cert_fault.CertFault.{CertFault}
+use Rattle.check_pit.specs.declared.cert_fault.CertFault.TheVariants as fault
+use Rattle.check_pit.specs.declared.cert_fault.LineFault.{LineFault}
+use Rattle.check_pit.specs.declared.cert_fault.LineFault.TheVariants.{Text, Number}
 use Rattle.check_pit.specs.declared.lines_of_body.Kind.{Kind}
 use Rattle.check_pit.specs.declared.lines_of_body.Kind.TheVariants.{Pit, Source, Rest, Sink, End}
 use Rattle.check_pit.specs.declared.lines_of_body.BodyLine.{BodyLine}

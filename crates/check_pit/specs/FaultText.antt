@@ -2,8 +2,8 @@
 use Rattle.std.specs.Prelude.{ℕ, List, ◌++◌}
 use Rattle.std.specs.Fmt.{decimal}
 use lib.Chars.{codes}
-use Rattle.check_pit.specs.declared.cert_faults.CertFault.{CertFault}
-use Rattle.check_pit.specs.declared.cert_faults.CertFault.TheVariants.{Text, Number, OutOfOrder, UnknownPair, Truncated, NoMemory}
+use Rattle.check_pit.specs.declared.cert_fault.CertFault.{CertFault}
+use Rattle.check_pit.specs.declared.cert_fault.CertFault.TheVariants.{Text, Number, OutOfOrder, UnknownPair, Truncated, NoMemory}
 
 -- the name, and the line's number in parentheses where there is one
 abbrev pub fault_text : CertFault → List ℕ

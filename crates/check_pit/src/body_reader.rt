@@ -6,7 +6,7 @@ ghost use Rattle.check_pit.specs.BodyLines.{body_fault, lines_in};
 ghost use Rattle.check_pit.specs.Certificate.{Covers, UnlessMemory, has_pair};
 ghost use Rattle.check_pit.specs.Gathered.{Adds};
 
-use crate::cert_faults::CertFault;
+use crate::cert_fault::CertFault;
 use crate::gathering::{Parts, counts};
 use crate::lines_of_body::{BodyLine, Kind, read_in_order};
 use crate::piece_reader::Pieces;

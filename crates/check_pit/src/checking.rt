@@ -10,9 +10,9 @@ ghost use Rattle.check_pit.specs.Fits.{SumsFit};
 ghost use Rattle.check_pit.specs.Checks.{ProvesPit, Sizes, IsSound, NoneBelowZero, KeepsWithin, AllWithin, AllBalanced, FaultStands};
 ghost use Rattle.check_pit.specs.Balances.{BalanceFault};
 
-use crate::accepted_pits::Accepted;
+use crate::accepted::Accepted;
 use crate::closing::first_open;
-use crate::faults::PitFault;
+use crate::pit_fault::PitFault;
 use crate::sums::{balance_of, pit_worth, room_left};
 use closure_net::{Carried, Flow, Net, Pit};
 use ordered_group::{OrderedGroup, at_most, negative_part, positive_part, same};

@@ -4,7 +4,7 @@ ghost use Rattle.std.specs.Prelude.{◌≡◌, ℕ, ◌+◌, true, Some, None, O
 ghost use Rattle.check_pit.specs.Pieces.{Passed, piece_at};
 ghost use Rattle.check_pit.specs.BodyLines as spec;
 
-use crate::cert_faults::{CertFault, LineFault};
+use crate::cert_fault::{CertFault, LineFault};
 use crate::header_lines::{in_line, number_below};
 use crate::piece_reader::{Pieces, Words};
 use fixed_worth::plain_signed;

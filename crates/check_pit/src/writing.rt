@@ -10,8 +10,8 @@ ghost use Rattle.check_pit.specs.Written.{spaced, line_words, lines_text, header
 ghost use Rattle.check_pit.specs.Certificate.{Covers};
 ghost use Rattle.check_pit.specs.ReadBack.{Writable, AreWritable, IsPrice, IsReadBack};
 
-use crate::certificates::Certificate;
-use crate::headers::{Header, Price};
+use crate::certificate::Certificate;
+use crate::header::{Header, Price};
 use crate::lines_of_body::{BodyLine, Kind};
 use closure_net::{Carried, Flow, Pit};
 use fixed_worth::{CountedWrite, Page, ShortLine, WriteFault};

@@ -2,8 +2,8 @@
 use Rattle.std.specs.Prelude.{◌≡◌, ◌≢◌, ℕ, ◌<◌, ℤ, pos, ◌⊎◌, List, length, map, slice_index_or}
 use Rattle.ordered_group.specs.Amount.{Amount, zero_amount, minus, positive, FitsPair}
 use Rattle.ordered_group.specs.Sums.{amount_at, SumFits, SumLeaves}
-use Rattle.closure_net.specs.declared.networks.NetFault.{NetFault}
-use Rattle.closure_net.specs.declared.networks.NetFault.TheVariants.{WrongLength, TooLarge, NoMemory}
+use Rattle.closure_net.specs.declared.net.NetFault.{NetFault}
+use Rattle.closure_net.specs.declared.net.NetFault.TheVariants.{WrongLength, TooLarge, NoMemory}
 
 -- the opposite of each worth fits
 abbrev pub OppositesFit : List Amount → Type 0

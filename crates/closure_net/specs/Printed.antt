@@ -1,7 +1,7 @@
 -- Faults as they are printed.
 use Rattle.std.specs.Prelude.{ℕ, List, codes}
-use Rattle.closure_net.specs.declared.networks.NetFault.{NetFault}
-use Rattle.closure_net.specs.declared.networks.NetFault.TheVariants.{WrongLength, TooLarge, NoMemory}
+use Rattle.closure_net.specs.declared.net.NetFault.{NetFault}
+use Rattle.closure_net.specs.declared.net.NetFault.TheVariants.{WrongLength, TooLarge, NoMemory}
 
 -- The fault's name.
 abbrev pub net_fault_text : NetFault → List ℕ

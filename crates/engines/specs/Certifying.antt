@@ -3,8 +3,8 @@ use Rattle.std.specs.Prelude.{◌≡◌, ℕ, List, length}
 use Rattle.closure_net.specs.Network.{NetView, FlowView, FlowFits, holds_of}
 use Rattle.closure_net.specs.Reached.{IsReached}
 use Rattle.check_pit.specs.Checks.{IsOfNet, IsSound, FaultStands}
-use Rattle.check_pit.specs.declared.faults.PitFault.{PitFault}
-use Rattle.check_pit.specs.declared.headers.Price.{Price}
+use Rattle.check_pit.specs.declared.pit_fault.PitFault.{PitFault}
+use Rattle.check_pit.specs.declared.header.Price.{Price}
 use Rattle.engines.specs.declared.certify.Uncertified.{Uncertified}
 use Rattle.engines.specs.declared.certify.Uncertified.TheVariants.{NoMemory, Refused}
 use Rattle.engines.specs.Mines.{price_of_values}

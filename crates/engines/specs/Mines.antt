@@ -4,8 +4,8 @@ use Rattle.std.specs.List.{list_any}
 use Rattle.closure_net.specs.Mine.{Mine}
 use Rattle.prec_file.specs.Records as prec
 use Rattle.upit_file.specs.Records as upit
-use Rattle.check_pit.specs.declared.headers.Price.{Price}
-use Rattle.check_pit.specs.declared.headers.Price.TheVariants.{Objective}
+use Rattle.check_pit.specs.declared.header.Price.{Price}
+use Rattle.check_pit.specs.declared.header.Price.TheVariants.{Objective}
 use Rattle.engines.specs.Limits.{IsWithinLimit}
 
 -- The texts that denote a mine: the values of its blocks, and what rests on what. A model whose blocks have prices in place of
