@@ -1,6 +1,6 @@
 //! Why a pit and a flow are refused.
 
-ghost use Rattle.check_pit.specs.PrintedFaults.{pit_fault_text};
+ghost use Rattle.check_pit.specs.FaultText.{pit_fault_text};
 
 use std::error::Error;
 use std::fmt;

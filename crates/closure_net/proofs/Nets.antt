@@ -5,7 +5,7 @@ use Rattle.std.proofs.lemmas.List.{length-map}
 use Rattle.ordered_group.specs.Amount.{Amount}
 use Rattle.prec_file.specs.Rests.{RestsView, IsRests}
 use Rattle.closure_net.specs.Network.{NetView, net_view, IsNetParts}
-use Rattle.closure_net.specs.Faults.{WorthsFit, NetFaultStands, AmountsFaultStands, WorthsFaultStands}
+use Rattle.closure_net.specs.FaultStands.{WorthsFit, NetFaultStands, AmountsFaultStands, WorthsFaultStands}
 use Rattle.closure_net.specs.declared.net.NetFault.{NetFault}
 use Rattle.closure_net.specs.declared.net.NetFault.TheVariants.{WrongLength, TooLarge, NoMemory}
 

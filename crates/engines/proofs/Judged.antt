@@ -25,7 +25,7 @@ use Rattle.engines.specs.Mines.{MineTexts, price_wanted, mine_of, DenoteMine}
 use Rattle.engines.specs.Readings.{Reads}
 use Rattle.engines.specs.Judgements.{IsAccepted, IsRefused}
 use Rattle.engines.specs.Faults.{IsHeader, AreWorths, BodyFails, NetFails, Fails}
-use Rattle.closure_net.specs.Faults.{WorthsFaultStands}
+use Rattle.closure_net.specs.FaultStands.{WorthsFaultStands}
 use Rattle.closure_net.specs.declared.net.NetFault.{NetFault}
 use Rattle.closure_net.specs.declared.net.NetFault.TheVariants as net
 use Rattle.check_pit.specs.declared.cert_fault.CertFault.{CertFault}

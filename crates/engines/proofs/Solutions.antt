@@ -10,7 +10,7 @@ use Rattle.prec_file.specs.Rests.{RestsView}
 use Rattle.upit_file.specs.Records as upit
 use Rattle.closure_net.specs.Network.{NetView, FlowView, net_view, IsNet, FlowFits, holds_of}
 use Rattle.closure_net.specs.Mine.{IsNetOf}
-use Rattle.closure_net.specs.Faults.{WorthsFaultStands}
+use Rattle.closure_net.specs.FaultStands.{WorthsFaultStands}
 use Rattle.closure_net.specs.declared.net.NetFault.{NetFault}
 use Rattle.closure_net.specs.declared.net.NetFault.TheVariants as net_fault
 use Rattle.workers.specs.Runs.{Settles}

@@ -1,6 +1,6 @@
 use Rattle.std.proofs.Common.{arith, map, length, List, ap, subst}
 use Rattle.std.proofs.lemmas.List.{length-map}
-use Rattle.closure_net.specs.Faults.{WorthsFit}
+use Rattle.closure_net.specs.FaultStands.{WorthsFit}
 use Rattle.closure_net.proofs.Nets.{net_parts}
 use Rattle.closure_net.proofs.net.Net.build.Goals as goal
 

@@ -1,4 +1,4 @@
--- Kinds of step as they are printed.
+-- How kinds of step are printed.
 use Rattle.std.specs.Prelude.{ℕ, List, codes}
 use Rattle.machine_law.specs.declared.events.Kind.{Kind}
 use Rattle.machine_law.specs.declared.events.Kind.TheVariants.{ReadExcess, ReadCapacity, ReadLabel, TakeCapacity, GiveCapacity, TakeExcess, GiveExcess, RaiseLabel}

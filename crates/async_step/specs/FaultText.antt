@@ -1,6 +1,6 @@
--- Refusals as they are printed.
+-- How refusals and faults are printed.
 use Rattle.std.specs.Prelude.{ℕ, ◌++◌, List, codes, decimal}
-use Rattle.machine_law.specs.Printed.{kind_text}
+use Rattle.machine_law.specs.KindText.{kind_text}
 use Rattle.async_step.specs.declared.refusals.StepRefusal.{StepRefusal}
 use Rattle.async_step.specs.declared.refusals.StepRefusal.TheVariants.{NoSuchBlock, OutOfTurn, TooLarge, TooManySteps}
 use Rattle.async_step.specs.declared.refusals.ReplayFault.{ReplayFault}

@@ -1,4 +1,4 @@
--- Faults as they are printed.
+-- How faults are printed.
 use Rattle.std.specs.Prelude.{ℕ, List, codes}
 use Rattle.closure_net.specs.declared.net.NetFault.{NetFault}
 use Rattle.closure_net.specs.declared.net.NetFault.TheVariants.{WrongLength, TooLarge, NoMemory}

@@ -1,4 +1,4 @@
--- Faults as they are printed.
+-- How faults are printed.
 use Rattle.std.specs.Prelude.{ℕ, List, codes}
 use Rattle.pseudoflow.specs.declared.fault.PseudoflowFault.{PseudoflowFault}
 use Rattle.pseudoflow.specs.declared.fault.PseudoflowFault.TheVariants.{Unsettled, TooLarge, Broken, NoMemory}
