@@ -23,6 +23,7 @@ pub fn positives<G: OrderedGroup>(alloc: Global, net: &Net<G>) -> Result<Vec<G>,
     let worths = net.worths();
     for worth in worths {
         let amount = positive_part(*worth);
+        // proof: the numbers of an amount fit their type
         value_fits(amount);
         amounts.push(amount)?;
     }

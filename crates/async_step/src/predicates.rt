@@ -48,5 +48,6 @@ pub fn is_busy<G: OrderedGroup>(excess: G, idle: bool) -> bool
 pub fn value_fits<G: OrderedGroup>(amount: G)
     ensures { FitsPair (G.parts_of amount) }
 {
+    // proof: what `parts` returns fits its type
     let _numbers = amount.parts();
 }

@@ -70,6 +70,7 @@ impl<G: OrderedGroup> State<G> {
     {
         let blocks = net.worths().len() as u32;
         let rests = net.rests();
+        // proof: there are at most 2^24 blocks and 2^27 pairs
         let _few = rests.len();
         let pairs = rests.pairs();
         let excess = positives(alloc, net)?;
@@ -216,6 +217,7 @@ impl<G: OrderedGroup> State<G> {
             (λ flow. IsQuiet _net.now (state_of self) × IsFlowOf _net.now (state_of self) flow)
             (λ state. (state ≡ self) × ¬ (IsQuiet _net.now (state_of self))) }
     {
+        // proof: the lists of a state are as long as its blocks
         let _sized = self.len();
         if !self.quiet() {
             return Err(self);

@@ -48,7 +48,7 @@ pub(crate) fn with_outflow<G: OrderedGroup>(
         (λ r. (G.parts_of r ≡ plus (G.parts_of start) (outflow ps carried.now m b)) × EndFits (G.parts_of start) (from_at ps) f b m) }
 {
     let mut sum = start;
-    // the pairs are in order, which the number of blocks tells, so those of b lie side by side
+    // proof: a `Rests` is in order, so the pairs of b lie side by side
     let _n = rests.len();
     let first = rests.first(b);
     let count = rests.above(b).len();

@@ -248,6 +248,7 @@ fn put_flow<G: OrderedGroup, W: CountedWrite>(
     ensures prefix { OnErr result (ReceivedPrefix (W.contents out.old) (W.contents out.new) (page.old ++ body_text (flow_lines rests.now.pairs flow.now))) }
     ensures counted { OnErr result (W.failed out.new ≡ W.failed out.old + 1) }
 {
+    // proof: a `Rests` is in order, with at most 2^27 pairs
     let _n = rests.len();
     put_blocks(page, out, LineKind::Source, flow.source())?;
     put_pairs(page, out, rests, flow.rest())?;
@@ -300,6 +301,7 @@ pub fn write_certificate<G: OrderedGroup, W: CountedWrite>(
         price: certificate.price,
         group: G::group(),
     };
+    // proof: a `Rests` is in order, and a `Pit` is ascending
     let _blocks = rests.len();
     let _pit = certificate.pit.blocks();
     let mut page = Page::new();

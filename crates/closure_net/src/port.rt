@@ -45,6 +45,7 @@ fn forward_at(rests: &Rests, b: u32, i: u32) -> Option<Port>
     requires { b < rests.now.blocks }
     ensures { let list = forwards (from_at rests.now.pairs) (to_at rests.now.pairs) (length rests.now.pairs) b in MatchOption result (length list ≤ i) (λ p. slice_get list i ≡ Some p) }
 {
+    // proof: a `Rests` is in order, with at most 2^27 pairs
     let _n = rests.len();
     let first = rests.first(b);
     let tops = rests.above(b);
@@ -84,6 +85,7 @@ fn forward_count(rests: &Rests, b: u32) -> u32
     ensures is { result ≡ length (forwards (from_at rests.now.pairs) (to_at rests.now.pairs) (length rests.now.pairs) b) }
     ensures few { result ≤ 134217728 }
 {
+    // proof: a `Rests` is in order, with at most 2^27 pairs
     let _n = rests.len();
     rests.above(b).len() as u32
 }
@@ -94,6 +96,7 @@ fn backward_count(rests: &Rests, b: u32) -> u32
     ensures is { result ≡ length (backwards (from_at rests.now.pairs) (to_at rests.now.pairs) (length rests.now.pairs) b) }
     ensures few { result ≤ 134217728 }
 {
+    // proof: a `Rests` is in order, with at most 2^27 pairs
     let _n = rests.len();
     rests.below(b).len() as u32
 }

@@ -52,6 +52,7 @@ fn spread_down(search: &mut Search, rests: &Rests, b: u32)
     ensures blocks { search.new.blocks ≡ search.old.blocks }
     ensures found { Passed Always (above_at rests.now.pairs b) search.old.found search.new.found (length (above_of rests.now.pairs b)) }
 {
+    // proof: the pairs are of the blocks of `rests`
     let _blocks = rests.len();
     for p in rests.above(b) {
         search.add(*p);
@@ -66,6 +67,7 @@ fn spread_up<G: OrderedGroup>(search: &mut Search, rests: &Rests, flow: &Flow<G>
     ensures blocks { search.new.blocks ≡ search.old.blocks }
     ensures found { Passed (SendsAt rests.now.pairs flow.now.rest b) (sender_at rests.now.pairs b) search.old.found search.new.found (length (below_of rests.now.pairs b)) }
 {
+    // proof: the pairs are of the blocks of `rests`
     let _blocks = rests.len();
     for k in rests.below(b) {
         if carries(flow, *k) {
