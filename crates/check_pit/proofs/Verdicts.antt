@@ -1,5 +1,5 @@
 -- What the steps of a check come to.
-use Rattle.std.proofs.Common.{◌≡◌, ℕ, ◌<◌, Bool, List, length, inl, inr, refl, subst}
+use Rattle.std.proofs.Common.{◌≡◌, ℕ, Bool, List, length, inl, inr, refl, subst}
 use Rattle.std.proofs.lemmas.Bool.{cases_lt}
 use Rattle.std.proofs.lemmas.List.Elements.{Contains-get_or, All-contains}
 use Rattle.closure_net.specs.Network.{NetView, FlowView, holds_of}
