@@ -3,4 +3,4 @@ pub mod Views
 pub mod Answers
 pub mod Changes
 pub mod Scans
-pub mod Printed
+pub mod FaultText

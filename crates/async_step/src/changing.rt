@@ -67,6 +67,7 @@ impl<G: OrderedGroup> State<G> {
         requires can { CanChange net.now b (change_as G.parts_of change) }
         ensures { Leads net.now self.old (changed (becomes (state_of self.old) b (operation_as G.parts_of operation)) b (change_as G.parts_of change)) self.new result }
     {
+        // proof: the lists of a state are as long as its blocks
         let _sized = self.len();
         if self.is_full() {
             return Err(StepRefusal::TooManySteps);

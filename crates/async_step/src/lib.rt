@@ -1,7 +1,10 @@
 //! The machine that finds a greatest flow of a net in single atomic steps: Hong's lock-free
 //! push-relabel (Hong, A lock-free multi-threaded algorithm for the maximum flow problem, 2008), in
 //! which each step reads or writes one number, so that the steps of different blocks may come in
-//! any order.
+//! any order. Its pushes and relabels are those of the generic method (Goldberg and Tarjan, A new
+//! approach to the maximum-flow problem, Journal of the ACM 35, 1988), which makes O(V^2 E) pushes
+//! over V nodes and E arcs; Hong gives O(V^2 E) pushes and relabels. No bound is claimed here: a run
+//! ends where its state is quiet, and otherwise at the limit that it is given.
 //!
 //! Stands on `machine_law`, which says what a state and a step are and what every step keeps, on
 //! `closure_net` for nets, ports and flows, and on `ordered_group` for amounts. Promises upward: a
@@ -20,6 +23,7 @@ pub mod laws;
 mod marks;
 mod opening;
 mod operations;
+mod predicates;
 mod pushing;
 mod reading;
 mod refusals;
@@ -29,7 +33,6 @@ mod state;
 mod stepping;
 #[cfg(test)]
 mod tests;
-mod tests_of_amounts;
 
 pub use machine_law::{Best, Event, Kind, Operation};
 pub use refusals::{ReplayFault, StepRefusal};

@@ -8,7 +8,7 @@ ghost use Rattle.machine_law.specs.Reads.{is_positive};
 ghost use Rattle.async_step.specs.Views.{is_zero, IsMarked};
 
 use crate::marks::Marks;
-use crate::tests_of_amounts::{is_positive, is_zero, value_fits};
+use crate::predicates::{is_positive, is_zero, value_fits};
 use closure_net::Net;
 use machine_law::Operation;
 use ordered_group::{OrderedGroup, positive_part};
@@ -23,6 +23,7 @@ pub fn positives<G: OrderedGroup>(alloc: Global, net: &Net<G>) -> Result<Vec<G>,
     let worths = net.worths();
     for worth in worths {
         let amount = positive_part(*worth);
+        // proof: the numbers of an amount fit their type
         value_fits(amount);
         amounts.push(amount)?;
     }

@@ -6,7 +6,7 @@ ghost use Rattle.machine_law.specs.Reads.{begun, IsScan};
 ghost use Rattle.async_step.specs.Scans.{weighed_by, seen_by, chosen_by};
 ghost use Rattle.machine_law.specs.Steps.{read_kind, push_kind, push_amount};
 
-use crate::tests_of_amounts::is_positive;
+use crate::predicates::is_positive;
 use closure_net::{Port, PortKind};
 use machine_law::{Best, Kind, Operation, better, pass};
 use ordered_group::{OrderedGroup, smaller};

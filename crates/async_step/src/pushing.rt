@@ -2,7 +2,7 @@
 
 ghost use Rattle.std.specs.Prelude.{◌≡◌, ◌+◌, ◌<◌, length};
 ghost use Rattle.ordered_group.specs.Amount.{plus};
-ghost use Rattle.closure_net.specs.declared.ports.PortKind.TheVariants.{Sink, Forward, Backward, Source};
+ghost use Rattle.closure_net.specs.declared.port.PortKind.TheVariants.{Sink, Forward, Backward, Source};
 ghost use Rattle.machine_law.specs.declared.operations.Operation.TheVariants.{Idle};
 ghost use Rattle.machine_law.specs.Operations.{best_as};
 ghost use Rattle.machine_law.specs.Residual.{IsPortOf};
@@ -215,6 +215,7 @@ impl<G: OrderedGroup> State<G> {
         ensures { let s = state_of self.old in Leads net.now self.old (given s block (G.parts_of amount) port) self.new result }
     {
         let rests = net.rests();
+        // proof: there are at most 2^24 blocks and 2^27 pairs
         let _few = rests.len();
         match port.kind {
             PortKind::Sink => self.arrive_at_sink(net, block, amount),

@@ -64,6 +64,7 @@ impl<G: OrderedGroup> State<G> {
             (becomes s block (seen_by (length (ports net.now block)) (s.label block) c (s.operation block)))
             (Capacity c) self.new result }
     {
+        // proof: the lists of a state are as long as its blocks
         let _sized = self.len();
         if self.is_full() {
             return Err(StepRefusal::TooManySteps);
@@ -105,6 +106,7 @@ impl<G: OrderedGroup> State<G> {
             (becomes s block (chosen_by (length (ports net.now block)) (s.label block) port h (s.operation block)))
             (Label h) self.new result }
     {
+        // proof: the lists of a state are as long as its blocks
         let _sized = self.len();
         if self.is_full() {
             return Err(StepRefusal::TooManySteps);

@@ -1,7 +1,7 @@
 //! Why a step, or a list of steps, is refused.
 
 ghost use Rattle.std.specs.Prelude.{Some};
-ghost use Rattle.async_step.specs.Printed.{step_refusal_text, replay_fault_text};
+ghost use Rattle.async_step.specs.FaultText.{step_refusal_text, replay_fault_text};
 
 use machine_law::Kind;
 use std::fmt;

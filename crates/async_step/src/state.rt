@@ -17,7 +17,7 @@ ghost use Rattle.async_step.specs.Answers.{IsStateOf, IsWaiting};
 use crate::marks::Marks;
 use crate::opening::{busy_marks, idle_operations, positives, waiting_marks, zeros};
 use crate::operations::{choose, see};
-use crate::tests_of_amounts::{is_busy, is_idle, is_positive, is_waiting, is_zero};
+use crate::predicates::{is_busy, is_idle, is_positive, is_waiting, is_zero};
 use closure_net::{Carried, Flow, Net, Port};
 use machine_law::Operation;
 use ordered_group::OrderedGroup;
@@ -70,6 +70,7 @@ impl<G: OrderedGroup> State<G> {
     {
         let blocks = net.worths().len() as u32;
         let rests = net.rests();
+        // proof: there are at most 2^24 blocks and 2^27 pairs
         let _few = rests.len();
         let pairs = rests.pairs();
         let excess = positives(alloc, net)?;
@@ -216,6 +217,7 @@ impl<G: OrderedGroup> State<G> {
             (λ flow. IsQuiet _net.now (state_of self) × IsFlowOf _net.now (state_of self) flow)
             (λ state. (state ≡ self) × ¬ (IsQuiet _net.now (state_of self))) }
     {
+        // proof: the lists of a state are as long as its blocks
         let _sized = self.len();
         if !self.quiet() {
             return Err(self);

@@ -1,4 +1,17 @@
-//! One step, of any kind.
+//! One step, of any kind: the operation of a block says which step is its next one.
+//!
+//! | Operation | Kind of step | Made by | In |
+//! |---|---|---|---|
+//! | `Idle` | `ReadExcess` | `read_excess` | `reading.rt` |
+//! | `Scan`, the capacity of the port is to be read | `ReadCapacity` | `scan`, `read_capacity` | `reading.rt` |
+//! | `Scan`, it was read, or the port is forward | `ReadLabel` | `scan`, `read_label` | `reading.rt` |
+//! | `PushDue`, the port is forward | `GiveCapacity` | `move_capacity`, `move_forward` | `pushing.rt` |
+//! | `PushDue`, the port is another | `TakeCapacity` | `move_capacity`, `move_back`, `move_to_sink`, `move_to_source` | `pushing.rt` |
+//! | `TakeDue` | `TakeExcess` | `take_excess` | `pushing.rt` |
+//! | `GiveDue` | `GiveExcess` | `give_excess` | `pushing.rt` |
+//! | `RaiseDue` | `RaiseLabel` | `raise_label` | `pushing.rt` |
+//!
+//! What a block does after a read is in `operations.rt`; the numbers of the state are written in `state.rt`.
 
 ghost use Rattle.std.specs.Prelude.{◌≡◌, ◌<◌, length, MatchResult};
 ghost use Rattle.machine_law.specs.Steps.{next_kind, advance, next_event};

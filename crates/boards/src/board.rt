@@ -176,6 +176,7 @@ impl<G: OrderedGroup> Board<G> {
             (λ board. (board ≡ self) × ¬ (IsQuiet self.net (shown self))) }
     {
         let Board { net, state, stuck } = self;
+        // proof: in a `Net` the pairs are in order and the sums of the worths fit
         let _worths = net.worths();
         match state.into_flow(&net) {
             Ok(flow) => Ok((net, flow)),

@@ -17,6 +17,7 @@ fn end_operation<G: OrderedGroup>(board: &mut TurnBoard<G>, block: u32, steps: u
     ensures goes_on { GoesOn board.old board.new steps }
     ensures end { MatchOption result (AreIdleBelow board.new (block + 1)) (λ end. HasEnded board.new steps end) }
 {
+    // proof: a `TurnBoard` is made by turns alone
     let _blocks = board.len();
     while board.has_operation(block) {
         match board.turn(Some(block), block, steps) {
@@ -51,6 +52,7 @@ fn take_turns<G: OrderedGroup>(board: &mut TurnBoard<G>, steps: u64) -> End
     ensures goes_on { GoesOn board.old board.new steps }
     ensures end { HasEnded board.new steps result }
 {
+    // proof: a `TurnBoard` is made by turns alone
     let _blocks = board.len();
     let mut own = None;
     let mut from = 0;
@@ -80,6 +82,7 @@ pub fn finish<G: OrderedGroup>(board: &mut TurnBoard<G>, steps: u64) -> End
         Some(end) => end,
         None => take_turns(board, steps),
     };
+    // proof: a `TurnBoard` is made by turns alone
     let _blocks = board.len();
     end
 }

@@ -39,6 +39,7 @@ impl<G: OrderedGroup> TurnBoard<G> {
         ensures { IfOk result (λ board. IsOpened net.now board) }
     {
         let board = Board::open(alloc, net)?;
+        // proof: a `Board`'s state is one of a run over its net
         let _blocks = board.len();
         Ok(TurnBoard { board })
     }

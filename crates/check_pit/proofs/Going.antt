@@ -8,12 +8,12 @@ use Rattle.fixed_worth.specs.declared.numerals.NumberFault.{NumberFault}
 use Rattle.fixed_worth.specs.Numeral.{plain_of}
 use Rattle.ordered_group.specs.Amount.{Amount, zero_amount}
 use Rattle.ordered_group.specs.Sums.{amount_at}
-use Rattle.check_pit.specs.declared.cert_faults.CertFault.{CertFault}
-use Rattle.check_pit.specs.declared.cert_faults.CertFault.TheVariants as fault
-use Rattle.check_pit.specs.declared.cert_faults.LineFault.{LineFault}
-use Rattle.check_pit.specs.declared.cert_faults.LineFault.TheVariants.{Text, Number}
-use Rattle.check_pit.specs.declared.lines_of_body.Kind.{Kind}
-use Rattle.check_pit.specs.declared.lines_of_body.Kind.TheVariants.{Pit, Source, Rest, Sink, End}
+use Rattle.check_pit.specs.declared.cert_fault.CertFault.{CertFault}
+use Rattle.check_pit.specs.declared.cert_fault.CertFault.TheVariants as fault
+use Rattle.check_pit.specs.declared.cert_fault.LineFault.{LineFault}
+use Rattle.check_pit.specs.declared.cert_fault.LineFault.TheVariants.{Text, Number}
+use Rattle.check_pit.specs.declared.lines_of_body.LineKind.{LineKind}
+use Rattle.check_pit.specs.declared.lines_of_body.LineKind.TheVariants.{Pit, Source, Rest, Sink, End}
 use Rattle.check_pit.specs.declared.lines_of_body.BodyLine.{BodyLine}
 use Rattle.check_pit.specs.Pieces.{Piece, Unread, Passed, piece_at, read_line, in_line, no_line, unless_fault, within, number_below, words_of}
 use Rattle.check_pit.specs.BodyLines.{kind_of, amount_said, amount_in, is_amount, numbered_line, pit_line, block_line, rest_line, end_line, line_with, line_of_words, line_of, is_end, is_of_model, may_follow, line_behind, next_line, end_fault, fault_from, body_fault, lines_in}
@@ -49,13 +49,13 @@ pub below_limit : (limit k : ℕ) (word : List ℕ) → number_below limit word 
 below_limit limit k word h = within_limit limit k (plain_of word) h
 
 -- A line of the body, by what it is made of.
-pub record Numbered (kind : Kind) (b o : Option ℕ) (a : Option (ℤ × ℤ)) (line : BodyLine) : Type 0 where
+pub record Numbered (kind : LineKind) (b o : Option ℕ) (a : Option (ℤ × ℤ)) (line : BodyLine) : Type 0 where
   pub kind_is : line.kind ≡ kind
   pub block_is : b ≡ Some line.block
   pub other_is : o ≡ Some line.other
   pub amount_is : a ≡ Some (line.worth, line.count)
 
-pub numbered : (kind : Kind) (b o : Option ℕ) (a : Option (ℤ × ℤ)) (line : BodyLine) → numbered_line kind b o a ≡ Ok line → Numbered kind b o a line
+pub numbered : (kind : LineKind) (b o : Option ℕ) (a : Option (ℤ × ℤ)) (line : BodyLine) → numbered_line kind b o a ≡ Ok line → Numbered kind b o a line
 numbered kind (Some b) (Some o) (Some a) line h =
     let made : BodyLine = record { kind = kind; block = b; other = o; worth = a.0; count = a.1 } in
     let e : made ≡ line = ap (λ (r : Result BodyLine LineFault). result_unwrap_or r line) h in
@@ -90,7 +90,7 @@ counted_in counts (Err d) (Ok c) a h = absurd cc
 counted_in counts (Err d) (Err e) a h = absurd cc
 
 -- A line of such a kind has an amount.
-abbrev pub carries : Kind → Bool
+abbrev pub carries : LineKind → Bool
 carries Pit = false
 carries Source = true
 carries Rest = true
@@ -116,7 +116,7 @@ no_parts = (pos 0, pos 0)
 no_amount : (line : BodyLine) → Some no_parts ≡ Some (line.worth, line.count) → amount_of line ≡ zero_amount
 no_amount line h = amount_parts line no_parts h
 
-not_carried : (line : BodyLine) (kind : Kind) {P : Type 0} → line.kind ≡ kind → carries kind ≡ false → carries line.kind ≡ true → P
+not_carried : (line : BodyLine) (kind : LineKind) {P : Type 0} → line.kind ≡ kind → carries kind ≡ false → carries line.kind ≡ true → P
 not_carried line kind e f h = absurd (let z : true ≡ false = sym h ∙ ap carries e ∙ f in cc)
 
 -- What a reader may rely on: where the line is not the last one, its block is one of n; only a REST line has a predecessor; and the count fits the group.
@@ -136,7 +136,7 @@ no_line_is line h = absurd cc
 none_other : (o : Option ℕ) (line : BodyLine) → o ≡ Some line.other → o ≡ Some 0 → line.other ≡ 0
 none_other o line e f = ap (λ (x : Option ℕ). unwrap_or x 0) (sym e ∙ f)
 
-sound_amount : (counts : Bool) (n : ℕ) (kind : Kind) (b w c : List ℕ) (o : Option ℕ) (line : BodyLine) → Numbered kind (number_below n b) o (amount_in counts w c) line → (is_rest kind ≡ false → o ≡ Some 0) → carries kind ≡ true → Sound counts n line
+sound_amount : (counts : Bool) (n : ℕ) (kind : LineKind) (b w c : List ℕ) (o : Option ℕ) (line : BodyLine) → Numbered kind (number_below n b) o (amount_in counts w c) line → (is_rest kind ≡ false → o ≡ Some 0) → carries kind ≡ true → Sound counts n line
 sound_amount counts n kind b w c o line m z y = record {
   other = λ e. none_other o line m.other_is (z (sym (ap is_rest m.kind_is) ∙ e));
   none = λ e. absurd (let f : true ≡ false = sym y ∙ ap carries (sym m.kind_is ∙ e) in cc);
@@ -152,7 +152,7 @@ sound_pit counts n (b ∷ []) line h =
     record { block = λ _. below_limit n line.block b m.block_is; other = λ _. none_other (Some 0) line m.other_is refl; none = λ _. no_amount line m.amount_is; some = λ h. not_carried line _ m.kind_is refl h; count = inr (sym (ap (λ (o : Option (ℤ × ℤ)). (unwrap_or o (pos 0, pos 0)).1) m.amount_is)) }
 sound_pit counts n (b ∷ w ∷ ws) line h = no_line_is line h
 
-sound_block : (counts : Bool) (n : ℕ) (kind : Kind) (words : List (List ℕ)) (line : BodyLine) → carries kind ≡ true → block_line counts n kind words ≡ Ok line → Sound counts n line
+sound_block : (counts : Bool) (n : ℕ) (kind : LineKind) (words : List (List ℕ)) (line : BodyLine) → carries kind ≡ true → block_line counts n kind words ≡ Ok line → Sound counts n line
 sound_block counts n kind [] line y h = no_line_is line h
 sound_block counts n kind (b ∷ []) line y h = no_line_is line h
 sound_block counts n kind (b ∷ w ∷ []) line y h = no_line_is line h
@@ -173,7 +173,7 @@ sound_end counts n [] line h =
     record { block = λ e. absurd (let z : true ≡ false = sym (ap is_end m.kind_is) ∙ e in cc); other = λ _. none_other (Some 0) line m.other_is refl; none = λ _. no_amount line m.amount_is; some = λ h. not_carried line _ m.kind_is refl h; count = inr (sym (ap (λ (o : Option (ℤ × ℤ)). (unwrap_or o (pos 0, pos 0)).1) m.amount_is)) }
 sound_end counts n (w ∷ ws) line h = no_line_is line h
 
-sound_with : (counts : Bool) (n : ℕ) (o : Option Kind) (words : List (List ℕ)) (line : BodyLine) → line_with counts n o words ≡ Ok line → Sound counts n line
+sound_with : (counts : Bool) (n : ℕ) (o : Option LineKind) (words : List (List ℕ)) (line : BodyLine) → line_with counts n o words ≡ Ok line → Sound counts n line
 sound_with counts n None words line h = no_line_is line h
 sound_with counts n (Some Pit) words line h = sound_pit counts n words line h
 sound_with counts n (Some Source) words line h = sound_block counts n Source words line refl h
@@ -220,14 +220,14 @@ next_unknown counts n has previous k p line e f = rw (e, f) refl
 next_wrong : (counts : Bool) (n : ℕ) (has : ℕ → ℕ → Bool) (previous : Option BodyLine) (k : ℕ) (p : Piece) (x : CertFault) → line_behind counts n previous k p ≡ Err x → next_line counts n has previous k p ≡ Err x
 next_wrong counts n has previous k p x e = rw e refl
 
-pit_joins : (kind : Kind) (b : ℕ) (bs : List ℕ) → block_if_pit kind b [] ++ bs ≡ block_if_pit kind b bs
+pit_joins : (kind : LineKind) (b : ℕ) (bs : List ℕ) → block_if_pit kind b [] ++ bs ≡ block_if_pit kind b bs
 pit_joins Pit b bs = refl
 pit_joins Source b bs = refl
 pit_joins Rest b bs = refl
 pit_joins Sink b bs = refl
 pit_joins End b bs = refl
 
-end_of_model : (has : ℕ → ℕ → Bool) (kind : Kind) (line : BodyLine) → is_end kind ≡ true → is_of_model has kind line ≡ true
+end_of_model : (has : ℕ → ℕ → Bool) (kind : LineKind) (line : BodyLine) → is_end kind ≡ true → is_of_model has kind line ≡ true
 end_of_model has Pit line h = refl
 end_of_model has Source line h = refl
 end_of_model has Rest line h = absurd (let z : false ≡ true = h in cc)

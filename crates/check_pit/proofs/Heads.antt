@@ -8,12 +8,12 @@ use Rattle.std.proofs.lemmas.Slice.Eq.{bytes_eq-Decides}
 use lib.Chars.{codes}
 use Rattle.ordered_group.specs.declared.groups.Group.{Group}
 use Rattle.ordered_group.specs.declared.groups.Group.TheVariants.{Worth, Pair}
-use Rattle.check_pit.specs.declared.headers.Header.{Header}
-use Rattle.check_pit.specs.declared.headers.Wanted.{Wanted}
-use Rattle.check_pit.specs.declared.headers.Price.{Price}
-use Rattle.check_pit.specs.declared.headers.Price.TheVariants.{Objective}
-use Rattle.check_pit.specs.declared.cert_faults.LineFault.{LineFault}
-use Rattle.check_pit.specs.declared.cert_faults.LineFault.TheVariants.{Text}
+use Rattle.check_pit.specs.declared.header.Header.{Header}
+use Rattle.check_pit.specs.declared.header.Wanted.{Wanted}
+use Rattle.check_pit.specs.declared.header.Price.{Price}
+use Rattle.check_pit.specs.declared.header.Price.TheVariants.{Objective}
+use Rattle.check_pit.specs.declared.cert_fault.LineFault.{LineFault}
+use Rattle.check_pit.specs.declared.cert_fault.LineFault.TheVariants.{Text}
 use Rattle.check_pit.specs.Pieces.{Piece, piece_at, read_line, words_of, number_below}
 use Rattle.check_pit.specs.Header.{header_for, version_in, value_behind, or_number, wanted_blocks, blocks_said, blocks_in, factor_of, price_said, price_in, is_same_group, wanted_group, group_in}
 use Rattle.check_pit.specs.Written.{spaced, lines_text, price_word, group_word, header_words}

@@ -7,11 +7,11 @@ use Rattle.std.specs.declared.cmp.Ordering.TheVariants.{Less, Equal, Greater}
 use Rattle.std.specs.Cmp.{ranks}
 use Rattle.std.specs.Result.{result_unwrap_or}
 use Rattle.closure_net.specs.Network.{IsAscending}
-use Rattle.check_pit.specs.declared.cert_faults.CertFault.{CertFault}
-use Rattle.check_pit.specs.declared.cert_faults.CertFault.TheVariants as fault
-use Rattle.check_pit.specs.declared.cert_faults.LineFault.{LineFault}
-use Rattle.check_pit.specs.declared.lines_of_body.Kind.{Kind}
-use Rattle.check_pit.specs.declared.lines_of_body.Kind.TheVariants.{Pit, Source, Rest, Sink, End}
+use Rattle.check_pit.specs.declared.cert_fault.CertFault.{CertFault}
+use Rattle.check_pit.specs.declared.cert_fault.CertFault.TheVariants as fault
+use Rattle.check_pit.specs.declared.cert_fault.LineFault.{LineFault}
+use Rattle.check_pit.specs.declared.lines_of_body.LineKind.{LineKind}
+use Rattle.check_pit.specs.declared.lines_of_body.LineKind.TheVariants.{Pit, Source, Rest, Sink, End}
 use Rattle.check_pit.specs.declared.lines_of_body.BodyLine.{BodyLine}
 use Rattle.check_pit.specs.Pieces.{Piece, read_line}
 use Rattle.check_pit.specs.Header.{◌>>=◌}
@@ -100,7 +100,7 @@ blocks_rise pb po lb lo Equal r e f h =
     absurd cc
 blocks_rise pb po lb lo Greater r e f h = absurd cc
 
-pit_before : (kind : Kind) (pb po lb lo : ℕ) → (is_rest kind ≡ false → po ≡ 0) → lo ≡ 0 → is_lt (ordering_then (nat_cmp (rank kind) 0) (ordering_then (nat_cmp pb lb) (nat_cmp po lo))) ≡ true → (kind ≡ Pit) × (pb < lb)
+pit_before : (kind : LineKind) (pb po lb lo : ℕ) → (is_rest kind ≡ false → po ≡ 0) → lo ≡ 0 → is_lt (ordering_then (nat_cmp (rank kind) 0) (ordering_then (nat_cmp pb lb) (nat_cmp po lo))) ≡ true → (kind ≡ Pit) × (pb < lb)
 pit_before Pit pb po lb lo e f h = (refl, blocks_rise pb po lb lo (nat_cmp pb lb) (ranks pb lb) (e refl) f h)
 pit_before Source pb po lb lo e f h = absurd cc
 pit_before Rest pb po lb lo e f h = absurd cc
@@ -109,10 +109,10 @@ pit_before End pb po lb lo e f h = absurd cc
 
 above_pit : (counts : Bool) (n : ℕ) (l m : BodyLine) → Sound counts n l → Sound counts n m → m.kind ≡ Pit → is_above l m ≡ true → (l.kind ≡ Pit) × (l.block < m.block)
 above_pit counts n l m s t k h =
-    let now = subst (λ (x : Kind). is_lt (ordering_then (nat_cmp (rank l.kind) (rank x)) (ordering_then (nat_cmp l.block m.block) (nat_cmp l.other m.other))) ≡ true) k h in
+    let now = subst (λ (x : LineKind). is_lt (ordering_then (nat_cmp (rank l.kind) (rank x)) (ordering_then (nat_cmp l.block m.block) (nat_cmp l.other m.other))) ≡ true) k h in
     pit_before l.kind l.block l.other m.block m.other s.other (t.other (ap is_rest k)) now
 
-later : (counts : Bool) (n : ℕ) (l m : BodyLine) (bs : List ℕ) (k : Kind) → m.kind ≡ k → Sound counts n l → Sound counts n m → is_above l m ≡ true → ((i : ℕ) → i < length bs → (m.kind ≡ Pit) × (m.block < get_or bs i 0))
+later : (counts : Bool) (n : ℕ) (l m : BodyLine) (bs : List ℕ) (k : LineKind) → m.kind ≡ k → Sound counts n l → Sound counts n m → is_above l m ≡ true → ((i : ℕ) → i < length bs → (m.kind ≡ Pit) × (m.block < get_or bs i 0))
     → (i : ℕ) → i < length (block_if_pit k m.block bs) → (l.kind ≡ Pit) × (l.block < get_or (block_if_pit k m.block bs) i 0)
 later counts n l m bs Pit e s t a ih zero h = above_pit counts n l m s t e a
 later counts n l m bs Pit e s t a ih (suc i) h =
@@ -134,7 +134,7 @@ rising b bs f h zero (suc y) i j = f y (omega arith)
 rising b bs f h (suc x) zero i j = absurd (omega arith)
 rising b bs f h (suc x) (suc y) i j = h x y (omega arith) (omega arith)
 
-with_pit : (counts : Bool) (n : ℕ) (m : BodyLine) (bs : List ℕ) (k : Kind) → m.kind ≡ k → ((i : ℕ) → i < length bs → (m.kind ≡ Pit) × (m.block < get_or bs i 0)) → IsAscending bs → IsAscending (block_if_pit k m.block bs)
+with_pit : (counts : Bool) (n : ℕ) (m : BodyLine) (bs : List ℕ) (k : LineKind) → m.kind ≡ k → ((i : ℕ) → i < length bs → (m.kind ≡ Pit) × (m.block < get_or bs i 0)) → IsAscending bs → IsAscending (block_if_pit k m.block bs)
 with_pit counts n m bs Pit e f h = rising m.block bs (λ i j. (f i j).1) h
 with_pit counts n m bs Source e f h = h
 with_pit counts n m bs Rest e f h = h
@@ -149,7 +149,7 @@ known_on : (n b : ℕ) (bs : List ℕ) → b < n → All (λ x. x < n) bs → Al
 known_on n b bs f h zero d i = f
 known_on n b bs f h (suc k) d i = h k d (omega arith)
 
-known_pit : (n b : ℕ) (bs : List ℕ) (k : Kind) → b < n → All (λ x. x < n) bs → All (λ x. x < n) (block_if_pit k b bs)
+known_pit : (n b : ℕ) (bs : List ℕ) (k : LineKind) → b < n → All (λ x. x < n) bs → All (λ x. x < n) (block_if_pit k b bs)
 known_pit n b bs Pit f h = known_on n b bs f h
 known_pit n b bs Source f h = h
 known_pit n b bs Rest f h = h

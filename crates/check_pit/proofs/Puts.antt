@@ -6,7 +6,7 @@ use Rattle.fixed_worth.specs.Device.{ReceivedPrefix, SentOrHeld}
 use Rattle.fixed_worth.proofs.Pieces.{all_held, held_more, held_more_prefix, prefix_of_first, held_both, held_sent, held_prefix, prefix_in_first, prefix_in_second}
 use Rattle.ordered_group.specs.Amount.{Amount, zero_amount}
 use Rattle.closure_net.specs.Network.{FlowView}
-use Rattle.check_pit.specs.declared.lines_of_body.Kind.TheVariants.{Source, Sink}
+use Rattle.check_pit.specs.declared.lines_of_body.LineKind.TheVariants.{Source, Sink}
 use Rattle.check_pit.specs.declared.lines_of_body.BodyLine.{BodyLine}
 use Rattle.check_pit.specs.Written.{spaced, line_words, body_text, amount_lines, is_zero, pit_at, block_at, pair_at, flow_lines}
 

@@ -12,8 +12,8 @@ use Rattle.fixed_worth.specs.declared.numerals.NumberFault.{NumberFault}
 use Rattle.fixed_worth.specs.Numeral.{plain_of}
 use Rattle.fixed_worth.proofs.PlainNumbers.{printed_is_plain}
 use Rattle.ordered_group.specs.Amount.{Amount, FitsPair}
-use Rattle.check_pit.specs.declared.lines_of_body.Kind.{Kind}
-use Rattle.check_pit.specs.declared.lines_of_body.Kind.TheVariants.{Pit, Source, Rest, Sink}
+use Rattle.check_pit.specs.declared.lines_of_body.LineKind.{LineKind}
+use Rattle.check_pit.specs.declared.lines_of_body.LineKind.TheVariants.{Pit, Source, Rest, Sink}
 use Rattle.check_pit.specs.declared.lines_of_body.BodyLine.{BodyLine}
 use Rattle.check_pit.specs.Pieces.{within, number_below}
 use Rattle.check_pit.specs.BodyLines.{is_amount, amount_said, amount_in, numbered_line, block_line, line_of_words, line_of}
@@ -84,12 +84,12 @@ amount_words x f = all_words (signed_decimal x.w) (signed_decimal x.c ∷ []) (s
 amount_short : (x : Amount) → FitsPair x → length (spaced (signed_decimal x.w ∷ signed_decimal x.c ∷ [])) ≤ 81
 amount_short x f = let a = signed_short x.w f.0 in let b = signed_short x.c f.1 in omega (arith, length-append (signed_decimal x.w) (32 ∷ signed_decimal x.c))
 
-block_made : (counts : Bool) (n b : ℕ) (kind : Kind) (x : Amount) → n ≤ 2 ^ 24 → b < n → is_zero x ≡ false → Writable counts x → block_line counts n kind (decimal b ∷ signed_decimal x.w ∷ signed_decimal x.c ∷ []) ≡ Ok (block_at kind b x)
+block_made : (counts : Bool) (n b : ℕ) (kind : LineKind) (x : Amount) → n ≤ 2 ^ 24 → b < n → is_zero x ≡ false → Writable counts x → block_line counts n kind (decimal b ∷ signed_decimal x.w ∷ signed_decimal x.c ∷ []) ≡ Ok (block_at kind b x)
 block_made counts n b kind x h l z w =
     ap (λ (o : Option ℕ). numbered_line kind o (Some 0) (amount_in counts (signed_decimal x.w) (signed_decimal x.c))) (number_read n b l (omega arith))
     ∙ ap (λ (o : Option (ℤ × ℤ)). numbered_line kind (Some b) (Some 0) o) (amount_read counts x z w.count w.fits)
 
-block_readable : (counts : Bool) (n b : ℕ) (kind : Kind) (x : Amount) (key : List ℕ) → n ≤ 2 ^ 24 → b < n → Writable counts x → words_with kind (block_at kind b x) ≡ key ∷ decimal b ∷ signed_decimal x.w ∷ signed_decimal x.c ∷ [] → is_word key ≡ true → length key ≤ 100
+block_readable : (counts : Bool) (n b : ℕ) (kind : LineKind) (x : Amount) (key : List ℕ) → n ≤ 2 ^ 24 → b < n → Writable counts x → words_with kind (block_at kind b x) ≡ key ∷ decimal b ∷ signed_decimal x.w ∷ signed_decimal x.c ∷ [] → is_word key ≡ true → length key ≤ 100
     → line_of_words counts n (key ∷ decimal b ∷ signed_decimal x.w ∷ signed_decimal x.c ∷ []) ≡ Ok (block_at kind b x) → Readable counts n (block_at kind b x)
 block_readable counts n b kind x key h l w e k s made =
     let d = block_word n b l h in

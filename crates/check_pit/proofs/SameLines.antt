@@ -7,8 +7,8 @@ use Rattle.std.proofs.lemmas.Bool.Decides.{nat_tests}
 use Rattle.ordered_group.specs.Amount.{Amount, zero_amount}
 use Rattle.ordered_group.specs.Sums.{amount_at}
 use Rattle.closure_net.specs.Network.{FlowView}
-use Rattle.check_pit.specs.declared.lines_of_body.Kind.{Kind}
-use Rattle.check_pit.specs.declared.lines_of_body.Kind.TheVariants.{Pit, Source, Rest, Sink, End}
+use Rattle.check_pit.specs.declared.lines_of_body.LineKind.{LineKind}
+use Rattle.check_pit.specs.declared.lines_of_body.LineKind.TheVariants.{Pit, Source, Rest, Sink, End}
 use Rattle.check_pit.specs.declared.lines_of_body.BodyLine.{BodyLine}
 use Rattle.check_pit.specs.BodyLines.{rank, is_end, is_of_model}
 use Rattle.check_pit.specs.Certificate.{Denotes, has_pair, pit_of, block_if_pit, amount_of, given, gives_source, gives_rest, gives_sink, is_source, is_rest, is_sink}
@@ -19,26 +19,26 @@ use Rattle.check_pit.proofs.LineOrder.{line_cmp, Above, not_itself, Has, has_goo
 
 same_key : (a b : BodyLine) → a.kind ≡ b.kind → a.block ≡ b.block → a.other ≡ b.other → Above a b → ⊥
 same_key a b e f g h =
-    let same : line_cmp a a ≡ line_cmp a b = ap (λ (k : Kind). ordering_then (nat_cmp (rank a.kind) (rank k)) (ordering_then (nat_cmp a.block a.block) (nat_cmp a.other a.other))) e
+    let same : line_cmp a a ≡ line_cmp a b = ap (λ (k : LineKind). ordering_then (nat_cmp (rank a.kind) (rank k)) (ordering_then (nat_cmp a.block a.block) (nat_cmp a.other a.other))) e
     ∙ ap (λ (x : ℕ). ordering_then (nat_cmp (rank a.kind) (rank b.kind)) (ordering_then (nat_cmp a.block x) (nat_cmp a.other a.other))) f
     ∙ ap (λ (x : ℕ). ordering_then (nat_cmp (rank a.kind) (rank b.kind)) (ordering_then (nat_cmp a.block b.block) (nat_cmp a.other x))) g in
     not_itself a (same ∙ h)
 
-source_kind : (k : Kind) (t : Bool) → (is_source k && t) ≡ true → (k ≡ Source) × (t ≡ true)
+source_kind : (k : LineKind) (t : Bool) → (is_source k && t) ≡ true → (k ≡ Source) × (t ≡ true)
 source_kind Pit t h = absurd (let z : false ≡ true = h in cc)
 source_kind Source t h = (refl, h)
 source_kind Rest t h = absurd (let z : false ≡ true = h in cc)
 source_kind Sink t h = absurd (let z : false ≡ true = h in cc)
 source_kind End t h = absurd (let z : false ≡ true = h in cc)
 
-rest_kind : (k : Kind) (t : Bool) → (is_rest k && t) ≡ true → (k ≡ Rest) × (t ≡ true)
+rest_kind : (k : LineKind) (t : Bool) → (is_rest k && t) ≡ true → (k ≡ Rest) × (t ≡ true)
 rest_kind Pit t h = absurd (let z : false ≡ true = h in cc)
 rest_kind Source t h = absurd (let z : false ≡ true = h in cc)
 rest_kind Rest t h = (refl, h)
 rest_kind Sink t h = absurd (let z : false ≡ true = h in cc)
 rest_kind End t h = absurd (let z : false ≡ true = h in cc)
 
-sink_kind : (k : Kind) (t : Bool) → (is_sink k && t) ≡ true → (k ≡ Sink) × (t ≡ true)
+sink_kind : (k : LineKind) (t : Bool) → (is_sink k && t) ≡ true → (k ≡ Sink) × (t ≡ true)
 sink_kind Pit t h = absurd (let z : false ≡ true = h in cc)
 sink_kind Source t h = absurd (let z : false ≡ true = h in cc)
 sink_kind Rest t h = absurd (let z : false ≡ true = h in cc)
@@ -60,7 +60,7 @@ sink_so b l h = let q = sink_kind l.kind (eqb l.block b) h in (q.0, eqb-true l.b
 pub rest_so : (x : ℕ × ℕ) (l : BodyLine) → gives_rest x l ≡ true → (l.kind ≡ Rest) × (x.0 ≡ l.block) × (x.1 ≡ l.other)
 rest_so x l h = let q = rest_kind l.kind (eqb x.0 l.block && eqb x.1 l.other) h in let r = two_same x.0 l.block x.1 l.other q.1 in (q.0, r.0, r.1)
 
-not_rest : (l : BodyLine) (k : Kind) → l.kind ≡ k → is_rest k ≡ false → is_rest l.kind ≡ false
+not_rest : (l : BodyLine) (k : LineKind) → l.kind ≡ k → is_rest k ≡ false → is_rest l.kind ≡ false
 not_rest l k e f = ap is_rest e ∙ f
 
 tells_source : (n : ℕ) (has : ℕ → ℕ → Bool) (b : ℕ) → Tells (Proper n has) (gives_source b)
@@ -101,7 +101,7 @@ abbrev HasBlock : ℕ → List ℕ → Type 0
 HasBlock b [] = ⊥
 HasBlock b (x ∷ xs) = (x ≡ b) ⊎ HasBlock b xs
 
-block_more : (k : Kind) (b x : ℕ) (bs : List ℕ) → HasBlock b bs → HasBlock b (block_if_pit k x bs)
+block_more : (k : LineKind) (b x : ℕ) (bs : List ℕ) → HasBlock b bs → HasBlock b (block_if_pit k x bs)
 block_more Pit b x bs h = inr h
 block_more Source b x bs h = h
 block_more Rest b x bs h = h
@@ -113,7 +113,7 @@ pit_has l [] e h = absurd h
 pit_has l (m ∷ ms) e h = elim h [
   | inl i ↦
       let first : HasBlock l.block (block_if_pit Pit m.block (pit_of ms)) = inl (ap (λ (x : BodyLine). x.block) i) in
-      subst (λ (k : Kind). HasBlock l.block (block_if_pit k m.block (pit_of ms))) (sym (ap (λ (x : BodyLine). x.kind) i ∙ e)) first
+      subst (λ (k : LineKind). HasBlock l.block (block_if_pit k m.block (pit_of ms))) (sym (ap (λ (x : BodyLine). x.kind) i ∙ e)) first
   | inr i ↦ block_more m.kind l.block m.block (pit_of ms) (pit_has l ms e i)
 ]
 
@@ -126,7 +126,7 @@ record InPit (b : ℕ) (ls : List BodyLine) : Type 0 where
 pit_later : (b : ℕ) (m : BodyLine) (ms : List BodyLine) → InPit b ms → InPit b (m ∷ ms)
 pit_later b m ms f = record { line = f.line; held = inr f.held; kind_is = f.kind_is; block_is = f.block_is }
 
-pit_found_at : (b : ℕ) (m : BodyLine) (ms : List BodyLine) (k : Kind) → m.kind ≡ k → (HasBlock b (pit_of ms) → InPit b ms) → HasBlock b (block_if_pit k m.block (pit_of ms)) → InPit b (m ∷ ms)
+pit_found_at : (b : ℕ) (m : BodyLine) (ms : List BodyLine) (k : LineKind) → m.kind ≡ k → (HasBlock b (pit_of ms) → InPit b ms) → HasBlock b (block_if_pit k m.block (pit_of ms)) → InPit b (m ∷ ms)
 pit_found_at b m ms Pit e ih h = elim h [ inl i ↦ record { line = m; held = inl refl; kind_is = e; block_is = i } | inr i ↦ pit_later b m ms (ih i) ]
 pit_found_at b m ms Source e ih h = pit_later b m ms (ih h)
 pit_found_at b m ms Rest e ih h = pit_later b m ms (ih h)
@@ -154,7 +154,7 @@ record Said (n : ℕ) (pairs : List (ℕ × ℕ)) (blocks : List ℕ) (flow : Fl
 is_same : (n : ℕ) (has : ℕ → ℕ → Bool) (q : Option BodyLine) (ms : List BodyLine) (l m : BodyLine) → Has m ms → m.kind ≡ l.kind → m.block ≡ l.block → m.other ≡ l.other → amount_of m ≡ amount_of l → Has l ms
 is_same n has q ms l m h a b c d = subst (λ (x : BodyLine). Has x ms) (same_line m l a b c d) h
 
-moved : (n : ℕ) (pairs : List (ℕ × ℕ)) (blocks : List ℕ) (flow : FlowView) (p q : Option BodyLine) (ls ms : List BodyLine) → Said n pairs blocks flow p ls → Said n pairs blocks flow q ms → (l : BodyLine) (k : Kind) → l.kind ≡ k → Has l ls → Has l ms
+moved : (n : ℕ) (pairs : List (ℕ × ℕ)) (blocks : List ℕ) (flow : FlowView) (p q : Option BodyLine) (ls ms : List BodyLine) → Said n pairs blocks flow p ls → Said n pairs blocks flow q ms → (l : BodyLine) (k : LineKind) → l.kind ≡ k → Has l ls → Has l ms
 moved n pairs blocks flow p q ls ms s t l Pit e h =
     let mine = has_good (Proper n (has_pair pairs)) p ls s.order l h in
     let f = pit_found l.block ms (subst (HasBlock l.block) (sym s.says.pit ∙ t.says.pit) (pit_has l ls e h)) in
@@ -162,26 +162,26 @@ moved n pairs blocks flow p q ls ms s t l Pit e h =
     is_same n (has_pair pairs) q ms l f.line f.held (f.kind_is ∙ sym e) f.block_is (other.other (not_rest f.line Pit f.kind_is refl) ∙ sym (mine.other (not_rest l Pit e refl))) (other.none f.kind_is ∙ sym (mine.none e))
 moved n pairs blocks flow p q ls ms s t l Source e h =
     let mine = has_good (Proper n (has_pair pairs)) p ls s.order l h in
-    let gives : gives_source l.block l ≡ true = ap (λ (k : Kind). is_source k && eqb l.block l.block) e ∙ eq-eqb l.block l.block refl in
+    let gives : gives_source l.block l ≡ true = ap (λ (k : LineKind). is_source k && eqb l.block l.block) e ∙ eq-eqb l.block l.block refl in
     let f = given_too n (has_pair pairs) (gives_source l.block) p q ls ms l (amount_at flow.source l.block) (tells_source n (has_pair pairs) l.block) s.order t.order h gives (ap carries e) (s.says.source l.block mine.block) (t.says.source l.block mine.block) in
     let so = source_so l.block f.line f.so in
     let other = has_good (Proper n (has_pair pairs)) q ms t.order f.line f.held in
     is_same n (has_pair pairs) q ms l f.line f.held (so.0 ∙ sym e) so.1 (other.other (not_rest f.line Source so.0 refl) ∙ sym (mine.other (not_rest l Source e refl))) f.amount
 moved n pairs blocks flow p q ls ms s t l Sink e h =
     let mine = has_good (Proper n (has_pair pairs)) p ls s.order l h in
-    let gives : gives_sink l.block l ≡ true = ap (λ (k : Kind). is_sink k && eqb l.block l.block) e ∙ eq-eqb l.block l.block refl in
+    let gives : gives_sink l.block l ≡ true = ap (λ (k : LineKind). is_sink k && eqb l.block l.block) e ∙ eq-eqb l.block l.block refl in
     let f = given_too n (has_pair pairs) (gives_sink l.block) p q ls ms l (amount_at flow.sink l.block) (tells_sink n (has_pair pairs) l.block) s.order t.order h gives (ap carries e) (s.says.sink l.block mine.block) (t.says.sink l.block mine.block) in
     let so = sink_so l.block f.line f.so in
     let other = has_good (Proper n (has_pair pairs)) q ms t.order f.line f.held in
     is_same n (has_pair pairs) q ms l f.line f.held (so.0 ∙ sym e) so.1 (other.other (not_rest f.line Sink so.0 refl) ∙ sym (mine.other (not_rest l Sink e refl))) f.amount
 moved n pairs blocks flow p q ls ms s t l Rest e h =
     let mine = has_good (Proper n (has_pair pairs)) p ls s.order l h in
-    let known : has_pair pairs l.block l.other ≡ true = subst (λ (k : Kind). is_of_model (has_pair pairs) k l ≡ true) e mine.pair in
+    let known : has_pair pairs l.block l.other ≡ true = subst (λ (k : LineKind). is_of_model (has_pair pairs) k l ≡ true) e mine.pair in
     let place = pair_place l.block l.other pairs known in
     let pair : ℕ × ℕ = get_or pairs place.0 (0, 0) in
     let at_block : pair.0 ≡ l.block = ap (λ (x : ℕ × ℕ). x.0) place.2 in
     let at_other : pair.1 ≡ l.other = ap (λ (x : ℕ × ℕ). x.1) place.2 in
-    let gives : gives_rest pair l ≡ true = ap (λ (k : Kind). is_rest k && (eqb pair.0 l.block && eqb pair.1 l.other)) e ∙ both_same pair.0 l.block pair.1 l.other at_block at_other in
+    let gives : gives_rest pair l ≡ true = ap (λ (k : LineKind). is_rest k && (eqb pair.0 l.block && eqb pair.1 l.other)) e ∙ both_same pair.0 l.block pair.1 l.other at_block at_other in
     let f = given_too n (has_pair pairs) (gives_rest pair) p q ls ms l (amount_at flow.rest place.0) (tells_rest n (has_pair pairs) pair) s.order t.order h gives (ap carries e) (s.says.rest place.0 place.1) (t.says.rest place.0 place.1) in
     let so = rest_so pair f.line f.so in
     is_same n (has_pair pairs) q ms l f.line f.held (so.0 ∙ sym e) (sym so.1 ∙ at_block) (sym so.2 ∙ at_other) f.amount

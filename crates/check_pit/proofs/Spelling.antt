@@ -8,12 +8,12 @@ use lib.Chars.{codes}
 use Rattle.fixed_worth.specs.declared.numerals.NumberFault.{NumberFault}
 use Rattle.fixed_worth.specs.Numeral.{plain_of}
 use Rattle.fixed_worth.proofs.PlainNumbers.{one_spelling}
-use Rattle.check_pit.specs.declared.cert_faults.CertFault.{CertFault}
-use Rattle.check_pit.specs.declared.cert_faults.CertFault.TheVariants as fault
-use Rattle.check_pit.specs.declared.cert_faults.LineFault.{LineFault}
-use Rattle.check_pit.specs.declared.cert_faults.LineFault.TheVariants.{Text}
-use Rattle.check_pit.specs.declared.lines_of_body.Kind.{Kind}
-use Rattle.check_pit.specs.declared.lines_of_body.Kind.TheVariants.{Pit, Source, Rest, Sink, End}
+use Rattle.check_pit.specs.declared.cert_fault.CertFault.{CertFault}
+use Rattle.check_pit.specs.declared.cert_fault.CertFault.TheVariants as fault
+use Rattle.check_pit.specs.declared.cert_fault.LineFault.{LineFault}
+use Rattle.check_pit.specs.declared.cert_fault.LineFault.TheVariants.{Text}
+use Rattle.check_pit.specs.declared.lines_of_body.LineKind.{LineKind}
+use Rattle.check_pit.specs.declared.lines_of_body.LineKind.TheVariants.{Pit, Source, Rest, Sink, End}
 use Rattle.check_pit.specs.declared.lines_of_body.BodyLine.{BodyLine}
 use Rattle.check_pit.specs.Pieces.{Piece, within, number_below, words_of, read_line, no_line, in_line, unless_fault}
 use Rattle.check_pit.specs.BodyLines.{kind_of, is_amount, amount_said, amount_in, pit_line, block_line, rest_line, end_line, line_with, line_of_words, line_of, is_end, next_line, end_fault, fault_from, body_fault, lines_from, lines_in}
@@ -23,17 +23,17 @@ use Rattle.check_pit.proofs.Going.{numbered, text_read, no_line_is}
 use Rattle.check_pit.proofs.Order.{met}
 
 -- The key of a kind.
-abbrev pub key_word : Kind → List ℕ
+abbrev pub key_word : LineKind → List ℕ
 key_word Pit = codes "PIT"
 key_word Source = codes "SOURCE"
 key_word Rest = codes "REST"
 key_word Sink = codes "SINK"
 key_word End = codes "END"
 
-named : (key word : List ℕ) (k j : Kind) → word ≡ key_word j → Some j ≡ Some k → key ≡ word → key ≡ key_word k
-named key word k j w e h = h ∙ w ∙ ap key_word (ap (λ (o : Option Kind). unwrap_or o k) e)
+named : (key word : List ℕ) (k j : LineKind) → word ≡ key_word j → Some j ≡ Some k → key ≡ word → key ≡ key_word k
+named key word k j w e h = h ∙ w ∙ ap key_word (ap (λ (o : Option LineKind). unwrap_or o k) e)
 
-key_at : (key : List ℕ) (k : Kind) (t u v w x : Bool) → (t ≡ true → key ≡ codes "PIT") → (u ≡ true → key ≡ codes "SOURCE") → (v ≡ true → key ≡ codes "REST") → (w ≡ true → key ≡ codes "SINK") → (x ≡ true → key ≡ codes "END")
+key_at : (key : List ℕ) (k : LineKind) (t u v w x : Bool) → (t ≡ true → key ≡ codes "PIT") → (u ≡ true → key ≡ codes "SOURCE") → (v ≡ true → key ≡ codes "REST") → (w ≡ true → key ≡ codes "SINK") → (x ≡ true → key ≡ codes "END")
     → cond t (Some Pit) (cond u (Some Source) (cond v (Some Rest) (cond w (Some Sink) (cond x (Some End) None)))) ≡ Some k → key ≡ key_word k
 key_at key k true u v w x a b c d e h = named key (codes "PIT") k Pit refl h (a refl)
 key_at key k false true v w x a b c d e h = named key (codes "SOURCE") k Source refl h (b refl)
@@ -42,7 +42,7 @@ key_at key k false false false true x a b c d e h = named key (codes "SINK") k S
 key_at key k false false false false true a b c d e h = named key (codes "END") k End refl h (e refl)
 key_at key k false false false false false a b c d e h = absurd cc
 
-pub key_is : (key : List ℕ) (k : Kind) → kind_of key ≡ Some k → key ≡ key_word k
+pub key_is : (key : List ℕ) (k : LineKind) → kind_of key ≡ Some k → key ≡ key_word k
 key_is key k h = key_at key k (bytes_eq key (codes "PIT")) (bytes_eq key (codes "SOURCE")) (bytes_eq key (codes "REST")) (bytes_eq key (codes "SINK")) (bytes_eq key (codes "END"))
     (bytes_eq-Decides key (codes "PIT")).0 (bytes_eq-Decides key (codes "SOURCE")).0 (bytes_eq-Decides key (codes "REST")).0 (bytes_eq-Decides key (codes "SINK")).0 (bytes_eq-Decides key (codes "END")).0 h
 
@@ -83,10 +83,10 @@ pit_words : (n : ℕ) (words : List (List ℕ)) (l : BodyLine) → pit_line n wo
 pit_words n [] l h = no_line_is l h
 pit_words n (b ∷ []) l h =
     let m = numbered Pit (number_below n b) (Some 0) (Some (pos 0, pos 0)) l h in
-    ap (λ (w : List ℕ). codes "PIT" ∷ w ∷ []) (number_is b n l.block m.block_is) ∙ ap (λ (k : Kind). words_with k l) (sym m.kind_is)
+    ap (λ (w : List ℕ). codes "PIT" ∷ w ∷ []) (number_is b n l.block m.block_is) ∙ ap (λ (k : LineKind). words_with k l) (sym m.kind_is)
 pit_words n (b ∷ w ∷ ws) l h = no_line_is l h
 
-block_words : (counts : Bool) (n : ℕ) (kind : Kind) (words : List (List ℕ)) (l : BodyLine) → words_with kind l ≡ key_word kind ∷ decimal l.block ∷ signed_decimal l.worth ∷ signed_decimal l.count ∷ [] → block_line counts n kind words ≡ Ok l → key_word kind ∷ words ≡ line_words l
+block_words : (counts : Bool) (n : ℕ) (kind : LineKind) (words : List (List ℕ)) (l : BodyLine) → words_with kind l ≡ key_word kind ∷ decimal l.block ∷ signed_decimal l.worth ∷ signed_decimal l.count ∷ [] → block_line counts n kind words ≡ Ok l → key_word kind ∷ words ≡ line_words l
 block_words counts n kind [] l e h = no_line_is l h
 block_words counts n kind (b ∷ []) l e h = no_line_is l h
 block_words counts n kind (b ∷ w ∷ []) l e h = no_line_is l h
@@ -94,7 +94,7 @@ block_words counts n kind (b ∷ w ∷ c ∷ []) l e h =
     let m = numbered kind (number_below n b) (Some 0) (amount_in counts w c) l h in
     let a = amount_is counts w c (l.worth, l.count) m.amount_is in
     ap (λ (x : List ℕ). key_word kind ∷ x ∷ w ∷ c ∷ []) (number_is b n l.block m.block_is) ∙ ap (λ (x : List ℕ). key_word kind ∷ decimal l.block ∷ x ∷ c ∷ []) a.0 ∙ ap (λ (x : List ℕ). key_word kind ∷ decimal l.block ∷ signed_decimal l.worth ∷ x ∷ []) a.1
-    ∙ sym e ∙ ap (λ (k : Kind). words_with k l) (sym m.kind_is)
+    ∙ sym e ∙ ap (λ (k : LineKind). words_with k l) (sym m.kind_is)
 block_words counts n kind (b ∷ w ∷ c ∷ d ∷ ds) l e h = no_line_is l h
 
 rest_words : (counts : Bool) (n : ℕ) (words : List (List ℕ)) (l : BodyLine) → rest_line counts n words ≡ Ok l → key_word Rest ∷ words ≡ line_words l
@@ -107,21 +107,21 @@ rest_words counts n (b ∷ p ∷ w ∷ c ∷ []) l h =
     let a = amount_is counts w c (l.worth, l.count) m.amount_is in
     ap (λ (x : List ℕ). codes "REST" ∷ x ∷ p ∷ w ∷ c ∷ []) (number_is b n l.block m.block_is) ∙ ap (λ (x : List ℕ). codes "REST" ∷ decimal l.block ∷ x ∷ w ∷ c ∷ []) (number_is p n l.other m.other_is)
     ∙ ap (λ (x : List ℕ). codes "REST" ∷ decimal l.block ∷ decimal l.other ∷ x ∷ c ∷ []) a.0 ∙ ap (λ (x : List ℕ). codes "REST" ∷ decimal l.block ∷ decimal l.other ∷ signed_decimal l.worth ∷ x ∷ []) a.1
-    ∙ ap (λ (k : Kind). words_with k l) (sym m.kind_is)
+    ∙ ap (λ (k : LineKind). words_with k l) (sym m.kind_is)
 rest_words counts n (b ∷ p ∷ w ∷ c ∷ d ∷ ds) l h = no_line_is l h
 
 end_words : (words : List (List ℕ)) (l : BodyLine) → end_line words ≡ Ok l → key_word End ∷ words ≡ line_words l
-end_words [] l h = let m = numbered End (Some 0) (Some 0) (Some (pos 0, pos 0)) l h in ap (λ (k : Kind). words_with k l) (sym m.kind_is)
+end_words [] l h = let m = numbered End (Some 0) (Some 0) (Some (pos 0, pos 0)) l h in ap (λ (k : LineKind). words_with k l) (sym m.kind_is)
 end_words (w ∷ ws) l h = no_line_is l h
 
-kind_words : (counts : Bool) (n : ℕ) (k : Kind) (words : List (List ℕ)) (l : BodyLine) → line_with counts n (Some k) words ≡ Ok l → key_word k ∷ words ≡ line_words l
+kind_words : (counts : Bool) (n : ℕ) (k : LineKind) (words : List (List ℕ)) (l : BodyLine) → line_with counts n (Some k) words ≡ Ok l → key_word k ∷ words ≡ line_words l
 kind_words counts n Pit words l h = pit_words n words l h
 kind_words counts n Source words l h = block_words counts n Source words l refl h
 kind_words counts n Rest words l h = rest_words counts n words l h
 kind_words counts n Sink words l h = block_words counts n Sink words l refl h
 kind_words counts n End words l h = end_words words l h
 
-keyed_words : (counts : Bool) (n : ℕ) (key : List ℕ) (words : List (List ℕ)) (l : BodyLine) (o : Option Kind) → kind_of key ≡ o → line_with counts n o words ≡ Ok l → key ∷ words ≡ line_words l
+keyed_words : (counts : Bool) (n : ℕ) (key : List ℕ) (words : List (List ℕ)) (l : BodyLine) (o : Option LineKind) → kind_of key ≡ o → line_with counts n o words ≡ Ok l → key ∷ words ≡ line_words l
 keyed_words counts n key words l (Some k) e h = ap (λ (w : List ℕ). w ∷ words) (key_is key k e) ∙ kind_words counts n k words l h
 keyed_words counts n key words l None e h = no_line_is l h
 
@@ -149,7 +149,7 @@ pub piece_text : (p : Piece) (ps : List Piece) (line : List ℕ) → p.ended ≡
 piece_text p ps line e f = rw (e, f) refl
 
 -- The body.
-is_last : (k : Kind) → is_end k ≡ true → k ≡ End
+is_last : (k : LineKind) → is_end k ≡ true → k ≡ End
 is_last Pit h = absurd (let z : false ≡ true = h in cc)
 is_last Source h = absurd (let z : false ≡ true = h in cc)
 is_last Rest h = absurd (let z : false ≡ true = h in cc)
@@ -164,7 +164,7 @@ on : (counts : Bool) (n : ℕ) (has : ℕ → ℕ → Bool) (k : ℕ) (p : Piece
     → cond t (end_fault (k + 1) ps) (body_fault counts n has (Some line) (k + 1) ps) ≡ None → (body_fault counts n has (Some line) (k + 1) ps ≡ None → pieces_text ps ≡ body_text (lines_in counts n ps) ++ end_text)
     → pieces_text (p ∷ ps) ≡ body_text (cond t [] (line ∷ lines_in counts n ps)) ++ end_text
 on counts n has k p ps line true e f g h ih =
-    let last : spaced (line_words line) ≡ codes "END" = ap (λ (x : Kind). spaced (words_with x line)) (is_last line.kind e) in
+    let last : spaced (line_words line) ≡ codes "END" = ap (λ (x : LineKind). spaced (words_with x line)) (is_last line.kind e) in
     piece_text p ps (codes "END") f (g ∙ last) ∙ ap (λ (qs : List Piece). codes "END" ++ (10 ∷ pieces_text qs)) (nothing_left (k + 1) ps h)
 on counts n has k p ps line false e f g h ih =
     piece_text p ps (spaced (line_words line)) f g ∙ ap (λ (t : List ℕ). spaced (line_words line) ++ (10 ∷ t)) (ih h) ∙ sym (append_assoc (spaced (line_words line)) (10 ∷ body_text (lines_in counts n ps)) end_text)

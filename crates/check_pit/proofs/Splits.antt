@@ -6,7 +6,7 @@ use Rattle.std.specs.List.{onto_first, position_or_len}
 use Rattle.std.proofs.lemmas.List.Quantifiers.{position-Some}
 use Rattle.std.proofs.lemmas.List.{length-take-le}
 use Rattle.std.proofs.lemmas.Bool.Decides.{nat_tests}
-use Rattle.check_pit.specs.declared.cert_faults.CertFault.TheVariants as fault
+use Rattle.check_pit.specs.declared.cert_fault.CertFault.TheVariants as fault
 use Rattle.check_pit.specs.Pieces.{Piece, Unread, onto_piece, pieces_of, piece_at, words_of, no_line}
 
 -- The first line ends at the first line feed.

@@ -13,8 +13,8 @@ use Rattle.ordered_group.specs.Sums.{amount_at}
 use Rattle.prec_file.proofs.Pairs.{tells_pair, pair_told}
 use Rattle.prec_file.specs.Rests.{IsRising, IsKnown}
 use Rattle.closure_net.specs.Network.{FlowView, IsAscending}
-use Rattle.check_pit.specs.declared.lines_of_body.Kind.{Kind}
-use Rattle.check_pit.specs.declared.lines_of_body.Kind.TheVariants.{Pit, Source, Rest, Sink, End}
+use Rattle.check_pit.specs.declared.lines_of_body.LineKind.{LineKind}
+use Rattle.check_pit.specs.declared.lines_of_body.LineKind.TheVariants.{Pit, Source, Rest, Sink, End}
 use Rattle.check_pit.specs.declared.lines_of_body.BodyLine.{BodyLine}
 use Rattle.check_pit.specs.BodyLines.{rank, is_end, may_follow, is_of_model}
 use Rattle.check_pit.specs.Certificate.{Covers, Denotes, has_pair, pit_of, block_if_pit, amount_of, given, gives_source, gives_rest, gives_sink}
@@ -45,7 +45,7 @@ pub higher : (r : ℕ) (p : Option BodyLine) (l : BodyLine) → UpTo r p → r <
 higher r None l u h = refl
 higher r (Some m) l u h = lower_first (rank m.kind) (rank l.kind) (ordering_then (nat_cmp m.block l.block) (nat_cmp m.other l.other)) (omega arith)
 
-block_step : (k : Kind) (a b : ℕ) (x y : Amount) → a < b → may_follow (Some (block_at k a x)) (block_at k b y) ≡ true
+block_step : (k : LineKind) (a b : ℕ) (x y : Amount) → a < b → may_follow (Some (block_at k a x)) (block_at k b y) ≡ true
 block_step k a b x y h = same_first (rank k) (ordering_then (nat_cmp a b) (nat_cmp 0 0)) (lower_first a b (nat_cmp 0 0) h)
 
 pit_step : (a b : ℕ) → a < b → may_follow (Some (pit_at a)) (pit_at b) ≡ true
@@ -183,7 +183,7 @@ amount_given gives line top i o (x ∷ xs) k (suc j) l e h =
     ∙ amount_given gives line top i o xs (k + 1) j (omega arith) (omega arith) (omega arith)
 
 -- The blocks of the pit.
-joins : (k : Kind) (b : ℕ) (xs ys : List ℕ) → block_if_pit k b (xs ++ ys) ≡ block_if_pit k b xs ++ ys
+joins : (k : LineKind) (b : ℕ) (xs ys : List ℕ) → block_if_pit k b (xs ++ ys) ≡ block_if_pit k b xs ++ ys
 joins Pit b xs ys = refl
 joins Source b xs ys = refl
 joins Rest b xs ys = refl
@@ -274,7 +274,7 @@ each_all P Q line top f (x ∷ xs) k l q = (f k x (omega arith) (q 0 (omega arit
 abbrev Any : Amount → Type 0
 Any x = Unit {0}
 
-proper_at : (n : ℕ) (has : ℕ → ℕ → Bool) (k b : ℕ) (x : Amount) (kind : Kind) → b < n → is_zero x ≡ false → is_end kind ≡ false → (kind ≡ Pit → ⊥) → is_of_model has kind (block_at kind b x) ≡ true → Proper n has (block_at kind b x)
+proper_at : (n : ℕ) (has : ℕ → ℕ → Bool) (k b : ℕ) (x : Amount) (kind : LineKind) → b < n → is_zero x ≡ false → is_end kind ≡ false → (kind ≡ Pit → ⊥) → is_of_model has kind (block_at kind b x) ≡ true → Proper n has (block_at kind b x)
 proper_at n has k b x kind h z e p m = record { block = h; last = e; other = λ _. refl; none = λ q. absurd (p q); some = λ _. z; pair = m }
 
 -- The lines of a value are proper.

@@ -1,5 +1,5 @@
 -- What the steps of a check come to.
-use Rattle.std.proofs.Common.{◌≡◌, ℕ, ◌<◌, Bool, List, length, inl, inr, refl, subst}
+use Rattle.std.proofs.Common.{◌≡◌, ℕ, Bool, List, length, inl, inr, refl, subst}
 use Rattle.std.proofs.lemmas.Bool.{cases_lt}
 use Rattle.std.proofs.lemmas.List.Elements.{Contains-get_or, All-contains}
 use Rattle.closure_net.specs.Network.{NetView, FlowView, holds_of}
@@ -10,8 +10,8 @@ use Rattle.check_pit.specs.Fits.{BalanceFits, BalanceOverflows, SumsFit, SomeSum
 use Rattle.check_pit.specs.Checks.{ProvesPit, Sizes, NoneBelowZero, KeepsWithin, PassesSigns, PassesCapacities, AllWithin, AllBalanced, BalancedWhileFit, IsOpen, FaultHolds, FaultStands}
 use Rattle.check_pit.specs.Closing.{IsFirstOpen}
 use Rattle.check_pit.specs.Balances.{ComesTo, BalanceFault}
-use Rattle.check_pit.specs.declared.faults.PitFault.{PitFault}
-use Rattle.check_pit.specs.declared.faults.PitFault.TheVariants.{WrongSize, NotClosed, Negative, OverCapacity, Unbalanced, NotTight, TooLarge}
+use Rattle.check_pit.specs.declared.pit_fault.PitFault.{PitFault}
+use Rattle.check_pit.specs.declared.pit_fault.PitFault.TheVariants.{WrongSize, NotClosed, Negative, OverCapacity, Unbalanced, NotTight, TooLarge}
 
 -- what passes every test but the last is a flow
 pub flow_found : (net : NetView) (flow : FlowView) (pit : List ℕ) → Sizes net flow pit → NoneBelowZero flow → AllWithin net flow → AllBalanced net flow → IsFlow net flow

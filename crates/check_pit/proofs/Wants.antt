@@ -6,12 +6,12 @@ use Rattle.std.proofs.lemmas.Bool.Decides.{nat_tests}
 use lib.Chars.{codes}
 use Rattle.ordered_group.specs.declared.groups.Group.{Group}
 use Rattle.ordered_group.specs.declared.groups.Group.TheVariants.{Worth, Pair}
-use Rattle.check_pit.specs.declared.headers.Header.{Header}
-use Rattle.check_pit.specs.declared.headers.Wanted.{Wanted}
-use Rattle.check_pit.specs.declared.headers.Price.{Price}
-use Rattle.check_pit.specs.declared.cert_faults.CertFault.{CertFault}
-use Rattle.check_pit.specs.declared.cert_faults.LineFault.{LineFault}
-use Rattle.check_pit.specs.declared.cert_faults.LineFault.TheVariants.{Text}
+use Rattle.check_pit.specs.declared.header.Header.{Header}
+use Rattle.check_pit.specs.declared.header.Wanted.{Wanted}
+use Rattle.check_pit.specs.declared.header.Price.{Price}
+use Rattle.check_pit.specs.declared.cert_fault.CertFault.{CertFault}
+use Rattle.check_pit.specs.declared.cert_fault.LineFault.{LineFault}
+use Rattle.check_pit.specs.declared.cert_fault.LineFault.TheVariants.{Text}
 use Rattle.check_pit.specs.Pieces.{Piece, piece_at, read_line, words_of, number_below}
 use Rattle.check_pit.specs.Header.{◌>>=◌, header_for, version_in, blocks_in, price_in, group_in, blocks_said, wanted_blocks, wanted_group, is_same_group, or_number, value_behind}
 use Rattle.check_pit.proofs.Going.{text_read}

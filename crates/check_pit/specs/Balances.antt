@@ -4,8 +4,8 @@ use Rattle.closure_net.specs.Network.{NetView, FlowView}
 use Rattle.closure_net.specs.Flows.{Balanced}
 use Rattle.check_pit.specs.Fits.{BalanceFits, BalanceOverflows}
 use Rattle.check_pit.specs.Checks.{BalanceStands}
-use Rattle.check_pit.specs.declared.faults.PitFault.{PitFault}
-use Rattle.check_pit.specs.declared.faults.PitFault.TheVariants.{Unbalanced, TooLarge}
+use Rattle.check_pit.specs.declared.pit_fault.PitFault.{PitFault}
+use Rattle.check_pit.specs.declared.pit_fault.PitFault.TheVariants.{Unbalanced, TooLarge}
 
 -- the check comes to b: it is a block of the net, and the balances of the blocks before it stand
 pub record ComesTo (net : NetView) (flow : FlowView) (b : ℕ) : Type 0 where

@@ -5,18 +5,18 @@ use Rattle.std.specs.Ordering.{int_eq, nat_cmp, ordering_then, is_lt}
 use lib.Chars.{codes}
 use Rattle.fixed_worth.specs.declared.numerals.NumberFault.{NumberFault}
 use Rattle.fixed_worth.specs.Numeral.{plain_of}
-use Rattle.check_pit.specs.declared.cert_faults.CertFault.{CertFault}
-use Rattle.check_pit.specs.declared.cert_faults.CertFault.TheVariants as fault
-use Rattle.check_pit.specs.declared.cert_faults.LineFault.{LineFault}
-use Rattle.check_pit.specs.declared.cert_faults.LineFault.TheVariants.{Text, Number}
-use Rattle.check_pit.specs.declared.lines_of_body.Kind.{Kind}
-use Rattle.check_pit.specs.declared.lines_of_body.Kind.TheVariants.{Pit, Source, Rest, Sink, End}
+use Rattle.check_pit.specs.declared.cert_fault.CertFault.{CertFault}
+use Rattle.check_pit.specs.declared.cert_fault.CertFault.TheVariants as fault
+use Rattle.check_pit.specs.declared.cert_fault.LineFault.{LineFault}
+use Rattle.check_pit.specs.declared.cert_fault.LineFault.TheVariants.{Text, Number}
+use Rattle.check_pit.specs.declared.lines_of_body.LineKind.{LineKind}
+use Rattle.check_pit.specs.declared.lines_of_body.LineKind.TheVariants.{Pit, Source, Rest, Sink, End}
 use Rattle.check_pit.specs.declared.lines_of_body.BodyLine.{BodyLine}
 use Rattle.check_pit.specs.Pieces.{Piece, read_line, words_of, number_below}
 use Rattle.check_pit.specs.Header.{◌>>=◌}
 
 -- the kind that a key names
-abbrev pub kind_of : List ℕ → Option Kind
+abbrev pub kind_of : List ℕ → Option LineKind
 kind_of key =
     cond (bytes_eq key (codes "PIT")) (Some Pit)
     (cond (bytes_eq key (codes "SOURCE")) (Some Source)
@@ -41,7 +41,7 @@ abbrev pub amount_in : Bool → List ℕ → List ℕ → Option (ℤ × ℤ)
 amount_in counts worth count = amount_said counts (plain_of worth) (plain_of count)
 
 -- a line of a kind, where all its numbers are right
-abbrev pub numbered_line : Kind → Option ℕ → Option ℕ → Option (ℤ × ℤ) → Result BodyLine LineFault
+abbrev pub numbered_line : LineKind → Option ℕ → Option ℕ → Option (ℤ × ℤ) → Result BodyLine LineFault
 numbered_line kind (Some block) (Some other) (Some amount) = Ok (record { kind = kind; block = block; other = other; worth = amount.0; count = amount.1 })
 numbered_line kind _ _ _ = Err Number
 
@@ -51,7 +51,7 @@ pit_line n (b ∷ []) = numbered_line Pit (number_below n b) (Some 0) (Some (pos
 pit_line n _ = Err Text
 
 -- behind SOURCE and SINK: a block and an amount
-abbrev pub block_line : Bool → ℕ → Kind → List (List ℕ) → Result BodyLine LineFault
+abbrev pub block_line : Bool → ℕ → LineKind → List (List ℕ) → Result BodyLine LineFault
 block_line counts n kind (b ∷ w ∷ c ∷ []) = numbered_line kind (number_below n b) (Some 0) (amount_in counts w c)
 block_line counts n kind _ = Err Text
 
@@ -66,7 +66,7 @@ end_line [] = numbered_line End (Some 0) (Some 0) (Some (pos 0, pos 0))
 end_line (w ∷ ws) = Err Text
 
 -- the line of a kind, by the words behind its key
-abbrev pub line_with : Bool → ℕ → Option Kind → List (List ℕ) → Result BodyLine LineFault
+abbrev pub line_with : Bool → ℕ → Option LineKind → List (List ℕ) → Result BodyLine LineFault
 line_with counts n None words = Err Text
 line_with counts n (Some Pit) words = pit_line n words
 line_with counts n (Some Source) words = block_line counts n Source words
@@ -84,7 +84,7 @@ abbrev pub line_of : Bool → ℕ → List ℕ → Result BodyLine LineFault
 line_of counts n text = line_of_words counts n (words_of text)
 
 -- the kinds in the order in which they stand
-abbrev pub rank : Kind → ℕ
+abbrev pub rank : LineKind → ℕ
 rank Pit = 0
 rank Source = 1
 rank Rest = 2
@@ -92,7 +92,7 @@ rank Sink = 3
 rank End = 4
 
 -- the last line of a certificate
-abbrev pub is_end : Kind → Bool
+abbrev pub is_end : LineKind → Bool
 is_end Pit = false
 is_end Source = false
 is_end Rest = false
@@ -109,7 +109,7 @@ may_follow None line = true
 may_follow (Some previous) line = is_above previous line
 
 -- a line of a kind other than REST, or of a pair that the test has
-abbrev pub is_of_model : (ℕ → ℕ → Bool) → Kind → BodyLine → Bool
+abbrev pub is_of_model : (ℕ → ℕ → Bool) → LineKind → BodyLine → Bool
 is_of_model has Pit line = true
 is_of_model has Source line = true
 is_of_model has Rest line = has line.block line.other

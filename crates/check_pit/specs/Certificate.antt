@@ -5,13 +5,13 @@ use Rattle.ordered_group.specs.declared.groups.Group.{Group}
 use Rattle.ordered_group.specs.Amount.{Amount, zero_amount}
 use Rattle.ordered_group.specs.Sums.{amount_at}
 use Rattle.closure_net.specs.Network.{FlowView, IsAscending}
-use Rattle.check_pit.specs.declared.headers.Header.{Header}
-use Rattle.check_pit.specs.declared.headers.Wanted.{Wanted}
-use Rattle.check_pit.specs.declared.headers.Price.{Price}
-use Rattle.check_pit.specs.declared.cert_faults.CertFault.{CertFault}
-use Rattle.check_pit.specs.declared.cert_faults.CertFault.TheVariants.{NoMemory}
-use Rattle.check_pit.specs.declared.lines_of_body.Kind.{Kind}
-use Rattle.check_pit.specs.declared.lines_of_body.Kind.TheVariants.{Pit, Source, Rest, Sink, End}
+use Rattle.check_pit.specs.declared.header.Header.{Header}
+use Rattle.check_pit.specs.declared.header.Wanted.{Wanted}
+use Rattle.check_pit.specs.declared.header.Price.{Price}
+use Rattle.check_pit.specs.declared.cert_fault.CertFault.{CertFault}
+use Rattle.check_pit.specs.declared.cert_fault.CertFault.TheVariants.{NoMemory}
+use Rattle.check_pit.specs.declared.lines_of_body.LineKind.{LineKind}
+use Rattle.check_pit.specs.declared.lines_of_body.LineKind.TheVariants.{Pit, Source, Rest, Sink, End}
 use Rattle.check_pit.specs.declared.lines_of_body.BodyLine.{BodyLine}
 use Rattle.check_pit.specs.Pieces.{Piece, pieces_of}
 use Rattle.check_pit.specs.Header.{header_for}
@@ -44,7 +44,7 @@ abbrev pub amount_of : BodyLine → Amount
 amount_of line = record { w = line.worth; c = line.count }
 
 -- blocks behind the block of a line, where that is a PIT line
-abbrev pub block_if_pit : Kind → ℕ → List ℕ → List ℕ
+abbrev pub block_if_pit : LineKind → ℕ → List ℕ → List ℕ
 block_if_pit Pit b bs = b ∷ bs
 block_if_pit Source b bs = bs
 block_if_pit Rest b bs = bs
@@ -57,7 +57,7 @@ pit_of [] = []
 pit_of (l ∷ ls) = block_if_pit l.kind l.block (pit_of ls)
 
 -- a SOURCE line
-abbrev pub is_source : Kind → Bool
+abbrev pub is_source : LineKind → Bool
 is_source Pit = false
 is_source Source = true
 is_source Rest = false
@@ -65,7 +65,7 @@ is_source Sink = false
 is_source End = false
 
 -- a REST line
-abbrev pub is_rest : Kind → Bool
+abbrev pub is_rest : LineKind → Bool
 is_rest Pit = false
 is_rest Source = false
 is_rest Rest = true
@@ -73,7 +73,7 @@ is_rest Sink = false
 is_rest End = false
 
 -- a SINK line
-abbrev pub is_sink : Kind → Bool
+abbrev pub is_sink : LineKind → Bool
 is_sink Pit = false
 is_sink Source = false
 is_sink Rest = false

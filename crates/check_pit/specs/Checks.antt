@@ -4,8 +4,8 @@ use Rattle.closure_net.specs.Network.{NetView, FlowView, FlowFits, holds_of}
 use Rattle.closure_net.specs.Closure.{Stays, IsClosed}
 use Rattle.closure_net.specs.Flows.{NoneNegative, WithinAt, Balanced, IsFlow, IsTight}
 use Rattle.check_pit.specs.Fits.{BalanceFits, SumsFit, SomeSumOverflows}
-use Rattle.check_pit.specs.declared.faults.PitFault.{PitFault}
-use Rattle.check_pit.specs.declared.faults.PitFault.TheVariants.{WrongSize, NotClosed, Negative, OverCapacity, Unbalanced, NotTight, TooLarge}
+use Rattle.check_pit.specs.declared.pit_fault.PitFault.{PitFault}
+use Rattle.check_pit.specs.declared.pit_fault.PitFault.TheVariants.{WrongSize, NotClosed, Negative, OverCapacity, Unbalanced, NotTight, TooLarge}
 
 -- the pit has blocks of the net only
 abbrev pub IsOfNet : NetView → List ℕ → Type 0

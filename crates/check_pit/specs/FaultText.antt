@@ -1,11 +1,11 @@
--- Faults as they are printed.
-use Rattle.std.specs.Prelude.{ℕ, List, ◌++◌}
-use Rattle.std.specs.Fmt.{decimal}
-use lib.Chars.{codes}
-use Rattle.check_pit.specs.declared.cert_faults.CertFault.{CertFault}
-use Rattle.check_pit.specs.declared.cert_faults.CertFault.TheVariants.{Text, Number, OutOfOrder, UnknownPair, Truncated, NoMemory}
+-- How faults are printed.
+use Rattle.std.specs.Prelude.{ℕ, List, ◌++◌, codes, decimal}
+use Rattle.check_pit.specs.declared.cert_fault.CertFault.{CertFault}
+use Rattle.check_pit.specs.declared.cert_fault.CertFault.TheVariants.{Text, Number, OutOfOrder, UnknownPair, Truncated, NoMemory}
+use Rattle.check_pit.specs.declared.pit_fault.PitFault.{PitFault}
+use Rattle.check_pit.specs.declared.pit_fault.PitFault.TheVariants.{WrongSize, NotClosed, Negative, OverCapacity, Unbalanced, NotTight, TooLarge}
 
--- the name, and the line's number in parentheses where there is one
+-- of a text that is no certificate: the fault's name, and the line's number in parentheses where there is one
 abbrev pub fault_text : CertFault → List ℕ
 fault_text (Text k) = codes "Text(" ++ decimal k ++ codes ")"
 fault_text (Number k) = codes "Number(" ++ decimal k ++ codes ")"
@@ -13,3 +13,13 @@ fault_text (OutOfOrder k) = codes "OutOfOrder(" ++ decimal k ++ codes ")"
 fault_text (UnknownPair k) = codes "UnknownPair(" ++ decimal k ++ codes ")"
 fault_text Truncated = codes "Truncated"
 fault_text NoMemory = codes "NoMemory"
+
+-- of a pit and a flow: the fault's name, and in parentheses the blocks that it names
+abbrev pub pit_fault_text : PitFault → List ℕ
+pit_fault_text WrongSize = codes "WrongSize"
+pit_fault_text (NotClosed b p) = codes "NotClosed(" ++ (decimal b ++ (codes ", " ++ (decimal p ++ codes ")")))
+pit_fault_text Negative = codes "Negative"
+pit_fault_text (OverCapacity b) = codes "OverCapacity(" ++ (decimal b ++ codes ")")
+pit_fault_text (Unbalanced b) = codes "Unbalanced(" ++ (decimal b ++ codes ")")
+pit_fault_text NotTight = codes "NotTight"
+pit_fault_text TooLarge = codes "TooLarge"

@@ -4,13 +4,13 @@ use Rattle.std.specs.Str.{bytes_eq}
 use lib.Chars.{codes}
 use Rattle.ordered_group.specs.declared.groups.Group.{Group}
 use Rattle.ordered_group.specs.declared.groups.Group.TheVariants.{Worth, Pair}
-use Rattle.check_pit.specs.declared.headers.Header.{Header}
-use Rattle.check_pit.specs.declared.headers.Wanted.{Wanted}
-use Rattle.check_pit.specs.declared.headers.Price.{Price}
-use Rattle.check_pit.specs.declared.headers.Price.TheVariants.{Objective, Factor}
-use Rattle.check_pit.specs.declared.cert_faults.CertFault.{CertFault}
-use Rattle.check_pit.specs.declared.cert_faults.LineFault.{LineFault}
-use Rattle.check_pit.specs.declared.cert_faults.LineFault.TheVariants.{Text, Number}
+use Rattle.check_pit.specs.declared.header.Header.{Header}
+use Rattle.check_pit.specs.declared.header.Wanted.{Wanted}
+use Rattle.check_pit.specs.declared.header.Price.{Price}
+use Rattle.check_pit.specs.declared.header.Price.TheVariants.{Objective, Factor}
+use Rattle.check_pit.specs.declared.cert_fault.CertFault.{CertFault}
+use Rattle.check_pit.specs.declared.cert_fault.LineFault.{LineFault}
+use Rattle.check_pit.specs.declared.cert_fault.LineFault.TheVariants.{Text, Number}
 use Rattle.check_pit.specs.Pieces.{Piece, piece_at, read_line, words_of, number_below}
 
 -- the second of two words, of which the first is the key

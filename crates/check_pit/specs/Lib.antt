@@ -10,7 +10,6 @@ pub mod Fits
 pub mod Gathered
 pub mod Header
 pub mod Pieces
-pub mod PrintedFaults
 pub mod ReadBack
 pub mod Written
 pub mod Tightness

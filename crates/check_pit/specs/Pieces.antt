@@ -3,10 +3,10 @@ use Rattle.std.specs.Prelude.{◌≡◌, ℕ, ℤ, pos, negsuc, ◌+◌, ◌==�
 use Rattle.std.specs.List.{onto_first}
 use Rattle.fixed_worth.specs.declared.numerals.NumberFault.{NumberFault}
 use Rattle.fixed_worth.specs.Numeral.{plain_of}
-use Rattle.check_pit.specs.declared.cert_faults.CertFault.{CertFault}
-use Rattle.check_pit.specs.declared.cert_faults.CertFault.TheVariants as fault
-use Rattle.check_pit.specs.declared.cert_faults.LineFault.{LineFault}
-use Rattle.check_pit.specs.declared.cert_faults.LineFault.TheVariants.{Text, Number}
+use Rattle.check_pit.specs.declared.cert_fault.CertFault.{CertFault}
+use Rattle.check_pit.specs.declared.cert_fault.CertFault.TheVariants as fault
+use Rattle.check_pit.specs.declared.cert_fault.LineFault.{LineFault}
+use Rattle.check_pit.specs.declared.cert_fault.LineFault.TheVariants.{Text, Number}
 
 -- what stands before a line feed or behind the last one, and whether a line feed ends it
 pub record Piece : Type 0 where

@@ -2,8 +2,8 @@
 use Rattle.std.specs.Prelude.{◌≡◌, ℕ, List}
 use Rattle.closure_net.specs.Network.{NetView, FlowView}
 use Rattle.check_pit.specs.Checks.{ProvesPit, FaultHolds}
-use Rattle.check_pit.specs.declared.faults.PitFault.{PitFault}
-use Rattle.check_pit.specs.declared.faults.PitFault.TheVariants.{TooLarge}
+use Rattle.check_pit.specs.declared.pit_fault.PitFault.{PitFault}
+use Rattle.check_pit.specs.declared.pit_fault.PitFault.TheVariants.{TooLarge}
 
 -- of a pit that a flow proves no fault holds but sums that don't fit, in whatever order faults are looked for
 abbrev pub RefusedForSizeOnly : Type 0

@@ -7,11 +7,11 @@ use Rattle.ordered_group.specs.declared.groups.Group.{Group}
 use Rattle.ordered_group.specs.declared.groups.Group.TheVariants as group
 use Rattle.ordered_group.specs.Amount.{Amount}
 use Rattle.closure_net.specs.Network.{FlowView}
-use Rattle.check_pit.specs.declared.headers.Header.{Header}
-use Rattle.check_pit.specs.declared.headers.Price.{Price}
-use Rattle.check_pit.specs.declared.headers.Price.TheVariants.{Objective, Factor}
-use Rattle.check_pit.specs.declared.lines_of_body.Kind.{Kind}
-use Rattle.check_pit.specs.declared.lines_of_body.Kind.TheVariants.{Pit, Source, Rest, Sink, End}
+use Rattle.check_pit.specs.declared.header.Header.{Header}
+use Rattle.check_pit.specs.declared.header.Price.{Price}
+use Rattle.check_pit.specs.declared.header.Price.TheVariants.{Objective, Factor}
+use Rattle.check_pit.specs.declared.lines_of_body.LineKind.{LineKind}
+use Rattle.check_pit.specs.declared.lines_of_body.LineKind.TheVariants.{Pit, Source, Rest, Sink, End}
 use Rattle.check_pit.specs.declared.lines_of_body.BodyLine.{BodyLine}
 
 -- words with a single space between two
@@ -45,7 +45,7 @@ header_words h =
     ∷ []
 
 -- the words of a line of a kind
-abbrev pub words_with : Kind → BodyLine → List (List ℕ)
+abbrev pub words_with : LineKind → BodyLine → List (List ℕ)
 words_with Pit l = codes "PIT" ∷ decimal l.block ∷ []
 words_with Source l = codes "SOURCE" ∷ decimal l.block ∷ signed_decimal l.worth ∷ signed_decimal l.count ∷ []
 words_with Rest l = codes "REST" ∷ decimal l.block ∷ decimal l.other ∷ signed_decimal l.worth ∷ signed_decimal l.count ∷ []
@@ -61,7 +61,7 @@ abbrev pub pit_at : ℕ → BodyLine
 pit_at b = record { kind = Pit; block = b; other = 0; worth = pos 0; count = pos 0 }
 
 -- the line of an amount at a block
-abbrev pub block_at : Kind → ℕ → Amount → BodyLine
+abbrev pub block_at : LineKind → ℕ → Amount → BodyLine
 block_at kind b x = record { kind = kind; block = b; other = 0; worth = x.w; count = x.c }
 
 -- the line of the amount over the pair at a place

@@ -6,17 +6,17 @@ ghost use Rattle.check_pit.specs.BodyLines.{body_fault, lines_in};
 ghost use Rattle.check_pit.specs.Certificate.{Covers, UnlessMemory, has_pair};
 ghost use Rattle.check_pit.specs.Gathered.{Adds};
 
-use crate::cert_faults::CertFault;
+use crate::cert_fault::CertFault;
 use crate::gathering::{Parts, counts};
-use crate::lines_of_body::{BodyLine, Kind, read_in_order};
+use crate::lines_of_body::{BodyLine, LineKind, read_in_order};
 use crate::piece_reader::Pieces;
 use ordered_group::OrderedGroup;
 use prec_file::Rests;
 
-fn is_end(kind: Kind) -> bool
+fn is_end(kind: LineKind) -> bool
     ensures { result ≡ spec.is_end kind }
 {
-    matches!(kind, Kind::End)
+    matches!(kind, LineKind::End)
 }
 
 // Nothing may stand behind the last line.

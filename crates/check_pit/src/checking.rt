@@ -10,9 +10,9 @@ ghost use Rattle.check_pit.specs.Fits.{SumsFit};
 ghost use Rattle.check_pit.specs.Checks.{ProvesPit, Sizes, IsSound, NoneBelowZero, KeepsWithin, AllWithin, AllBalanced, FaultStands};
 ghost use Rattle.check_pit.specs.Balances.{BalanceFault};
 
-use crate::accepted_pits::Accepted;
+use crate::accepted::Accepted;
 use crate::closing::first_open;
-use crate::faults::PitFault;
+use crate::pit_fault::PitFault;
 use crate::sums::{balance_of, pit_worth, room_left};
 use closure_net::{Carried, Flow, Net, Pit};
 use ordered_group::{OrderedGroup, at_most, negative_part, positive_part, same};
@@ -44,12 +44,12 @@ fn none_negative<G: OrderedGroup>(amounts: &[G]) -> bool
 }
 
 // Whether no pair carries less than nothing.
-fn none_carried_negative<G: OrderedGroup>(pairs: u32, rest: &Carried<G>) -> bool
-    requires { length rest.now ≡ pairs }
-    ensures { IsTrue result ↔ NoneNegative rest.now }
+fn none_carried_negative<G: OrderedGroup>(pairs: u32, carried: &Carried<G>) -> bool
+    requires { length carried.now ≡ pairs }
+    ensures { IsTrue result ↔ NoneNegative carried.now }
 {
     for k in 0..pairs {
-        if !at_most(G::zero(), rest.at(k)) {
+        if !at_most(G::zero(), carried.at(k)) {
             return false;
         }
     }
@@ -102,10 +102,10 @@ fn balances<G: OrderedGroup>(net: &Net<G>, flow: &Flow<G>) -> Result<(), PitFaul
 {
     let rests = net.rests();
     let source = flow.source();
-    let rest = flow.rest();
+    let carried = flow.rest();
     let sink = flow.sink();
     for b in 0..rests.len() {
-        let balanced = balance_of(rests, source[b as usize], rest, sink[b as usize], b);
+        let balanced = balance_of(rests, source[b as usize], carried, sink[b as usize], b);
         if !balanced.ok_or(PitFault::TooLarge)? {
             return Err(PitFault::Unbalanced(b));
         }

@@ -9,8 +9,8 @@ ghost use Rattle.check_pit.specs.BodyLines.{is_end, is_of_model};
 ghost use Rattle.check_pit.specs.Certificate.{Covers, UnlessMemory, amount_of, has_pair};
 ghost use Rattle.check_pit.specs.Gathered.{Gathered, Adds, with_block, with_source, with_rest, with_sink};
 
-use crate::cert_faults::CertFault;
-use crate::lines_of_body::{BodyLine, Kind};
+use crate::cert_fault::CertFault;
+use crate::lines_of_body::{BodyLine, LineKind};
 use closure_net::{Carried, Flow, Pit};
 use ordered_group::OrderedGroup;
 use prec_file::Rests;
@@ -125,16 +125,16 @@ impl<G: OrderedGroup> Parts<G> {
             (λ e. UnlessMemory e ((e ≡ CertFault.UnknownPair number) × (is_of_model (has_pair rests.now.pairs) line.now.kind line.now ≡ false))) }
     {
         match line.kind {
-            Kind::Pit => return self.put_block(line.block),
-            Kind::Source => self.put_source(line.block, amount(line)),
-            Kind::Rest => {
+            LineKind::Pit => return self.put_block(line.block),
+            LineKind::Source => self.put_source(line.block, amount(line)),
+            LineKind::Rest => {
                 let pair = rests
                     .find(line.block, line.other)
                     .ok_or(CertFault::UnknownPair(number))?;
                 self.put_rest(pair, amount(line))?;
             }
-            Kind::Sink => self.put_sink(line.block, amount(line)),
-            Kind::End => {}
+            LineKind::Sink => self.put_sink(line.block, amount(line)),
+            LineKind::End => {}
         }
         Ok(())
     }

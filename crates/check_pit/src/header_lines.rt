@@ -6,8 +6,8 @@ ghost use Rattle.check_pit.specs.Pieces as pieces;
 ghost use Rattle.check_pit.specs.Pieces.{Unread, Passed, words_of, piece_at, read_line};
 ghost use Rattle.check_pit.specs.Header as spec;
 
-use crate::cert_faults::{CertFault, LineFault};
-use crate::headers::{Header, Price, Wanted};
+use crate::cert_fault::{CertFault, LineFault};
+use crate::header::{Header, Price, Wanted};
 use crate::piece_reader::{Pieces, Words};
 use fixed_worth::plain_signed;
 use ordered_group::Group;

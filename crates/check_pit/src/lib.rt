@@ -8,29 +8,29 @@
 //! has one text, which `write_certificate` writes, and which is read back as that certificate.
 #![tactic(auto)]
 
-mod accepted_pits;
+mod accepted;
 mod body_reader;
-mod cert_faults;
-mod certificates;
+mod cert_fault;
+mod certificate;
 mod checking;
 mod closing;
-mod faults;
 mod gathering;
+mod header;
 mod header_lines;
-mod headers;
 pub mod laws;
 mod lines_of_body;
 mod piece_reader;
+mod pit_fault;
 pub mod reading;
 mod sums;
 mod writing;
 
-pub use accepted_pits::Accepted;
-pub use cert_faults::CertFault;
-pub use certificates::{Certificate, read_certificate};
+pub use accepted::Accepted;
+pub use cert_fault::CertFault;
+pub use certificate::{Certificate, read_certificate};
 pub use checking::check;
-pub use faults::PitFault;
-pub use headers::{Header, Price};
+pub use header::{Header, Price};
+pub use pit_fault::PitFault;
 pub use writing::write_certificate;
 
 #[cfg(test)]

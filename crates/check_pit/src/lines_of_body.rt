@@ -4,7 +4,7 @@ ghost use Rattle.std.specs.Prelude.{◌≡◌, ℕ, ◌+◌, true, Some, None, O
 ghost use Rattle.check_pit.specs.Pieces.{Passed, piece_at};
 ghost use Rattle.check_pit.specs.BodyLines as spec;
 
-use crate::cert_faults::{CertFault, LineFault};
+use crate::cert_fault::{CertFault, LineFault};
 use crate::header_lines::{in_line, number_below};
 use crate::piece_reader::{Pieces, Words};
 use fixed_worth::plain_signed;
@@ -21,7 +21,7 @@ const END: &[u8] = b"END";
 
 /// The kinds of lines, in the order in which they stand.
 #[derive(Clone, Copy, PartialEq, Eq, PartialOrd, Ord)]
-pub enum Kind {
+pub enum LineKind {
     Pit,
     Source,
     Rest,
@@ -32,7 +32,7 @@ pub enum Kind {
 /// A line with its numbers; what a kind doesn't have is 0.
 #[derive(Clone, Copy)]
 pub struct BodyLine {
-    pub kind: Kind,
+    pub kind: LineKind,
     pub block: u32,
     /// The predecessor of a REST line.
     pub other: u32,
@@ -40,19 +40,19 @@ pub struct BodyLine {
     pub count: i128,
 }
 
-fn kind_of(key: &[u8]) -> Option<Kind>
+fn kind_of(key: &[u8]) -> Option<LineKind>
     ensures { result ≡ spec.kind_of key.now }
 {
     if key == PIT {
-        Some(Kind::Pit)
+        Some(LineKind::Pit)
     } else if key == SOURCE {
-        Some(Kind::Source)
+        Some(LineKind::Source)
     } else if key == REST {
-        Some(Kind::Rest)
+        Some(LineKind::Rest)
     } else if key == SINK {
-        Some(Kind::Sink)
+        Some(LineKind::Sink)
     } else if key == END {
-        Some(Kind::End)
+        Some(LineKind::End)
     } else {
         None
     }
@@ -78,7 +78,7 @@ fn amount_in(counts: bool, worth: &[u8], count: &[u8]) -> Option<(i128, i128)>
 }
 
 fn numbered_line(
-    kind: Kind,
+    kind: LineKind,
     block: Option<u32>,
     other: Option<u32>,
     amount: Option<(i128, i128)>,
@@ -104,10 +104,10 @@ fn pit_line(n: u32, mut words: Words) -> Result<BodyLine, LineFault>
     if words.next().is_some() {
         return Err(LineFault::Text);
     }
-    numbered_line(Kind::Pit, number_below(n, block), Some(0), Some((0, 0)))
+    numbered_line(LineKind::Pit, number_below(n, block), Some(0), Some((0, 0)))
 }
 
-fn block_line(counts: bool, n: u32, kind: Kind, mut words: Words) -> Result<BodyLine, LineFault>
+fn block_line(counts: bool, n: u32, kind: LineKind, mut words: Words) -> Result<BodyLine, LineFault>
     ensures { result ≡ spec.block_line counts n kind words.entry }
 {
     let block = words.next().ok_or(LineFault::Text)?;
@@ -135,7 +135,7 @@ fn rest_line(counts: bool, n: u32, mut words: Words) -> Result<BodyLine, LineFau
         return Err(LineFault::Text);
     }
     numbered_line(
-        Kind::Rest,
+        LineKind::Rest,
         number_below(n, block),
         number_below(n, other),
         amount_in(counts, worth, count),
@@ -148,7 +148,7 @@ fn end_line(mut words: Words) -> Result<BodyLine, LineFault>
     if words.next().is_some() {
         return Err(LineFault::Text);
     }
-    numbered_line(Kind::End, Some(0), Some(0), Some((0, 0)))
+    numbered_line(LineKind::End, Some(0), Some(0), Some((0, 0)))
 }
 
 /// The line that a text is, for n blocks and a group with or without counts.
@@ -158,11 +158,11 @@ fn line_of(counts: bool, n: u32, text: &[u8]) -> Result<BodyLine, LineFault>
     let mut words = Words::new(text);
     let key = words.next().ok_or(LineFault::Text)?;
     match kind_of(key).ok_or(LineFault::Text)? {
-        Kind::Pit => pit_line(n, words),
-        Kind::Source => block_line(counts, n, Kind::Source, words),
-        Kind::Rest => rest_line(counts, n, words),
-        Kind::Sink => block_line(counts, n, Kind::Sink, words),
-        Kind::End => end_line(words),
+        LineKind::Pit => pit_line(n, words),
+        LineKind::Source => block_line(counts, n, LineKind::Source, words),
+        LineKind::Rest => rest_line(counts, n, words),
+        LineKind::Sink => block_line(counts, n, LineKind::Sink, words),
+        LineKind::End => end_line(words),
     }
 }
 

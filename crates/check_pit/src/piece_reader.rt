@@ -4,7 +4,7 @@ ghost use Rattle.std.specs.Prelude.{◌≡◌, ℕ, ◌+◌, ◌<◌, ◌≤◌,
 ghost use Rattle.std.specs.Iterator.{item_count, YieldsFirstBy};
 ghost use Rattle.check_pit.specs.Pieces.{Unread, pieces_of, piece_at, no_line, words_of};
 
-use crate::cert_faults::CertFault;
+use crate::cert_fault::CertFault;
 use std::marker::Model;
 
 /// The most bytes that a line may have, its line feed not counted.

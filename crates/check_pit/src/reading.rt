@@ -4,9 +4,9 @@ ghost use Rattle.std.specs.Prelude.{◌≡◌};
 ghost use Rattle.check_pit.specs.Pieces.{pieces_of};
 ghost use Rattle.check_pit.specs.Header.{header_of};
 
-use crate::cert_faults::CertFault;
+use crate::cert_fault::CertFault;
+use crate::header::Header;
 use crate::header_lines::read_header;
-use crate::headers::Header;
 use crate::piece_reader::Pieces;
 
 /// Reads the header of a certificate: its first four lines. What stands behind them isn't looked at.

@@ -17,19 +17,19 @@ use prec_file::Rests;
 pub(crate) fn with_inflow<G: OrderedGroup>(
     start: G,
     rests: &Rests,
-    rest: &Carried<G>,
+    carried: &Carried<G>,
     b: u32,
 ) -> Option<G>
-    requires lengths { length rest.now ≡ length rests.now.pairs }
+    requires lengths { length carried.now ≡ length rests.now.pairs }
     requires known { b < rests.now.blocks }
-    ensures { let f = amount_at rest.now in let ps = rests.now.pairs in let m = length ps in MatchOption result
+    ensures { let f = amount_at carried.now in let ps = rests.now.pairs in let m = length ps in MatchOption result
         (EndOverflows (G.parts_of start) (to_at ps) f b m)
-        (λ r. (G.parts_of r ≡ plus (G.parts_of start) (inflow ps rest.now m b)) × EndFits (G.parts_of start) (to_at ps) f b m) }
+        (λ r. (G.parts_of r ≡ plus (G.parts_of start) (inflow ps carried.now m b)) × EndFits (G.parts_of start) (to_at ps) f b m) }
 {
     let mut sum = start;
     let numbers = rests.below(b);
     for k in numbers {
-        sum = sum.try_add(rest.at(*k))?;
+        sum = sum.try_add(carried.at(*k))?;
     }
     Some(sum)
 }
@@ -38,22 +38,22 @@ pub(crate) fn with_inflow<G: OrderedGroup>(
 pub(crate) fn with_outflow<G: OrderedGroup>(
     start: G,
     rests: &Rests,
-    rest: &Carried<G>,
+    carried: &Carried<G>,
     b: u32,
 ) -> Option<G>
-    requires lengths { length rest.now ≡ length rests.now.pairs }
+    requires lengths { length carried.now ≡ length rests.now.pairs }
     requires known { b < rests.now.blocks }
-    ensures { let f = amount_at rest.now in let ps = rests.now.pairs in let m = length ps in MatchOption result
+    ensures { let f = amount_at carried.now in let ps = rests.now.pairs in let m = length ps in MatchOption result
         (EndOverflows (G.parts_of start) (from_at ps) f b m)
-        (λ r. (G.parts_of r ≡ plus (G.parts_of start) (outflow ps rest.now m b)) × EndFits (G.parts_of start) (from_at ps) f b m) }
+        (λ r. (G.parts_of r ≡ plus (G.parts_of start) (outflow ps carried.now m b)) × EndFits (G.parts_of start) (from_at ps) f b m) }
 {
     let mut sum = start;
-    // the pairs are in order, which the number of blocks tells, so those of b lie side by side
+    // proof: a `Rests` is in order, so the pairs of b lie side by side
     let _n = rests.len();
     let first = rests.first(b);
     let count = rests.above(b).len();
     for i in 0..count {
-        sum = sum.try_add(rest.at(first + i as u32))?;
+        sum = sum.try_add(carried.at(first + i as u32))?;
     }
     Some(sum)
 }
@@ -62,20 +62,20 @@ pub(crate) fn with_outflow<G: OrderedGroup>(
 pub(crate) fn balance_of<G: OrderedGroup>(
     rests: &Rests,
     source: G,
-    rest: &Carried<G>,
+    carried: &Carried<G>,
     sink: G,
     b: u32,
 ) -> Option<bool>
-    requires lengths { length rest.now ≡ length rests.now.pairs }
+    requires lengths { length carried.now ≡ length rests.now.pairs }
     requires known { b < rests.now.blocks }
-    ensures { let fs = rest.now in let ps = rests.now.pairs in let m = length ps in MatchOption result
+    ensures { let fs = carried.now in let ps = rests.now.pairs in let m = length ps in MatchOption result
         (EndOverflows (G.parts_of source) (to_at ps) (amount_at fs) b m ⊎ EndOverflows (G.parts_of sink) (from_at ps) (amount_at fs) b m)
         (λ r. EndFits (G.parts_of source) (to_at ps) (amount_at fs) b m
         × EndFits (G.parts_of sink) (from_at ps) (amount_at fs) b m
         × (IsTrue r ↔ (plus (G.parts_of source) (inflow ps fs m b) ≡ plus (G.parts_of sink) (outflow ps fs m b)))) }
 {
-    let into = with_inflow(source, rests, rest, b)?;
-    let out = with_outflow(sink, rests, rest, b)?;
+    let into = with_inflow(source, rests, carried, b)?;
+    let out = with_outflow(sink, rests, carried, b)?;
     Some(same(into, out))
 }
 

@@ -10,9 +10,9 @@ ghost use Rattle.check_pit.specs.Written.{spaced, line_words, lines_text, header
 ghost use Rattle.check_pit.specs.Certificate.{Covers};
 ghost use Rattle.check_pit.specs.ReadBack.{Writable, AreWritable, IsPrice, IsReadBack};
 
-use crate::certificates::Certificate;
-use crate::headers::{Header, Price};
-use crate::lines_of_body::{BodyLine, Kind};
+use crate::certificate::Certificate;
+use crate::header::{Header, Price};
+use crate::lines_of_body::{BodyLine, LineKind};
 use closure_net::{Carried, Flow, Pit};
 use fixed_worth::{CountedWrite, Page, ShortLine, WriteFault};
 use ordered_group::{Group, OrderedGroup};
@@ -48,28 +48,28 @@ fn written(line: &BodyLine) -> ShortLine
 {
     let mut text = ShortLine::new();
     match line.kind {
-        Kind::Pit => {
+        LineKind::Pit => {
             text.push(b"PIT ");
             text.push_number(line.block as u128);
         }
-        Kind::Source => {
+        LineKind::Source => {
             text.push(b"SOURCE ");
             text.push_number(line.block as u128);
             push_amount(&mut text, line);
         }
-        Kind::Rest => {
+        LineKind::Rest => {
             text.push(b"REST ");
             text.push_number(line.block as u128);
             text.push(b" ");
             text.push_number(line.other as u128);
             push_amount(&mut text, line);
         }
-        Kind::Sink => {
+        LineKind::Sink => {
             text.push(b"SINK ");
             text.push_number(line.block as u128);
             push_amount(&mut text, line);
         }
-        Kind::End => text.push(b"END"),
+        LineKind::End => text.push(b"END"),
     }
     text.push(b"\n");
     text
@@ -119,7 +119,7 @@ fn is_zero<G: OrderedGroup>(amount: G) -> bool
 }
 
 // The line of an amount at a block.
-fn block_line<G: OrderedGroup>(kind: Kind, block: u32, amount: G) -> BodyLine
+fn block_line<G: OrderedGroup>(kind: LineKind, block: u32, amount: G) -> BodyLine
     ensures { result ≡ block_at kind block (G.parts_of amount) }
 {
     let (worth, count) = amount.parts();
@@ -140,7 +140,7 @@ fn pair_line<G: OrderedGroup>(rests: &Rests, pair: u32, amount: G) -> BodyLine
     let (block, other) = rests.pair(pair);
     let (worth, count) = amount.parts();
     BodyLine {
-        kind: Kind::Rest,
+        kind: LineKind::Rest,
         block,
         other,
         worth,
@@ -174,7 +174,7 @@ fn put_pit<W: CountedWrite>(page: &mut Page, out: &mut W, pit: &Pit) -> Result<(
     let blocks = pit.blocks();
     for block in blocks {
         let line = BodyLine {
-            kind: Kind::Pit,
+            kind: LineKind::Pit,
             block: *block,
             other: 0,
             worth: 0,
@@ -189,7 +189,7 @@ fn put_pit<W: CountedWrite>(page: &mut Page, out: &mut W, pit: &Pit) -> Result<(
 fn put_blocks<G: OrderedGroup, W: CountedWrite>(
     page: &mut Page,
     out: &mut W,
-    kind: Kind,
+    kind: LineKind,
     amounts: &[G],
 ) -> Result<(), WriteFault>
     requires few { length amounts.now ≤ 2 ^ 24 }
@@ -248,10 +248,11 @@ fn put_flow<G: OrderedGroup, W: CountedWrite>(
     ensures prefix { OnErr result (ReceivedPrefix (W.contents out.old) (W.contents out.new) (page.old ++ body_text (flow_lines rests.now.pairs flow.now))) }
     ensures counted { OnErr result (W.failed out.new ≡ W.failed out.old + 1) }
 {
+    // proof: a `Rests` is in order, with at most 2^27 pairs
     let _n = rests.len();
-    put_blocks(page, out, Kind::Source, flow.source())?;
+    put_blocks(page, out, LineKind::Source, flow.source())?;
     put_pairs(page, out, rests, flow.rest())?;
-    put_blocks(page, out, Kind::Sink, flow.sink())
+    put_blocks(page, out, LineKind::Sink, flow.sink())
 }
 
 // Everything behind the header.
@@ -300,6 +301,7 @@ pub fn write_certificate<G: OrderedGroup, W: CountedWrite>(
         price: certificate.price,
         group: G::group(),
     };
+    // proof: a `Rests` is in order, and a `Pit` is ascending
     let _blocks = rests.len();
     let _pit = certificate.pit.blocks();
     let mut page = Page::new();

@@ -5,9 +5,9 @@ use Rattle.std.proofs.lemmas.List.{length-map}
 use Rattle.ordered_group.specs.Amount.{Amount}
 use Rattle.prec_file.specs.Rests.{RestsView, IsRests}
 use Rattle.closure_net.specs.Network.{NetView, net_view, IsNetParts}
-use Rattle.closure_net.specs.Faults.{WorthsFit, NetFaultStands, AmountsFaultStands, WorthsFaultStands}
-use Rattle.closure_net.specs.declared.networks.NetFault.{NetFault}
-use Rattle.closure_net.specs.declared.networks.NetFault.TheVariants.{WrongLength, TooLarge, NoMemory}
+use Rattle.closure_net.specs.FaultStands.{WorthsFit, NetFaultStands, AmountsFaultStands, WorthsFaultStands}
+use Rattle.closure_net.specs.declared.net.NetFault.{NetFault}
+use Rattle.closure_net.specs.declared.net.NetFault.TheVariants.{WrongLength, TooLarge, NoMemory}
 
 -- pairs and as many worths, all of which fit, make a net
 pub net_parts : (v : RestsView) (ws : List Amount) → v.blocks ≡ length ws → IsRests v → WorthsFit ws → IsNetParts v ws

@@ -6,8 +6,8 @@ use Rattle.std.proofs.lemmas.Option.{slice_get-get_or}
 use Rattle.prec_file.specs.Rests.{from_at, to_at, numbers, above_of, below_of, first_of, IsRising}
 use Rattle.prec_file.proofs.Passing.{passing_at, passing_most}
 use Rattle.prec_file.proofs.Order.{own_at}
-use Rattle.closure_net.specs.declared.ports.Port.{Port}
-use Rattle.closure_net.specs.declared.ports.PortKind.TheVariants.{Forward, Backward}
+use Rattle.closure_net.specs.declared.port.Port.{Port}
+use Rattle.closure_net.specs.declared.port.PortKind.TheVariants.{Forward, Backward}
 use Rattle.closure_net.specs.Ports.{forward_port, backward_port, forwards, backwards}
 
 -- the ports of these pairs to the blocks that b rests on, and to those that rest on b

@@ -2,9 +2,9 @@ pub mod Network
 pub mod Ports
 pub mod Closure
 pub mod Flows
-pub mod Faults
+pub mod FaultStands
 pub mod Mine
-pub mod Printed
+pub mod FaultText
 pub mod Reached
 pub mod Searches
 pub mod Places

@@ -13,29 +13,29 @@ pub record Mine : Type 0 where
 
 -- the set holds every block that a block of it rests on
 abbrev pub IsPit : Mine → (ℕ → Bool) → Type 0
-IsPit mine e = (b p : ℕ) → IsTrue (mine.rests b p) → IsTrue (e b) → IsTrue (e p)
+IsPit mine pit = (b p : ℕ) → IsTrue (mine.rests b p) → IsTrue (pit b) → IsTrue (pit p)
 
 -- the sum of the worths of the set's blocks, and their number
 abbrev pub worth_of : Mine → (ℕ → Bool) → ℤ
-worth_of mine e = worth_in mine.worth e mine.blocks
+worth_of mine pit = worth_in mine.worth pit mine.blocks
 
 abbrev pub count_of : Mine → (ℕ → Bool) → ℕ
-count_of mine e = count_in e mine.blocks
+count_of mine pit = count_in pit mine.blocks
 
 -- two sets have the same blocks
 abbrev pub AreSame : Mine → (ℕ → Bool) → (ℕ → Bool) → Type 0
-AreSame mine e c = (b : ℕ) → b < mine.blocks → e b ≡ c b
+AreSame mine pit other = (b : ℕ) → b < mine.blocks → pit b ≡ other b
 
 -- a pit, and no pit is worth more
-pub record IsRichest (mine : Mine) (e : ℕ → Bool) : Type 0 where
-  pub is_pit : IsPit mine e
-  pub most : (c : ℕ → Bool) → IsPit mine c → worth_of mine c ≤ℤ worth_of mine e
+pub record IsRichest (mine : Mine) (pit : ℕ → Bool) : Type 0 where
+  pub is_pit : IsPit mine pit
+  pub most : (other : ℕ → Bool) → IsPit mine other → worth_of mine other ≤ℤ worth_of mine pit
 
 -- The best pit: no pit is worth more, and every other pit that is worth the same has more blocks.
-pub record IsBest (mine : Mine) (e : ℕ → Bool) : Type 0 where
-  pub is_pit : IsPit mine e
-  pub most : (c : ℕ → Bool) → IsPit mine c → worth_of mine c ≤ℤ worth_of mine e
-  pub fewest : (c : ℕ → Bool) → IsPit mine c → ¬ (AreSame mine c e) → worth_of mine c ≡ worth_of mine e → count_of mine e < count_of mine c
+pub record IsBest (mine : Mine) (pit : ℕ → Bool) : Type 0 where
+  pub is_pit : IsPit mine pit
+  pub most : (other : ℕ → Bool) → IsPit mine other → worth_of mine other ≤ℤ worth_of mine pit
+  pub fewest : (other : ℕ → Bool) → IsPit mine other → ¬ (AreSame mine other pit) → worth_of mine other ≡ worth_of mine pit → count_of mine pit < count_of mine other
 
 -- the second mine has the blocks of the first, which rest on the same ones, and none is worth less
 pub record RisesTo (mine later : Mine) : Type 0 where
@@ -45,7 +45,7 @@ pub record RisesTo (mine later : Mine) : Type 0 where
 
 -- every block of the first set is in the second
 abbrev pub LiesWithin : Mine → (ℕ → Bool) → (ℕ → Bool) → Type 0
-LiesWithin mine e c = (b : ℕ) → b < mine.blocks → IsTrue (e b) → IsTrue (c b)
+LiesWithin mine pit other = (b : ℕ) → b < mine.blocks → IsTrue (pit b) → IsTrue (other b)
 
 -- the net is that of the mine, each worth being the amount of one block
 pub record IsNetOf (block : ℤ → ℕ → Amount) (mine : Mine) (net : NetView) : Type 0 where

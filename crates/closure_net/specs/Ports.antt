@@ -5,8 +5,8 @@ use Rattle.ordered_group.specs.Amount.{Amount, zero_amount, amount_cmp}
 use Rattle.ordered_group.specs.Sums.{amount_at}
 use Rattle.prec_file.specs.Rests.{from_at, to_at, numbers}
 use Rattle.closure_net.specs.Network.{NetView}
-use Rattle.closure_net.specs.declared.ports.Port.{Port}
-use Rattle.closure_net.specs.declared.ports.PortKind.TheVariants.{Sink, Forward, Backward, Source}
+use Rattle.closure_net.specs.declared.port.Port.{Port}
+use Rattle.closure_net.specs.declared.port.PortKind.TheVariants.{Sink, Forward, Backward, Source}
 
 -- whether x is below y
 abbrev pub is_below : Amount → Amount → Bool

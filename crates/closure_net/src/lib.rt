@@ -8,23 +8,23 @@
 //! closed set is the best pit, there is at most one, and it grows where worths rise.
 #![tactic(auto)]
 
-mod carrying;
-mod flows;
+mod carried;
+mod flow;
 pub mod laws;
-mod networks;
-mod pits;
-mod ports;
-mod reaching;
+mod net;
+mod pit;
+mod port;
 mod sameness;
-mod searches;
+mod search;
+mod source_side;
 #[cfg(test)]
 mod tests;
 mod worths;
 
-pub use carrying::Carried;
-pub use flows::Flow;
-pub use networks::{Net, NetFault};
-pub use pits::Pit;
-pub use ports::{Port, PortKind};
-pub use reaching::pit_of;
+pub use carried::Carried;
+pub use flow::Flow;
+pub use net::{Net, NetFault};
+pub use pit::Pit;
+pub use port::{Port, PortKind};
 pub use sameness::same_pairs;
+pub use source_side::pit_of;

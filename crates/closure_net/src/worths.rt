@@ -1,9 +1,9 @@
 //! Whether amounts can be the worths of a net, and the amounts of blocks.
 
 ghost use Rattle.std.specs.Prelude.{◌≡◌, map, MatchBool, MatchResult};
-ghost use Rattle.closure_net.specs.Faults.{OppositesFit, OppositeOverflows, PositivesFit, PositivesOverflow, WorthsFit, WorthsOverflow, AmountsFaultStands};
+ghost use Rattle.closure_net.specs.FaultStands.{OppositesFit, OppositeOverflows, PositivesFit, PositivesOverflow, WorthsFit, WorthsOverflow, AmountsFaultStands};
 
-use crate::networks::NetFault;
+use crate::net::NetFault;
 use ordered_group::{OrderedGroup, negative_part, positive_part};
 use std::alloc::Global;
 

@@ -8,10 +8,10 @@ use Rattle.prec_file.proofs.OneListing.{one_listing}
 use Rattle.closure_net.specs.Network.{NetView, FlowView, IsNet}
 use Rattle.closure_net.specs.Mine.{IsNetOf}
 use Rattle.closure_net.proofs.SameLists.{same_at_default}
-use Rattle.check_pit.specs.declared.headers.Header.{Header}
+use Rattle.check_pit.specs.declared.header.Header.{Header}
 use Rattle.check_pit.specs.Checks.{IsSound, FaultStands}
 use Rattle.check_pit.specs.Certificate.{lines_of_text, Denotes}
-use Rattle.check_pit.specs.declared.faults.PitFault.{PitFault}
+use Rattle.check_pit.specs.declared.pit_fault.PitFault.{PitFault}
 use Rattle.check_pit.proofs.Verdicts.{no_fault}
 use Rattle.engines.specs.Mines.{MineTexts, precedence_of, mine_of}
 use Rattle.engines.specs.Readings.{block_by, counts_by, Reads}

@@ -14,7 +14,7 @@ use Rattle.engines.specs.declared.engine_fault.CertificateProblem.TheVariants as
 use Rattle.engines.specs.FaultStands.{AreWorths, Fails}
 use Rattle.engines.specs.Inputs.{ReadsUpit, ReadsPrec, TextReadFails}
 use Rattle.engines.specs.Judgements.{IsJudged}
-use Rattle.check_pit.specs.declared.headers.Price.TheVariants.{Objective}
+use Rattle.check_pit.specs.declared.header.Price.TheVariants.{Objective}
 use Rattle.engines.specs.Mines.{MineTexts, mine_texts, price_wanted, ValuesRead}
 use Rattle.engines.specs.Judging.{Judges}
 use Rattle.engines.specs.ReadMines.{AreRead, billionths_of}

@@ -11,9 +11,9 @@ use Rattle.ordered_group.proofs.Signs.{NonNeg, NonNeg-positive, positive-of_NonN
 use Rattle.ordered_group.proofs.Totals.Ranges.{total_nonneg}
 use Rattle.closure_net.specs.Network.{NetView, IsNet}
 use Rattle.closure_net.specs.Mine.{IsNetOf}
-use Rattle.closure_net.specs.Faults.{BlockOverflows, WorthsOverflow}
-use Rattle.closure_net.specs.declared.networks.NetFault.{NetFault}
-use Rattle.closure_net.specs.declared.networks.NetFault.TheVariants as net_fault
+use Rattle.closure_net.specs.FaultStands.{BlockOverflows, WorthsOverflow}
+use Rattle.closure_net.specs.declared.net.NetFault.{NetFault}
+use Rattle.closure_net.specs.declared.net.NetFault.TheVariants as net_fault
 use Rattle.closure_net.proofs.SameLists.{same_at_default}
 use Rattle.engines.specs.Mines.{MineTexts, mine_of}
 use Rattle.engines.specs.FaultStands.{AreWorths, ModelFails}

@@ -14,9 +14,9 @@ use Rattle.closure_net.specs.Closure.{IsGreatest, group_worth}
 use Rattle.closure_net.specs.Mine.{IsNetOf}
 use Rattle.check_pit.specs.Checks.{IsSound, FaultStands}
 use Rattle.check_pit.specs.Certificate.{fault_of, lines_of_text, IsRead, Denotes, UnlessMemory}
-use Rattle.check_pit.specs.declared.faults.PitFault.{PitFault}
-use Rattle.check_pit.specs.declared.headers.Price.{Price}
-use Rattle.check_pit.specs.declared.headers.Header.{Header}
+use Rattle.check_pit.specs.declared.pit_fault.PitFault.{PitFault}
+use Rattle.check_pit.specs.declared.header.Price.{Price}
+use Rattle.check_pit.specs.declared.header.Header.{Header}
 use Rattle.check_pit.specs.Pieces.{pieces_of}
 use Rattle.check_pit.specs.Header.{header_of}
 use Rattle.engines.specs.declared.engine_fault.EngineFault.{EngineFault}
@@ -25,11 +25,11 @@ use Rattle.engines.specs.Mines.{MineTexts, precedence_of, price_wanted, mine_of,
 use Rattle.engines.specs.Readings.{Reads}
 use Rattle.engines.specs.Judgements.{IsAccepted, IsRefused}
 use Rattle.engines.specs.FaultStands.{IsHeader, AreWorths, BodyFails, NetFails, Fails}
-use Rattle.closure_net.specs.Faults.{WorthsFaultStands}
-use Rattle.closure_net.specs.declared.networks.NetFault.{NetFault}
-use Rattle.closure_net.specs.declared.networks.NetFault.TheVariants as net
-use Rattle.check_pit.specs.declared.cert_faults.CertFault.{CertFault}
-use Rattle.check_pit.specs.declared.cert_faults.CertFault.TheVariants as cert
+use Rattle.closure_net.specs.FaultStands.{WorthsFaultStands}
+use Rattle.closure_net.specs.declared.net.NetFault.{NetFault}
+use Rattle.closure_net.specs.declared.net.NetFault.TheVariants as net
+use Rattle.check_pit.specs.declared.cert_fault.CertFault.{CertFault}
+use Rattle.check_pit.specs.declared.cert_fault.CertFault.TheVariants as cert
 use Rattle.engines.specs.Judging.{of_certificate}
 use Rattle.engines.specs.ReadMines.{AreRead, IsGroupNamed, of_model}
 use Rattle.engines.proofs.Counted.{count_in-ascending}

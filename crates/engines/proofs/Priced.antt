@@ -19,10 +19,10 @@ use Rattle.shells.specs.Prices.{PricesView, NoneNegative, PricesFaultStands, blo
 use Rattle.check_pit.specs.Pieces.{Piece, piece_at, read_line, words_of, number_below}
 use Rattle.check_pit.specs.Header.{header_of, price_in, price_said, or_number, factor_of, value_behind, version_in, blocks_in, group_in}
 use Rattle.check_pit.specs.ReadBack.{IsPrice}
-use Rattle.check_pit.specs.declared.headers.Header.{Header}
-use Rattle.check_pit.specs.declared.headers.Price.{Price}
-use Rattle.check_pit.specs.declared.headers.Price.TheVariants.{Objective, Factor}
-use Rattle.check_pit.specs.declared.cert_faults.LineFault.{LineFault}
+use Rattle.check_pit.specs.declared.header.Header.{Header}
+use Rattle.check_pit.specs.declared.header.Price.{Price}
+use Rattle.check_pit.specs.declared.header.Price.TheVariants.{Objective, Factor}
+use Rattle.check_pit.specs.declared.cert_fault.LineFault.{LineFault}
 use Rattle.check_pit.proofs.Going.{text_read, below_limit}
 use Rattle.check_pit.proofs.Wants.{joined}
 use Rattle.engines.specs.Mines.{priced_texts}

@@ -10,17 +10,17 @@ use Rattle.prec_file.specs.Rests.{RestsView}
 use Rattle.upit_file.specs.Records as upit
 use Rattle.closure_net.specs.Network.{NetView, FlowView, net_view, IsNet, FlowFits, holds_of}
 use Rattle.closure_net.specs.Mine.{IsNetOf}
-use Rattle.closure_net.specs.Faults.{WorthsFaultStands}
-use Rattle.closure_net.specs.declared.networks.NetFault.{NetFault}
-use Rattle.closure_net.specs.declared.networks.NetFault.TheVariants as net_fault
+use Rattle.closure_net.specs.FaultStands.{WorthsFaultStands}
+use Rattle.closure_net.specs.declared.net.NetFault.{NetFault}
+use Rattle.closure_net.specs.declared.net.NetFault.TheVariants as net_fault
 use Rattle.workers.specs.Runs.{Settles}
 use Rattle.check_pit.specs.Checks.{IsSound, FaultStands}
 use Rattle.check_pit.specs.Certificate.{Covers}
 use Rattle.check_pit.specs.ReadBack.{IsReadBack}
 use Rattle.check_pit.specs.Written.{header_with, text_of}
-use Rattle.check_pit.specs.declared.faults.PitFault.{PitFault}
-use Rattle.check_pit.specs.declared.headers.Price.{Price}
-use Rattle.check_pit.specs.declared.headers.Price.TheVariants.{Objective}
+use Rattle.check_pit.specs.declared.pit_fault.PitFault.{PitFault}
+use Rattle.check_pit.specs.declared.header.Price.{Price}
+use Rattle.check_pit.specs.declared.header.Price.TheVariants.{Objective}
 use Rattle.check_pit.specs.Pieces.{pieces_of}
 use Rattle.check_pit.proofs.Duality.{duality}
 use Rattle.check_pit.proofs.Tightness.{refused_for_size_only}

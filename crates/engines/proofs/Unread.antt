@@ -15,10 +15,10 @@ use Rattle.upit_file.specs.Records as upit
 use Rattle.upit_file.specs.declared.fault.UpitFault.{UpitFault}
 use Rattle.closure_net.specs.Network.{NetView}
 use Rattle.closure_net.specs.Mine.{IsNetOf}
-use Rattle.closure_net.specs.declared.networks.NetFault.{NetFault}
-use Rattle.check_pit.specs.declared.headers.Header.{Header}
+use Rattle.closure_net.specs.declared.net.NetFault.{NetFault}
+use Rattle.check_pit.specs.declared.header.Header.{Header}
 use Rattle.check_pit.specs.Certificate.{fault_of}
-use Rattle.check_pit.specs.declared.cert_faults.CertFault.{CertFault}
+use Rattle.check_pit.specs.declared.cert_fault.CertFault.{CertFault}
 use Rattle.engines.specs.declared.engine_fault.Problem.{Problem}
 use Rattle.engines.specs.declared.engine_fault.Problem.TheVariants as problem
 use Rattle.blocks_file.specs.declared.faults.BlocksFault.{BlocksFault}

@@ -3,7 +3,7 @@ use Rattle.std.specs.Prelude.{ℕ, List}
 use Rattle.closure_net.specs.Network.{NetView, FlowView, FlowFits, holds_of}
 use Rattle.closure_net.specs.Reached.{IsReached}
 use Rattle.check_pit.specs.Checks.{IsOfNet, FaultStands}
-use Rattle.check_pit.specs.declared.faults.PitFault.{PitFault}
+use Rattle.check_pit.specs.declared.pit_fault.PitFault.{PitFault}
 use Rattle.engines.specs.declared.certify.Uncertified.{Uncertified}
 use Rattle.engines.specs.declared.certify.Uncertified.TheVariants.{NoMemory, Refused}
 

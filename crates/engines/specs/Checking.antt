@@ -2,7 +2,7 @@
 use Rattle.std.specs.Prelude.{◌≡◌, ℕ, ◌+◌, ℤ, ◌⊎◌, List, Option, Result, Ok, Err}
 use Rattle.std.specs.Io.KnownBytes.{Appends, Keeps}
 use Rattle.ordered_group.specs.declared.groups.Group.{Group}
-use Rattle.check_pit.specs.declared.faults.PitFault.{PitFault}
+use Rattle.check_pit.specs.declared.pit_fault.PitFault.{PitFault}
 use Rattle.check_pit.specs.Checks.{IsSound}
 use Rattle.fixed_worth.specs.Device.{ReceivedPrefix}
 use Rattle.engines.specs.declared.judgement.Judgement.{Judgement}

@@ -1,16 +1,16 @@
 -- When an engine answers a fault: each stands in the texts, and none before it does.
 use Rattle.std.specs.Prelude.{◌≡◌, ◌≢◌, ℕ, ◌<◌, ℤ, pos, ◌⊎◌, List, length, slice_index_or, Some, None, Ok, Err}
 use Rattle.ordered_group.specs.declared.groups.Group.{Group}
-use Rattle.closure_net.specs.Faults.{WorthsFaultStands}
-use Rattle.closure_net.specs.declared.networks.NetFault.{NetFault}
-use Rattle.closure_net.specs.declared.networks.NetFault.TheVariants as net_fault
+use Rattle.closure_net.specs.FaultStands.{WorthsFaultStands}
+use Rattle.closure_net.specs.declared.net.NetFault.{NetFault}
+use Rattle.closure_net.specs.declared.net.NetFault.TheVariants as net_fault
 use Rattle.upit_file.specs.Records as upit
 use Rattle.upit_file.specs.declared.fault.UpitFault.{UpitFault}
 use Rattle.prec_file.specs.Records as prec
 use Rattle.prec_file.specs.declared.prec_fault.PrecFault.{PrecFault}
-use Rattle.check_pit.specs.declared.cert_faults.CertFault.{CertFault}
-use Rattle.check_pit.specs.declared.cert_faults.CertFault.TheVariants as certificate_fault
-use Rattle.check_pit.specs.declared.headers.Header.{Header}
+use Rattle.check_pit.specs.declared.cert_fault.CertFault.{CertFault}
+use Rattle.check_pit.specs.declared.cert_fault.CertFault.TheVariants as certificate_fault
+use Rattle.check_pit.specs.declared.header.Header.{Header}
 use Rattle.check_pit.specs.Pieces.{pieces_of}
 use Rattle.check_pit.specs.Header.{header_of}
 use Rattle.check_pit.specs.Certificate.{fault_of}

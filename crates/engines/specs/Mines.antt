@@ -4,8 +4,8 @@ use Rattle.std.specs.List.{list_any}
 use Rattle.closure_net.specs.Mine.{Mine}
 use Rattle.prec_file.specs.Records as prec
 use Rattle.upit_file.specs.Records as upit
-use Rattle.check_pit.specs.declared.headers.Price.{Price}
-use Rattle.check_pit.specs.declared.headers.Price.TheVariants.{Objective, Factor}
+use Rattle.check_pit.specs.declared.header.Price.{Price}
+use Rattle.check_pit.specs.declared.header.Price.TheVariants.{Objective, Factor}
 use Rattle.shells.specs.Prices.{worth_at}
 use Rattle.engines.specs.Limits.{IsWithinLimit}
 use Rattle.engines.specs.PricedTexts.{table_of, PricesRead}

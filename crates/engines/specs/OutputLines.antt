@@ -3,15 +3,15 @@ use Rattle.std.specs.Prelude.{ℕ, List, [], ◌∷◌, ◌++◌, codes, decimal
 use Rattle.fixed_worth.specs.Printed.{printed}
 use Rattle.ordered_group.specs.declared.groups.Group.{Group}
 use Rattle.ordered_group.specs.declared.groups.Group.TheVariants.{Worth, Pair}
-use Rattle.closure_net.specs.Printed.{net_fault_text}
-use Rattle.upit_file.specs.Faults.{upit_fault_text}
-use Rattle.prec_file.specs.Printed.{prec_fault_text}
-use Rattle.blocks_file.specs.Printed.{blocks_fault_text}
-use Rattle.slope.specs.Printed.{pattern_fault_text, slope_fault_text}
+use Rattle.closure_net.specs.FaultText.{net_fault_text}
+use Rattle.upit_file.specs.FaultText.{upit_fault_text}
+use Rattle.prec_file.specs.FaultText.{prec_fault_text}
+use Rattle.blocks_file.specs.FaultText.{blocks_fault_text}
+use Rattle.slope.specs.FaultText.{pattern_fault_text, slope_fault_text}
 use Rattle.settings_file.specs.FaultText.{settings_fault_text}
 use Rattle.shells.specs.FaultText.{prices_fault_text}
 use Rattle.check_pit.specs.FaultText.{fault_text}
-use Rattle.check_pit.specs.PrintedFaults.{pit_fault_text}
+use Rattle.check_pit.specs.FaultText.{pit_fault_text}
 use Rattle.engines.specs.declared.judgement.Judgement.{Judgement}
 use Rattle.engines.specs.declared.judgement.Judgement.TheVariants.{Accepted, Refused}
 use Rattle.engines.specs.declared.engine_fault.Problem.{Problem}

@@ -7,8 +7,8 @@ use Rattle.prec_file.specs.Records as prec
 use Rattle.closure_net.specs.Network.{NetView}
 use Rattle.closure_net.specs.Closure.{IsGreatest}
 use Rattle.closure_net.specs.Mine.{Mine, IsNetOf}
-use Rattle.closure_net.specs.declared.networks.NetFault.{NetFault}
-use Rattle.closure_net.specs.declared.networks.NetFault.TheVariants as net_fault
+use Rattle.closure_net.specs.declared.net.NetFault.{NetFault}
+use Rattle.closure_net.specs.declared.net.NetFault.TheVariants as net_fault
 use Rattle.settings_file.specs.declared.faults.SettingsFault.{SettingsFault}
 use Rattle.settings_file.specs.declared.faults.SettingsFault.TheVariants as settings_fault
 use Rattle.shells.specs.Prices.{PricesView, blocks_of}

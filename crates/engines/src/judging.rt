@@ -8,7 +8,7 @@ ghost use Rattle.ordered_group.specs.Amount.{FitsPair};
 ghost use Rattle.closure_net.specs.Closure.{group_worth, IsGreatest};
 ghost use Rattle.closure_net.specs.Mine.{IsNetOf};
 ghost use Rattle.engines.specs.Limits.{IsWithinLimit};
-ghost use Rattle.check_pit.specs.declared.headers.Price.TheVariants.{Objective};
+ghost use Rattle.check_pit.specs.declared.header.Price.TheVariants.{Objective};
 ghost use Rattle.engines.specs.Mines.{MineTexts, priced_texts, DenoteMine, mine_of, price_wanted};
 ghost use Rattle.engines.specs.FaultStands.{IsHeader, Fails};
 ghost use Rattle.engines.specs.Judging.{Judges, factor_in};

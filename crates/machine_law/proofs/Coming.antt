@@ -10,8 +10,8 @@ use Rattle.ordered_group.proofs.Totals.{total_nonneg, total-none, where_nonneg, 
 use Rattle.prec_file.specs.Rests.{from_at, to_at}
 use Rattle.closure_net.specs.Network.{NetView}
 use Rattle.closure_net.specs.Ports.{ports, source_port, backward_port}
-use Rattle.closure_net.specs.declared.ports.PortKind.{PortKind}
-use Rattle.closure_net.specs.declared.ports.PortKind.TheVariants.{Sink, Forward, Backward, Source}
+use Rattle.closure_net.specs.declared.port.PortKind.{PortKind}
+use Rattle.closure_net.specs.declared.port.PortKind.TheVariants.{Sink, Forward, Backward, Source}
 use Rattle.machine_law.specs.declared.operations.Operation.{Operation}
 use Rattle.machine_law.specs.declared.operations.Operation.TheVariants.{Idle, Scan, PushDue, TakeDue, GiveDue, RaiseDue}
 use Rattle.machine_law.specs.States.{State}

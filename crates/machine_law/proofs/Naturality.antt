@@ -1,7 +1,7 @@
 -- What a block does next by what it read is the same over other numbers, where it isn't told by their amounts.
 use Rattle.std.proofs.Common.{◌≡◌, ℕ, ◌+◌, Bool, true, false, cond, nat_lt, Option, Some, None, refl, ap, ◌∙◌}
 use Rattle.std.specs.Option.{option_map}
-use Rattle.closure_net.specs.declared.ports.Port.{Port}
+use Rattle.closure_net.specs.declared.port.Port.{Port}
 use Rattle.machine_law.specs.declared.operations.Best.{Best}
 use Rattle.machine_law.specs.declared.operations.Operation.TheVariants.{Scan, PushDue, RaiseDue}
 use Rattle.machine_law.specs.Operations.{best_as, operation_as}

@@ -14,9 +14,9 @@ use Rattle.prec_file.specs.Rests.{from_at, to_at, numbers}
 use Rattle.prec_file.proofs.Passing.{passing_after, passing_here, passing_at}
 use Rattle.closure_net.specs.Network.{NetView}
 use Rattle.closure_net.specs.Ports.{is_below, ports, port_list, forwards, backwards, forward_port, backward_port, sink_port, source_port}
-use Rattle.closure_net.specs.declared.ports.Port.{Port}
-use Rattle.closure_net.specs.declared.ports.PortKind.{PortKind}
-use Rattle.closure_net.specs.declared.ports.PortKind.TheVariants.{Sink, Forward, Backward, Source}
+use Rattle.closure_net.specs.declared.port.Port.{Port}
+use Rattle.closure_net.specs.declared.port.PortKind.{PortKind}
+use Rattle.closure_net.specs.declared.port.PortKind.TheVariants.{Sink, Forward, Backward, Source}
 use Rattle.machine_law.specs.States.{State}
 use Rattle.machine_law.specs.Residual.{IsEnd, IsPortOf}
 use Rattle.machine_law.specs.Amounts.{HasAmounts}

@@ -9,8 +9,8 @@ use Rattle.ordered_group.proofs.Signs.{AtMost-minus}
 use Rattle.ordered_group.proofs.Totals.{where_at, where_not, where_nonneg}
 use Rattle.prec_file.specs.Rests.{from_at, to_at}
 use Rattle.closure_net.specs.Network.{NetView}
-use Rattle.closure_net.specs.declared.ports.PortKind.{PortKind}
-use Rattle.closure_net.specs.declared.ports.PortKind.TheVariants.{Sink, Forward, Backward, Source}
+use Rattle.closure_net.specs.declared.port.PortKind.{PortKind}
+use Rattle.closure_net.specs.declared.port.PortKind.TheVariants.{Sink, Forward, Backward, Source}
 use Rattle.machine_law.specs.declared.operations.Best.{Best}
 use Rattle.machine_law.specs.declared.operations.Operation.{Operation}
 use Rattle.machine_law.specs.declared.operations.Operation.TheVariants.{PushDue, TakeDue}

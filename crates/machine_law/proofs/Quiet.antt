@@ -14,7 +14,7 @@ use Rattle.closure_net.specs.Closure.{Stays, IsClosed}
 use Rattle.closure_net.specs.Flows.{IsFlow, IsTight}
 use Rattle.closure_net.proofs.Duality.{PairsKnown, closed_bound, greatest_flow_from_tight}
 use Rattle.closure_net.specs.Reached.{IsReached, Reaches}
-use Rattle.closure_net.specs.declared.ports.Port.{Port}
+use Rattle.closure_net.specs.declared.port.Port.{Port}
 use Rattle.machine_law.specs.declared.operations.Operation.{Operation}
 use Rattle.machine_law.specs.declared.operations.Operation.TheVariants.{Idle}
 use Rattle.machine_law.specs.States.{State, IsQuiet}

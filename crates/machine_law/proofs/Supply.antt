@@ -5,9 +5,9 @@ use Rattle.ordered_group.specs.Amount.{Amount, zero_amount, plus, minus}
 use Rattle.ordered_group.specs.Sums.{where_so}
 use Rattle.ordered_group.proofs.Totals.{where_so-zero, where_so-plus, where_so-minus}
 use Rattle.closure_net.specs.Network.{NetView}
-use Rattle.closure_net.specs.declared.ports.Port.{Port}
-use Rattle.closure_net.specs.declared.ports.PortKind.{PortKind}
-use Rattle.closure_net.specs.declared.ports.PortKind.TheVariants.{Sink, Forward, Backward, Source}
+use Rattle.closure_net.specs.declared.port.Port.{Port}
+use Rattle.closure_net.specs.declared.port.PortKind.{PortKind}
+use Rattle.closure_net.specs.declared.port.PortKind.TheVariants.{Sink, Forward, Backward, Source}
 use Rattle.machine_law.specs.declared.operations.Best.{Best}
 use Rattle.machine_law.specs.declared.operations.Operation.{Operation}
 use Rattle.machine_law.specs.declared.operations.Operation.TheVariants.{Idle, Scan, PushDue, TakeDue, GiveDue, RaiseDue}

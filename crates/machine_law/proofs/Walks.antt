@@ -7,9 +7,9 @@ use Rattle.ordered_group.proofs.Order.{AtMost-refl, AtMost-trans}
 use Rattle.prec_file.specs.Rests.{from_at, to_at}
 use Rattle.closure_net.specs.Network.{NetView}
 use Rattle.closure_net.specs.Ports.{ports, backward_port}
-use Rattle.closure_net.specs.declared.ports.Port.{Port}
-use Rattle.closure_net.specs.declared.ports.PortKind.{PortKind}
-use Rattle.closure_net.specs.declared.ports.PortKind.TheVariants.{Sink, Forward, Backward, Source}
+use Rattle.closure_net.specs.declared.port.Port.{Port}
+use Rattle.closure_net.specs.declared.port.PortKind.{PortKind}
+use Rattle.closure_net.specs.declared.port.PortKind.TheVariants.{Sink, Forward, Backward, Source}
 use Rattle.machine_law.specs.declared.operations.Best.{Best}
 use Rattle.machine_law.specs.States.{State}
 use Rattle.machine_law.specs.Residual.{room, capacity, capacity_by, end_label, label_beyond, IsEnd, IsPortOf}

@@ -11,4 +11,4 @@ pub mod Labels
 pub mod Law
 pub mod Quiet
 pub mod Conservation
-pub mod Printed
+pub mod KindText

@@ -1,7 +1,7 @@
 //! The steps of a run.
 
 ghost use Rattle.std.specs.Prelude.{Some};
-ghost use Rattle.machine_law.specs.Printed.{kind_text};
+ghost use Rattle.machine_law.specs.KindText.{kind_text};
 
 use std::fmt;
 

@@ -1,7 +1,7 @@
 //! Why there is no flow.
 
 ghost use Rattle.std.specs.Prelude.{Some};
-ghost use Rattle.pseudoflow.specs.Printed.{pseudoflow_fault_text};
+ghost use Rattle.pseudoflow.specs.FaultText.{pseudoflow_fault_text};
 
 use std::alloc::AllocError;
 use std::fmt;

@@ -68,6 +68,7 @@ fn find_weak(
     ensures less { budget.new.left ≤ budget.old.left }
     ensures known { IfOk result (λ found. IfSome found (λ p. p < forest.old)) }
 {
+    // proof: the pairs are of the blocks of `rests`
     let _blocks = rests.len();
     let above = rests.above(b);
     let from = forest.current_arc(b) as usize;

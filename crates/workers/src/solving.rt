@@ -81,6 +81,12 @@ pub fn serve_all<R: Threads + Wait + Sync, S: Shared, T: Gate>(
 /// counts as 2^40. With several workers the order of the steps is that in which they take the lock:
 /// two runs may leave two greatest flows.
 ///
+/// The method is push-relabel (Goldberg and Tarjan, A new approach to the maximum-flow problem,
+/// Journal of the ACM 35, 1988), which makes O(V^2 E) pushes over V nodes and E arcs, in the atomic
+/// steps of Hong (A lock-free multi-threaded algorithm for the maximum flow problem, 2008), who gives
+/// O(V^2 E) pushes and relabels. No bound is claimed here: a run that isn't settled by the limit on its
+/// steps is `Unsettled`.
+///
 /// # Errors
 /// `BadWorkers` where there are fewer than 1 or more than 64. `NoMemory` where memory for the board was
 /// refused. `NoThread` where a worker couldn't be started, whatever the others did; those have ended.

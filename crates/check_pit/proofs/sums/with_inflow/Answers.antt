@@ -7,7 +7,7 @@ use Rattle.check_pit.proofs.sums.with_inflow.Goals as goal
 pub at-requires-after_bounds : goal.at-requires-after_bounds
 at-requires-after_bounds g c =
     let parts = g.G.OrderedGroup.parts_of in
-    let below = number_below (parts c.args.start) (to_at c.args.rests.now.pairs) (amount_at c.args.rest.now) c.args.b (length c.args.rests.now.pairs) c.below-numbers.result.now c.below-numbers.ensures c.loop-k.k-index (omega arith) in
+    let below = number_below (parts c.args.start) (to_at c.args.rests.now.pairs) (amount_at c.args.carried.now) c.args.b (length c.args.rests.now.pairs) c.below-numbers.result.now c.below-numbers.ensures c.loop-k.k-index (omega arith) in
     omega (arith, below, c.requires.lengths)
 
 pub returns-in_err-sum : goal.returns-in_err-sum
@@ -15,16 +15,16 @@ returns-in_err-sum g c =
     let parts = g.G.OrderedGroup.parts_of in
     let ks = c.below-numbers.result.now in
     let k = get_or ks c.loop-k.k-index 0 in
-    let below = number_below (parts c.args.start) (to_at c.args.rests.now.pairs) (amount_at c.args.rest.now) c.args.b (length c.args.rests.now.pairs) ks c.below-numbers.ensures c.loop-k.k-index (omega arith) in
+    let below = number_below (parts c.args.start) (to_at c.args.rests.now.pairs) (amount_at c.args.carried.now) c.args.b (length c.args.rests.now.pairs) ks c.below-numbers.ensures c.loop-k.k-index (omega arith) in
     let q = sym c.at.ensures in
-    rw c.from_residual.ensures (one_overflows (parts c.args.start) (to_at c.args.rests.now.pairs) (amount_at c.args.rest.now) c.args.b (length c.args.rests.now.pairs) ks c.below-numbers.ensures c.loop-k.k-index _ _ (omega arith) c.loop-k.invariant.so_far q c.in_err-sum.ensures)
+    rw c.from_residual.ensures (one_overflows (parts c.args.start) (to_at c.args.rests.now.pairs) (amount_at c.args.carried.now) c.args.b (length c.args.rests.now.pairs) ks c.below-numbers.ensures c.loop-k.k-index _ _ (omega arith) c.loop-k.invariant.so_far q c.in_err-sum.ensures)
 
 pub loop-k-preserved : goal.loop-k-preserved
 loop-k-preserved g c =
     let parts = g.G.OrderedGroup.parts_of in
     let ks = c.below-numbers.result.now in
     let k = get_or ks c.loop-k.k-index 0 in
-    let f = amount_at c.args.rest.now in
+    let f = amount_at c.args.carried.now in
     let below = number_below (parts c.args.start) (to_at c.args.rests.now.pairs) f c.args.b (length c.args.rests.now.pairs) ks c.below-numbers.ensures c.loop-k.k-index (omega arith) in
     let q = sym c.at.ensures in
     record {
@@ -38,7 +38,7 @@ returns g c =
     let ks = c.below-numbers.result.now in
     let end = to_at c.args.rests.now.pairs in
     let m = length c.args.rests.now.pairs in
-    let f = amount_at c.args.rest.now in
+    let f = amount_at c.args.carried.now in
     let all : c.loop-k.k-index ≡ length ks = omega arith in (
       all_in (parts c.args.start) end f c.args.b m ks c.below-numbers.ensures c.loop-k.k-index _ all c.loop-k.invariant.so_far,
       all_fit (parts c.args.start) end f c.args.b m ks c.below-numbers.ensures c.loop-k.k-index all c.loop-k.invariant.fits,

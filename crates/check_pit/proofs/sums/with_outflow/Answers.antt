@@ -15,7 +15,7 @@ overflow_cast-i g c =
     let size = ap length c.above-count.ensures ∙ length-map ks (to_at ps) in
     let inside : c.loop-i.i < length ks = omega (arith, size) in
     let own = own_at ps c.len-n.ensures.all.rising c.args.b c.loop-i.i inside in
-    let below = number_below (parts c.args.start) (from_at ps) (amount_at c.args.rest.now) c.args.b (length ps) ks refl c.loop-i.i inside in
+    let below = number_below (parts c.args.start) (from_at ps) (amount_at c.args.carried.now) c.args.b (length ps) ks refl c.loop-i.i inside in
     omega (arith, below, own, c.requires.lengths, c.first-first.ensures, c.len-n.ensures.all.few)
 
 pub overflow_add-first : goal.overflow_add-first
@@ -26,7 +26,7 @@ overflow_add-first g c =
     let size = ap length c.above-count.ensures ∙ length-map ks (to_at ps) in
     let inside : c.loop-i.i < length ks = omega (arith, size) in
     let own = own_at ps c.len-n.ensures.all.rising c.args.b c.loop-i.i inside in
-    let below = number_below (parts c.args.start) (from_at ps) (amount_at c.args.rest.now) c.args.b (length ps) ks refl c.loop-i.i inside in
+    let below = number_below (parts c.args.start) (from_at ps) (amount_at c.args.carried.now) c.args.b (length ps) ks refl c.loop-i.i inside in
     omega (arith, below, own, c.requires.lengths, c.first-first.ensures, c.len-n.ensures.all.few)
 
 pub at-requires-after_bounds : goal.at-requires-after_bounds
@@ -37,7 +37,7 @@ at-requires-after_bounds g c =
     let size = ap length c.above-count.ensures ∙ length-map ks (to_at ps) in
     let inside : c.loop-i.i < length ks = omega (arith, size) in
     let own = own_at ps c.len-n.ensures.all.rising c.args.b c.loop-i.i inside in
-    let below = number_below (parts c.args.start) (from_at ps) (amount_at c.args.rest.now) c.args.b (length ps) ks refl c.loop-i.i inside in
+    let below = number_below (parts c.args.start) (from_at ps) (amount_at c.args.carried.now) c.args.b (length ps) ks refl c.loop-i.i inside in
     omega (arith, below, own, c.requires.lengths, c.first-first.ensures, c.len-n.ensures.all.few)
 
 pub returns-in_err-sum : goal.returns-in_err-sum
@@ -45,7 +45,7 @@ returns-in_err-sum g c =
     let parts = g.G.OrderedGroup.parts_of in
     let ps = c.args.rests.now.pairs in
     let ks = numbers (from_at ps) c.args.b (length ps) in
-    let f = amount_at c.args.rest.now in
+    let f = amount_at c.args.carried.now in
     let size = ap length c.above-count.ensures ∙ length-map ks (to_at ps) in
     let inside : c.loop-i.i < length ks = omega (arith, size) in
     let own = own_at ps c.len-n.ensures.all.rising c.args.b c.loop-i.i inside ∙ ap (λ x. x + c.loop-i.i) (sym c.first-first.ensures) in
@@ -58,7 +58,7 @@ loop-i-preserved g c =
     let parts = g.G.OrderedGroup.parts_of in
     let ps = c.args.rests.now.pairs in
     let ks = numbers (from_at ps) c.args.b (length ps) in
-    let f = amount_at c.args.rest.now in
+    let f = amount_at c.args.carried.now in
     let size = ap length c.above-count.ensures ∙ length-map ks (to_at ps) in
     let inside : c.loop-i.i < length ks = omega (arith, size) in
     let own = own_at ps c.len-n.ensures.all.rising c.args.b c.loop-i.i inside ∙ ap (λ x. x + c.loop-i.i) (sym c.first-first.ensures) in
@@ -74,7 +74,7 @@ returns g c =
     let parts = g.G.OrderedGroup.parts_of in
     let ps = c.args.rests.now.pairs in
     let ks = numbers (from_at ps) c.args.b (length ps) in
-    let f = amount_at c.args.rest.now in
+    let f = amount_at c.args.carried.now in
     let size = ap length c.above-count.ensures ∙ length-map ks (to_at ps) in
     let all : c.loop-i.i ≡ length ks = omega (arith, size) in (
       all_in (parts c.args.start) (from_at ps) f c.args.b (length ps) ks refl c.loop-i.i _ all c.loop-i.invariant.so_far,

@@ -3,7 +3,7 @@ use Rattle.std.proofs.lemmas.Result.{on_ok_weaker, on_err_weaker}
 use Rattle.fixed_worth.specs.Device.{ReceivedPrefix, SentOrHeld}
 use Rattle.fixed_worth.proofs.Pieces.{prefix_of_first, prefix_in_second}
 use Rattle.ordered_group.specs.declared.groups.Group.{Group}
-use Rattle.check_pit.specs.declared.headers.Price.{Price}
+use Rattle.check_pit.specs.declared.header.Price.{Price}
 use Rattle.check_pit.specs.Written.{lines_text, header_words, header_with, body_text, value_lines, end_text, text_of}
 use Rattle.check_pit.specs.ReadBack.{IsReadBack}
 use Rattle.check_pit.proofs.Puts.{on_err, on_ok, both_sent, last_failed}

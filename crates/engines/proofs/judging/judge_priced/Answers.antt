@@ -1,7 +1,7 @@
 use Rattle.std.proofs.Common.{◌≡◌, ◌≤◌, ℕ, ◌≢◌, List, subst, ap, sym, ◌∙◌, refl, arith}
 use Rattle.std.proofs.lemmas.Result.{err_from_is_err_and}
-use Rattle.check_pit.specs.declared.headers.Price.{Price}
-use Rattle.check_pit.specs.declared.headers.Price.TheVariants.{Objective, Factor}
+use Rattle.check_pit.specs.declared.header.Price.{Price}
+use Rattle.check_pit.specs.declared.header.Price.TheVariants.{Objective, Factor}
 use Rattle.check_pit.specs.ReadBack.{IsPrice}
 use Rattle.check_pit.specs.Pieces.{pieces_of}
 use Rattle.shells.specs.Prices.{worths_at}

@@ -1,6 +1,6 @@
 use Rattle.std.proofs.Common.{subst}
 use Rattle.std.proofs.lemmas.Result.{err_from_is_err_and}
-use Rattle.check_pit.specs.declared.headers.Price.{Price}
+use Rattle.check_pit.specs.declared.header.Price.{Price}
 use Rattle.engines.specs.Solving.{SolvesNet}
 use Rattle.engines.proofs.Solutions.{net_by, solved, unmade}
 use Rattle.engines.proofs.solving_engine.solve_by.Goals as goal

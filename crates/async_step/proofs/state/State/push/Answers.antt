@@ -1,5 +1,5 @@
 use Rattle.std.proofs.Common.{subst, sym}
-use Rattle.closure_net.specs.declared.ports.PortKind.{PortKind}
+use Rattle.closure_net.specs.declared.port.PortKind.{PortKind}
 use Rattle.machine_law.specs.Steps.{pushed_by}
 use Rattle.async_step.specs.Views.{state_of}
 use Rattle.async_step.specs.Answers.{Leads}

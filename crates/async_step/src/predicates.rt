@@ -1,0 +1,53 @@
+//! Tests of amounts and operations.
+
+ghost use Rattle.std.specs.Prelude.{◌≡◌, not, ◌&&◌, ◌||◌};
+ghost use Rattle.ordered_group.specs.Amount.{FitsPair};
+ghost use Rattle.machine_law.specs.Reads.{is_positive};
+ghost use Rattle.machine_law.specs.Operations.{operation_as, is_idle};
+ghost use Rattle.async_step.specs.Views.{is_zero};
+
+use machine_law::Operation;
+use ordered_group::OrderedGroup;
+
+/// Whether the amount is above zero.
+pub fn is_positive<G: OrderedGroup>(amount: G) -> bool
+    ensures { result ≡ is_positive (G.parts_of amount) }
+{
+    G::zero().cmp(&amount).is_lt()
+}
+
+/// Whether the amount is zero.
+pub fn is_zero<G: OrderedGroup>(amount: G) -> bool
+    ensures { result ≡ is_zero (G.parts_of amount) }
+{
+    amount.cmp(&G::zero()).is_eq()
+}
+
+/// Whether there is no operation.
+pub fn is_idle<G: OrderedGroup>(operation: &Operation<G>) -> bool
+    ensures { result ≡ is_idle (operation_as G.parts_of operation.now) }
+{
+    matches!(operation, Operation::Idle)
+}
+
+/// Whether a block with this excess is ready to begin an operation, where it has none or has one.
+pub fn is_waiting<G: OrderedGroup>(excess: G, idle: bool) -> bool
+    ensures { result ≡ idle && is_positive (G.parts_of excess) }
+{
+    idle && is_positive(excess)
+}
+
+/// Whether a block with this excess isn't done for now, where it has no operation or has one.
+pub fn is_busy<G: OrderedGroup>(excess: G, idle: bool) -> bool
+    ensures { result ≡ not idle || not (is_zero (G.parts_of excess)) }
+{
+    !idle || !is_zero(excess)
+}
+
+/// The numbers of a value fit their type.
+pub fn value_fits<G: OrderedGroup>(amount: G)
+    ensures { FitsPair (G.parts_of amount) }
+{
+    // proof: what `parts` returns fits its type
+    let _numbers = amount.parts();
+}

@@ -1,0 +1,52 @@
+-- When a net can't be built.
+use Rattle.std.specs.Prelude.{◌≡◌, ◌≢◌, ℕ, ◌<◌, ℤ, pos, ◌⊎◌, List, length, map, slice_index_or}
+use Rattle.ordered_group.specs.Amount.{Amount, zero_amount, minus, positive, FitsPair}
+use Rattle.ordered_group.specs.Sums.{amount_at, SumFits, SumLeaves}
+use Rattle.closure_net.specs.declared.net.NetFault.{NetFault}
+use Rattle.closure_net.specs.declared.net.NetFault.TheVariants.{WrongLength, TooLarge, NoMemory}
+
+-- the opposite of each worth fits
+abbrev pub OppositesFit : List Amount → Type 0
+OppositesFit ws = (b : ℕ) → b < length ws → FitsPair (minus zero_amount (amount_at ws b))
+
+-- the opposite of one of them doesn't
+abbrev pub OppositeOverflows : List Amount → Type 0
+OppositeOverflows ws = (b : ℕ) × (b < length ws) × ¬ (FitsPair (minus zero_amount (amount_at ws b)))
+
+-- each sum of the positive worths in their order fits
+abbrev pub PositivesFit : List Amount → Type 0
+PositivesFit ws = SumFits (λ b. positive (amount_at ws b)) (length ws)
+
+-- one of those sums doesn't
+abbrev pub PositivesOverflow : List Amount → Type 0
+PositivesOverflow ws = SumLeaves (λ b. positive (amount_at ws b)) (length ws)
+
+-- these can be the worths of a net
+abbrev pub WorthsFit : List Amount → Type 0
+WorthsFit ws = OppositesFit ws × PositivesFit ws
+
+-- a worth whose opposite doesn't fit, or a sum of the positive worths in their order that doesn't
+abbrev pub WorthsOverflow : List Amount → Type 0
+WorthsOverflow ws = OppositeOverflows ws ⊎ PositivesOverflow ws
+
+-- why n blocks and these worths are no net
+abbrev pub NetFaultStands : ℕ → List Amount → NetFault → Type 0
+NetFaultStands n ws WrongLength = n ≢ length ws
+NetFaultStands n ws TooLarge = (n ≡ length ws) × WorthsOverflow ws
+NetFaultStands n ws NoMemory = ⊥
+
+-- the amount of one of the blocks, by their worths in billionths, doesn't fit
+abbrev pub BlockOverflows : (ℤ → ℕ → Amount) → ℕ → List ℤ → Type 0
+BlockOverflows block n vs = (b : ℕ) × (b < length vs) × ¬ (FitsPair (block (slice_index_or vs b (pos 0)) n))
+
+-- why there are no amounts of these blocks
+abbrev pub AmountsFaultStands : (ℤ → ℕ → Amount) → ℕ → List ℤ → NetFault → Type 0
+AmountsFaultStands block n vs WrongLength = ⊥
+AmountsFaultStands block n vs TooLarge = BlockOverflows block n vs
+AmountsFaultStands block n vs NoMemory = Unit {0}
+
+-- the same where the worths are made of blocks' worths: one that doesn't fit is too large, too, and memory is wanted only where the lengths agree
+abbrev pub WorthsFaultStands : (ℤ → ℕ → Amount) → ℕ → List ℤ → NetFault → Type 0
+WorthsFaultStands block n vs WrongLength = n ≢ length vs
+WorthsFaultStands block n vs TooLarge = (n ≡ length vs) × (BlockOverflows block n vs ⊎ WorthsOverflow (map (λ v. block v n) vs))
+WorthsFaultStands block n vs NoMemory = n ≡ length vs

@@ -1,0 +1,65 @@
+//! Flows.
+
+ghost use Rattle.std.specs.Prelude.{◌≡◌, ◌↔◌, IsTrue, map};
+ghost use Rattle.closure_net.specs.Network.{FlowFits, flow_view};
+
+use crate::carried::Carried;
+use crate::net::Net;
+use ordered_group::OrderedGroup;
+use std::marker::Model;
+
+/// An amount from the source for each block, one for each pair, and one to the sink for each block.
+#[derive(Drop)]
+pub struct Flow<G: OrderedGroup> {
+    source: Vec<G>,
+    rest: Carried<G>,
+    sink: Vec<G>,
+}
+
+impl<G: OrderedGroup> Model for Flow<G> {
+    ghost use Rattle.std.specs.Prelude.{map};
+    ghost use Rattle.closure_net.specs.Network.{FlowView, flow_view};
+
+    ghost Value = { FlowView };
+
+    ghost view = { λ f. flow_view (map G.parts_of f.source.items) f.rest (map G.parts_of f.sink.items) };
+}
+
+impl<G: OrderedGroup> Flow<G> {
+    /// The flow with these amounts.
+    pub fn new(source: Vec<G>, rest: Carried<G>, sink: Vec<G>) -> Flow<G>
+        ensures { result ≡ flow_view (map G.parts_of source.items) rest (map G.parts_of sink.items) }
+    {
+        Flow { source, rest, sink }
+    }
+
+    /// What each block gets from the source.
+    pub fn source(&self) -> &[G]
+        ensures { map G.parts_of result.now ≡ self.now.source }
+    {
+        &self.source
+    }
+
+    /// What each pair carries.
+    pub fn rest(&self) -> &Carried<G>
+        ensures { result.now ≡ self.now.rest }
+    {
+        &self.rest
+    }
+
+    /// What each block gives to the sink.
+    pub fn sink(&self) -> &[G]
+        ensures { map G.parts_of result.now ≡ self.now.sink }
+    {
+        &self.sink
+    }
+
+    /// Whether there is an amount for each block and pair of the net, and no further one.
+    pub fn fits(&self, net: &Net<G>) -> bool
+        ensures { IsTrue result ↔ FlowFits net.now self.now }
+    {
+        let blocks = net.worths().len();
+        let pairs = net.rests().pairs() as usize;
+        self.source.len() == blocks && self.rest.len() == pairs && self.sink.len() == blocks
+    }
+}
