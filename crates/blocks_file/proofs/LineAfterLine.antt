@@ -14,7 +14,7 @@ use Rattle.blocks_file.specs.declared.faults.BlocksFault.{BlocksFault}
 use Rattle.blocks_file.specs.declared.faults.BlocksFault.TheVariants.{Text, UnknownBlock, Repeated}
 use Rattle.blocks_file.specs.Records.{block_of, place_of, columns_of, value_in, shape_fault, block_fault, record_fault, is_record_of, has_record, record_among, first_fault, long_fault, record_lines}
 use Rattle.blocks_file.specs.Denotes.{origin}
-use Rattle.blocks_file.specs.Steps.{HoldsValues, ArePut, AreKept}
+use Rattle.blocks_file.specs.Internal.{HoldsValues, ArePut, AreKept}
 use Rattle.fixed_worth.proofs.NextLine.{line, Next, next_is}
 use Rattle.blocks_file.proofs.Counts.{moved, still_long, push_skipped, push_record, longer, long_at}
 use Rattle.blocks_file.proofs.Marks.{marked, marked-replicate, marked-set, all_marked}

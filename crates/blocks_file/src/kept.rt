@@ -2,7 +2,7 @@
 
 ghost use Rattle.std.specs.Prelude.{◌≡◌, ℕ, ◌+◌, ◌*◌, ◌<◌, ◌≤◌, ◌^◌, Bool, true, false, pos, Some, None, length, replicate, slice_set, slice_index_or, IfOk, MatchResult};
 ghost use Rattle.blocks_file.specs.Records as spec;
-ghost use Rattle.blocks_file.specs.Steps.{ArePut};
+ghost use Rattle.blocks_file.specs.Internal.{ArePut};
 
 use crate::BlocksFault;
 use crate::coordinates::Place;

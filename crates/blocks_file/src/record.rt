@@ -4,7 +4,7 @@ ghost use Rattle.std.specs.Prelude.{◌≡◌, ◌≤◌, false, Some, None, len
 ghost use Rattle.fixed_worth.specs.Text.{fields_of};
 ghost use Rattle.fixed_worth.specs.Record.{is_skipped};
 ghost use Rattle.blocks_file.specs.Records as spec;
-ghost use Rattle.blocks_file.specs.Steps.{HoldsValues};
+ghost use Rattle.blocks_file.specs.Internal.{HoldsValues};
 
 use crate::BlocksFault;
 use crate::coordinates::{Place, read_coordinate};

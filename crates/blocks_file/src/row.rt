@@ -3,7 +3,7 @@
 ghost use Rattle.std.specs.Prelude.{◌≡◌, ◌==◌, ◌<◌, ◌≤◌, true, None, Some, length, map, MatchResult};
 ghost use Rattle.std.specs.List.{list_any};
 ghost use Rattle.blocks_file.specs.Records as spec;
-ghost use Rattle.blocks_file.specs.Steps.{AreFilled, AreTaken, IsRow};
+ghost use Rattle.blocks_file.specs.Internal.{AreFilled, AreTaken, IsRow};
 
 use crate::BlocksFault;
 use fixed_worth::{Fields, Micros};

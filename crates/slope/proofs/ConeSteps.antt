@@ -1,10 +1,10 @@
 -- The steps in which a cone is gathered.
 use Rattle.std.proofs.Common.{◌≡◌, ℕ, ◌+◌, ◌*◌, ◌≤◌, ◌⊎◌, inl, inr, ℤ, pos, ◌+ℤ◌, ◌-ℤ◌, ◌<ℤ◌, List, [], ◌∷◌, ◌++◌, length, sym, refl, ap, subst, arith}
 use Rattle.std.proofs.lemmas.Int.{ints, by_lt_z}
-use Rattle.slope.specs.Lists.{Collects, AreMoreThan}
+use Rattle.slope.specs.Lists.{AreMoreThan}
 use Rattle.slope.specs.Offsets.{Offset}
 use Rattle.slope.specs.Patterns.{IsNear, IsInCone, ConeFaultStands}
-use Rattle.slope.specs.Cones.{IsLevel, IsBelowLevel, IsBelowRow, IsBelowPoint, RefusalStands}
+use Rattle.slope.specs.Internal.{Collects, IsLevel, IsBelowLevel, IsBelowRow, IsBelowPoint, RefusalStands}
 use Rattle.slope.specs.declared.pattern_fault.PatternFault.{PatternFault}
 use Rattle.slope.specs.declared.pattern_fault.PatternFault.TheVariants.{NotUpward, TooMany, NoMemory}
 use Rattle.slope.proofs.Gathering.{collected_same, collected_more, too_many, more_weaker}

@@ -7,10 +7,10 @@ use Rattle.std.proofs.Math.Seq.{take-length}
 use Rattle.std.proofs.lemmas.List.Elements.{Contains-append_left, Contains-push, Contains-push_cases, All-contains}
 use Rattle.blocks_file.specs.Denotes.{BlocksView}
 use Rattle.prec_file.specs.Rests.{RestsView, KnownAt, ArePairsOf}
-use Rattle.slope.specs.Lists.{Collects}
 use Rattle.slope.specs.Offsets.{Offset, IsPattern, IsRising, IsUpward, Before}
 use Rattle.slope.specs.Places.{place_of, AreApartBelow}
-use Rattle.slope.specs.Slopes.{upward, offset_between, IsSlopePair, IsPairBelow, IsPairUpTo, PairFaultStands, PairRefusalStands, AreSlopes, SlopeFaultStands, IndexFaultStands}
+use Rattle.slope.specs.Slopes.{upward, offset_between, IsSlopePair, AreSlopes, SlopeFaultStands}
+use Rattle.slope.specs.Internal.{Collects, IsPairBelow, IsPairUpTo, PairFaultStands, PairRefusalStands, IndexFaultStands}
 use Rattle.slope.specs.declared.up.Up.{Up}
 use Rattle.slope.specs.declared.up.Up.TheVariants.{PlusZ, MinusZ}
 use Rattle.slope.specs.declared.slope_fault.SlopeFault.{SlopeFault}

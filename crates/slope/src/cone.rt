@@ -1,9 +1,8 @@
 //! The offsets of a cone, level by level.
 
 ghost use Rattle.std.specs.Prelude.{◌≡◌, ◌≤◌, ◌<◌, ◌+◌, ◌++◌, ◌∷◌, ◌+ℤ◌, ◌-ℤ◌, [], pos, IsTrue, ◌↔◌, MatchResult, length, unsigned_abs};
-ghost use Rattle.slope.specs.Lists.{Collects};
 ghost use Rattle.slope.specs.Patterns.{IsInCone, IsNear, ConeFaultStands};
-ghost use Rattle.slope.specs.Cones.{IsLevel, IsBelowLevel, IsBelowRow, RefusalStands};
+ghost use Rattle.slope.specs.Internal.{Collects, IsLevel, IsBelowLevel, IsBelowRow, RefusalStands};
 
 use crate::PatternFault;
 use std::alloc::Global;

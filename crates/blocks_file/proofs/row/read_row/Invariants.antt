@@ -1,5 +1,5 @@
 use Rattle.std.proofs.Common.{◌≡◌, ◌+◌, ◌≤◌, length, map, drop}
-use Rattle.blocks_file.specs.Steps.{IsRow}
+use Rattle.blocks_file.specs.Internal.{IsRow}
 use Rattle.blocks_file.proofs.row.read_row.Given as goal
 
 abbrev pub invariant-loop-field : goal.invariant-loop-field

@@ -1,6 +1,5 @@
 use Rattle.std.proofs.Common.{◌≤◌, pos, ◌-ℤ◌, length}
-use Rattle.slope.specs.Lists.{Collects}
-use Rattle.slope.specs.Cones.{IsBelowRow}
+use Rattle.slope.specs.Internal.{Collects, IsBelowRow}
 use Rattle.slope.proofs.cone.add_level.Given as goal
 
 abbrev pub invariant-loop-step : goal.invariant-loop-step

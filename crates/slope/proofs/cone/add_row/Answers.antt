@@ -2,9 +2,8 @@ use Rattle.std.proofs.Common.{◌≡◌, arith, rules, ℤ, pos, ◌+◌, ◌≤
 use Rattle.std.proofs.lemmas.Int.{to_z-of_z, ints}
 use Rattle.std.proofs.lemmas.Bool.{iff_false}
 use Rattle.std.proofs.lemmas.Result.{err_from_is_err_and}
-use Rattle.slope.specs.Lists.{Collects}
 use Rattle.slope.specs.Offsets.{Offset}
-use Rattle.slope.specs.Cones.{IsBelowPoint}
+use Rattle.slope.specs.Internal.{Collects, IsBelowPoint}
 use Rattle.slope.proofs.ConeSteps.{row_begun, row_ended, point_taken, point_passed, refused}
 use Rattle.slope.proofs.cone.add_row.Goals as goal
 use Rattle.slope.proofs.cone.add_row.Goals.{then-is_near+in_ok-add, else-is_near, Joined-is_near}

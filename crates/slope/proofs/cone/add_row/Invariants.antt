@@ -1,6 +1,5 @@
 use Rattle.std.proofs.Common.{◌≤◌, pos, ◌-ℤ◌, length}
-use Rattle.slope.specs.Lists.{Collects}
-use Rattle.slope.specs.Cones.{IsBelowPoint}
+use Rattle.slope.specs.Internal.{Collects, IsBelowPoint}
 use Rattle.slope.proofs.cone.add_row.Given as goal
 
 abbrev pub invariant-loop-step : goal.invariant-loop-step

@@ -1,6 +1,5 @@
 use Rattle.std.proofs.Common.{◌≤◌, pos, length}
-use Rattle.slope.specs.Lists.{Collects}
-use Rattle.slope.specs.Cones.{IsBelowLevel}
+use Rattle.slope.specs.Internal.{Collects, IsBelowLevel}
 use Rattle.slope.proofs.cone.cone_offsets.Given as goal
 
 abbrev pub invariant-loop-number : goal.invariant-loop-number
