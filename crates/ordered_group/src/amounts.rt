@@ -2,7 +2,7 @@
 
 ghost use Rattle.std.specs.Prelude.{◌≡◌, ◌↔◌, IsTrue, MatchOption, length, map};
 ghost use Rattle.ordered_group.specs.Amount.{zero_amount, minus, AtMost, FitsPair, positive, negative, least};
-ghost use Rattle.ordered_group.specs.Sums.{total, amount_at, SumFits, SumLeaves};
+ghost use Rattle.ordered_group.specs.Sums.{total, amount_at, SumFits, SumOverflows};
 
 use crate::groups::OrderedGroup;
 use std::cmp::Ordering;
@@ -57,7 +57,7 @@ pub fn smaller<G: OrderedGroup>(a: G, b: G) -> G
 /// where the sum of the first few leaves its type, though a later one would bring it back.
 pub fn try_sum<G: OrderedGroup>(amounts: &[G]) -> Option<G>
     ensures { let xs = map G.parts_of amounts.now in
-        MatchOption result (SumLeaves (amount_at xs) (length xs))
+        MatchOption result (SumOverflows (amount_at xs) (length xs))
         (λ r. SumFits (amount_at xs) (length xs)
         × (G.parts_of r ≡ total (amount_at xs) (length xs))) }
 {
