@@ -31,8 +31,9 @@ impl<'a> Model for Fields<'a> {
     ghost invariant = { λ s. s.place + length s.rest.now < 2 ^ 32 };
 }
 
+/// Whether a byte parts fields: a space, a tab, a colon or a carriage return.
 #[tactic(auto, unfolding(crate::specs::Text::is_separator))]
-fn is_separator_byte(b: u8) -> bool
+pub fn is_separator(b: u8) -> bool
     ensures { result ≡ is_separator b }
 {
     b == b' ' || b == b'\t' || b == b':' || b == b'\r'
@@ -41,13 +42,13 @@ fn is_separator_byte(b: u8) -> bool
 fn first_other(text: &[u8]) -> Option<usize>
     ensures { result ≡ position (λ b. not (is_separator b)) text.now }
 {
-    text.iter().position(|b| !is_separator_byte(*b))
+    text.iter().position(|b| !is_separator(*b))
 }
 
 fn first_separator(text: &[u8]) -> Option<usize>
     ensures { result ≡ position is_separator text.now }
 {
-    text.iter().position(|b| is_separator_byte(*b))
+    text.iter().position(|b| is_separator(*b))
 }
 
 // How many separators come first.

@@ -30,8 +30,8 @@ mod short_line;
 mod whole_input;
 
 pub use devices::{Counted, CountedRead, CountedWrite};
-pub use field_reader::{Field, Fields};
-pub use line_reader::{Lines, TextFault};
+pub use field_reader::{Field, Fields, is_separator};
+pub use line_reader::{Lines, TextFault, behind_first, first_line_feed};
 pub use millionths::Micros;
 pub use numbered::WrittenNumber;
 pub use numerals::{NumberFault, plain_signed, signed_whole, whole};

@@ -31,7 +31,8 @@ impl<'a> Model for Lines<'a> {
     ghost invariant = { λ s. s.number + length s.rest.now < 2 ^ 63 };
 }
 
-fn first_line_feed(text: &[u8]) -> Option<usize>
+/// The place of the first line feed of a text, counted from 0, if it has one.
+pub fn first_line_feed(text: &[u8]) -> Option<usize>
     ensures { result ≡ position (λ b. b == 10) text.now }
 {
     memchr(b'\n', text)
@@ -45,7 +46,8 @@ fn line_length(text: &[u8]) -> usize
     first_line_feed(text).unwrap_or(text.len())
 }
 
-pub(crate) fn behind_first(text: &[u8]) -> &[u8]
+/// A text without its first byte; an empty text is left as it is.
+pub fn behind_first(text: &[u8]) -> &[u8]
     ensures { result.now ≡ drop 1 text.now }
 {
     match text {

@@ -2,10 +2,9 @@
 
 ghost use Rattle.std.specs.Prelude.{◌≡◌, ◌==◌, ◌<◌, ◌≤◌, ◌^◌, ◌-◌, ◌&&◌, ◌||◌, pos, length, slice_index_or, IsTrue, SomeIff};
 ghost use Rattle.std.specs.List.{list_any};
-ghost use Rattle.fixed_worth.specs.Text.{is_separator};
 ghost use Rattle.upit_file.specs.Records as spec;
 
-use fixed_worth::Micros;
+use fixed_worth::{Micros, is_separator};
 use std::marker::Model;
 
 const MOST_BLOCKS: usize = 1 << 24;
@@ -25,13 +24,6 @@ impl Model for Upit {
     ghost view = { λ u. record { name = u.name.items; values = u.values.items } };
 
     ghost invariant = { λ u. IsTrue (spec.is_upit u.name.items u.values.items) };
-}
-
-#[tactic(auto, unfolding(fixed_worth::specs::Text::is_separator))]
-fn is_separator(b: u8) -> bool
-    ensures { result ≡ is_separator b }
-{
-    b == b' ' || b == b'\t' || b == b':' || b == b'\r'
 }
 
 fn has_line_feed(name: &[u8]) -> bool
