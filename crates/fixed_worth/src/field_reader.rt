@@ -5,6 +5,7 @@ ghost use Rattle.std.specs.List.{position_or_len};
 ghost use Rattle.std.specs.Iterator.{item_count, YieldsFirstBy};
 ghost use Rattle.fixed_worth.specs.Text.{Run, is_separator, runs_from};
 
+use crate::limits::LINE_BYTES;
 use std::marker::Model;
 
 /// A field of a line: a longest run of bytes other than spaces, tabs, colons and carriage returns.
@@ -70,7 +71,7 @@ fn run_length(text: &[u8]) -> usize
 impl<'a> Fields<'a> {
     /// The fields of the line, from the first on.
     pub fn new(line: &'a [u8]) -> Fields<'a>
-        requires { length line.now ≤ 65536 }
+        requires { length line.now ≤ LINE_BYTES }
         ensures fields { result ≡ runs_from 0 line.now }
         ensures few { length result ≤ length line.now }
     {

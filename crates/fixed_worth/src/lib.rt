@@ -17,6 +17,7 @@ mod devices;
 mod fault_names;
 mod field_reader;
 pub mod laws;
+mod limits;
 mod line_reader;
 mod millionths;
 mod numbered;
@@ -31,6 +32,7 @@ mod whole_input;
 
 pub use devices::{Counted, CountedRead, CountedWrite};
 pub use field_reader::{Field, Fields, is_separator};
+pub use limits::{LINE_BYTES, MOST_BLOCKS};
 pub use line_reader::{Lines, TextFault, behind_first, first_line_feed};
 pub use millionths::Micros;
 pub use numbered::WrittenNumber;

@@ -4,6 +4,7 @@ ghost use Rattle.std.specs.Prelude.{◌≡◌, ◌+◌, ◌<◌, ◌≤◌, ◌^
 ghost use Rattle.std.specs.List.{position_or_len};
 ghost use Rattle.fixed_worth.specs.Text.{lines_of, Left, BeginsTooLong};
 
+use crate::limits::LINE_BYTES;
 use memchr::memchr;
 use std::marker::Model;
 
@@ -84,14 +85,14 @@ impl<'a> Lines<'a> {
         ensures { MatchResult result
             (λ given. MatchOption given
             ((self.old.lines ≡ []) × (self.new ≡ self.old))
-            (λ line. (length line.now ≤ 65536) × (self.old.lines ≡ line.now ∷ self.new.lines) × (self.new.number ≡ self.old.number + 1)))
+            (λ line. (length line.now ≤ LINE_BYTES) × (self.old.lines ≡ line.now ∷ self.new.lines) × (self.new.number ≡ self.old.number + 1)))
             (λ _. BeginsTooLong self.old.lines × (self.new ≡ self.old)) }
     {
         if self.rest.is_empty() {
             return Ok(None);
         }
         let end = line_length(self.rest);
-        if end > 65536 {
+        if end > LINE_BYTES {
             return Err(TextFault::LineTooLong);
         }
         let (line, rest) = self.rest.split_at(end);

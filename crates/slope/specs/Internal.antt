@@ -1,10 +1,12 @@
 -- What only the functions of this crate say to one another: lists as they are gathered, a cone level by level, the index
 -- of places, and the pairs block by block.
-use Rattle.std.specs.Prelude.{◌≡◌, ◌≢◌, ℕ, ◌<◌, ◌≤◌, ◌*◌, ◌/◌, ◌^◌, ℤ, pos, ◌≤ℤ◌, ◌<ℤ◌, ◌⊎◌, List, length, take, AllPairs, Contains, Some, FitsSigned}
+use Rattle.std.specs.Prelude.{◌≡◌, ◌≢◌, ℕ, ◌<◌, ◌≤◌, ◌*◌, ◌/◌, ℤ, pos, ◌≤ℤ◌, ◌<ℤ◌, ◌⊎◌, List, length, take, AllPairs, Contains, Some, FitsSigned}
 use Rattle.std.specs.Int.{w32}
 use Rattle.std.specs.Ordering.{int_cmp, ordering_then}
 use Rattle.std.specs.declared.cmp.Ordering.{Ordering}
 use Rattle.std.specs.BTreeMap.{BTreeMap, get}
+use Rattle.prec_file.specs.declared.limits.TheConstants.{MOST_PAIRS}
+use Rattle.slope.specs.declared.pattern.TheConstants.{MOST_OFFSETS}
 use Rattle.blocks_file.specs.declared.coordinates.Place.{Place}
 use Rattle.blocks_file.specs.Denotes.{BlocksView}
 use Rattle.slope.specs.Lists.{AreMoreThan}
@@ -53,8 +55,8 @@ pub record IsBelowPoint (run rise : ℕ) (k x y : ℤ) (o : Offset) : Type 0 whe
 -- Why an offset isn't added to others: there are 4,096 already, or fewer and no memory for one more.
 abbrev pub RefusalStands : List Offset → PatternFault → Type 0
 RefusalStands offsets (pattern.NotUpward i) = ⊥
-RefusalStands offsets pattern.TooMany = 4096 ≤ length offsets
-RefusalStands offsets pattern.NoMemory = length offsets < 4096
+RefusalStands offsets pattern.TooMany = MOST_OFFSETS ≤ length offsets
+RefusalStands offsets pattern.NoMemory = length offsets < MOST_OFFSETS
 
 -- The coordinates have 32 bits.
 abbrev pub IsPlace : Place → Type 0
@@ -89,11 +91,11 @@ pub record IsPairUpTo (m : BlocksView) (offsets : List Offset) (up : Up) (block 
 -- The fault of the pairs stands.
 abbrev pub PairFaultStands : BlocksView → List Offset → Up → SlopeFault → Type 0
 PairFaultStands m offsets up (slope.SamePlace b c) = ⊥
-PairFaultStands m offsets up slope.TooMany = AreMoreThan (2 ^ 27) (IsSlopePair m offsets up)
+PairFaultStands m offsets up slope.TooMany = AreMoreThan MOST_PAIRS (IsSlopePair m offsets up)
 PairFaultStands m offsets up slope.NoMemory = Unit {0}
 
 -- Why a pair isn't added to others: there are 2^27 already, or fewer and no memory for one more.
 abbrev pub PairRefusalStands : List (ℕ × ℕ) → SlopeFault → Type 0
 PairRefusalStands pairs (slope.SamePlace b c) = ⊥
-PairRefusalStands pairs slope.TooMany = 2 ^ 27 ≤ length pairs
-PairRefusalStands pairs slope.NoMemory = length pairs < 2 ^ 27
+PairRefusalStands pairs slope.TooMany = MOST_PAIRS ≤ length pairs
+PairRefusalStands pairs slope.NoMemory = length pairs < MOST_PAIRS

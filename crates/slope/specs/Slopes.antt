@@ -1,5 +1,6 @@
 -- Which block rests on which, by a pattern.
-use Rattle.std.specs.Prelude.{◌≡◌, ℕ, ◌<◌, ◌^◌, ℤ, pos, ◌-ℤ◌, List, Contains}
+use Rattle.std.specs.Prelude.{◌≡◌, ℕ, ◌<◌, ℤ, pos, ◌-ℤ◌, List, Contains}
+use Rattle.prec_file.specs.declared.limits.TheConstants.{MOST_PAIRS}
 use Rattle.blocks_file.specs.declared.coordinates.Place.{Place}
 use Rattle.blocks_file.specs.Denotes.{BlocksView}
 use Rattle.prec_file.specs.Rests.{RestsView, IsRising}
@@ -44,5 +45,5 @@ pub record IsFirstRepeat (m : BlocksView) (b c : ℕ) : Type 0 where
 -- The fault stands, and none that comes before it.
 abbrev pub SlopeFaultStands : BlocksView → List Offset → Up → SlopeFault → Type 0
 SlopeFaultStands m offsets up (SamePlace b c) = IsFirstRepeat m b c
-SlopeFaultStands m offsets up TooMany = AreApartBelow m m.blocks × AreMoreThan (2 ^ 27) (IsSlopePair m offsets up)
+SlopeFaultStands m offsets up TooMany = AreApartBelow m m.blocks × AreMoreThan MOST_PAIRS (IsSlopePair m offsets up)
 SlopeFaultStands m offsets up NoMemory = Unit {0}
