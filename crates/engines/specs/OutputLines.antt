@@ -4,10 +4,10 @@ use Rattle.fixed_worth.specs.Printed.{printed}
 use Rattle.ordered_group.specs.declared.groups.Group.{Group}
 use Rattle.ordered_group.specs.declared.groups.Group.TheVariants.{Worth, Pair}
 use Rattle.closure_net.specs.Printed.{net_fault_text}
-use Rattle.upit_file.specs.Faults.{upit_fault_text}
-use Rattle.prec_file.specs.Printed.{prec_fault_text}
-use Rattle.blocks_file.specs.Printed.{blocks_fault_text}
-use Rattle.slope.specs.Printed.{pattern_fault_text, slope_fault_text}
+use Rattle.upit_file.specs.FaultText.{upit_fault_text}
+use Rattle.prec_file.specs.FaultText.{prec_fault_text}
+use Rattle.blocks_file.specs.FaultText.{blocks_fault_text}
+use Rattle.slope.specs.FaultText.{pattern_fault_text, slope_fault_text}
 use Rattle.check_pit.specs.FaultText.{fault_text}
 use Rattle.check_pit.specs.PrintedFaults.{pit_fault_text}
 use Rattle.engines.specs.declared.judgements.Judgement.{Judgement}

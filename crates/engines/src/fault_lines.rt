@@ -4,10 +4,10 @@ ghost use Rattle.std.specs.Prelude.{◌≡◌, ◌+◌, ◌-◌, ◌^◌, ◌<�
 ghost use Rattle.std.specs.Io.KnownBytes.{Appends};
 ghost use Rattle.std.specs.Prelude.{decimal, codes};
 ghost use Rattle.fixed_worth.specs.Device.{ReceivedPrefix};
-ghost use Rattle.blocks_file.specs.Printed.{blocks_fault_text};
-ghost use Rattle.slope.specs.Printed.{pattern_fault_text, slope_fault_text};
-ghost use Rattle.upit_file.specs.Faults.{upit_fault_text, at_line};
-ghost use Rattle.prec_file.specs.Printed.{prec_fault_text};
+ghost use Rattle.blocks_file.specs.FaultText.{blocks_fault_text};
+ghost use Rattle.slope.specs.FaultText.{pattern_fault_text, slope_fault_text};
+ghost use Rattle.upit_file.specs.FaultText.{upit_fault_text, at_line};
+ghost use Rattle.prec_file.specs.FaultText.{prec_fault_text};
 ghost use Rattle.closure_net.specs.Printed.{net_fault_text};
 ghost use Rattle.engines.specs.OutputLines.{fault_line, fault_words, problem_text, slope_text, certificate_text};
 ghost use Rattle.engines.specs.Statuses.{status_of};

@@ -4,7 +4,7 @@ ghost use Rattle.std.specs.Prelude.{◌≡◌, ℕ, ◌+◌, ◌<◌, ◌≤◌,
 ghost use Rattle.std.specs.List.{filter, Contains};
 ghost use Rattle.prec_file.specs.Rests.{RestsView, IsRests, AreApart, IsKnown, KnownAt, IsFirstNot, IsRising, ArePairsOf, from_at, first_of, above_of, below_of};
 ghost use Rattle.prec_file.specs.Internal.{IsIndexed, IsStarts};
-ghost use Rattle.prec_file.specs.Answer.{FaultStands};
+ghost use Rattle.prec_file.specs.FaultStands.{FaultStands};
 
 use crate::RestsFault;
 use crate::index::{filled_by, part, starts_of};

@@ -3,5 +3,5 @@ pub mod Offsets
 pub mod Patterns
 pub mod Places
 pub mod Slopes
-pub mod Printed
+pub mod FaultText
 pub mod Internal

@@ -1,7 +1,7 @@
 //! Why there is no such pattern.
 
 ghost use Rattle.std.specs.Prelude.{Some};
-ghost use Rattle.slope.specs.Printed.{pattern_fault_text};
+ghost use Rattle.slope.specs.FaultText.{pattern_fault_text};
 
 use std::fmt;
 

@@ -1,7 +1,7 @@
 //! Why a pattern gives no pairs of a model.
 
 ghost use Rattle.std.specs.Prelude.{Some};
-ghost use Rattle.slope.specs.Printed.{slope_fault_text};
+ghost use Rattle.slope.specs.FaultText.{slope_fault_text};
 
 use std::fmt;
 
