@@ -1,8 +1,7 @@
 use crate::NumberFault::{NotANumber, TooLarge, TooLong};
 use crate::{
     Field, Fields, InputFault, Lines, Micros, MicrosTotal, Nanos, NumberFault, TextFault,
-    WriteFault, behind_first, first_line_feed, is_separator, laws, plain_signed, signed_whole,
-    trimmed_fraction, whole,
+    WriteFault, laws, plain_signed, signed_whole, trimmed_fraction, whole,
 };
 use std::test::Fail;
 
@@ -229,13 +228,4 @@ fn laws_can_be_named() {
     laws::fields_are_longest_runs(b"a b");
     laws::plain_numbers_have_one_spelling(b"-5");
     laws::printed_numbers_are_plain(-5);
-}
-
-#[test]
-fn where_a_text_is_cut(rt: HostRuntime) {
-    assert_eq!(rt; first_line_feed(b"ab\r\ncd\n"), Some(3));
-    assert_eq!(rt; first_line_feed(b"ab\r"), None);
-    assert_eq!(rt; behind_first(b"abc"), b"bc".as_slice());
-    assert!(rt; behind_first(b"").is_empty());
-    assert!(rt; is_separator(b':') && is_separator(b'\t') && !is_separator(b','));
 }

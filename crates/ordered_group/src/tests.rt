@@ -1,8 +1,8 @@
 //! The groups at the ends of their numbers, and their order.
 
 use crate::{
-    Group, OrderedGroup, Worth, WorthSize, at_most, is_zero, laws, negative_part, positive_part,
-    same, smaller, try_sum, zeros,
+    Group, OrderedGroup, Worth, WorthSize, at_most, laws, negative_part, positive_part, same,
+    smaller, try_sum,
 };
 use std::test::Fail;
 
@@ -137,16 +137,5 @@ fn words_of_the_kinds(rt: HostRuntime) -> Result<(), Fail> {
     let alloc = rt.alloc();
     assert_eq!(rt; format!(in alloc; "{}", Group::Worth)?.as_str(), "WORTH");
     assert_eq!(rt; format!(in alloc; "{}", Group::Pair)?.as_str(), "PAIR");
-    Ok(())
-}
-
-#[test]
-fn lists_of_zeros(rt: HostRuntime) -> Result<(), Fail> {
-    let three: Vec<WorthSize> = zeros(rt.alloc(), 3)?;
-    assert_eq!(rt;
-        three.as_slice(),
-        [pair(0, 0), pair(0, 0), pair(0, 0)].as_slice()
-    );
-    assert!(rt; is_zero(worth(0)) && !is_zero(pair(0, -1)) && !is_zero(pair(-1, 0)));
     Ok(())
 }
