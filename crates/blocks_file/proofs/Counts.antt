@@ -5,6 +5,7 @@ use Rattle.std.specs.Option.{option_or}
 use Rattle.std.proofs.lemmas.Bool.Decides.{nat_tests}
 use Rattle.std.proofs.lemmas.List.{get_or_push, get_or_append_left, length-append}
 use Rattle.std.proofs.lemmas.List.Concat.{flat_map-append}
+use Rattle.fixed_worth.specs.declared.limits.TheConstants.{LINE_BYTES}
 use Rattle.fixed_worth.specs.Text.{Left, BeginsTooLong, fields_of}
 use Rattle.fixed_worth.specs.Record.{Line, numbered, is_skipped}
 use Rattle.blocks_file.specs.declared.faults.BlocksFault.TheVariants.{Text, TooMany}
@@ -23,7 +24,7 @@ pub record Counted (all : List Line) (most count extra : ℕ) (left : Left) : Ty
 pub begins : (all : List Line) (most : ℕ) (left : Left) → all ≡ numbered left.number left.lines → Counted all most 0 0 left
 begins all most left e = record { before = []; whole = sym e; long = ap long_fault (sym e); counted = refl; found = λ h. absurd (omega arith); small = omega arith }
 
-next_long : (k : ℕ) (text : List ℕ) (ls : List Line) → nat_lt 65536 (length text) ≡ false → long_fault (line k text ∷ ls) ≡ long_fault ls
+next_long : (k : ℕ) (text : List ℕ) (ls : List Line) → nat_lt LINE_BYTES (length text) ≡ false → long_fault (line k text ∷ ls) ≡ long_fault ls
 next_long k text ls s = rw s refl
 
 pub push_skipped : (before : List Line) (k : ℕ) (text : List ℕ) → is_skipped (fields_of text) ≡ true → record_lines (before ++ line k text ∷ []) ≡ record_lines before
@@ -80,7 +81,7 @@ is_counted all most count extra left next k text g h s ne = record {
 
 pub long_at : (k : ℕ) (lines : List (List ℕ)) → BeginsTooLong lines → long_fault (numbered k lines) ≡ Some (Text (k + 1))
 long_at k [] h = absurd h
-long_at k (text ∷ lines) h = let t : nat_lt 65536 (length text) ≡ true = grind (arith, nat_tests) in rw t refl
+long_at k (text ∷ lines) h = let t : nat_lt LINE_BYTES (length text) ≡ true = grind (arith, nat_tests) in rw t refl
 
 pub too_long : (all : List Line) (most count extra : ℕ) (left : Left) → Counted all most count extra left → BeginsTooLong left.lines → early_fault all ≡ Some (Text (left.number + 1))
 too_long all most count extra left g h = ap (λ o. option_or o (many_fault all)) (sym g.long ∙ long_at left.number left.lines h)

@@ -1,5 +1,5 @@
 -- Reading the records line after line.
-use Rattle.std.proofs.Common.{◌≡◌, ℕ, ℤ, pos, ◌+◌, ◌*◌, ◌<◌, ◌≤◌, ◌≢◌, ◌^◌, Bool, true, false, cond, eqb, inl, inr, List, [], ◌∷◌, ◌++◌, length, get_or, set, replicate, Option, Some, None, refl, sym, ap, ◌∙◌, subst, arith, append-nil, get_or-set_same, get_or-set_other, true≢false}
+use Rattle.std.proofs.Common.{◌≡◌, ℕ, ℤ, pos, ◌+◌, ◌*◌, ◌<◌, ◌≤◌, ◌≢◌, Bool, true, false, cond, eqb, inl, inr, List, [], ◌∷◌, ◌++◌, length, get_or, set, replicate, Option, Some, None, refl, sym, ap, ◌∙◌, subst, arith, append-nil, get_or-set_same, get_or-set_other, true≢false}
 use Rattle.std.specs.Prelude.{◌||◌, nat_le}
 use Rattle.std.specs.Option.{option_or}
 use Rattle.std.proofs.lemmas.Bool.{cases_lt}
@@ -7,6 +7,7 @@ use Rattle.std.proofs.lemmas.Bool.Decides.{nat_tests}
 use Rattle.std.proofs.lemmas.List.{length-replicate, get_or-replicate}
 use Rattle.std.proofs.lemmas.List.Folds.{list_any-append}
 use Rattle.std.proofs.Math.ListN.{length-set}
+use Rattle.fixed_worth.specs.declared.limits.TheConstants.{MOST_BLOCKS}
 use Rattle.fixed_worth.specs.Text.{Left, BeginsTooLong, fields_of}
 use Rattle.fixed_worth.specs.Record.{Line, numbered, is_skipped}
 use Rattle.blocks_file.specs.declared.coordinates.Place.{Place}
@@ -14,7 +15,7 @@ use Rattle.blocks_file.specs.declared.faults.BlocksFault.{BlocksFault}
 use Rattle.blocks_file.specs.declared.faults.BlocksFault.TheVariants.{Text, UnknownBlock, Repeated}
 use Rattle.blocks_file.specs.Records.{block_of, place_of, columns_of, value_in, shape_fault, block_fault, record_fault, is_record_of, has_record, record_among, first_fault, long_fault, record_lines}
 use Rattle.blocks_file.specs.Denotes.{origin}
-use Rattle.blocks_file.specs.Steps.{HoldsValues, ArePut, AreKept}
+use Rattle.blocks_file.specs.Internal.{HoldsValues, ArePut, AreKept}
 use Rattle.fixed_worth.proofs.NextLine.{line, Next, next_is}
 use Rattle.blocks_file.proofs.Counts.{moved, still_long, push_skipped, push_record, longer, long_at}
 use Rattle.blocks_file.proofs.Marks.{marked, marked-replicate, marked-set, all_marked}
@@ -219,7 +220,7 @@ pub none_long : (n : ℕ) (chosen : List ℕ) (all : List Line) (seen : List Boo
 none_long n chosen all seen places values left g e h = let q : Some (Text (left.number + 1)) ≡ None = sym (long_at left.number left.lines h) ∙ g.long ∙ e in cc
 
 -- All is read.
-pub read_all : (n : ℕ) (chosen : List ℕ) (all : List Line) (seen : List Bool) (places : List Place) (values : List ℤ) (left : Left) → ReadSoFar n chosen all seen places values left → left.lines ≡ [] → n ≡ length (record_lines all) → n ≤ 2 ^ 24 → length chosen ≤ 8
+pub read_all : (n : ℕ) (chosen : List ℕ) (all : List Line) (seen : List Bool) (places : List Place) (values : List ℤ) (left : Left) → ReadSoFar n chosen all seen places values left → left.lines ≡ [] → n ≡ length (record_lines all) → n ≤ MOST_BLOCKS → length chosen ≤ 8
     → (first_fault n chosen [] all ≡ None) × AreKept n chosen all places values
 read_all n chosen all seen places values left g e count bound few =
     let none : numbered left.number left.lines ≡ [] = rw e refl in

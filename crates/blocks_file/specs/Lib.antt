@@ -1,4 +1,4 @@
 pub mod Records
 pub mod Denotes
-pub mod Steps
-pub mod Printed
+pub mod FaultText
+pub mod Internal

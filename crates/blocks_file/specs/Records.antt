@@ -3,6 +3,7 @@ use Rattle.std.specs.Prelude.{ℕ, ℤ, pos, negsuc, ◌^◌, ◌==◌, ◌||◌
 use Rattle.std.specs.Option.{option_or}
 use Rattle.std.specs.Result.{result_ok}
 use Rattle.std.specs.List.{list_all, list_any, flat_map}
+use Rattle.fixed_worth.specs.declared.limits.TheConstants.{MOST_BLOCKS, LINE_BYTES}
 use Rattle.fixed_worth.specs.declared.numerals.NumberFault.{NumberFault}
 use Rattle.fixed_worth.specs.Numeral.{signed_of}
 use Rattle.fixed_worth.specs.Decimal.{decimal_of}
@@ -98,7 +99,7 @@ first_fault n chosen before (l ∷ lines) = option_or (record_fault n chosen (ha
 -- The fault of the first line of more than 65,536 bytes, if any, skipped or not.
 abbrev pub long_fault : List Line → Option BlocksFault
 long_fault [] = None
-long_fault (l ∷ lines) = cond (nat_lt 65536 (length l.text)) (Some (Text l.number)) (long_fault lines)
+long_fault (l ∷ lines) = cond (nat_lt LINE_BYTES (length l.text)) (Some (Text l.number)) (long_fault lines)
 
 -- The numbers of the lines that are records.
 abbrev pub record_lines : List Line → List ℕ
@@ -110,7 +111,7 @@ extra_fault most records = cond (nat_lt most (length records)) (Some (TooMany (s
 
 -- More than 2^24 records are too many.
 abbrev pub many_fault : List Line → Option BlocksFault
-many_fault lines = extra_fault (2 ^ 24) (record_lines lines)
+many_fault lines = extra_fault MOST_BLOCKS (record_lines lines)
 
 -- The faults that come before all that is wrong with single records.
 abbrev pub early_fault : List Line → Option BlocksFault

@@ -1,10 +1,10 @@
 //! What a `.blocks` file holds.
 
-ghost use Rattle.std.specs.Prelude.{◌≡◌, ◌+◌, ◌*◌, ◌<◌, ◌≤◌, ◌^◌, [], pos, length, slice_index_or};
+ghost use Rattle.std.specs.Prelude.{◌≡◌, ◌+◌, ◌*◌, ◌<◌, ◌≤◌, [], pos, length, slice_index_or};
 ghost use Rattle.blocks_file.specs.Denotes as spec;
 
 use crate::Place;
-use fixed_worth::Micros;
+use fixed_worth::{MOST_BLOCKS, Micros};
 use std::marker::Model;
 
 /// Blocks from 0 on, each with its place and its values of the columns that were chosen.
@@ -42,7 +42,7 @@ impl BlockModel {
     pub fn len(&self) -> u32
         ensures value { result ≡ self.now.blocks }
         ensures places { length self.now.places ≡ result }
-        ensures bound { result ≤ 2 ^ 24 }
+        ensures bound { result ≤ MOST_BLOCKS }
     {
         self.blocks
     }

@@ -1,17 +1,15 @@
 //! How many records a text has.
 
-ghost use Rattle.std.specs.Prelude.{◌≡◌, ◌≤◌, ◌^◌, not, Some, None, length, MatchResult};
+ghost use Rattle.std.specs.Prelude.{◌≡◌, ◌≤◌, not, Some, None, length, MatchResult};
 ghost use Rattle.fixed_worth.specs.Text.{fields_of};
 ghost use Rattle.fixed_worth.specs.Record.{is_skipped};
 ghost use Rattle.blocks_file.specs.Records as spec;
 
 use crate::BlocksFault;
-use fixed_worth::{Fields, Lines, is_remark};
-
-const MOST_BLOCKS: u64 = 1 << 24;
+use fixed_worth::{Fields, LINE_BYTES, Lines, MOST_BLOCKS, is_remark};
 
 fn is_record(line: &[u8]) -> bool
-    requires { length line.now ≤ 65536 }
+    requires { length line.now ≤ LINE_BYTES }
     ensures { result ≡ not (is_skipped (fields_of line.now)) }
 {
     Fields::new(line)
@@ -22,7 +20,7 @@ fn is_record(line: &[u8]) -> bool
 // Counts the records of a text that has no line that is too long, and not too many records.
 pub(crate) fn count_records(text: &[u8]) -> Result<u32, BlocksFault>
     ensures { let all = spec.lines_in text.now in MatchResult result
-        (λ n. (spec.long_fault all ≡ None) × (spec.many_fault all ≡ None) × (n ≡ length (spec.record_lines all)) × (n ≤ 2 ^ 24))
+        (λ n. (spec.long_fault all ≡ None) × (spec.many_fault all ≡ None) × (n ≡ length (spec.record_lines all)) × (n ≤ MOST_BLOCKS))
         (λ e. spec.early_fault all ≡ Some e) }
 {
     let mut lines = Lines::new(text);
@@ -34,13 +32,13 @@ pub(crate) fn count_records(text: &[u8]) -> Result<u32, BlocksFault>
             Ok(Some(line)) => {
                 let number = lines.number();
                 if is_record(line) {
-                    if count == MOST_BLOCKS {
+                    if count == MOST_BLOCKS as u64 {
                         extra = number;
                     }
                     count += 1;
                 }
             }
-            Ok(None) => return if count > MOST_BLOCKS {
+            Ok(None) => return if count > MOST_BLOCKS as u64 {
                 Err(BlocksFault::TooMany(extra))
             } else {
                 Ok(count as u32)

@@ -1,15 +1,15 @@
 //! Reading a text.
 
-ghost use Rattle.std.specs.Prelude.{◌≡◌, ◌≤◌, ◌^◌, [], Some, None, Err, length, MatchResult};
+ghost use Rattle.std.specs.Prelude.{◌≡◌, ◌≤◌, [], Some, None, Err, length, MatchResult};
 ghost use Rattle.blocks_file.specs.Records as spec;
 ghost use Rattle.blocks_file.specs.Denotes.{Denotes};
-ghost use Rattle.blocks_file.specs.Steps.{AreKept};
+ghost use Rattle.blocks_file.specs.Internal.{AreKept};
 
 use crate::counting::count_records;
 use crate::kept::{Kept, zeros};
 use crate::record::read_record;
 use crate::{BlockModel, BlocksFault};
-use fixed_worth::Lines;
+use fixed_worth::{Lines, MOST_BLOCKS};
 use std::alloc::Global;
 
 // Reads the records of a text that has n of them.
@@ -17,7 +17,7 @@ fn read_records(alloc: Global, text: &[u8], columns: &[u32], n: u32) -> Result<K
     requires few { length columns.now ≤ 8 }
     requires short { spec.long_fault (spec.lines_in text.now) ≡ None }
     requires counted { n ≡ length (spec.record_lines (spec.lines_in text.now)) }
-    requires bound { n ≤ 2 ^ 24 }
+    requires bound { n ≤ MOST_BLOCKS }
     ensures { let all = spec.lines_in text.now in MatchResult result
         (λ kept. (spec.first_fault n columns.now [] all ≡ None) × AreKept n columns.now all kept.places.items kept.values.items)
         (λ e. spec.UnlessMemory e (spec.first_fault n columns.now [] all ≡ Some e)) }

@@ -4,12 +4,12 @@ ghost use Rattle.std.specs.Prelude.{◌≡◌, ◌≤◌, false, Some, None, len
 ghost use Rattle.fixed_worth.specs.Text.{fields_of};
 ghost use Rattle.fixed_worth.specs.Record.{is_skipped};
 ghost use Rattle.blocks_file.specs.Records as spec;
-ghost use Rattle.blocks_file.specs.Steps.{HoldsValues};
+ghost use Rattle.blocks_file.specs.Internal.{HoldsValues};
 
 use crate::BlocksFault;
 use crate::coordinates::{Place, read_coordinate};
 use crate::row::{are_there, read_row};
-use fixed_worth::{Fields, Micros, is_remark, whole};
+use fixed_worth::{Fields, LINE_BYTES, Micros, is_remark, whole};
 
 // A record but for its columns.
 #[derive(Clone, Copy)]
@@ -43,7 +43,7 @@ pub(crate) fn read_record(
     text: &[u8],
     line: u64,
 ) -> Result<Option<Record>, BlocksFault>
-    requires short { length text.now ≤ 65536 }
+    requires short { length text.now ≤ LINE_BYTES }
     requires size { length row.old ≡ length columns.now }
     ensures { MatchResult result
         (λ given. MatchOption given (IsTrue (is_skipped (fields_of text.now)))

@@ -3,10 +3,10 @@
 ghost use Rattle.std.specs.Prelude.{◌≡◌, ◌==◌, ◌<◌, ◌≤◌, true, None, Some, length, map, MatchResult};
 ghost use Rattle.std.specs.List.{list_any};
 ghost use Rattle.blocks_file.specs.Records as spec;
-ghost use Rattle.blocks_file.specs.Steps.{AreFilled, AreTaken, IsRow};
+ghost use Rattle.blocks_file.specs.Internal.{AreFilled, AreTaken, IsRow};
 
 use crate::BlocksFault;
-use fixed_worth::{Fields, Micros};
+use fixed_worth::{Fields, LINE_BYTES, Micros};
 
 fn is_chosen(columns: &[u32], column: u32) -> bool
     ensures { result ≡ list_any (λ c. c == column) columns.now }
@@ -62,7 +62,7 @@ pub(crate) fn read_row(
     line: u64,
 ) -> Result<u32, BlocksFault>
     requires size { length row.old ≡ length columns.now }
-    requires few { length fields ≤ 65536 }
+    requires few { length fields ≤ LINE_BYTES }
     ensures { MatchResult result
         (λ n. (n ≡ length fields.entry) × IsRow columns.now (map (λ f. f.text) fields.entry) n row.new)
         (λ e. (e ≡ BlocksFault.Number line) × (list_any (spec.is_bad (map (λ f. f.text) fields.entry)) columns.now ≡ true)) }

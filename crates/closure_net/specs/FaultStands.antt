@@ -1,7 +1,7 @@
 -- When a net can't be built.
 use Rattle.std.specs.Prelude.{◌≡◌, ◌≢◌, ℕ, ◌<◌, ℤ, pos, ◌⊎◌, List, length, map, slice_index_or}
 use Rattle.ordered_group.specs.Amount.{Amount, zero_amount, minus, positive, FitsPair}
-use Rattle.ordered_group.specs.Sums.{amount_at, SumFits, SumLeaves}
+use Rattle.ordered_group.specs.Sums.{amount_at, SumFits, SumOverflows}
 use Rattle.closure_net.specs.declared.net.NetFault.{NetFault}
 use Rattle.closure_net.specs.declared.net.NetFault.TheVariants.{WrongLength, TooLarge, NoMemory}
 
@@ -19,7 +19,7 @@ PositivesFit ws = SumFits (λ b. positive (amount_at ws b)) (length ws)
 
 -- one of those sums doesn't
 abbrev pub PositivesOverflow : List Amount → Type 0
-PositivesOverflow ws = SumLeaves (λ b. positive (amount_at ws b)) (length ws)
+PositivesOverflow ws = SumOverflows (λ b. positive (amount_at ws b)) (length ws)
 
 -- these can be the worths of a net
 abbrev pub WorthsFit : List Amount → Type 0

@@ -6,6 +6,7 @@ use Rattle.std.proofs.lemmas.List.Sums.{prefix_len-le-length}
 use Rattle.std.proofs.lemmas.List.Folds.{length-prefix_len}
 use Rattle.std.proofs.lemmas.List.{drop-drop}
 use Rattle.std.proofs.lemmas.Bool.Decides.{nat_tests}
+use Rattle.fixed_worth.specs.declared.limits.TheConstants.{LINE_BYTES}
 use Rattle.fixed_worth.specs.Text.{lines_of, BeginsTooLong, is_separator, Run, run_before, runs_from}
 
 one-add : (n : ℕ) → 1 + n ≡ suc n
@@ -128,11 +129,11 @@ line_given bs line back rest j h e f g k =
     let m : rest ≡ drop (position_or_len (λ x. eqb x 10) bs + 1) bs = k ∙ ap (drop 1) g ∙ drop-drop 1 j bs ∙ ap (λ n. drop (n + 1) bs) e in
     rw (f, m, e) (first_line bs h)
 
-pub line_too_long : (bs : List ℕ) (j : ℕ) → 65536 < j → j ≡ position_or_len (λ x. eqb x 10) bs → BeginsTooLong (lines_of bs)
+pub line_too_long : (bs : List ℕ) (j : ℕ) → LINE_BYTES < j → j ≡ position_or_len (λ x. eqb x 10) bs → BeginsTooLong (lines_of bs)
 line_too_long bs j h e =
     let small : position_or_len (λ x. eqb x 10) bs ≤ length bs = prefix_len-le-length _ bs in
     let all : length (take (position_or_len (λ x. eqb x 10) bs) bs) ≡ position_or_len (λ x. eqb x 10) bs = length-prefix_len _ bs in
-    let long : 65536 < length (take (position_or_len (λ x. eqb x 10) bs) bs) = omega arith in
+    let long : LINE_BYTES < length (take (position_or_len (λ x. eqb x 10) bs) bs) = omega arith in
     let some : 0 < length bs = omega arith in
     subst BeginsTooLong (sym (first_line bs some)) long
 

@@ -2,6 +2,7 @@
 use Rattle.std.proofs.Common.{◌≡◌, ℕ, ◌+◌, ◌≤◌, false, List, ◌∷◌, length, refl, arith}
 use Rattle.std.specs.Prelude.{nat_lt}
 use Rattle.std.proofs.lemmas.Bool.Decides.{nat_tests}
+use Rattle.fixed_worth.specs.declared.limits.TheConstants.{LINE_BYTES}
 use Rattle.fixed_worth.specs.Text.{Left}
 use Rattle.fixed_worth.specs.Record.{Line, numbered}
 
@@ -12,10 +13,10 @@ pub record Next (left next : Left) (k : ℕ) (text : List ℕ) : Type 0 where
   pub lines : left.lines ≡ text ∷ next.lines
   pub number : next.number ≡ left.number + 1
   pub same : k ≡ next.number
-  pub small : length text ≤ 65536
+  pub small : length text ≤ LINE_BYTES
 
 pub next_is : (left next : Left) (k : ℕ) (text : List ℕ) → Next left next k text → numbered left.number left.lines ≡ line k text ∷ numbered next.number next.lines
 next_is left next k text h = rw (h.lines, h.same, h.number) refl
 
-pub short : (text : List ℕ) → length text ≤ 65536 → nat_lt 65536 (length text) ≡ false
+pub short : (text : List ℕ) → length text ≤ LINE_BYTES → nat_lt LINE_BYTES (length text) ≡ false
 short text h = grind (arith, nat_tests)

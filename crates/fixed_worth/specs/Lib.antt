@@ -4,6 +4,6 @@ pub mod Rounding
 pub mod Decimal
 pub mod Printed
 pub mod Laws
-pub mod Faults
+pub mod FaultText
 pub mod Device
 pub mod Record

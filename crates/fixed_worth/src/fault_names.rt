@@ -1,7 +1,7 @@
 //! Faults print as their names.
 
 ghost use Rattle.std.specs.Prelude.{Some};
-ghost use Rattle.fixed_worth.specs.Faults.{number_fault_name, text_fault_name, input_fault_name, write_fault_name};
+ghost use Rattle.fixed_worth.specs.FaultText.{number_fault_name, text_fault_name, input_fault_name, write_fault_name};
 
 use crate::line_reader::TextFault;
 use crate::numerals::NumberFault;

@@ -5,6 +5,7 @@ ghost use Rattle.std.specs.List.{position_or_len};
 ghost use Rattle.std.specs.Iterator.{item_count, YieldsFirstBy};
 ghost use Rattle.fixed_worth.specs.Text.{Run, is_separator, runs_from};
 
+use crate::limits::LINE_BYTES;
 use std::marker::Model;
 
 /// A field of a line: a longest run of bytes other than spaces, tabs, colons and carriage returns.
@@ -31,8 +32,9 @@ impl<'a> Model for Fields<'a> {
     ghost invariant = { λ s. s.place + length s.rest.now < 2 ^ 32 };
 }
 
+/// Whether a byte parts fields: a space, a tab, a colon or a carriage return.
 #[tactic(auto, unfolding(crate::specs::Text::is_separator))]
-fn is_separator_byte(b: u8) -> bool
+pub fn is_separator(b: u8) -> bool
     ensures { result ≡ is_separator b }
 {
     b == b' ' || b == b'\t' || b == b':' || b == b'\r'
@@ -41,13 +43,13 @@ fn is_separator_byte(b: u8) -> bool
 fn first_other(text: &[u8]) -> Option<usize>
     ensures { result ≡ position (λ b. not (is_separator b)) text.now }
 {
-    text.iter().position(|b| !is_separator_byte(*b))
+    text.iter().position(|b| !is_separator(*b))
 }
 
 fn first_separator(text: &[u8]) -> Option<usize>
     ensures { result ≡ position is_separator text.now }
 {
-    text.iter().position(|b| is_separator_byte(*b))
+    text.iter().position(|b| is_separator(*b))
 }
 
 // How many separators come first.
@@ -69,7 +71,7 @@ fn run_length(text: &[u8]) -> usize
 impl<'a> Fields<'a> {
     /// The fields of the line, from the first on.
     pub fn new(line: &'a [u8]) -> Fields<'a>
-        requires { length line.now ≤ 65536 }
+        requires { length line.now ≤ LINE_BYTES }
         ensures fields { result ≡ runs_from 0 line.now }
         ensures few { length result ≤ length line.now }
     {

@@ -4,6 +4,7 @@ ghost use Rattle.std.specs.Prelude.{◌≡◌, ◌+◌, ◌<◌, ◌≤◌, ◌^
 ghost use Rattle.std.specs.List.{position_or_len};
 ghost use Rattle.fixed_worth.specs.Text.{lines_of, Left, BeginsTooLong};
 
+use crate::limits::LINE_BYTES;
 use memchr::memchr;
 use std::marker::Model;
 
@@ -31,7 +32,8 @@ impl<'a> Model for Lines<'a> {
     ghost invariant = { λ s. s.number + length s.rest.now < 2 ^ 63 };
 }
 
-fn first_line_feed(text: &[u8]) -> Option<usize>
+/// The place of the first line feed of a text, counted from 0, if it has one.
+pub fn first_line_feed(text: &[u8]) -> Option<usize>
     ensures { result ≡ position (λ b. b == 10) text.now }
 {
     memchr(b'\n', text)
@@ -45,7 +47,8 @@ fn line_length(text: &[u8]) -> usize
     first_line_feed(text).unwrap_or(text.len())
 }
 
-pub(crate) fn behind_first(text: &[u8]) -> &[u8]
+/// A text without its first byte; an empty text is left as it is.
+pub fn behind_first(text: &[u8]) -> &[u8]
     ensures { result.now ≡ drop 1 text.now }
 {
     match text {
@@ -82,14 +85,14 @@ impl<'a> Lines<'a> {
         ensures { MatchResult result
             (λ given. MatchOption given
             ((self.old.lines ≡ []) × (self.new ≡ self.old))
-            (λ line. (length line.now ≤ 65536) × (self.old.lines ≡ line.now ∷ self.new.lines) × (self.new.number ≡ self.old.number + 1)))
+            (λ line. (length line.now ≤ LINE_BYTES) × (self.old.lines ≡ line.now ∷ self.new.lines) × (self.new.number ≡ self.old.number + 1)))
             (λ _. BeginsTooLong self.old.lines × (self.new ≡ self.old)) }
     {
         if self.rest.is_empty() {
             return Ok(None);
         }
         let end = line_length(self.rest);
-        if end > 65536 {
+        if end > LINE_BYTES {
             return Err(TextFault::LineTooLong);
         }
         let (line, rest) = self.rest.split_at(end);

@@ -1,8 +1,8 @@
 -- Amounts: pairs of whole numbers of any size, their sums and their order.
-use Rattle.std.specs.Prelude.{◌≡◌, ℤ, pos, ◌+ℤ◌, ◌-ℤ◌, ◌≤ℤ◌, ◌<ℤ◌, FitsSigned, Option, MatchOption}
+use Rattle.std.specs.Prelude.{◌≡◌, ℤ, pos, ◌+ℤ◌, ◌-ℤ◌, ◌≤ℤ◌, ◌<ℤ◌, Bool, FitsSigned, Option, MatchOption}
 use Rattle.std.specs.declared.cmp.Ordering.{Ordering}
 use Rattle.std.specs.declared.cmp.Ordering.TheVariants.{Less, Equal, Greater}
-use Rattle.std.specs.Ordering.{ordering_then, int_cmp}
+use Rattle.std.specs.Ordering.{ordering_then, int_cmp, is_eq}
 use Rattle.std.specs.Int.{w128}
 
 -- a worth with a count of blocks beside it
@@ -35,6 +35,10 @@ pub record Below (x y : Amount) : Type 0 where
 -- what comparing two amounts answers: worths first, and then counts
 abbrev pub amount_cmp : Amount → Amount → Ordering
 amount_cmp x y = ordering_then (int_cmp x.w y.w) (int_cmp x.c y.c)
+
+-- whether the amount is zero
+abbrev pub is_zero : Amount → Bool
+is_zero x = is_eq (amount_cmp x zero_amount)
 
 -- both numbers fit an i128
 abbrev pub FitsPair : Amount → Type 0

@@ -24,5 +24,5 @@ abbrev pub SumFits : (ℕ → Amount) → ℕ → Type 0
 SumFits g n = (k : ℕ) → k < n → FitsPair (plus (total g k) (g k))
 
 -- one of these sums doesn't fit
-abbrev pub SumLeaves : (ℕ → Amount) → ℕ → Type 0
-SumLeaves g n = (k : ℕ) × (k < n) × ¬ (FitsPair (plus (total g k) (g k)))
+abbrev pub SumOverflows : (ℕ → Amount) → ℕ → Type 0
+SumOverflows g n = (k : ℕ) × (k < n) × ¬ (FitsPair (plus (total g k) (g k)))

@@ -1,10 +1,11 @@
 //! Functions of amounts of any kind.
 
-ghost use Rattle.std.specs.Prelude.{◌≡◌, ◌↔◌, IsTrue, MatchOption, length, map};
-ghost use Rattle.ordered_group.specs.Amount.{zero_amount, minus, AtMost, FitsPair, positive, negative, least};
-ghost use Rattle.ordered_group.specs.Sums.{total, amount_at, SumFits, SumLeaves};
+ghost use Rattle.std.specs.Prelude.{◌≡◌, ◌↔◌, IsTrue, IfOk, MatchOption, length, map, replicate};
+ghost use Rattle.ordered_group.specs.Amount.{zero_amount, is_zero, minus, AtMost, FitsPair, positive, negative, least};
+ghost use Rattle.ordered_group.specs.Sums.{total, amount_at, SumFits, SumOverflows};
 
 use crate::groups::OrderedGroup;
+use std::alloc::{AllocError, Global};
 use std::cmp::Ordering;
 
 /// Whether a is at most b.
@@ -19,6 +20,28 @@ pub fn same<G: OrderedGroup>(a: G, b: G) -> bool
     ensures { IsTrue result ↔ (G.parts_of a ≡ G.parts_of b) }
 {
     a.cmp(&b).is_eq()
+}
+
+/// Whether the amount is zero.
+pub fn is_zero<G: OrderedGroup>(amount: G) -> bool
+    ensures { result ≡ is_zero (G.parts_of amount) }
+{
+    amount.cmp(&G::zero()).is_eq()
+}
+
+/// A list of so many zeros.
+///
+/// # Errors
+/// Where memory is refused.
+pub fn zeros<G: OrderedGroup>(alloc: Global, n: u32) -> Result<Vec<G>, AllocError>
+    ensures { IfOk result (λ v. map G.parts_of v.items ≡ replicate n zero_amount) }
+{
+    let mut amounts = Vec::with_capacity(alloc, n as usize)?;
+    // a clone of an amount isn't known to be the same, so each is made anew
+    for _k in 0..n {
+        amounts.push_reserved(G::zero());
+    }
+    Ok(amounts)
 }
 
 /// The amount where it is positive, and else zero.
@@ -57,7 +80,7 @@ pub fn smaller<G: OrderedGroup>(a: G, b: G) -> G
 /// where the sum of the first few leaves its type, though a later one would bring it back.
 pub fn try_sum<G: OrderedGroup>(amounts: &[G]) -> Option<G>
     ensures { let xs = map G.parts_of amounts.now in
-        MatchOption result (SumLeaves (amount_at xs) (length xs))
+        MatchOption result (SumOverflows (amount_at xs) (length xs))
         (λ r. SumFits (amount_at xs) (length xs)
         × (G.parts_of r ≡ total (amount_at xs) (length xs))) }
 {

@@ -19,7 +19,7 @@ mod size;
 mod worth_alone;
 mod worth_with_size;
 
-pub use amounts::{at_most, negative_part, positive_part, same, smaller, try_sum};
+pub use amounts::{at_most, is_zero, negative_part, positive_part, same, smaller, try_sum, zeros};
 pub use groups::{Group, OrderedGroup};
 pub use size::SizeGroup;
 pub use worth_alone::Worth;

@@ -1,10 +1,11 @@
 -- What is wrong with a record, given the records before it.
-use Rattle.std.proofs.Common.{◌≡◌, ℕ, ◌+◌, ◌^◌, ◌<◌, ◌≤◌, ◌≢◌, Bool, true, false, cond, not, eqb, List, length, Option, Some, None, refl, sym, ap, ◌∙◌, arith}
+use Rattle.std.proofs.Common.{◌≡◌, ℕ, ◌+◌, ◌<◌, ◌≤◌, ◌≢◌, Bool, true, false, cond, not, eqb, List, length, Option, Some, None, refl, sym, ap, ◌∙◌, arith}
 use Rattle.std.specs.Prelude.{nat_le, nat_lt}
 use Rattle.std.specs.List.{list_all, list_any}
 use Rattle.std.proofs.lemmas.Bool.Decides.{nat_tests}
 use Rattle.std.proofs.lemmas.List.{length-map}
 use Rattle.std.specs.Option.{option_or}
+use Rattle.prec_file.specs.declared.limits.TheConstants.{MOST_PAIRS}
 use Rattle.prec_file.specs.declared.prec_fault.PrecFault.{PrecFault}
 use Rattle.prec_file.specs.declared.prec_fault.PrecFault.TheVariants.{Text, Number, UnknownBlock, Repeated, WrongCount, TooMany, NoMemory}
 use Rattle.fixed_worth.specs.Record.{reads, is_skipped}
@@ -84,21 +85,21 @@ wrong_count n had k line b count found fs s f e h p q ne =
     rw (s, f, t, u) refl
 
 pub too_many : (n : ℕ) (had : ℕ → Bool) (k line b count found : ℕ) (fs : List (List ℕ)) → is_skipped fs ≡ false → shape_fault n line fs ≡ None → b ≡ block_of fs → had b ≡ false
-    → count ≡ count_of fs → found ≡ length (predecessors_of fs) → count ≡ found → 2 ^ 27 < k + found → record_fault n had k line fs ≡ Some (TooMany line)
+    → count ≡ count_of fs → found ≡ length (predecessors_of fs) → count ≡ found → MOST_PAIRS < k + found → record_fault n had k line fs ≡ Some (TooMany line)
 unfolding history_fault
 too_many n had k line b count found fs s f e h p q same large =
     let t : had (block_of fs) ≡ false = sym (ap had e) ∙ h in
     let u : eqb (count_of fs) (length (predecessors_of fs)) ≡ true = grind (arith, nat_tests) in
-    let v : nat_lt (2 ^ 27) (k + length (predecessors_of fs)) ≡ true = grind (arith, nat_tests) in
+    let v : nat_lt MOST_PAIRS (k + length (predecessors_of fs)) ≡ true = grind (arith, nat_tests) in
     rw (s, f, t, u, v) refl
 
 pub no_fault : (n : ℕ) (had : ℕ → Bool) (k line b count found : ℕ) (fs : List (List ℕ)) → is_skipped fs ≡ false → shape_fault n line fs ≡ None → b ≡ block_of fs → had b ≡ false
-    → count ≡ count_of fs → found ≡ length (predecessors_of fs) → count ≡ found → k + found ≤ 2 ^ 27 → record_fault n had k line fs ≡ None
+    → count ≡ count_of fs → found ≡ length (predecessors_of fs) → count ≡ found → k + found ≤ MOST_PAIRS → record_fault n had k line fs ≡ None
 unfolding history_fault
 no_fault n had k line b count found fs s f e h p q same few =
     let t : had (block_of fs) ≡ false = sym (ap had e) ∙ h in
     let u : eqb (count_of fs) (length (predecessors_of fs)) ≡ true = grind (arith, nat_tests) in
-    let v : nat_lt (2 ^ 27) (k + length (predecessors_of fs)) ≡ false = grind (arith, nat_tests) in
+    let v : nat_lt MOST_PAIRS (k + length (predecessors_of fs)) ≡ false = grind (arith, nat_tests) in
     rw (s, f, t, u, v) refl
 
 pub pairs_length : (fs : List (List ℕ)) → is_skipped fs ≡ false → length (pairs_in fs) ≡ length (predecessors_of fs)

@@ -5,6 +5,7 @@ use Rattle.std.proofs.lemmas.Bool.Decides.{nat_tests}
 use Rattle.std.proofs.lemmas.List.Concat.{flat_map-append}
 use Rattle.fixed_worth.specs.Text.{Left, BeginsTooLong, fields_of, lines_of}
 use Rattle.std.specs.Option.{option_or}
+use Rattle.fixed_worth.specs.declared.limits.TheConstants.{LINE_BYTES}
 use Rattle.prec_file.specs.declared.prec_fault.PrecFault.{PrecFault}
 use Rattle.prec_file.specs.declared.prec_fault.PrecFault.TheVariants.{Text}
 use Rattle.fixed_worth.specs.Record.{Line, numbered, is_skipped}
@@ -22,10 +23,10 @@ pub record ReadSoFar (n : ℕ) (text : List ℕ) (seen : List Bool) (pairs : Lis
   pub seen_so : (b : ℕ) → b < n → get_or seen b false ≡ has (blocks_of before) b
 
 -- The fault of the next line is that of its record, as the reader knows it.
-pub behind : (n : ℕ) (text : List ℕ) (seen : List Bool) (pairs : List (ℕ × ℕ)) (left : Left) (g : ReadSoFar n text seen pairs left) (k : ℕ) (line : List ℕ) → length line ≤ 65536
+pub behind : (n : ℕ) (text : List ℕ) (seen : List Bool) (pairs : List (ℕ × ℕ)) (left : Left) (g : ReadSoFar n text seen pairs left) (k : ℕ) (line : List ℕ) → length line ≤ LINE_BYTES
     → fault_behind n g.before (record { number = k; text = line }) ≡ record_fault n (λ b. get_or seen b false) (length pairs) k (fields_of line)
 behind n text seen pairs left g k line h =
-    let short : nat_lt 65536 (length line) ≡ false = grind (arith, nat_tests) in
+    let short : nat_lt LINE_BYTES (length line) ≡ false = grind (arith, nat_tests) in
     let e : record_fault n (has (blocks_of g.before)) (length (pairs_of g.before)) k (fields_of line) ≡ record_fault n (λ b. get_or seen b false) (length (pairs_of g.before)) k (fields_of line) =
     record_same n (has (blocks_of g.before)) (λ b. get_or seen b false) (length (pairs_of g.before)) k (fields_of line) (λ b i. sym (g.seen_so b i)) in
     rw (short) (e ∙ ap (λ (ps : List (ℕ × ℕ)). record_fault n (λ b. get_or seen b false) (length ps) k (fields_of line)) (sym g.pairs_so))
@@ -35,7 +36,7 @@ pub next_fault : (n : ℕ) (before : List Line) (left next : Left) (line : List 
 next_fault n before left next line e f = rw (e, f) refl
 
 pub goes_wrong : (n : ℕ) (text : List ℕ) (seen : List Bool) (pairs : List (ℕ × ℕ)) (left next : Left) (line : List ℕ) (x : PrecFault) → ReadSoFar n text seen pairs left
-    → left.lines ≡ line ∷ next.lines → next.number ≡ left.number + 1 → length line ≤ 65536
+    → left.lines ≡ line ∷ next.lines → next.number ≡ left.number + 1 → length line ≤ LINE_BYTES
     → record_fault n (λ b. get_or seen b false) (length pairs) next.number (fields_of line) ≡ Some x → fault_of n text ≡ Some x
 goes_wrong n text seen pairs left next line x g e f h w =
     let l : Line = record { number = next.number; text = line } in
@@ -43,7 +44,7 @@ goes_wrong n text seen pairs left next line x g e f h w =
     ∙ ap (λ (o : Option PrecFault). option_or o (first_fault n (g.before ++ l ∷ []) (numbered next.number next.lines))) (behind n text seen pairs left g next.number line h ∙ w)
 
 pub goes_on : (n : ℕ) (text : List ℕ) (seen more : List Bool) (pairs others : List (ℕ × ℕ)) (left next : Left) (line : List ℕ) → ReadSoFar n text seen pairs left → length seen ≡ n
-    → left.lines ≡ line ∷ next.lines → next.number ≡ left.number + 1 → length line ≤ 65536
+    → left.lines ≡ line ∷ next.lines → next.number ≡ left.number + 1 → length line ≤ LINE_BYTES
     → record_fault n (λ b. get_or seen b false) (length pairs) next.number (fields_of line) ≡ None
     → others ≡ pairs ++ pairs_in (fields_of line) → more ≡ marked (fields_of line) seen → ReadSoFar n text more others next
 goes_on n text seen more pairs others left next line g e f h i w p m =
@@ -62,7 +63,7 @@ goes_on n text seen more pairs others left next line g e f h i w p m =
 
 begins_long : (n k : ℕ) (before : List Line) (lines : List (List ℕ)) → BeginsTooLong lines → first_fault n before (numbered k lines) ≡ Some (Text (k + 1))
 begins_long n k before [] h = absurd h
-begins_long n k before (line ∷ lines) h = let t : nat_lt 65536 (length line) ≡ true = grind (arith, nat_tests) in rw t refl
+begins_long n k before (line ∷ lines) h = let t : nat_lt LINE_BYTES (length line) ≡ true = grind (arith, nat_tests) in rw t refl
 
 pub too_long : (n : ℕ) (text : List ℕ) (seen : List Bool) (pairs : List (ℕ × ℕ)) (left : Left) → ReadSoFar n text seen pairs left → BeginsTooLong left.lines → fault_of n text ≡ Some (Text (left.number + 1))
 too_long n text seen pairs left g h = sym g.fault ∙ begins_long n left.number g.before left.lines h
@@ -85,14 +86,14 @@ begins n text seen left e f h = record {
 
 -- The same, where the reader has the line's number apart.
 pub step_on : (n k : ℕ) (text : List ℕ) (seen more : List Bool) (pairs others : List (ℕ × ℕ)) (left next : Left) (line : List ℕ) → ReadSoFar n text seen pairs left → length seen ≡ n → k ≡ next.number
-    → left.lines ≡ line ∷ next.lines → next.number ≡ left.number + 1 → length line ≤ 65536
+    → left.lines ≡ line ∷ next.lines → next.number ≡ left.number + 1 → length line ≤ LINE_BYTES
     → record_fault n (λ b. get_or seen b false) (length pairs) k (fields_of line) ≡ None
     → others ≡ pairs ++ pairs_in (fields_of line) → more ≡ marked (fields_of line) seen → ReadSoFar n text more others next
 step_on n k text seen more pairs others left next line g e j f h i w p m =
     goes_on n text seen more pairs others left next line g e f h i (subst (λ (x : ℕ). record_fault n (λ b. get_or seen b false) (length pairs) x (fields_of line) ≡ None) j w) p m
 
 pub step_wrong : (n k : ℕ) (text : List ℕ) (seen : List Bool) (pairs : List (ℕ × ℕ)) (left next : Left) (line : List ℕ) (x : PrecFault) → ReadSoFar n text seen pairs left → k ≡ next.number
-    → left.lines ≡ line ∷ next.lines → next.number ≡ left.number + 1 → length line ≤ 65536
+    → left.lines ≡ line ∷ next.lines → next.number ≡ left.number + 1 → length line ≤ LINE_BYTES
     → record_fault n (λ b. get_or seen b false) (length pairs) k (fields_of line) ≡ Some x → fault_of n text ≡ Some x
 step_wrong n k text seen pairs left next line x g j f h i w =
     goes_wrong n text seen pairs left next line x g f h i (subst (λ (y : ℕ). record_fault n (λ b. get_or seen b false) (length pairs) y (fields_of line) ≡ Some x) j w)

@@ -8,6 +8,8 @@ use Rattle.std.proofs.lemmas.Fmt.{length-decimal-le}
 use Rattle.std.proofs.lemmas.List.{get_or_default}
 use Rattle.std.proofs.lemmas.List.Elements.{All-weaker}
 use Rattle.std.proofs.lemmas.List.Folds.{flat_map-map, list_all-append}
+use Rattle.fixed_worth.specs.declared.limits.TheConstants.{MOST_BLOCKS, LINE_BYTES}
+use Rattle.prec_file.specs.declared.limits.TheConstants.{MOST_PAIRS}
 use Rattle.fixed_worth.specs.Text.{lines_of, fields_of}
 use Rattle.fixed_worth.specs.Laws.{with_line_feeds}
 use Rattle.fixed_worth.proofs.Joined.{is_one_line, is_word, behind_spaces, lines_cut, with_line_feeds-append, fields_cut, joined_is_one_line}
@@ -18,8 +20,8 @@ use Rattle.prec_file.proofs.Finding.{above_at}
 
 -- What is known of a value whose blocks are narrow.
 pub record IsWritable (n : ℕ) (ps : List (ℕ × ℕ)) : Type 0 where
-  pub blocks : n ≤ 2 ^ 24
-  pub few : length ps ≤ 2 ^ 27
+  pub blocks : n ≤ MOST_BLOCKS
+  pub few : length ps ≤ MOST_PAIRS
   pub known : All (IsKnown n) ps
   pub rising : IsRising ps
   pub narrow : AreNarrow (record { blocks = n; pairs = ps })
@@ -91,19 +93,19 @@ pub row_fields : (n : ℕ) (ps : List (ℕ × ℕ)) (b : ℕ) → IsWritable n p
 row_fields n ps b w l = fields_cut (decimal b) (words_at ps b) (decimal_is_word b (omega (arith, w.blocks))) (words_pass is_word decimal_is_word n ps b w l)
 
 -- how long a line is
-numbers_short : (xs : List ℕ) → All (λ p. p < 2 ^ 24) xs → length (behind_spaces (map decimal xs)) ≤ 9 * length xs
+numbers_short : (xs : List ℕ) → All (λ p. p < MOST_BLOCKS) xs → length (behind_spaces (map decimal xs)) ≤ 9 * length xs
 numbers_short [] h = omega arith
 numbers_short (x ∷ xs) h =
-    let here : x < 2 ^ 24 = h 0 0 (omega arith) in
+    let here : x < MOST_BLOCKS = h 0 0 (omega arith) in
     let a : length (decimal x) ≤ 8 = length-decimal-le 8 x (omega arith) (omega arith) (omega arith) in
     let b = numbers_short xs (λ k d l. h (suc k) d (omega arith)) in
     omega (arith, length-append (32 ∷ decimal x) (behind_spaces (map decimal xs)))
 
-pub row_short : (n : ℕ) (ps : List (ℕ × ℕ)) (b : ℕ) → IsWritable n ps → b < n → length (row ps b) ≤ 65536
+pub row_short : (n : ℕ) (ps : List (ℕ × ℕ)) (b : ℕ) → IsWritable n ps → b < n → length (row ps b) ≤ LINE_BYTES
 row_short n ps b w l =
     let above = above_of ps b in
     let few = w.narrow b l in
     let head : length (decimal b) ≤ 8 = length-decimal-le 8 b (omega arith) (omega (arith, w.blocks)) (omega (arith, w.blocks)) in
     let count : length (decimal (length above)) ≤ 4 = length-decimal-le 4 (length above) (omega arith) (omega arith) (omega arith) in
-    let rest = numbers_short above (All-weaker (λ p. p < n) (λ p. p < 2 ^ 24) (λ p i. omega (arith, w.blocks)) above (above_known n ps b w)) in
+    let rest = numbers_short above (All-weaker (λ p. p < n) (λ p. p < MOST_BLOCKS) (λ p i. omega (arith, w.blocks)) above (above_known n ps b w)) in
     omega (arith, length-append (decimal b) (behind_spaces (words_at ps b)), length-append (32 ∷ decimal (length above)) (behind_spaces (map decimal above)))

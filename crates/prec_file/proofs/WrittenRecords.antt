@@ -13,6 +13,8 @@ use Rattle.fixed_worth.specs.Text.{lines_of, fields_of}
 use Rattle.fixed_worth.specs.Record.{Line, numbered, reads, number_of, is_skipped}
 use Rattle.fixed_worth.proofs.WrittenNumbers.{decimal_is_no_remark, decimal_reads, number_of-decimal, decimals_pass, numbers_of-decimals}
 use Rattle.std.specs.Option.{option_or}
+use Rattle.fixed_worth.specs.declared.limits.TheConstants.{LINE_BYTES}
+use Rattle.prec_file.specs.declared.limits.TheConstants.{MOST_PAIRS}
 use Rattle.prec_file.specs.declared.prec_fault.PrecFault.{PrecFault}
 use Rattle.prec_file.specs.Rests.{RestsView, IsRests, ArePairsOf, from_at, to_at, numbers, above_of, first_of}
 use Rattle.prec_file.specs.Records.{pairs_in, blocks_in, shape_fault, record_fault, fault_behind, has, blocks_of, pairs_of, first_fault, listed}
@@ -50,7 +52,7 @@ record_sound n ps b line w l =
     (decimals_pass reads decimal_reads above (small_blocks n ps b w))
     (rw (known, rest) refl)
 
-fields_sound : (n : ℕ) (ps : List (ℕ × ℕ)) (b line k : ℕ) (had : ℕ → Bool) → IsWritable n ps → b < n → had b ≡ false → k + length (above_of ps b) ≤ 2 ^ 27
+fields_sound : (n : ℕ) (ps : List (ℕ × ℕ)) (b line k : ℕ) (had : ℕ → Bool) → IsWritable n ps → b < n → had b ≡ false → k + length (above_of ps b) ≤ MOST_PAIRS
     → record_fault n had k line (decimal b ∷ words_at ps b) ≡ None
 fields_sound n ps b line k had w l new few =
     let above = above_of ps b in
@@ -152,8 +154,8 @@ line_sound : (n : ℕ) (ps : List (ℕ × ℕ)) (b : ℕ) → IsWritable n ps �
 unfolding line_at
 line_sound n ps b w l =
     let few = row_short n ps b w l in
-    let short : nat_lt 65536 (length (row ps b)) ≡ false = grind (arith, nat_tests) in
-    let room : length (pairs_of (before ps b)) + length (above_of ps b) ≤ 2 ^ 27 =
+    let short : nat_lt LINE_BYTES (length (row ps b)) ≡ false = grind (arith, nat_tests) in
+    let room : length (pairs_of (before ps b)) + length (above_of ps b) ≤ MOST_PAIRS =
     omega (arith, w.few, pairs_so_far n ps b w (omega arith), above_length ps b, ending_next (from_at ps) b (length ps), ending_most (from_at ps) (suc b) (length ps)) in
     let number = 0 + length (rows ps b) + 1 in
     rw short (ap (record_fault n (has (blocks_of (before ps b))) (length (pairs_of (before ps b))) number) (row_fields n ps b w l)

@@ -1,7 +1,7 @@
 pub mod Rests
-pub mod Answer
+pub mod FaultStands
 pub mod Records
-pub mod Printed
+pub mod FaultText
 pub mod Written
 pub mod ReadBack
 pub mod Internal

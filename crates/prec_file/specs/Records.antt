@@ -1,7 +1,9 @@
 -- What a precedence file says, over its list of lines.
-use Rattle.std.specs.Prelude.{ℕ, ◌+◌, ◌^◌, ◌==◌, ◌||◌, Bool, not, cond, List, [], ◌∷◌, ◌++◌, length, map, nat_lt, nat_le, Option, Some, None}
+use Rattle.std.specs.Prelude.{ℕ, ◌+◌, ◌==◌, ◌||◌, Bool, not, cond, List, [], ◌∷◌, ◌++◌, length, map, nat_lt, nat_le, Option, Some, None}
 use Rattle.std.specs.Option.{option_or}
 use Rattle.std.specs.List.{list_all, list_any, flat_map}
+use Rattle.fixed_worth.specs.declared.limits.TheConstants.{LINE_BYTES}
+use Rattle.prec_file.specs.declared.limits.TheConstants.{MOST_PAIRS}
 use Rattle.fixed_worth.specs.Text.{fields_of}
 use Rattle.fixed_worth.specs.Record.{Line, lines_in, reads, number_of, is_skipped}
 use Rattle.prec_file.specs.declared.prec_fault.PrecFault.{PrecFault}
@@ -36,7 +38,7 @@ unfoldable pub history_fault : (ℕ → Bool) → ℕ → ℕ → List (List ℕ
 history_fault had before line fields =
     cond (had (block_of fields)) (Some (Repeated line))
     (cond (not (count_of fields == length (predecessors_of fields))) (Some (WrongCount line))
-    (cond (nat_lt (2 ^ 27) (before + length (predecessors_of fields))) (Some (TooMany line))
+    (cond (nat_lt MOST_PAIRS (before + length (predecessors_of fields))) (Some (TooMany line))
     None))
 
 -- The fault of a line's fields: a skipped line has none.
@@ -45,7 +47,7 @@ record_fault n had before line fields = cond (is_skipped fields) None (option_or
 
 -- The fault of a line: one of more than 65,536 bytes is faulty even where it would be skipped.
 abbrev pub line_fault : ℕ → (ℕ → Bool) → ℕ → Line → Option PrecFault
-line_fault n had before l = cond (nat_lt 65536 (length l.text)) (Some (Text l.number)) (record_fault n had before l.number (fields_of l.text))
+line_fault n had before l = cond (nat_lt LINE_BYTES (length l.text)) (Some (Text l.number)) (record_fault n had before l.number (fields_of l.text))
 
 -- The block whose record a line is, if it is one.
 abbrev pub blocks_in : List (List ℕ) → List ℕ

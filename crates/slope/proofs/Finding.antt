@@ -7,9 +7,10 @@ use Rattle.std.proofs.lemmas.Int.{ints}
 use Rattle.std.proofs.lemmas.Option.{none-some, same_Some}
 use Rattle.blocks_file.specs.declared.coordinates.Place.{Place}
 use Rattle.blocks_file.specs.Denotes.{BlocksView}
-use Rattle.slope.specs.Places.{place_of, place_cmp, IsPlace, IsIndex, AreApartBelow}
+use Rattle.slope.specs.Places.{place_of, AreApartBelow}
 use Rattle.slope.specs.Offsets.{Offset}
 use Rattle.slope.specs.Slopes.{upward, offset_between}
+use Rattle.slope.specs.Internal.{place_cmp, IsPlace, IsIndex}
 use Rattle.slope.specs.declared.up.Up.{Up}
 use Rattle.slope.specs.declared.up.Up.TheVariants.{PlusZ, MinusZ}
 use Rattle.slope.proofs.OffsetSorting.{same_number, then_tie}

@@ -4,7 +4,8 @@ use Rattle.std.specs.List.{Contains}
 use Rattle.std.proofs.lemmas.List.{get_or_default}
 use Rattle.std.proofs.lemmas.List.Elements.{Contains-append_left, Contains-push, Contains-push_cases, All-contains_itself, All-weaker}
 use Rattle.std.proofs.lemmas.List.Quantifiers.{all_pairs_push}
-use Rattle.slope.specs.Lists.{Collects, AreMoreThan}
+use Rattle.slope.specs.Lists.{AreMoreThan}
+use Rattle.slope.specs.Internal.{Collects}
 
 module _ {X : Type 0} (P Q : X → Type 0) (xs : List X) (c : Collects P xs) where
   -- the same elements, by another property

@@ -1,16 +1,17 @@
 -- The steps in which slope pairs are gathered.
-use Rattle.std.proofs.Common.{◌≡◌, ◌≢◌, ℕ, ◌+◌, ◌<◌, ◌^◌, ◌⊎◌, inl, inr, ℤ, pos, ◌-ℤ◌, List, [], ◌∷◌, ◌++◌, length, get_or, take, sym, refl, ap, subst, ◌∙◌, arith, Contains}
+use Rattle.std.proofs.Common.{◌≡◌, ◌≢◌, ℕ, ◌+◌, ◌<◌, ◌⊎◌, inl, inr, ℤ, pos, ◌-ℤ◌, List, [], ◌∷◌, ◌++◌, length, get_or, take, sym, refl, ap, subst, ◌∙◌, arith, Contains}
 use Rattle.std.proofs.lemmas.Int.{ints}
 use Rattle.std.proofs.lemmas.Bool.{cases_lt, cases_order}
 use Rattle.std.proofs.lemmas.List.{take_more, get_or_default, get_or-take, length-take-le}
 use Rattle.std.proofs.Math.Seq.{take-length}
 use Rattle.std.proofs.lemmas.List.Elements.{Contains-append_left, Contains-push, Contains-push_cases, All-contains}
+use Rattle.prec_file.specs.declared.limits.TheConstants.{MOST_PAIRS}
 use Rattle.blocks_file.specs.Denotes.{BlocksView}
 use Rattle.prec_file.specs.Rests.{RestsView, KnownAt, ArePairsOf}
-use Rattle.slope.specs.Lists.{Collects}
 use Rattle.slope.specs.Offsets.{Offset, IsPattern, IsRising, IsUpward, Before}
 use Rattle.slope.specs.Places.{place_of, AreApartBelow}
-use Rattle.slope.specs.Slopes.{upward, offset_between, IsSlopePair, IsPairBelow, IsPairUpTo, PairFaultStands, PairRefusalStands, AreSlopes, SlopeFaultStands, IndexFaultStands}
+use Rattle.slope.specs.Slopes.{upward, offset_between, IsSlopePair, AreSlopes, SlopeFaultStands}
+use Rattle.slope.specs.Internal.{Collects, IsPairBelow, IsPairUpTo, PairFaultStands, PairRefusalStands, IndexFaultStands}
 use Rattle.slope.specs.declared.up.Up.{Up}
 use Rattle.slope.specs.declared.up.Up.TheVariants.{PlusZ, MinusZ}
 use Rattle.slope.specs.declared.slope_fault.SlopeFault.{SlopeFault}
@@ -115,7 +116,7 @@ module _ (m : BlocksView) (os : List Offset) (up : Up) (b i : ℕ) (ps : List (�
     -- why the pair wasn't added
     pub refused : (e : SlopeFault) → PairRefusalStands ps e → PairFaultStands m os up e
     refused (SamePlace x y) h = h
-    refused TooMany h = too_many _ _ ps c (2 ^ 27) (b, p) not_yet slope (λ q f. f.slope) h
+    refused TooMany h = too_many _ _ ps c MOST_PAIRS (b, p) not_yet slope (λ q f. f.slope) h
     refused NoMemory h = tt
 
 pub pairs_ended : (m : BlocksView) (os : List Offset) (up : Up) (ps : List (ℕ × ℕ)) → Collects (IsPairBelow m os up m.blocks) ps → Collects (IsSlopePair m os up) ps

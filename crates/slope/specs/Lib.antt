@@ -1,7 +1,7 @@
 pub mod Lists
 pub mod Offsets
 pub mod Patterns
-pub mod Cones
 pub mod Places
 pub mod Slopes
-pub mod Printed
+pub mod FaultText
+pub mod Internal

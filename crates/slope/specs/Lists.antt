@@ -1,11 +1,5 @@
--- Lists that hold exactly what has a property.
-use Rattle.std.specs.Prelude.{◌≢◌, ℕ, ◌<◌, List, length, All, AllPairs, Contains}
-
--- What has the property, each once.
-pub record Collects {X : Type 0} (P : X → Type 0) (xs : List X) : Type 0 where
-  pub apart : AllPairs (λ x y. x ≢ y) xs
-  pub held : (x : X) → P x → Contains xs x
-  pub only : (x : X) → Contains xs x → P x
+-- Lists of what has a property.
+use Rattle.std.specs.Prelude.{◌≢◌, ℕ, ◌<◌, List, length, All, AllPairs}
 
 -- More than so many have the property: here are some of them, none twice.
 pub record AreMoreThan {X : Type 0} (most : ℕ) (P : X → Type 0) : Type 0 where

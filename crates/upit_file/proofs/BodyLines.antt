@@ -8,6 +8,7 @@ use Rattle.std.proofs.lemmas.List.{length-replicate, get_or-replicate}
 use Rattle.std.proofs.lemmas.List.Folds.{list_any-append}
 use Rattle.std.proofs.Math.Bool.{or-false}
 use Rattle.std.proofs.Math.ListN.{length-set}
+use Rattle.fixed_worth.specs.declared.limits.TheConstants.{LINE_BYTES}
 use Rattle.fixed_worth.specs.Text.{Left, fields_of}
 use Rattle.fixed_worth.specs.Record.{Line, numbered, is_skipped}
 use Rattle.upit_file.specs.declared.fault.UpitFault.{UpitFault}
@@ -59,7 +60,7 @@ block_same n g h k block e false f =
     rw (f, e block i) refl
 
 -- The next line's fault, and what is left behind it.
-next_fault : (n k : ℕ) (before : List Line) (text : List ℕ) (ls : List Line) → nat_lt 65536 (length text) ≡ false → is_end (fields_of text) ≡ false
+next_fault : (n k : ℕ) (before : List Line) (text : List ℕ) (ls : List Line) → nat_lt LINE_BYTES (length text) ≡ false → is_end (fields_of text) ≡ false
     → first_fault n before (before_end (line k text ∷ ls)) ≡ option_or (record_fault n (has_record before) k (fields_of text)) (first_fault n (before ++ line k text ∷ []) (before_end ls))
 next_fault n k before text ls s e = rw (s, e, s) refl
 
@@ -82,7 +83,7 @@ joins n all seen values left next k text g h e none =
       append_assoc g.before (line k text ∷ []) (before_end ls) ∙ ap (λ (xs : List Line). g.before ++ xs) (sym w ∙ sym (ap before_end is)) ∙ g.whole,
     )
 
-no_record : (k : ℕ) (text : List ℕ) (b : ℕ) → nat_lt 65536 (length text) ≡ false → is_skipped (fields_of text) ≡ true → is_record_of b (fields_in (line k text)) ≡ false
+no_record : (k : ℕ) (text : List ℕ) (b : ℕ) → nat_lt LINE_BYTES (length text) ≡ false → is_skipped (fields_of text) ≡ true → is_record_of b (fields_in (line k text)) ≡ false
 no_record k text b s e = rw (s, e) refl
 
 pub passes : (n : ℕ) (all : List Line) (seen : List Bool) (values : List ℤ) (left next : Left) (k : ℕ) (text : List ℕ) → Kept n all seen values left → Next left next k text → is_end (fields_of text) ≡ false → is_skipped (fields_of text) ≡ true → Kept n all seen values next
@@ -101,7 +102,7 @@ passes n all seen values left next k text g h e s =
       all_values = g.all_values;
     }
 
-record_is : (k : ℕ) (text : List ℕ) (b : ℕ) → nat_lt 65536 (length text) ≡ false → is_skipped (fields_of text) ≡ false → is_record_of b (fields_in (line k text)) ≡ eqb (block_of (fields_of text)) b
+record_is : (k : ℕ) (text : List ℕ) (b : ℕ) → nat_lt LINE_BYTES (length text) ≡ false → is_skipped (fields_of text) ≡ false → is_record_of b (fields_in (line k text)) ≡ eqb (block_of (fields_of text)) b
 record_is k text b s e = rw (s, e) refl
 
 fault_none : (n : ℕ) (had : ℕ → Bool) (k block : ℕ) → block_fault n had k block ≡ None → (t : Bool) → nat_le n block ≡ t → (u : Bool) → had block ≡ u → (block < n) × (had block ≡ false)

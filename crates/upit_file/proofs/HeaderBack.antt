@@ -8,6 +8,8 @@ use Rattle.std.proofs.lemmas.Bool.{not-true, and_parts}
 use Rattle.std.proofs.lemmas.Bool.Decides.{nat_tests}
 use Rattle.std.proofs.lemmas.Fmt.{length-decimal-le_wide}
 use Rattle.std.proofs.lemmas.List.{take_all}
+use Rattle.fixed_worth.specs.declared.limits.TheConstants.{MOST_BLOCKS}
+use Rattle.upit_file.specs.declared.limits.TheConstants.{NAME_BYTES}
 use Rattle.fixed_worth.specs.Record.{Line}
 use Rattle.fixed_worth.specs.Text.{Run, is_separator, run_before, runs_from}
 use Rattle.fixed_worth.proofs.Cuts.{first_run}
@@ -59,7 +61,7 @@ last_is c (d ∷ ds) = last_is d ds
 
 -- What a name is that is not empty.
 record NameParts (c : ℕ) (cs : List ℕ) : Type 0 where
-  few : length (c ∷ cs) ≤ 60000
+  few : length (c ∷ cs) ≤ NAME_BYTES
   whole : list_any (λ b. eqb b 10) (c ∷ cs) ≡ false
   first : is_separator c ≡ false
   last : is_separator (last_of c cs) ≡ false
@@ -67,7 +69,7 @@ record NameParts (c : ℕ) (cs : List ℕ) : Type 0 where
 name_parts : (c : ℕ) (cs : List ℕ) → is_name (c ∷ cs) ≡ true → NameParts c cs
 name_parts c cs h =
     let some : eqb (suc (length cs)) 0 ≡ false = grind (arith, nat_tests) in
-    let a = nat_le (length (c ∷ cs)) 60000 in
+    let a = nat_le (length (c ∷ cs)) NAME_BYTES in
     let b = not (list_any (λ x. eqb x 10) (c ∷ cs)) in
     let d = not (is_separator c) in
     let e = not (is_separator (get_or (c ∷ cs) (suc (length cs) - 1) 0)) in
@@ -77,13 +79,13 @@ name_parts c cs h =
     let r = and_parts a b q.0 in
     let k : suc (length cs) - 1 ≡ length cs = omega arith in
     record {
-      few = (let t : nat_le (suc (length cs)) 60000 ≡ true = r.0 in grind (arith, nat_tests));
+      few = (let t : nat_le (suc (length cs)) NAME_BYTES ≡ true = r.0 in grind (arith, nat_tests));
       whole = not-true _ r.1;
       first = not-true (is_separator c) q.1;
       last = ap is_separator (sym (last_is c cs)) ∙ ap (λ i. is_separator (get_or (c ∷ cs) i 0)) (sym k) ∙ not-true _ p.1;
     }
 
-pub name_few : (name : List ℕ) → is_name name ≡ true → length name ≤ 60000
+pub name_few : (name : List ℕ) → is_name name ≡ true → length name ≤ NAME_BYTES
 name_few [] h = omega arith
 name_few (c ∷ cs) h = (name_parts c cs h).few
 
@@ -137,10 +139,10 @@ name_sound n name h =
     let s = short (codes "NAME: " ++ name) (omega (arith, length-append (codes "NAME: ") name)) in
     let f : fields_in (line 1 (codes "NAME: " ++ name)) ≡ codes "NAME" ∷ texts (runs_from 6 name) = rw s (ap texts (name_runs name)) in
     let k : key_in (fields_in (line 1 (codes "NAME: " ++ name))) ≡ Name = ap key_in f ∙ name_key (texts (runs_from 6 name)) in
-    let small : nat_lt 60000 (length name) ≡ false = grind (arith, nat_tests) in
+    let small : nat_lt NAME_BYTES (length name) ≡ false = grind (arith, nat_tests) in
     record {
       key = k;
-      sound = fault_by_key n (line 1 (codes "NAME: " ++ name)) Name s k ∙ ap (λ (xs : List ℕ). cond (nat_lt 60000 (length xs)) (Some (Text 1)) None) (name_back name h) ∙ ap (λ t. cond t (Some (Text 1)) None) small;
+      sound = fault_by_key n (line 1 (codes "NAME: " ++ name)) Name s k ∙ ap (λ (xs : List ℕ). cond (nat_lt NAME_BYTES (length xs)) (Some (Text 1)) None) (name_back name h) ∙ ap (λ t. cond t (Some (Text 1)) None) small;
     }
 
 type_sound : (n : ℕ) → IsSound n FileType (line 2 (codes "TYPE: UPIT"))
@@ -158,13 +160,13 @@ count_runs n h =
     word_run 0 (codes "NBLOCKS") (58 ∷ 32 ∷ decimal n) refl refl
     ∙ ap (λ (rs : List Run). key ∷ rs) (gap_run 7 58 (32 ∷ decimal n) refl ∙ gap_run 8 32 (decimal n) refl ∙ word_alone 9 (decimal n) (decimal_is_word n h))
 
-count_sound_fields : (n line : ℕ) → n ≤ 2 ^ 24 → count_fault n line (codes "NBLOCKS" ∷ decimal n ∷ []) ≡ None
+count_sound_fields : (n line : ℕ) → n ≤ MOST_BLOCKS → count_fault n line (codes "NBLOCKS" ∷ decimal n ∷ []) ≡ None
 count_sound_fields n line h =
     let same : eqb n n ≡ true = grind (arith, nat_tests) in
-    let small : nat_lt (2 ^ 24) n ≡ false = grind (arith, nat_tests) in
+    let small : nat_lt MOST_BLOCKS n ≡ false = grind (arith, nat_tests) in
     rw (whole_of-decimal n (omega arith), same, small) refl
 
-count_sound : (n : ℕ) → n ≤ 2 ^ 24 → IsSound n Blocks (line 3 (codes "NBLOCKS: " ++ decimal n))
+count_sound : (n : ℕ) → n ≤ MOST_BLOCKS → IsSound n Blocks (line 3 (codes "NBLOCKS: " ++ decimal n))
 count_sound n h =
     let few = length-decimal-le_wide 20 n (omega arith) (omega arith) (omega arith) in
     let l = line 3 (codes "NBLOCKS: " ++ decimal n) in
@@ -202,7 +204,7 @@ four_sound n a b c d rest x y z e =
 abbrev pub written : List ℕ → ℕ → List Line → List Line
 written name n rest = line 1 (codes "NAME: " ++ name) ∷ line 2 (codes "TYPE: UPIT") ∷ line 3 (codes "NBLOCKS: " ++ decimal n) ∷ line 4 (codes "OBJECTIVE_FUNCTION:") ∷ rest
 
-pub header_back : (n : ℕ) (name : List ℕ) (rest : List Line) → is_name name ≡ true → n ≤ 2 ^ 24 → (header_fault n (written name n rest) ≡ None) × (last_name [] (header (written name n rest)) ≡ name) × (drop 1 (after_header (written name n rest)) ≡ rest)
+pub header_back : (n : ℕ) (name : List ℕ) (rest : List Line) → is_name name ≡ true → n ≤ MOST_BLOCKS → (header_fault n (written name n rest) ≡ None) × (last_name [] (header (written name n rest)) ≡ name) × (drop 1 (after_header (written name n rest)) ≡ rest)
 header_back n name rest h few =
     let a = line 1 (codes "NAME: " ++ name) in
     let b = line 2 (codes "TYPE: UPIT") in

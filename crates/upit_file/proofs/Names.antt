@@ -1,10 +1,12 @@
 -- Where a name lies in its line, and what its bytes are.
-use Rattle.std.proofs.Common.{◌≡◌, ℕ, ℤ, ◌^◌, suc, ◌+◌, ◌-◌, ◌<◌, ◌≤◌, Bool, true, false, cond, eqb, List, [], ◌∷◌, length, take, drop, get_or, Option, Some, None, refl, sym, ap, ◌∙◌, subst, arith, All, EachIndex, length-drop}
+use Rattle.std.proofs.Common.{◌≡◌, ℕ, ℤ, suc, ◌+◌, ◌-◌, ◌<◌, ◌≤◌, Bool, true, false, cond, eqb, List, [], ◌∷◌, length, take, drop, get_or, Option, Some, None, refl, sym, ap, ◌∙◌, subst, arith, All, EachIndex, length-drop}
 use Rattle.std.specs.Prelude.{nat_lt, nat_le}
 use Rattle.std.specs.Option.{option_or}
 use Rattle.std.specs.List.{list_any}
 use Rattle.std.proofs.lemmas.Bool.Decides.{nat_tests}
 use Rattle.std.proofs.lemmas.List.{get_or-drop, get_or-take, length-take}
+use Rattle.fixed_worth.specs.declared.limits.TheConstants.{MOST_BLOCKS}
+use Rattle.upit_file.specs.declared.limits.TheConstants.{NAME_BYTES}
 use Rattle.fixed_worth.specs.Text.{is_separator, Run, runs_from, lines_of}
 use Rattle.fixed_worth.specs.Record.{Line, numbered}
 use Rattle.fixed_worth.specs.Laws.{IsField, AreInOrder}
@@ -64,7 +66,7 @@ none_any : (xs : List ℕ) → ((k : ℕ) → k < length xs → eqb (get_or xs k
 none_any [] h = refl
 none_any (x ∷ xs) h = let e : eqb x 10 ≡ false = h 0 (omega arith) in rw e (none_any xs (λ k i. h (suc k) (omega arith)))
 
-slice_is_name : (line : List ℕ) (p e : ℕ) → p < e → e ≤ length line → NoLineFeed line → is_separator (get_or line p 0) ≡ false → is_separator (get_or line (e - 1) 0) ≡ false → length (drop p (take e line)) ≤ 60000
+slice_is_name : (line : List ℕ) (p e : ℕ) → p < e → e ≤ length line → NoLineFeed line → is_separator (get_or line p 0) ≡ false → is_separator (get_or line (e - 1) 0) ≡ false → length (drop p (take e line)) ≤ NAME_BYTES
     → is_name (drop p (take e line)) ≡ true
 slice_is_name line p e h i whole first last few =
     let name = drop p (take e line) in
@@ -75,11 +77,11 @@ slice_is_name line p e h i whole first last few =
     let y : p + (length (drop p (take e line)) - 1) ≡ e - 1 = omega arith in
     let b : is_separator (get_or (drop p (take e line)) (length (drop p (take e line)) - 1) 0) ≡ false = ap is_separator (slice_byte line p e (length name - 1) (omega arith) ∙ ap (λ (k : ℕ). get_or line k 0) y) ∙ last in
     let some : eqb (length (drop p (take e line))) 0 ≡ false = grind (arith, nat_tests) in
-    let most : nat_le (length (drop p (take e line))) 60000 ≡ true = grind (arith, nat_tests) in
+    let most : nat_le (length (drop p (take e line))) NAME_BYTES ≡ true = grind (arith, nat_tests) in
     rw (some, most, no_feed, a, b) refl
 
 -- What a NAME record gives is a name.
-from_second_is_name : (line : List ℕ) (rs : List Run) → runs_from 0 line ≡ rs → NoLineFeed line → length (from_second line rs) ≤ 60000 → is_name (from_second line rs) ≡ true
+from_second_is_name : (line : List ℕ) (rs : List Run) → runs_from 0 line ≡ rs → NoLineFeed line → length (from_second line rs) ≤ NAME_BYTES → is_name (from_second line rs) ≡ true
 from_second_is_name line [] e whole few = refl
 from_second_is_name line (key ∷ []) e whole few = refl
 from_second_is_name line (key ∷ r ∷ rs) e whole few =
@@ -111,7 +113,7 @@ is_short : (l : Line) (t : Bool) → is_long l ≡ t → key_in (fields_in l) �
 is_short l true e k = let q : key_in (fields_in l) ≡ Other = rw e refl in let w : Name ≡ Other = sym k ∙ q in cc
 is_short l false e k = refl
 
-few_bytes : (n : ℕ) (l : Line) → key_in (fields_in l) ≡ Name → header_line_fault n l ≡ None → (t : Bool) → nat_lt 60000 (length (name_in l.text)) ≡ t → length (name_in l.text) ≤ 60000
+few_bytes : (n : ℕ) (l : Line) → key_in (fields_in l) ≡ Name → header_line_fault n l ≡ None → (t : Bool) → nat_lt NAME_BYTES (length (name_in l.text)) ≡ t → length (name_in l.text) ≤ NAME_BYTES
 few_bytes n l k f true e =
     let s : is_long l ≡ false = is_short l (is_long l) refl k in
     let bad : header_line_fault n l ≡ Some (Text l.number) = rw (k, s, e) refl in
@@ -119,7 +121,7 @@ few_bytes n l k f true e =
 few_bytes n l k f false e = grind (arith, nat_tests)
 
 named_behind : (n : ℕ) (name : List ℕ) (l : Line) → is_name name ≡ true → NoLineFeed l.text → header_line_fault n l ≡ None → (k : Key) → key_in (fields_in l) ≡ k → is_name (name_behind name k l.text) ≡ true
-named_behind n name l h w f Name e = from_second_is_name l.text (runs_from 0 l.text) refl w (few_bytes n l e f (nat_lt 60000 (length (name_in l.text))) refl)
+named_behind n name l h w f Name e = from_second_is_name l.text (runs_from 0 l.text) refl w (few_bytes n l e f (nat_lt NAME_BYTES (length (name_in l.text))) refl)
 named_behind n name l h w f FileType e = h
 named_behind n name l h w f Blocks e = h
 named_behind n name l h w f Objective e = h
@@ -138,12 +140,12 @@ header_named n text f = named n [] (header (numbered 0 (lines_of text))) refl (w
 
 -- What a text gives is what the type can hold.
 pub read_is_upit : (n : ℕ) (text : List ℕ) (lines : List (List ℕ)) (given name : List ℕ) (values : List ℤ) → lines ≡ lines_of text → header_fault n (numbered 0 lines) ≡ None → given ≡ last_name [] (header (numbered 0 lines)) → name ≡ given
-    → length values ≡ n → n ≤ 2 ^ 24 → is_upit name values ≡ true
+    → length values ≡ n → n ≤ MOST_BLOCKS → is_upit name values ≡ true
 read_is_upit n text lines given name values e f g h len few =
     let p = no_fault (header_lines_fault n (header (numbered 0 lines))) _ f in
     let q : header_lines_fault n (header (numbered 0 (lines_of text))) ≡ None = subst (λ (ls : List (List ℕ)). header_lines_fault n (header (numbered 0 ls)) ≡ None) e p.0 in
     let same : name ≡ last_name [] (header (numbered 0 (lines_of text))) = h ∙ g ∙ ap (λ (ls : List (List ℕ)). last_name [] (header (numbered 0 ls))) e in
-    let small : nat_le (length values) (2 ^ 24) ≡ true = grind (arith, nat_tests) in
+    let small : nat_le (length values) MOST_BLOCKS ≡ true = grind (arith, nat_tests) in
     let named_so : is_name name ≡ true = ap is_name same ∙ header_named n text q in
     rw (named_so, small) refl
 

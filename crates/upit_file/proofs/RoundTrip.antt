@@ -6,6 +6,7 @@ use Rattle.std.specs.Option.{option_or}
 use Rattle.std.specs.Fmt.{decimal}
 use Rattle.std.proofs.lemmas.Bool.{or_parts}
 use Rattle.std.proofs.lemmas.List.Folds.{list_all-append}
+use Rattle.fixed_worth.specs.declared.limits.TheConstants.{MOST_BLOCKS}
 use Rattle.fixed_worth.specs.Record.{Line, numbered}
 use Rattle.upit_file.specs.Header.{header, last_name, header_fault}
 use Rattle.upit_file.specs.Body.{body, before_end, first_fault, value_among}
@@ -22,7 +23,7 @@ none_passes p [] h = refl
 none_passes p (b ∷ bs) h = let q = or_parts (p b) (list_any p bs) h in rw (q.0, none_passes p bs q.1) refl
 
 -- No line that is written has a line feed within.
-all_lines : (name : List ℕ) (vs : List ℤ) → is_name name ≡ true → length vs ≤ 2 ^ 24 → Sizes vs → list_all is_one_line (header_lines name (length vs) ++ (record_lines 0 vs ++ (codes "EOF" ∷ []))) ≡ true
+all_lines : (name : List ℕ) (vs : List ℤ) → is_name name ≡ true → length vs ≤ MOST_BLOCKS → Sizes vs → list_all is_one_line (header_lines name (length vs) ++ (record_lines 0 vs ++ (codes "EOF" ∷ []))) ≡ true
 all_lines name vs h few s =
     let a : is_one_line name ≡ true = none_passes (λ b. eqb b 10) name (name_whole name h) in
     let b : is_one_line (decimal (length vs)) ≡ true = decimal_is_one_line (length vs) (omega arith) in
@@ -30,19 +31,19 @@ all_lines name vs h few s =
     rw (a, b, c) refl
 
 -- The lines that are read are those that were written.
-read_lines : (u : UpitView) → is_name u.name ≡ true → length u.values ≤ 2 ^ 24 → Sizes u.values → lines_in (upit_text u) ≡ written u.name (length u.values) (numbered 4 (record_lines 0 u.values ++ (codes "EOF" ∷ [])))
+read_lines : (u : UpitView) → is_name u.name ≡ true → length u.values ≤ MOST_BLOCKS → Sizes u.values → lines_in (upit_text u) ≡ written u.name (length u.values) (numbered 4 (record_lines 0 u.values ++ (codes "EOF" ∷ [])))
 read_lines u h few s = ap (numbered 0) (lines_cut (upit_lines u) (all_lines u.name u.values h few s))
 
 -- The name and the values are such as the type holds: each value has at most 10^18 millionths either way.
 pub record CanBeWritten (u : UpitView) : Type 0 where
   pub named : is_name u.name ≡ true
-  pub few : length u.values ≤ 2 ^ 24
+  pub few : length u.values ≤ MOST_BLOCKS
   pub sizes : All (λ value. unsigned_abs value ≤ 10 ^ 18) u.values
 
 pub read_back : (u : UpitView) → CanBeWritten u → IsReadBack u
 read_back u c =
     let n = length u.values in
-    let few : length u.values ≤ 2 ^ 24 = c.few in
+    let few : length u.values ≤ MOST_BLOCKS = c.few in
     let s = sizes_each u.values c.sizes in
     let rest = numbered 4 (record_lines 0 u.values ++ (codes "EOF" ∷ [])) in
     let lines = read_lines u c.named few s in

@@ -1,7 +1,9 @@
 -- The header of a text: where it ends, what it declares, and what is wrong with it.
-use Rattle.std.specs.Prelude.{ℕ, ◌+◌, ◌^◌, ◌==◌, ◌||◌, Bool, true, false, not, cond, List, [], ◌∷◌, length, drop, take, nat_lt, Option, Some, None, is_some, codes}
+use Rattle.std.specs.Prelude.{ℕ, ◌+◌, ◌==◌, ◌||◌, Bool, true, false, not, cond, List, [], ◌∷◌, length, drop, take, nat_lt, Option, Some, None, is_some, codes}
 use Rattle.std.specs.Option.{option_or}
 use Rattle.std.specs.Str.{bytes_eq}
+use Rattle.fixed_worth.specs.declared.limits.TheConstants.{MOST_BLOCKS, LINE_BYTES}
+use Rattle.upit_file.specs.declared.limits.TheConstants.{NAME_BYTES}
 use Rattle.fixed_worth.specs.Text.{Run, fields_of, runs_from}
 use Rattle.fixed_worth.specs.Record.{Line, reads, number_of}
 use Rattle.upit_file.specs.declared.key.Key.{Key}
@@ -11,7 +13,7 @@ use Rattle.upit_file.specs.declared.fault.UpitFault.TheVariants.{Text, Number, N
 
 -- The line has more than 65,536 bytes: a fault, whatever it holds.
 abbrev pub is_long : Line → Bool
-is_long l = nat_lt 65536 (length l.text)
+is_long l = nat_lt LINE_BYTES (length l.text)
 
 -- The fields of a line. A line that is too long has none.
 abbrev pub fields_in : Line → List (List ℕ)
@@ -100,7 +102,7 @@ count_fault n line [] = Some (Text line)
 count_fault n line (key ∷ []) = Some (Text line)
 count_fault n line (key ∷ count ∷ fields) =
     cond (not (reads count)) (Some (Number line))
-    (cond (not (number_of count == n) || nat_lt (2 ^ 24) (number_of count)) (Some (WrongBlocks line))
+    (cond (not (number_of count == n) || nat_lt MOST_BLOCKS (number_of count)) (Some (WrongBlocks line))
     None)
 
 -- What is wrong with a TYPE record.
@@ -111,7 +113,7 @@ type_fault line (key ∷ word ∷ fields) = cond (bytes_eq word (codes "UPIT")) 
 
 -- What is wrong with a NAME record, whose line this is.
 abbrev pub name_fault : ℕ → List ℕ → Option UpitFault
-name_fault line text = cond (nat_lt 60000 (length (name_in text))) (Some (Text line)) None
+name_fault line text = cond (nat_lt NAME_BYTES (length (name_in text))) (Some (Text line)) None
 
 -- What is wrong with a record by its key.
 abbrev pub key_fault : ℕ → Line → Key → List (List ℕ) → Option UpitFault

@@ -1,7 +1,7 @@
 pub mod Header
 pub mod Body
 pub mod Records
-pub mod Faults
+pub mod FaultText
 pub mod Writing
 pub mod RoundTrip
 pub mod Internal

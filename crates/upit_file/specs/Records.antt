@@ -1,7 +1,9 @@
 -- What a text of block values says, over its list of lines.
-use Rattle.std.specs.Prelude.{◌≡◌, ℕ, ℤ, ◌-◌, ◌<◌, ◌==◌, ◌^◌, ◌&&◌, ◌||◌, Bool, not, nat_le, slice_index, List, [], length, Option, Some, None, unwrap_or, Result, Ok, Err, get_or, pos}
+use Rattle.std.specs.Prelude.{◌≡◌, ℕ, ℤ, ◌-◌, ◌<◌, ◌==◌, ◌&&◌, ◌||◌, Bool, not, nat_le, slice_index, List, [], length, Option, Some, None, unwrap_or, Result, Ok, Err, get_or, pos}
 use Rattle.std.specs.Option.{option_or}
 use Rattle.std.specs.List.{list_any}
+use Rattle.fixed_worth.specs.declared.limits.TheConstants.{MOST_BLOCKS}
+use Rattle.upit_file.specs.declared.limits.TheConstants.{NAME_BYTES}
 use Rattle.fixed_worth.specs.Text.{is_separator}
 use Rattle.fixed_worth.specs.Record.{Line}
 pub use Rattle.fixed_worth.specs.Record.{lines_in}
@@ -45,11 +47,11 @@ pub record UpitView : Type 0 where
 abbrev pub is_name : List ℕ → Bool
 is_name name =
     (length name == 0)
-    || (nat_le (length name) 60000 && not (list_any (λ b. b == 10) name) && not (is_separator (slice_index name 0)) && not (is_separator (slice_index name (length name - 1))))
+    || (nat_le (length name) NAME_BYTES && not (list_any (λ b. b == 10) name) && not (is_separator (slice_index name 0)) && not (is_separator (slice_index name (length name - 1))))
 
 -- What the type can hold: such a name, and at most 2^24 values.
 abbrev pub is_upit : List ℕ → List ℤ → Bool
-is_upit name values = is_name name && nat_le (length values) (2 ^ 24)
+is_upit name values = is_name name && nat_le (length values) MOST_BLOCKS
 
 -- The values and the name are those that the text gives to n blocks.
 pub record Denotes (n : ℕ) (text : List ℕ) (upit : UpitView) : Type 0 where

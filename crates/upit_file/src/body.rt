@@ -1,6 +1,6 @@
 //! Reading what stands behind the header.
 
-ghost use Rattle.std.specs.Prelude.{◌≡◌, ℕ, ◌<◌, ◌≤◌, ◌^◌, Some, None, [], pos, length, slice_index_or, MatchResult};
+ghost use Rattle.std.specs.Prelude.{◌≡◌, ℕ, ◌<◌, ◌≤◌, Some, None, [], pos, length, slice_index_or, MatchResult};
 ghost use Rattle.fixed_worth.specs.Record.{numbered};
 ghost use Rattle.upit_file.specs.Body as spec;
 ghost use Rattle.upit_file.specs.Records.{UnlessMemory};

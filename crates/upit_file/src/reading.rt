@@ -1,6 +1,6 @@
 //! Reading a text.
 
-ghost use Rattle.std.specs.Prelude.{◌≡◌, ◌≤◌, ◌^◌, Some, None, Err, MatchResult, IfOk};
+ghost use Rattle.std.specs.Prelude.{◌≡◌, ◌≤◌, Some, None, Err, MatchResult, IfOk};
 ghost use Rattle.upit_file.specs.Header.{header_fault};
 ghost use Rattle.upit_file.specs.Records as spec;
 
@@ -8,7 +8,7 @@ use crate::body::read_body;
 use crate::fault::UpitFault;
 use crate::header::read_header;
 use crate::upit::Upit;
-use fixed_worth::Lines;
+use fixed_worth::{Lines, MOST_BLOCKS};
 use std::alloc::Global;
 
 /// The number of blocks that the header of a text declares in its first NBLOCKS record, or the first fault of the
@@ -17,7 +17,7 @@ use std::alloc::Global;
 /// Where this answers `n`, [`read_upit`] with that `n` finds no fault up to the line OBJECTIVE_FUNCTION.
 pub fn declared_blocks(text: &[u8]) -> Result<u32, UpitFault>
     ensures value { result ≡ spec.declared_of text.now }
-    ensures header { IfOk result (λ n. (n ≤ 2 ^ 24) × (header_fault n (spec.lines_in text.now) ≡ None)) }
+    ensures header { IfOk result (λ n. (n ≤ MOST_BLOCKS) × (header_fault n (spec.lines_in text.now) ≡ None)) }
 {
     let mut lines = Lines::new(text);
     let header = read_header(&mut lines, None)?;

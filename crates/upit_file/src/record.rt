@@ -9,7 +9,7 @@ ghost use Rattle.upit_file.specs.Internal.{IsRecord};
 
 use crate::fault::UpitFault;
 use crate::value::read_value;
-use fixed_worth::{Fields, Micros, is_remark, whole};
+use fixed_worth::{Fields, LINE_BYTES, Micros, is_remark, whole};
 
 // What a line behind the header is.
 #[derive(Clone, Copy)]
@@ -24,7 +24,7 @@ pub(crate) enum Record {
 
 // The record that a line is.
 pub(crate) fn read_record(text: &[u8], line: u64) -> Result<Record, UpitFault>
-    requires { length text.now ≤ 65536 }
+    requires { length text.now ≤ LINE_BYTES }
     ensures { MatchResult result
         (λ read. IsRecord line (fields_of text.now) read)
         (λ e. (is_skipped (fields_of text.now) ≡ false) × (header.is_end (fields_of text.now) ≡ false)

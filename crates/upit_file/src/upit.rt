@@ -1,16 +1,12 @@
 //! What a `.upit` file holds.
 
-ghost use Rattle.std.specs.Prelude.{◌≡◌, ◌==◌, ◌<◌, ◌≤◌, ◌^◌, ◌-◌, ◌&&◌, ◌||◌, pos, length, slice_index_or, IsTrue, SomeIff};
+ghost use Rattle.std.specs.Prelude.{◌≡◌, ◌==◌, ◌<◌, ◌≤◌, ◌-◌, ◌&&◌, ◌||◌, pos, length, slice_index_or, IsTrue, SomeIff};
 ghost use Rattle.std.specs.List.{list_any};
-ghost use Rattle.fixed_worth.specs.Text.{is_separator};
 ghost use Rattle.upit_file.specs.Records as spec;
 
-use fixed_worth::Micros;
+use crate::limits::NAME_BYTES;
+use fixed_worth::{MOST_BLOCKS, Micros, is_separator};
 use std::marker::Model;
-
-const MOST_BLOCKS: usize = 1 << 24;
-
-const MOST_NAME_BYTES: usize = 60_000;
 
 /// A name, and the value of each block: what a `.upit` file holds.
 #[derive(Drop)]
@@ -27,13 +23,6 @@ impl Model for Upit {
     ghost invariant = { λ u. IsTrue (spec.is_upit u.name.items u.values.items) };
 }
 
-#[tactic(auto, unfolding(fixed_worth::specs::Text::is_separator))]
-fn is_separator(b: u8) -> bool
-    ensures { result ≡ is_separator b }
-{
-    b == b' ' || b == b'\t' || b == b':' || b == b'\r'
-}
-
 fn has_line_feed(name: &[u8]) -> bool
     ensures { result ≡ list_any (λ b. b == 10) name.now }
 {
@@ -46,7 +35,7 @@ fn is_name(name: &[u8]) -> bool
     if name.is_empty() {
         return true;
     }
-    name.len() <= MOST_NAME_BYTES
+    name.len() <= NAME_BYTES
         && !has_line_feed(name)
         && !is_separator(name[0])
         && !is_separator(name[name.len() - 1])
@@ -60,7 +49,7 @@ impl Upit {
     pub fn new(name: Vec<u8>, values: Vec<Micros>) -> Option<Upit>
         ensures { SomeIff result (IsTrue (spec.is_upit name.items values.items)) (record { name = name.items; values = values.items }) }
     {
-        if is_name(name.as_slice()) && values.len() <= MOST_BLOCKS {
+        if is_name(name.as_slice()) && values.len() <= MOST_BLOCKS as usize {
             Some(Upit { name, values })
         } else {
             None
@@ -78,7 +67,7 @@ impl Upit {
     /// The number of blocks.
     pub fn len(&self) -> u32
         ensures value { result ≡ length self.now.values }
-        ensures bound { result ≤ 2 ^ 24 }
+        ensures bound { result ≤ MOST_BLOCKS }
     {
         self.values.len() as u32
     }

@@ -9,7 +9,7 @@ ghost use Rattle.upit_file.specs.Writing as spec;
 
 use crate::record_line::record_line;
 use crate::upit::Upit;
-use fixed_worth::{CountedWrite, Micros, Page, WriteFault, WrittenNumber};
+use fixed_worth::{CountedWrite, MOST_BLOCKS, Micros, Page, WriteFault, WrittenNumber};
 
 fn put_two<W: CountedWrite>(
     page: &mut Page,
@@ -69,7 +69,7 @@ fn put_records<W: CountedWrite>(
     values: &[Micros],
 ) -> Result<(), WriteFault>
     requires room { W.failed out.old < 2 ^ 64 - 1 }
-    requires count { length values.now ≤ 2 ^ 24 }
+    requires count { length values.now ≤ MOST_BLOCKS }
     ensures held { OnOk result (SentOrHeld (W.contents out.old) (W.contents out.new) page.new (page.old ++ with_line_feeds (spec.record_lines 0 values.now))) }
     ensures kept { OnOk result (W.failed out.new ≡ W.failed out.old) }
     ensures prefix { OnErr result (ReceivedPrefix (W.contents out.old) (W.contents out.new) (page.old ++ with_line_feeds (spec.record_lines 0 values.now))) }

@@ -1,8 +1,9 @@
-use Rattle.std.proofs.Common.{◌^◌, sym, ◌∙◌}
+use Rattle.std.proofs.Common.{sym, ◌∙◌}
+use Rattle.fixed_worth.specs.declared.limits.TheConstants.{MOST_BLOCKS}
 use Rattle.blocks_file.specs.Records.{lines_in}
 use Rattle.fixed_worth.proofs.NextLine.{Next}
 use Rattle.blocks_file.proofs.Counts.{passes, is_extra, is_counted, not_true, not_false}
-use Rattle.blocks_file.proofs.counting.count_records.Goals.{then-count-eq-MOST_BLOCKS, else-count-eq-MOST_BLOCKS}
+use Rattle.blocks_file.proofs.counting.count_records.Goals.{then-count, else-count}
 use Rattle.blocks_file.proofs.counting.count_records.Goals as goal
 
 pub loop-line-preserved-then-is_record : goal.loop-line-preserved-then-is_record
@@ -10,9 +11,9 @@ loop-line-preserved-then-is_record c =
     let q = rw c.in-Ok-Some.field-0-is at c.in-Ok-Some.ensures in
     let h : Next c.loop-line.lines c.next_line.new.self c.number-number.result c.in-Ok-Some.line.now = record { lines = q.1; number = q.2; same = c.number-number.ensures.value; small = q.0 } in
     let s = not_true _ (sym c.is_record.ensures ∙ c.if-is_record.true) in
-    elim c.if-count-eq-MOST_BLOCKS.branch [
-      | then-count-eq-MOST_BLOCKS w ↦ rw w.extra-is (is_extra (lines_in c.args.text.now) (2 ^ 24) c.loop-line.count c.loop-line.extra c.loop-line.lines c.next_line.new.self c.number-number.result c.in-Ok-Some.line.now c.loop-line.invariant h s w.if-count-eq-MOST_BLOCKS.true)
-      | else-count-eq-MOST_BLOCKS w ↦ rw w.extra-is (is_counted (lines_in c.args.text.now) (2 ^ 24) c.loop-line.count c.loop-line.extra c.loop-line.lines c.next_line.new.self c.number-number.result c.in-Ok-Some.line.now c.loop-line.invariant h s w.if-count-eq-MOST_BLOCKS.false)
+    elim c.if-count.branch [
+      | then-count w ↦ rw w.extra-is (is_extra (lines_in c.args.text.now) MOST_BLOCKS c.loop-line.count c.loop-line.extra c.loop-line.lines c.next_line.new.self c.number-number.result c.in-Ok-Some.line.now c.loop-line.invariant h s w.if-count.true)
+      | else-count w ↦ rw w.extra-is (is_counted (lines_in c.args.text.now) MOST_BLOCKS c.loop-line.count c.loop-line.extra c.loop-line.lines c.next_line.new.self c.number-number.result c.in-Ok-Some.line.now c.loop-line.invariant h s w.if-count.false)
     ]
 
 pub loop-line-preserved : goal.loop-line-preserved
@@ -20,4 +21,4 @@ loop-line-preserved c =
     let q = rw c.in-Ok-Some.field-0-is at c.in-Ok-Some.ensures in
     let h : Next c.loop-line.lines c.next_line.new.self c.number-number.result c.in-Ok-Some.line.now = record { lines = q.1; number = q.2; same = c.number-number.ensures.value; small = q.0 } in
     let s = not_false _ (sym c.is_record.ensures ∙ c.if-is_record.false) in
-    passes (lines_in c.args.text.now) (2 ^ 24) c.loop-line.count c.loop-line.extra c.loop-line.lines c.next_line.new.self c.number-number.result c.in-Ok-Some.line.now c.loop-line.invariant h s
+    passes (lines_in c.args.text.now) MOST_BLOCKS c.loop-line.count c.loop-line.extra c.loop-line.lines c.next_line.new.self c.number-number.result c.in-Ok-Some.line.now c.loop-line.invariant h s

@@ -1,5 +1,6 @@
 use Rattle.std.proofs.Common.{◌≡◌, ◌+◌, ◌≤◌, length, map, drop}
-use Rattle.blocks_file.specs.Steps.{IsRow}
+use Rattle.fixed_worth.specs.declared.limits.TheConstants.{LINE_BYTES}
+use Rattle.blocks_file.specs.Internal.{IsRow}
 use Rattle.blocks_file.proofs.row.read_row.Given as goal
 
 abbrev pub invariant-loop-field : goal.invariant-loop-field
@@ -8,7 +9,7 @@ invariant-loop-field l =
     let all = map (λ f. f.text) l.fn.fields in
     record {
       count : l.column + length left ≡ length all;
-      few : length all ≤ 65536;
+      few : length all ≤ LINE_BYTES;
       rest : left ≡ drop l.column all;
       row : IsRow l.columns all l.column l.row;
     }

@@ -1,5 +1,6 @@
-use Rattle.std.proofs.Common.{ℕ, ◌+◌, ◌^◌, ◌≤◌, Bool, false, length, get_or, ap, arith, length-append}
+use Rattle.std.proofs.Common.{ℕ, ◌+◌, ◌≤◌, Bool, false, length, get_or, ap, arith, length-append}
 use Rattle.std.proofs.lemmas.Result.{err_from_is_err_and}
+use Rattle.prec_file.specs.declared.limits.TheConstants.{MOST_PAIRS}
 use Rattle.fixed_worth.specs.Text.{fields_of}
 use Rattle.prec_file.proofs.History.{told, repeated, wrong_count, too_many, no_fault, pairs_length}
 use Rattle.prec_file.proofs.Marks.{marks}
@@ -29,7 +30,7 @@ returns c =
     let q = rw c.in-Some.is at c.in_ok-record.ensures in
     let had : ℕ → Bool = λ b. get_or c.args.seen.now b false in
     let k = ap length c.as_slice-before.ensures.value in
-    let few : length c.args.pairs.now.items + c.in-Some.record.found ≤ 2 ^ 27 = omega (arith, k) in
+    let few : length c.args.pairs.now.items + c.in-Some.record.found ≤ MOST_PAIRS = omega (arith, k) in
     let stored = q.7 c.if-record-2.false in
     let all = ap length stored in
     let more = pairs_length (fields_of c.args.text.now) q.0 in (

@@ -1,4 +1,5 @@
-use Rattle.std.proofs.Common.{◌≡◌, ◌^◌, ◌≤◌, length, All}
+use Rattle.std.proofs.Common.{◌≡◌, ◌≤◌, length, All}
+use Rattle.prec_file.specs.declared.limits.TheConstants.{MOST_PAIRS}
 use Rattle.prec_file.specs.Rests.{IsKnown}
 use Rattle.prec_file.proofs.Progress.{ReadSoFar}
 use Rattle.prec_file.proofs.reading.read_pairs.Given as goal
@@ -7,7 +8,7 @@ abbrev pub invariant-loop-line : goal.invariant-loop-line
 invariant-loop-line l = record {
   going : ReadSoFar l.n l.text l.seen.items l.pairs.items l.lines;
   all : length l.seen.items ≡ l.n;
-  room : length l.pairs.items ≤ 2 ^ 27;
+  room : length l.pairs.items ≤ MOST_PAIRS;
   known : All (IsKnown l.n) l.pairs.items;
 }
 

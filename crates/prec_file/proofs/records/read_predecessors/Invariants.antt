@@ -1,6 +1,7 @@
 use Rattle.std.proofs.Common.{◌≡◌, ◌+◌, ◌<◌, ◌≤◌, ◌++◌, false, length, map}
 use Rattle.std.specs.Prelude.{◌||◌, nat_le}
 use Rattle.std.specs.List.{list_all, list_any}
+use Rattle.fixed_worth.specs.declared.limits.TheConstants.{LINE_BYTES}
 use Rattle.fixed_worth.specs.Record.{reads, number_of}
 use Rattle.prec_file.proofs.records.read_predecessors.Given as goal
 
@@ -13,6 +14,6 @@ invariant-loop-field l =
       good : list_all reads left ≡ list_all reads all;
       known : (l.unknown || list_any (nat_le l.n) (map number_of left)) ≡ (nat_le l.n l.block || list_any (nat_le l.n) (map number_of all));
       count : l.found + length left ≡ length all;
-      few : length all ≤ 65536;
+      few : length all ≤ LINE_BYTES;
       pairs : l.unknown ≡ false → l.refused ≡ false → (l.block < l.n) × (l.pairs.items ++ map (λ p. (l.block, p)) (map number_of left) ≡ l.fn.pairs.items ++ map (λ p. (l.block, p)) (map number_of all));
     }

@@ -1,7 +1,7 @@
 use Rattle.std.proofs.Common.{◌≤◌, pos, ◌-ℤ◌, length}
-use Rattle.slope.specs.Lists.{Collects}
-use Rattle.slope.specs.Cones.{IsBelowRow}
+use Rattle.slope.specs.declared.pattern.TheConstants.{MOST_OFFSETS}
+use Rattle.slope.specs.Internal.{Collects, IsBelowRow}
 use Rattle.slope.proofs.cone.add_level.Given as goal
 
 abbrev pub invariant-loop-step : goal.invariant-loop-step
-invariant-loop-step l = Collects (IsBelowRow l.level.run l.level.rise (pos l.level.number) (pos l.step -ℤ pos l.level.reach)) l.offsets.items × (length l.offsets.items ≤ 4096)
+invariant-loop-step l = Collects (IsBelowRow l.level.run l.level.rise (pos l.level.number) (pos l.step -ℤ pos l.level.reach)) l.offsets.items × (length l.offsets.items ≤ MOST_OFFSETS)

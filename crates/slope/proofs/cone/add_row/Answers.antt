@@ -2,9 +2,9 @@ use Rattle.std.proofs.Common.{◌≡◌, arith, rules, ℤ, pos, ◌+◌, ◌≤
 use Rattle.std.proofs.lemmas.Int.{to_z-of_z, ints}
 use Rattle.std.proofs.lemmas.Bool.{iff_false}
 use Rattle.std.proofs.lemmas.Result.{err_from_is_err_and}
-use Rattle.slope.specs.Lists.{Collects}
+use Rattle.slope.specs.declared.pattern.TheConstants.{MOST_OFFSETS}
 use Rattle.slope.specs.Offsets.{Offset}
-use Rattle.slope.specs.Cones.{IsBelowPoint}
+use Rattle.slope.specs.Internal.{Collects, IsBelowPoint}
 use Rattle.slope.proofs.ConeSteps.{row_begun, row_ended, point_taken, point_passed, refused}
 use Rattle.slope.proofs.cone.add_row.Goals as goal
 use Rattle.slope.proofs.cone.add_row.Goals.{then-is_near+in_ok-add, else-is_near, Joined-is_near}
@@ -36,7 +36,7 @@ loop-step-preserved c =
     let up : next ≡ c.coordinate-y.result +ℤ pos 1 = omega (arith, ints, e) in
     let items_of : Vec Offset Global → List Offset = λ v. v.items in
     let Q : List Offset → Type 0 = λ os. Collects (IsBelowPoint c.args.level.run c.args.level.rise (pos c.args.level.number) c.args.x next) os in
-    let R : List Offset → Type 0 = λ os. length os ≤ 4096 in
+    let R : List Offset → Type 0 = λ os. length os ≤ MOST_OFFSETS in
     elim c.if-is_near.branch [
       | then-is_near+in_ok-add w ↦
           let n = simp to_z-of_z at (c.is_near.ensures.0 w.if-is_near.true) in

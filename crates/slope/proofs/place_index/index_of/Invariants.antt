@@ -1,4 +1,4 @@
-use Rattle.slope.specs.Places.{IsIndex}
+use Rattle.slope.specs.Internal.{IsIndex}
 use Rattle.slope.proofs.place_index.index_of.Given as goal
 
 abbrev pub invariant-loop-block : goal.invariant-loop-block

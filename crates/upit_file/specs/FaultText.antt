@@ -1,6 +1,6 @@
 -- How faults are printed.
 use Rattle.std.specs.Prelude.{ℕ, List, codes}
-pub use Rattle.fixed_worth.specs.Faults.{at_line}
+pub use Rattle.fixed_worth.specs.FaultText.{at_line}
 use Rattle.upit_file.specs.declared.fault.UpitFault.{UpitFault}
 use Rattle.upit_file.specs.declared.fault.UpitFault.TheVariants.{Text, Number, NoObjective, NotUpit, WrongBlocks, UnknownBlock, Repeated, NoMemory}
 

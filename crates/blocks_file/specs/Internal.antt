@@ -1,4 +1,4 @@
--- What one step of reading does.
+-- What only the functions of this crate say to one another: what one step of reading does.
 use Rattle.std.specs.Prelude.{◌≡◌, ◌≢◌, ℕ, ℤ, pos, ◌+◌, ◌*◌, ◌<◌, ◌≤◌, true, List, [], length, Some, slice_index_or}
 use Rattle.fixed_worth.specs.Record.{Line}
 use Rattle.blocks_file.specs.declared.coordinates.Place.{Place}

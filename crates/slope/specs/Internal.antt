@@ -1,0 +1,101 @@
+-- What only the functions of this crate say to one another: lists as they are gathered, a cone level by level, the index
+-- of places, and the pairs block by block.
+use Rattle.std.specs.Prelude.{◌≡◌, ◌≢◌, ℕ, ◌<◌, ◌≤◌, ◌*◌, ◌/◌, ℤ, pos, ◌≤ℤ◌, ◌<ℤ◌, ◌⊎◌, List, length, take, AllPairs, Contains, Some, FitsSigned}
+use Rattle.std.specs.Int.{w32}
+use Rattle.std.specs.Ordering.{int_cmp, ordering_then}
+use Rattle.std.specs.declared.cmp.Ordering.{Ordering}
+use Rattle.std.specs.BTreeMap.{BTreeMap, get}
+use Rattle.prec_file.specs.declared.limits.TheConstants.{MOST_PAIRS}
+use Rattle.slope.specs.declared.pattern.TheConstants.{MOST_OFFSETS}
+use Rattle.blocks_file.specs.declared.coordinates.Place.{Place}
+use Rattle.blocks_file.specs.Denotes.{BlocksView}
+use Rattle.slope.specs.Lists.{AreMoreThan}
+use Rattle.slope.specs.Offsets.{Offset}
+use Rattle.slope.specs.Patterns.{IsNear}
+use Rattle.slope.specs.Places.{place_of}
+use Rattle.slope.specs.Slopes.{IsSlopePair, IsFirstRepeat, offset_between}
+use Rattle.slope.specs.declared.pattern_fault.PatternFault.{PatternFault}
+use Rattle.slope.specs.declared.pattern_fault.PatternFault.TheVariants as pattern
+use Rattle.slope.specs.declared.slope_fault.SlopeFault.{SlopeFault}
+use Rattle.slope.specs.declared.slope_fault.SlopeFault.TheVariants as slope
+use Rattle.slope.specs.declared.up.Up.{Up}
+
+-- What has the property, each once.
+pub record Collects {X : Type 0} (P : X → Type 0) (xs : List X) : Type 0 where
+  pub apart : AllPairs (λ x y. x ≢ y) xs
+  pub held : (x : X) → P x → Contains xs x
+  pub only : (x : X) → Contains xs x → P x
+
+-- The numbers of a level of a cone are small, and reach is the greatest distance there, in whole blocks.
+pub record IsLevel (k reach run rise : ℕ) : Type 0 where
+  pub few_levels : k ≤ 1000
+  pub small_run : run ≤ 1000
+  pub some_rise : 1 ≤ rise
+  pub small_rise : rise ≤ 1000
+  pub furthest : reach ≡ k * run / rise
+
+-- What the levels of a cone below this one hold.
+pub record IsBelowLevel (run rise : ℕ) (k : ℤ) (o : Offset) : Type 0 where
+  pub above : pos 1 ≤ℤ o.2
+  pub near : IsNear run rise o
+  pub below : o.2 <ℤ k
+
+-- That, and what the level holds whose first number is below x.
+pub record IsBelowRow (run rise : ℕ) (k x : ℤ) (o : Offset) : Type 0 where
+  pub above : pos 1 ≤ℤ o.2
+  pub near : IsNear run rise o
+  pub below : (o.2 <ℤ k) ⊎ ((o.2 ≡ k) × (o.0 <ℤ x))
+
+-- That, and what the row at x holds whose second number is below y.
+pub record IsBelowPoint (run rise : ℕ) (k x y : ℤ) (o : Offset) : Type 0 where
+  pub above : pos 1 ≤ℤ o.2
+  pub near : IsNear run rise o
+  pub below : (o.2 <ℤ k) ⊎ ((o.2 ≡ k) × ((o.0 <ℤ x) ⊎ ((o.0 ≡ x) × (o.1 <ℤ y))))
+
+-- Why an offset isn't added to others: there are 4,096 already, or fewer and no memory for one more.
+abbrev pub RefusalStands : List Offset → PatternFault → Type 0
+RefusalStands offsets (pattern.NotUpward i) = ⊥
+RefusalStands offsets pattern.TooMany = MOST_OFFSETS ≤ length offsets
+RefusalStands offsets pattern.NoMemory = length offsets < MOST_OFFSETS
+
+-- The coordinates have 32 bits.
+abbrev pub IsPlace : Place → Type 0
+IsPlace p = FitsSigned w32 p.x × FitsSigned w32 p.y × FitsSigned w32 p.z
+
+-- Places go by x, then by y, and then by z.
+abbrev pub place_cmp : Place → Place → Ordering
+place_cmp p q = ordering_then (int_cmp p.x q.x) (ordering_then (int_cmp p.y q.y) (int_cmp p.z q.z))
+
+-- The index finds each block below c by its place, and nothing else. The places are read from the model, and fit.
+pub record IsIndex (m : BlocksView) (c : ℕ) (index : BTreeMap Place ℕ) : Type 0 where
+  pub finds : (b : ℕ) → b < c → get place_cmp index (place_of m b) ≡ Some b
+  pub only : (p : Place) (b : ℕ) → get place_cmp index p ≡ Some b → (b < c) × (place_of m b ≡ p)
+  pub fits : (b : ℕ) → b < c → IsPlace (place_of m b)
+
+-- The fault of the places stands.
+abbrev pub IndexFaultStands : BlocksView → SlopeFault → Type 0
+IndexFaultStands m (slope.SamePlace b c) = IsFirstRepeat m b c
+IndexFaultStands m slope.TooMany = ⊥
+IndexFaultStands m slope.NoMemory = Unit {0}
+
+-- The slope pairs of the blocks below this one.
+pub record IsPairBelow (m : BlocksView) (offsets : List Offset) (up : Up) (block : ℕ) (pair : ℕ × ℕ) : Type 0 where
+  pub slope : IsSlopePair m offsets up pair
+  pub below : pair.0 < block
+
+-- Those, and this block's at the first offsets.
+pub record IsPairUpTo (m : BlocksView) (offsets : List Offset) (up : Up) (block i : ℕ) (pair : ℕ × ℕ) : Type 0 where
+  pub slope : IsSlopePair m offsets up pair
+  pub below : (pair.0 < block) ⊎ ((pair.0 ≡ block) × Contains (take i offsets) (offset_between up (place_of m block) (place_of m pair.1)))
+
+-- The fault of the pairs stands.
+abbrev pub PairFaultStands : BlocksView → List Offset → Up → SlopeFault → Type 0
+PairFaultStands m offsets up (slope.SamePlace b c) = ⊥
+PairFaultStands m offsets up slope.TooMany = AreMoreThan MOST_PAIRS (IsSlopePair m offsets up)
+PairFaultStands m offsets up slope.NoMemory = Unit {0}
+
+-- Why a pair isn't added to others: there are 2^27 already, or fewer and no memory for one more.
+abbrev pub PairRefusalStands : List (ℕ × ℕ) → SlopeFault → Type 0
+PairRefusalStands pairs (slope.SamePlace b c) = ⊥
+PairRefusalStands pairs slope.TooMany = MOST_PAIRS ≤ length pairs
+PairRefusalStands pairs slope.NoMemory = length pairs < MOST_PAIRS
