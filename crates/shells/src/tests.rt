@@ -218,7 +218,7 @@ fn many_prices(alloc: Global) -> Result<Prices, Fail> {
     let mut cost = Vec::new(alloc);
     for b in 0..5_000i64 {
         revenue.push(Micros::new(b % 977).ok_or("revenue")?)?;
-        cost.push(Micros::new(b - 2_500).ok_or("cost")?)?;
+        cost.push(Micros::new(b % 13).ok_or("cost")?)?;
     }
     match Prices::new(revenue, cost) {
         Ok(prices) => Ok(prices),
