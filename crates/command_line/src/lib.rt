@@ -1,7 +1,8 @@
 //! The command line of `pit`: which command was asked for, with which words.
 //!
 //! Stands on the `clap` library alone and promises nothing upward but that it is safe: what words mean is decided above,
-//! where numbers and names are read; a word that names nothing is told here, in the library's form. A crate of its own, since `clap` is dear to prove and nothing else needs it.
+//! where numbers and names are read; a word that names nothing is told here, in the library's form. A crate of its own,
+//! since `clap` is dear to prove and nothing else needs it.
 #![tactic(auto)]
 
 mod check_command;
