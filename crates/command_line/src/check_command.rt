@@ -1,6 +1,6 @@
 //! The command `check`.
 
-use crate::options::{PREC_HELP, STATUSES, UPIT_HELP, file_option, text_of, verbose_option};
+use crate::options::{ModelWords, STATUSES, model_words, text_of, verbose_option, with_model};
 use clap::{Arg, ArgAction, ArgMatches, Command};
 use std::alloc::{AllocError, Global};
 
@@ -8,25 +8,24 @@ const ABOUT: &str = "Checks a certificate: does its flow prove that its pit is t
 
 const DETAILS: &str = "Checks a certificate: does its flow prove that its pit is the best?
 
-Prints ACCEPTED, the number of blocks and the worth, or REFUSED and the reason. What is accepted is proved: with each block the pit holds all its predecessors, and no such pit is worth more.";
+Prints ACCEPTED, the number of blocks and the worth, or REFUSED and the reason. What is accepted is proved: with each block the pit holds all its predecessors, and no such pit is worth more. With --blocks and --settings the blocks are worth what their prices give at the factor that the certificate names; then of two accepted pits the one at the lower factor lies within the other.";
 
 /// The files of a check, and whether it is told why one failed.
 #[derive(Clone, Copy)]
 pub struct CheckWords<'a> {
     pub prec: &'a str,
-    pub upit: &'a str,
+    pub model: ModelWords<'a>,
     pub certificate: &'a str,
     pub verbose: bool,
 }
 
 /// The command.
 pub fn check_command<'a>(alloc: Global) -> Result<Command<'a>, AllocError> {
-    Command::new(alloc, "check")
+    let command = Command::new(alloc, "check")
         .about(ABOUT)
         .long_about(DETAILS)
-        .after_help(STATUSES)
-        .arg(file_option(alloc, "prec", PREC_HELP))?
-        .arg(file_option(alloc, "upit", UPIT_HELP))?
+        .after_help(STATUSES);
+    with_model(alloc, command)?
         .arg(
             Arg::new(alloc, "certificate")
                 .value_name("CERT")
@@ -41,7 +40,7 @@ pub fn check_command<'a>(alloc: Global) -> Result<Command<'a>, AllocError> {
 pub fn check_words<'a>(words: &ArgMatches<'a>) -> CheckWords<'a> {
     CheckWords {
         prec: text_of(words, "prec"),
-        upit: text_of(words, "upit"),
+        model: model_words(words),
         certificate: text_of(words, "certificate"),
         verbose: words.get_flag("verbose"),
     }

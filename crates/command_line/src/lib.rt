@@ -16,6 +16,7 @@ mod wrong_word;
 
 pub use check_command::CheckWords;
 pub use declined::Declined;
+pub use options::ModelWords;
 pub use request::{Request, request_of};
 pub use slopes_command::SlopesWords;
 pub use solve_command::SolveWords;

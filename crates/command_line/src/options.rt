@@ -1,7 +1,7 @@
 //! What the commands share: options that name a file or one of a few things, and the text on exit statuses.
 
-use clap::{Arg, ArgAction, ArgMatches};
-use std::alloc::Global;
+use clap::{Arg, ArgAction, ArgMatches, Command};
+use std::alloc::{AllocError, Global};
 
 /// The exit statuses, for each command's help.
 pub const STATUSES: &str = "Exit status:
@@ -31,6 +31,59 @@ pub fn named_option<'a>(alloc: Global, name: &'a str, shown: &'a str, help: &'a 
 /// An option that must be given and names a file.
 pub fn file_option<'a>(alloc: Global, name: &'a str, help: &'a str) -> Arg<'a> {
     named_option(alloc, name, "FILE", help).required(true)
+}
+
+/// The help of `--settings`.
+pub const SETTINGS_HELP: &str = "Which columns of the blocks are revenues and costs: a TOML text";
+
+/// The help of `--blocks` of a priced model.
+pub const PRICED_BLOCKS_HELP: &str = "The blocks with columns of revenues and costs: MineLib's .blocks";
+
+/// What a mine's worths are read from.
+#[derive(Clone, Copy)]
+pub enum ModelWords<'a> {
+    /// A file of values.
+    Values {
+        /// MineLib's `.upit`.
+        upit: &'a str,
+    },
+    /// A file of settings, and one of blocks with columns of prices.
+    Prices {
+        /// The settings.
+        settings: &'a str,
+        /// MineLib's `.blocks`.
+        blocks: &'a str,
+    },
+}
+
+/// The options that name the files of a mine: its precedence, and its values or its settings and blocks.
+pub fn with_model<'a>(alloc: Global, command: Command<'a>) -> Result<Command<'a>, AllocError> {
+    command
+        .arg(file_option(alloc, "prec", PREC_HELP))?
+        .arg(
+            named_option(alloc, "upit", "FILE", UPIT_HELP)
+                .required_unless_present_all(&["blocks", "settings"])?,
+        )?
+        .arg(
+            named_option(alloc, "blocks", "FILE", PRICED_BLOCKS_HELP)
+                .requires_arg("settings")?
+                .conflicts_with("upit")?,
+        )?
+        .arg(
+            named_option(alloc, "settings", "FILE", SETTINGS_HELP)
+                .requires_arg("blocks")?
+                .conflicts_with("upit")?,
+        )
+}
+
+/// The files that were given.
+pub fn model_words<'a>(words: &ArgMatches<'a>) -> ModelWords<'a> {
+    match (words.get_str("settings"), words.get_str("blocks")) {
+        (Some(settings), Some(blocks)) => ModelWords::Prices { settings, blocks },
+        _ => ModelWords::Values {
+            upit: text_of(words, "upit"),
+        },
+    }
 }
 
 /// The option that asks why a file failed.

@@ -1,7 +1,7 @@
 //! The command `solve`.
 
 use crate::options::{
-    PREC_HELP, STATUSES, UPIT_HELP, file_option, named_option, text_of, verbose_option,
+    ModelWords, STATUSES, model_words, named_option, text_of, verbose_option, with_model,
 };
 use clap::{Arg, ArgAction, ArgMatches, Command};
 use std::alloc::{AllocError, Global};
@@ -17,12 +17,13 @@ Methods:
   pseudoflow    highest-label pseudoflow alone: quick on mines of millions of blocks; UNSETTLED where it gives up
   push-relabel  the push-relabel machine alone: each step is proved, and it is slow beyond some thousand blocks";
 
-/// The words of a request to solve: the files, and where they were given the method, the kind of amount, the steps and
+/// The words of a request to solve: the files, and where they were given the factor, the method, the kind of amount, the steps and
 /// the workers, and whether progress is shown and it is told why a file failed.
 #[derive(Clone, Copy)]
 pub struct SolveWords<'a> {
     pub prec: &'a str,
-    pub upit: &'a str,
+    pub model: ModelWords<'a>,
+    pub factor: Option<&'a str>,
     pub method: Option<&'a str>,
     pub group: Option<&'a str>,
     pub steps: Option<&'a str>,
@@ -36,10 +37,23 @@ pub fn solve_command<'a>(alloc: Global) -> Result<Command<'a>, AllocError> {
     let command = Command::new(alloc, "solve")
         .about(ABOUT)
         .long_about(DETAILS)
-        .after_help(STATUSES)
-        .arg(file_option(alloc, "prec", PREC_HELP))?
-        .arg(file_option(alloc, "upit", UPIT_HELP))?;
+        .after_help(STATUSES);
+    let command = with_factor(alloc, with_model(alloc, command)?)?;
     with_limits(alloc, with_kinds(alloc, command)?)
+}
+
+// The factor of a priced model, which needs one.
+fn with_factor<'a>(alloc: Global, command: Command<'a>) -> Result<Command<'a>, AllocError> {
+    command.arg(
+        named_option(
+            alloc,
+            "factor",
+            "FACTOR",
+            "The share of the revenues that counts, in thousandths, from 0 to 10000; needed with --blocks",
+        )
+        .requires_arg("blocks")?
+        .required_unless_present("upit")?,
+    )
 }
 
 // The options that say how it is solved.
@@ -87,7 +101,8 @@ fn with_limits<'a>(alloc: Global, command: Command<'a>) -> Result<Command<'a>, A
 pub fn solve_words<'a>(words: &ArgMatches<'a>) -> SolveWords<'a> {
     SolveWords {
         prec: text_of(words, "prec"),
-        upit: text_of(words, "upit"),
+        model: model_words(words),
+        factor: words.get_str("factor"),
         method: words.get_str("method"),
         group: words.get_str("group"),
         steps: words.get_str("steps"),

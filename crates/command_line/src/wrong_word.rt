@@ -14,6 +14,8 @@ pub enum NamedOption {
     Pattern,
     /// `--up` of `slopes`.
     Up,
+    /// `--factor` of `solve`.
+    Factor,
     /// `--method` of `solve`.
     Method,
     /// `--group` of `solve`.
@@ -63,6 +65,7 @@ fn shown(option: NamedOption) -> &'static str {
     match option {
         NamedOption::Pattern => "--pattern <PATTERN>",
         NamedOption::Up => "--up <WAY>",
+        NamedOption::Factor => "--factor <FACTOR>",
         NamedOption::Method => "--method <METHOD>",
         NamedOption::Group => "--group <GROUP>",
         NamedOption::Steps => "--steps <STEPS>",
@@ -75,6 +78,7 @@ fn taken(option: NamedOption) -> &'static str {
     match option {
         NamedOption::Pattern => "five, nine or cone:LEVELS:RUN:RISE, each number from 1 to 1000",
         NamedOption::Up => "plus or minus",
+        NamedOption::Factor => "a whole number from 0 to 10000",
         NamedOption::Method => "auto, pseudoflow or push-relabel",
         NamedOption::Group => "pair or worth",
         NamedOption::Steps => "a whole number from 1 to 1099511627776",

@@ -1,4 +1,4 @@
--- The words that name a kind of amount, a number of steps and a number of workers.
+-- The words that name a factor, a kind of amount, a number of steps and a number of workers.
 use Rattle.std.specs.Prelude.{ℕ, ◌^◌, ◌&&◌, cond, List, codes, nat_le, Option, Some, None, Result, Ok, Err}
 use Rattle.std.specs.Str.{bytes_eq}
 use Rattle.fixed_worth.specs.declared.numerals.NumberFault.{NumberFault}
@@ -27,3 +27,12 @@ workers_of word = workers_number (whole_of word)
 -- the number of steps that a word names, if it names one
 abbrev pub steps_of : List ℕ → Option ℕ
 steps_of word = steps_number (whole_of word)
+
+-- a whole number from 0 to 10,000
+abbrev pub factor_number : Result ℕ NumberFault → Option ℕ
+factor_number (Ok k) = cond (nat_le k 10000) (Some k) None
+factor_number (Err e) = None
+
+-- the factor that a word names, if it names one
+abbrev pub factor_of : List ℕ → Option ℕ
+factor_of word = factor_number (whole_of word)

@@ -42,7 +42,7 @@ pub use pattern_words::{pattern_named, up_named};
 pub use priced_checking::check_priced_engine;
 pub use priced_solving::solve_priced_engine;
 pub use slopes::slopes_engine;
-pub use solve_words::{group_named, steps_named, workers_named};
+pub use solve_words::{factor_named, group_named, steps_named, workers_named};
 pub use solving_engine::solve_engine;
 pub use stored_run::stored_check;
 pub use unwatched::Unwatched;

@@ -1,13 +1,17 @@
-//! The words that name a kind of amount, a number of steps and a number of workers.
+//! The words that name a factor, a kind of amount, a number of steps and a number of workers.
 
 ghost use Rattle.std.specs.Prelude.{◌≡◌, ◌≤◌, IfSome};
-ghost use Rattle.engines.specs.SolveWords.{group_of, steps_of, workers_of};
+ghost use Rattle.engines.specs.SolveWords.{factor_of, group_of, steps_of, workers_of};
 
 use fixed_worth::whole;
 use ordered_group::Group;
+use shells::Factor;
 
 // The most steps of a run.
 const MOST_STEPS: u64 = 1 << 40;
+
+// The most thousandths of a factor.
+const MOST_FACTOR: u64 = 10_000;
 
 // The most workers of a run.
 const MOST_WORKERS: u64 = 64;
@@ -22,6 +26,22 @@ pub fn group_named(word: &[u8]) -> Option<Group>
         Some(Group::Pair)
     } else {
         None
+    }
+}
+
+/// The factor that a word names: a whole number of thousandths from 0 to 10,000.
+pub fn factor_named(word: &[u8]) -> Option<Factor>
+    ensures { result ≡ factor_of word.now }
+{
+    match whole(word) {
+        Ok(number) => {
+            if number <= MOST_FACTOR {
+                Factor::new(number as u32)
+            } else {
+                None
+            }
+        }
+        Err(_) => None,
     }
 }
 

@@ -4,13 +4,15 @@ ghost use Rattle.std.specs.Prelude.{◌≡◌, IfOk};
 ghost use Rattle.engines.specs.Slopes.{IsChoice};
 
 use crate::told::{Told, opened, output};
-use command_line::{CheckWords, SlopesWords, SolveWords};
+use command_line::{CheckWords, ModelWords, SlopesWords, SolveWords};
 use engines::{
-    Effort, EngineFault, PatternChoice, Verdict, check_engine, slopes_engine, solve_engine,
+    Effort, EngineFault, PatternChoice, Verdict, check_engine, check_priced_engine, slopes_engine,
+    solve_engine, solve_priced_engine,
 };
 use fixed_worth::Counted;
 use ordered_group::Group;
 use pseudoflow::Progress;
+use shells::Factor;
 use slope::Up;
 use std::rt::Files;
 use std::sync::Wait;
@@ -18,34 +20,95 @@ use std::thread::Threads;
 use workers::Gate;
 
 /// Checks a certificate for the files of a mine.
-pub fn check_files<R: Files + Print + Eprint + AllocGlobal>(
+pub fn check_files<R: Files + Print + Eprint + Threads + Sync + AllocGlobal>(
     rt: &R,
     words: CheckWords<'_>,
 ) -> Result<Verdict, EngineFault> {
-    let mut prec = file(rt, words.verbose, words.prec)?;
-    let mut upit = file(rt, words.verbose, words.upit)?;
-    let mut certificate = file(rt, words.verbose, words.certificate)?;
-    let mut out = Counted::new(output(rt, words.verbose));
-    check_engine(rt.alloc(), &mut upit, &mut prec, &mut certificate, &mut out)
+    let verbose = words.verbose;
+    let alloc = rt.alloc();
+    let mut prec = file(rt, verbose, words.prec)?;
+    let mut certificate = file(rt, verbose, words.certificate)?;
+    let mut out = Counted::new(output(rt, verbose));
+    match words.model {
+        ModelWords::Values { upit } => {
+            let mut upit = file(rt, verbose, upit)?;
+            check_engine(alloc, &mut upit, &mut prec, &mut certificate, &mut out)
+        }
+        ModelWords::Prices { settings, blocks } => {
+            let mut settings = file(rt, verbose, settings)?;
+            let mut blocks = file(rt, verbose, blocks)?;
+            check_priced_engine(
+                rt,
+                alloc,
+                &mut settings,
+                &mut blocks,
+                &mut prec,
+                &mut certificate,
+                &mut out,
+            )
+        }
+    }
 }
 
-/// Solves the mine of two files.
+/// Solves the mine of files of values and of precedence.
 pub fn solve_files<
     R: Files + Print + Eprint + Threads + Wait + Sync + AllocGlobal,
     T: Gate + Progress,
 >(
     rt: &R,
     words: SolveWords<'_>,
+    upit: &str,
     group: Group,
     effort: Effort,
     watch: &T,
 ) -> Result<Verdict, EngineFault> {
     let mut prec = file(rt, words.verbose, words.prec)?;
-    let mut upit = file(rt, words.verbose, words.upit)?;
+    let mut upit = file(rt, words.verbose, upit)?;
     let mut out = Counted::new(output(rt, words.verbose));
     let alloc = rt.alloc();
     solve_engine(
         rt, alloc, &mut upit, &mut prec, group, effort, watch, &mut out,
+    )
+}
+
+/// The files that price the blocks of a mine, and the factor at which that is done.
+#[derive(Clone, Copy)]
+pub struct PricedFiles<'a> {
+    /// The settings.
+    pub settings: &'a str,
+    /// The blocks with their columns.
+    pub blocks: &'a str,
+    /// The share of the revenues that counts.
+    pub factor: Factor,
+}
+
+/// Solves the mine of files of settings, blocks and precedence, at a factor.
+pub fn solve_priced_files<
+    R: Files + Print + Eprint + Threads + Wait + Sync + AllocGlobal,
+    T: Gate + Progress,
+>(
+    rt: &R,
+    words: SolveWords<'_>,
+    priced: PricedFiles<'_>,
+    group: Group,
+    effort: Effort,
+    watch: &T,
+) -> Result<Verdict, EngineFault> {
+    let mut prec = file(rt, words.verbose, words.prec)?;
+    let mut settings = file(rt, words.verbose, priced.settings)?;
+    let mut blocks = file(rt, words.verbose, priced.blocks)?;
+    let mut out = Counted::new(output(rt, words.verbose));
+    solve_priced_engine(
+        rt,
+        rt.alloc(),
+        &mut settings,
+        &mut blocks,
+        &mut prec,
+        priced.factor,
+        group,
+        effort,
+        watch,
+        &mut out,
     )
 }
 

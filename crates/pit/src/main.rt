@@ -10,15 +10,13 @@ mod slopes_words;
 mod solve_words;
 mod told;
 
-use command_line::{
-    Declined, Request, SlopesWords, SolveWords, WrongWord, declined_for, request_of,
-};
+use command_line::{Declined, ModelWords, Request, SlopesWords, SolveWords, WrongWord, declined_for, request_of};
 use engines::{EngineFault, Unwatched, Verdict, status, stored_check, write_fault};
-use files::{check_files, slopes_file, solve_files};
+use files::{PricedFiles, check_files, slopes_file, solve_files, solve_priced_files};
 use fixed_worth::Counted;
 use progress::Meter;
 use slopes_words::{pattern_asked, up_asked};
-use solve_words::{effort_asked, group_asked};
+use solve_words::{effort_asked, factor_asked, group_asked};
 use std::process::ExitCode;
 use std::rt::{Clock, Env, Files};
 use std::sync::Wait;
@@ -95,12 +93,43 @@ fn solve<R: Files + Print + Eprint + Clock + Threads + Wait + Sync + AllocGlobal
         Ok(effort) => effort,
         Err(wrong) => return refused(rt, wrong),
     };
-    let verdict = if words.progress {
-        solve_files(rt, words, group, effort, &Meter::new(rt, effort.steps))?
+    match words.model {
+        ModelWords::Values { upit } => {
+            let verdict = if words.progress {
+                solve_files(rt, words, upit, group, effort, &Meter::new(rt, effort.steps))?
+            } else {
+                solve_files(rt, words, upit, group, effort, &Unwatched)?
+            };
+            Ok(Ending::Answered(verdict))
+        }
+        ModelWords::Prices { settings, blocks } => {
+            let factor = match factor_asked(words) {
+                Ok(factor) => factor,
+                Err(wrong) => return refused(rt, wrong),
+            };
+            let priced = PricedFiles {
+                settings,
+                blocks,
+                factor,
+            };
+            Ok(Ending::Answered(solve_priced(rt, words, priced, group, effort)?))
+        }
+    }
+}
+
+// Solves a mine of prices, and tells how far it is where that is asked for.
+fn solve_priced<R: Files + Print + Eprint + Clock + Threads + Wait + Sync + AllocGlobal>(
+    rt: &R,
+    words: SolveWords<'_>,
+    priced: PricedFiles<'_>,
+    group: Group,
+    effort: Effort,
+) -> Result<Verdict, EngineFault> {
+    if words.progress {
+        solve_priced_files(rt, words, priced, group, effort, &Meter::new(rt, effort.steps))
     } else {
-        solve_files(rt, words, group, effort, &Unwatched)?
-    };
-    Ok(Ending::Answered(verdict))
+        solve_priced_files(rt, words, priced, group, effort, &Unwatched)
+    }
 }
 
 // Writes the predecessors of the blocks of a file, by a pattern.

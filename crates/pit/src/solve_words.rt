@@ -3,8 +3,9 @@
 ghost use Rattle.std.specs.Prelude.{◌≤◌, IfOk};
 
 use command_line::{NamedOption, SolveWords, WrongWord};
-use engines::{Effort, Method, group_named, method_named, steps_named, workers_named};
+use engines::{Effort, Method, factor_named, group_named, method_named, steps_named, workers_named};
 use ordered_group::Group;
+use shells::Factor;
 
 // The most steps of a run, where no word says.
 const USUAL_STEPS: u64 = 1_000_000_000;
@@ -18,6 +19,15 @@ pub fn group_asked<'a>(words: SolveWords<'a>) -> Result<Group, WrongWord<'a>> {
         }),
         None => Ok(Group::Pair),
     }
+}
+
+/// The factor of a priced model.
+pub fn factor_asked<'a>(words: SolveWords<'a>) -> Result<Factor, WrongWord<'a>> {
+    let word = words.factor.unwrap_or("");
+    factor_named(word.as_bytes()).ok_or(WrongWord {
+        option: NamedOption::Factor,
+        word,
+    })
 }
 
 /// How the mine is solved, and how much that may use.
