@@ -6,7 +6,7 @@ use crate::effort::Effort;
 use crate::method::Method;
 use crate::solving::{by_machine, by_pseudoflow};
 use crate::unwatched::Unwatched;
-use check_pit::Certificate;
+use crate::certify::Solution;
 use closure_net::{Net, Pit};
 use ordered_group::{OrderedGroup, Worth, WorthSize};
 use prec_file::Rests;
@@ -112,8 +112,8 @@ fn net_of<G: OrderedGroup>(
     Ok(Net::of_worths(alloc, rests, nanos).ok().ok_or("worths")?)
 }
 
-// The certificate by pseudoflow itself: a fall-back on the machine would hide its mistakes.
-fn quickly<G: OrderedGroup>(alloc: Global, net: &Net<G>) -> Result<Certificate<G>, Fail> {
+// The pit by pseudoflow itself: a fall-back on the machine would hide its mistakes.
+fn quickly<G: OrderedGroup>(alloc: Global, net: &Net<G>) -> Result<Solution<G>, Fail> {
     let found = by_pseudoflow(alloc, net, TURNS, &Unwatched);
     Ok(found.ok().ok_or("memory")?.ok_or("pseudoflow gave up")?)
 }
@@ -122,7 +122,7 @@ fn by_steps<G: OrderedGroup, R: Threads + Wait + Sync>(
     rt: &R,
     alloc: Global,
     net: &Net<G>,
-) -> Result<Certificate<G>, Fail>
+) -> Result<Solution<G>, Fail>
 where
     Locked<TurnBoard<G>>: Shared,
 {
