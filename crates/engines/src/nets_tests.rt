@@ -2,11 +2,11 @@
 
 ghost use Rattle.std.specs.Prelude.{◌≤◌, ◌^◌};
 
+use crate::certify::Solution;
 use crate::effort::Effort;
 use crate::method::Method;
 use crate::solving::{by_machine, by_pseudoflow};
 use crate::unwatched::Unwatched;
-use crate::certify::Solution;
 use closure_net::{Net, Pit};
 use ordered_group::{OrderedGroup, Worth, WorthSize};
 use prec_file::Rests;
