@@ -3,6 +3,7 @@ pub mod Listed
 pub mod Judged
 pub mod Priced
 pub mod PricedAnswers
+pub mod Nested
 pub mod Answered
 pub mod Alone
 pub mod Fitting

@@ -13,6 +13,7 @@ pub mod Verdicts
 pub mod Judging
 pub mod Slopes
 pub mod PatternWords
+pub mod Nested
 pub mod Solving
 pub mod SolveWords
 pub mod Certifying

@@ -16,6 +16,7 @@ mod inputs;
 mod judgement;
 mod judgement_line;
 mod judging;
+pub mod laws;
 mod method;
 mod mines;
 mod pattern_choice;

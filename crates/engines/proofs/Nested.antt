@@ -1,0 +1,38 @@
+-- Accepted pits over one table of prices are nested.
+use Rattle.std.proofs.Common.{◌≡◌, ℕ, ◌≤◌, ℤ, Bool, List, sym, ap, ◌∙◌, subst, unwrap_or}
+use Rattle.std.proofs.lemmas.List.FromFn.{length-map-range_with_len}
+use Rattle.blocks_file.specs.Records as blocks
+use Rattle.prec_file.specs.Records as prec
+use Rattle.closure_net.specs.Network.{holds_of}
+use Rattle.closure_net.specs.Mine.{Mine, IsBest, LiesWithin}
+use Rattle.settings_file.specs.Settings.{settings_of}
+use Rattle.shells.specs.Prices.{PricesView, blocks_of, worth_at}
+use Rattle.shells.specs.Series.{priced}
+use Rattle.shells.proofs.Rising.{best_is_nested}
+use Rattle.engines.specs.PricedTexts.{cell, table_of, PricesRead}
+use Rattle.engines.specs.Mines.{priced_texts, rests_by, mine_of}
+use Rattle.engines.specs.Nested.{AcceptedAreNested}
+
+-- the table is of the blocks that the mine has
+table_size : (settings text : List ℕ) (n : ℕ) → PricesRead settings text n → n ≡ blocks_of (table_of settings text)
+table_size settings text n r = sym (length-map-range_with_len (cell text (unwrap_or (settings_of settings).revenue 0)) 0 (blocks.count_of text) ∙ r.count)
+
+-- the mine of texts is that of their table
+mine_is : (settings text precedence : List ℕ) (k n : ℕ) → n ≡ blocks_of (table_of settings text) → mine_of n (priced_texts settings text precedence k) ≡ priced (rests_by (prec.listed precedence)) (table_of settings text) k
+mine_is settings text precedence k n e = λ i. record { blocks = e i; rests = rests_by (prec.listed precedence); worth = worth_at (table_of settings text) k }
+
+same_mine : (above above' : ℕ → ℕ → Bool) (table table' : PricesView) (k : ℕ) → ((b p : ℕ) → above b p ≡ above' b p) → table ≡ table' → priced above' table' k ≡ priced above table k
+same_mine above above' table table' k e f = let g = sym f in λ i. record { blocks = blocks_of (g i); rests = λ b p. sym (e b p) i; worth = worth_at (g i) k }
+
+pub accepted_are_nested : AcceptedAreNested
+accepted_are_nested s t p s' t' p' lower higher j k count count' worth worth' one le low high =
+    let table = table_of s t in
+    let above = rests_by (prec.listed p) in
+    let here = mine_is s t p j low.read.blocks (table_size s t low.read.blocks low.read.mine.worths_read) in
+    let there = mine_is s' t' p' k high.read.blocks (table_size s' t' high.read.blocks high.read.mine.worths_read) ∙ same_mine above (rests_by (prec.listed p')) table (table_of s' t') k one.rests one.prices in
+    let e = holds_of low.read.pit in
+    let c = holds_of high.read.pit in
+    let L : Mine → Type 0 = λ m. IsBest m e in
+    let H : Mine → Type 0 = λ m. IsBest m c in
+    let W : Mine → Type 0 = λ m. LiesWithin m e c in
+    subst W (sym here) (best_is_nested above table j k e c low.read.mine.worths_read.revenues le (subst L here low.proved) (subst H there high.proved))
