@@ -9,7 +9,7 @@ use Rattle.settings_file.specs.declared.faults.SettingsFault.{SettingsFault}
 use Rattle.settings_file.specs.declared.faults.SettingsFault.TheVariants as settings_fault
 use Rattle.settings_file.specs.Settings.{SettingsView, settings_of, first_missing}
 use Rattle.settings_file.proofs.Known.{settings_are, settings_read}
-use Rattle.shells.specs.Prices.{PricesView, PricesFaultStands, NoneNegative, blocks_of}
+use Rattle.shells.specs.Prices.{PricesView, PricesFaultStands, NoneNegative, blocks_of, worths_at}
 use Rattle.engines.specs.declared.judgement.Judgement.{Judgement}
 use Rattle.engines.specs.declared.judgement.Verdict.{Verdict}
 use Rattle.engines.specs.declared.engine_fault.EngineFault.{EngineFault}
@@ -29,7 +29,9 @@ use Rattle.engines.specs.FaultStands.{Fails}
 use Rattle.engines.specs.Checking.{Checks, SoundIsAccepted, LineFails}
 use Rattle.engines.specs.Solving.{Solves}
 use Rattle.engines.proofs.Answered.{keeps_self, at_fault, text_stands, judged_at, written, line_failed}
+use Rattle.check_pit.specs.declared.header.Price.TheVariants.{Factor}
 use Rattle.engines.proofs.Complete.{complete_at}
+use Rattle.engines.proofs.Judged.{read_as}
 use Rattle.engines.proofs.Priced.{all_read, worths_priced}
 
 -- ---- readers that tell their bytes
@@ -208,8 +210,29 @@ told s b p c text old new judgement verdict v is h k =
 pub untold : (s b p c text : List ℕ) (old new : Option (List ℕ)) (judgement : Judgement) (e : EngineFault) → text ≡ c → Judges (priced_texts s b p (factor_in text)) text (Ok judgement) → LineFails old new (judgement_line judgement) e → Checks (priced_texts s b p (factor_in c)) c old new (Err e)
 untold s b p c text old new judgement e is h k = line_failed (priced_texts s b p (factor_in c)) c old new judgement e (judged_as s b p c text (Ok judgement) is h) k
 
+-- where the readers tell their bytes: the texts of the mine, or the certificate, were not read
+pub mine_answer4 : (o q r t w : Option (List ℕ)) (e : EngineFault) → IfSome o (λ s. IfSome q (λ b. IfSome r (λ p. PricedMineFails s b p e))) → IfSome o (λ s. IfSome q (λ b. IfSome r (λ p. IfSome t (λ c. Checks (priced_texts s b p (factor_in c)) c w w (Err e)))))
+mine_answer4 o q r t w e h = under4 o q r t (λ s b p. PricedMineFails s b p e) (λ c. Unit {0}) (λ s b p c. Checks (priced_texts s b p (factor_in c)) c w w (Err e)) h (anything t) (λ s b p c a k. unread s b p c w e a)
+
+pub text_answer4 : (o q r t w : Option (List ℕ)) (table : PricesView) (rests : RestsView) (e : EngineFault) → IfSome o (λ s. IfSome q (λ b. IfSome r (λ p. ArePricesRead s b p table rests))) → IfSome t (λ c. TextReadFails c e) → IfSome o (λ s. IfSome q (λ b. IfSome r (λ p. IfSome t (λ c. Checks (priced_texts s b p (factor_in c)) c w w (Err e)))))
+text_answer4 o q r t w table rests e h k = under4 o q r t (λ s b p. ArePricesRead s b p table rests) (λ c. TextReadFails c e) (λ s b p c. Checks (priced_texts s b p (factor_in c)) c w w (Err e)) h k (λ s b p c a f. text_unread s b p c w table rests e a f)
+
+-- the certificate could not be judged
+pub judge_answer4 : (o q r t w : Option (List ℕ)) (table : PricesView) (rests : RestsView) (text : List ℕ) (e : EngineFault) → IfSome o (λ s. IfSome q (λ b. IfSome r (λ p. ArePricesRead s b p table rests))) → IfSome t (λ c. text ≡ c)
+    → ((s b p : List ℕ) → ArePricesRead s b p table rests → Judges (priced_texts s b p (factor_in text)) text (Err e)) → IfSome o (λ s. IfSome q (λ b. IfSome r (λ p. IfSome t (λ c. Checks (priced_texts s b p (factor_in c)) c w w (Err e)))))
+judge_answer4 o q r t w table rests text e h k judges = under4 o q r t (λ s b p. ArePricesRead s b p table rests) (λ c. text ≡ c) (λ s b p c. Checks (priced_texts s b p (factor_in c)) c w w (Err e)) h k (λ s b p c a is. unjudged s b p c text w e is (judges s b p a))
+
+-- the line was written, or could not be
+pub line_answer4 : (o q r t old new : Option (List ℕ)) (table : PricesView) (rests : RestsView) (text : List ℕ) (judgement : Judgement) (verdict : Verdict) → verdict ≡ verdict_of judgement → IfSome o (λ s. IfSome q (λ b. IfSome r (λ p. ArePricesRead s b p table rests))) → IfSome t (λ c. text ≡ c)
+    → ((s b p : List ℕ) → ArePricesRead s b p table rests → Judges (priced_texts s b p (factor_in text)) text (Ok judgement)) → Appends old new (judgement_line judgement) → IfSome o (λ s. IfSome q (λ b. IfSome r (λ p. IfSome t (λ c. Checks (priced_texts s b p (factor_in c)) c old new (Ok verdict)))))
+line_answer4 o q r t old new table rests text judgement verdict v h k judges sent = under4 o q r t (λ s b p. ArePricesRead s b p table rests) (λ c. text ≡ c) (λ s b p c. Checks (priced_texts s b p (factor_in c)) c old new (Ok verdict)) h k (λ s b p c a is. told s b p c text old new judgement verdict v is (judges s b p a) sent)
+
+pub failed_answer4 : (o q r t old new : Option (List ℕ)) (table : PricesView) (rests : RestsView) (text : List ℕ) (judgement : Judgement) (e : EngineFault) → IfSome o (λ s. IfSome q (λ b. IfSome r (λ p. ArePricesRead s b p table rests))) → IfSome t (λ c. text ≡ c)
+    → ((s b p : List ℕ) → ArePricesRead s b p table rests → Judges (priced_texts s b p (factor_in text)) text (Ok judgement)) → LineFails old new (judgement_line judgement) e → IfSome o (λ s. IfSome q (λ b. IfSome r (λ p. IfSome t (λ c. Checks (priced_texts s b p (factor_in c)) c old new (Err e)))))
+failed_answer4 o q r t old new table rests text judgement e h k judges f = under4 o q r t (λ s b p. ArePricesRead s b p table rests) (λ c. text ≡ c) (λ s b p c. Checks (priced_texts s b p (factor_in c)) c old new (Err e)) h k (λ s b p c a is. untold s b p c text old new judgement e is (judges s b p a) f)
+
 pub complete4 : (o q r t : Option (List ℕ)) (old new : Option (List ℕ)) (answer : Result Verdict EngineFault) → IfSome o (λ s. IfSome q (λ b. IfSome r (λ p. IfSome t (λ c. Checks (priced_texts s b p (factor_in c)) c old new answer)))) → IfSome o (λ s. IfSome q (λ b. IfSome r (λ p. IfSome t (λ c. SoundIsAccepted (priced_texts s b p (factor_in c)) c answer))))
-complete4 o q r t old new answer h = all4 o q r t _ _ h (λ s b p c k. complete_at (priced_texts s b p (factor_in c)) c old new answer k)
+complete4 o q r t old new answer h = all4 o q r t (λ s b p c. Checks (priced_texts s b p (factor_in c)) c old new answer) (λ s b p c. SoundIsAccepted (priced_texts s b p (factor_in c)) c answer) h (λ s b p c k. complete_at (priced_texts s b p (factor_in c)) c old new answer k)
 
 -- ---- a solution
 
@@ -227,3 +250,12 @@ unread_to_solve s b p k name method limit w (engine.Model q) h = absurd h
 unread_to_solve s b p k name method limit w (engine.Certificate q) h = absurd h
 unread_to_solve s b p k name method limit w engine.Thread h = absurd h
 unread_to_solve s b p k name method limit w engine.Stranger h = absurd h
+
+pub mine_unsolved : (o q r w : Option (List ℕ)) (k : ℕ) (name : Group) (method : Method) (limit : ℕ) (e : EngineFault) → IfSome o (λ s. IfSome q (λ b. IfSome r (λ p. PricedMineFails s b p e))) → IfSome o (λ s. IfSome q (λ b. IfSome r (λ p. Solves (priced_texts s b p k) name method limit w w (Err e))))
+mine_unsolved o q r w k name method limit e h = under3 o q r (λ s b p. PricedMineFails s b p e) (λ s b p. Solves (priced_texts s b p k) name method limit w w (Err e)) h (λ s b p f. unread_to_solve s b p k name method limit w e f)
+
+-- what holds of any texts of what was read holds of these
+pub solve_answer3 : (o q r old new : Option (List ℕ)) (k named : ℕ) (name : Group) (method : Method) (limit : ℕ) (table : PricesView) (rests : RestsView) (slice : List ℤ) (result : Result Verdict EngineFault) → IfSome o (λ s. IfSome q (λ b. IfSome r (λ p. ArePricesRead s b p table rests))) → named ≡ k → slice ≡ worths_at table k
+    → ((texts : MineTexts) → AreRead texts slice rests → Factor named ≡ price_wanted texts → Solves texts name method limit old new result) → IfSome o (λ s. IfSome q (λ b. IfSome r (λ p. Solves (priced_texts s b p k) name method limit old new result)))
+solve_answer3 o q r old new k named name method limit table rests slice result h e is solves = under3 o q r (λ s b p. ArePricesRead s b p table rests) (λ s b p. Solves (priced_texts s b p k) name method limit old new result) h (λ s b p a.
+    solves (priced_texts s b p k) (read_as (priced_texts s b p k) (worths_at table k) slice rests is (worths_priced s b p table rests k a)) (ap Factor e))

@@ -4,7 +4,7 @@ use Rattle.engines.proofs.priced_inputs.priced_mine_from.Goals as goal
 
 pub returns-in_err-settings-clause-read : goal.returns-in_err-settings-clause-read
 returns-in_err-settings-clause-read g c =
-    let p = err_from_is_err_and c.from_residual-in_err-settings.result c.from_residual-in_err-settings.ensures.1 in
+    let p = err_from_is_err_and c.from_residual.result c.from_residual.ensures.1 in
     rw (p.1, p.2) (settings_answer (g.S.Read.remaining c.args.settings.now) (g.B.Read.remaining c.args.blocks.now) (g.P.Read.remaining c.args.prec.now) c.in_err-settings.field-0.0 c.in_err-settings.ensures.read)
 
 pub returns-in_err-columns-clause-read : goal.returns-in_err-columns-clause-read
