@@ -37,7 +37,8 @@ pub fn file_option<'a>(alloc: Global, name: &'a str, help: &'a str) -> Arg<'a> {
 pub const SETTINGS_HELP: &str = "Which columns of the blocks are revenues and costs: a TOML text";
 
 /// The help of `--blocks` of a priced model.
-pub const PRICED_BLOCKS_HELP: &str = "The blocks with columns of revenues and costs: MineLib's .blocks";
+pub const PRICED_BLOCKS_HELP: &str =
+    "The blocks with columns of revenues and costs: MineLib's .blocks";
 
 /// What a mine's worths are read from.
 #[derive(Clone, Copy)]
@@ -60,10 +61,7 @@ pub enum ModelWords<'a> {
 pub fn with_model<'a>(alloc: Global, command: Command<'a>) -> Result<Command<'a>, AllocError> {
     command
         .arg(file_option(alloc, "prec", PREC_HELP))?
-        .arg(
-            named_option(alloc, "upit", "FILE", UPIT_HELP)
-                .required_unless_present_all(&["blocks", "settings"])?,
-        )?
+        .arg(named_option(alloc, "upit", "FILE", UPIT_HELP).required_unless_present("blocks")?)?
         .arg(
             named_option(alloc, "blocks", "FILE", PRICED_BLOCKS_HELP)
                 .requires_arg("settings")?
