@@ -71,17 +71,6 @@ pub fn solve_files<
     )
 }
 
-/// The files that price the blocks of a mine, and the factor at which that is done.
-#[derive(Clone, Copy)]
-pub struct PricedFiles<'a> {
-    /// The settings.
-    pub settings: &'a str,
-    /// The blocks with their columns.
-    pub blocks: &'a str,
-    /// The share of the revenues that counts.
-    pub factor: Factor,
-}
-
 /// Solves the mine of files of settings, blocks and precedence, at a factor.
 pub fn solve_priced_files<
     R: Files + Print + Eprint + Threads + Wait + Sync + AllocGlobal,
@@ -89,14 +78,16 @@ pub fn solve_priced_files<
 >(
     rt: &R,
     words: SolveWords<'_>,
-    priced: PricedFiles<'_>,
+    settings: &str,
+    blocks: &str,
+    factor: Factor,
     group: Group,
     effort: Effort,
     watch: &T,
 ) -> Result<Verdict, EngineFault> {
     let mut prec = file(rt, words.verbose, words.prec)?;
-    let mut settings = file(rt, words.verbose, priced.settings)?;
-    let mut blocks = file(rt, words.verbose, priced.blocks)?;
+    let mut settings = file(rt, words.verbose, settings)?;
+    let mut blocks = file(rt, words.verbose, blocks)?;
     let mut out = Counted::new(output(rt, words.verbose));
     solve_priced_engine(
         rt,
@@ -104,7 +95,7 @@ pub fn solve_priced_files<
         &mut settings,
         &mut blocks,
         &mut prec,
-        priced.factor,
+        factor,
         group,
         effort,
         watch,

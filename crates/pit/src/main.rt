@@ -10,9 +10,11 @@ mod slopes_words;
 mod solve_words;
 mod told;
 
-use command_line::{Declined, ModelWords, Request, SlopesWords, SolveWords, WrongWord, declined_for, request_of};
+use command_line::{
+    Declined, ModelWords, Request, SlopesWords, SolveWords, WrongWord, declined_for, request_of,
+};
 use engines::{EngineFault, Unwatched, Verdict, status, stored_check, write_fault};
-use files::{PricedFiles, check_files, slopes_file, solve_files, solve_priced_files};
+use files::{check_files, slopes_file, solve_files, solve_priced_files};
 use fixed_worth::Counted;
 use progress::Meter;
 use slopes_words::{pattern_asked, up_asked};
@@ -96,7 +98,14 @@ fn solve<R: Files + Print + Eprint + Clock + Threads + Wait + Sync + AllocGlobal
     match words.model {
         ModelWords::Values { upit } => {
             let verdict = if words.progress {
-                solve_files(rt, words, upit, group, effort, &Meter::new(rt, effort.steps))?
+                solve_files(
+                    rt,
+                    words,
+                    upit,
+                    group,
+                    effort,
+                    &Meter::new(rt, effort.steps),
+                )?
             } else {
                 solve_files(rt, words, upit, group, effort, &Unwatched)?
             };
@@ -107,28 +116,16 @@ fn solve<R: Files + Print + Eprint + Clock + Threads + Wait + Sync + AllocGlobal
                 Ok(factor) => factor,
                 Err(wrong) => return refused(rt, wrong),
             };
-            let priced = PricedFiles {
-                settings,
-                blocks,
-                factor,
+            let verdict = if words.progress {
+                let meter = Meter::new(rt, effort.steps);
+                solve_priced_files(rt, words, settings, blocks, factor, group, effort, &meter)?
+            } else {
+                solve_priced_files(
+                    rt, words, settings, blocks, factor, group, effort, &Unwatched,
+                )?
             };
-            Ok(Ending::Answered(solve_priced(rt, words, priced, group, effort)?))
+            Ok(Ending::Answered(verdict))
         }
-    }
-}
-
-// Solves a mine of prices, and tells how far it is where that is asked for.
-fn solve_priced<R: Files + Print + Eprint + Clock + Threads + Wait + Sync + AllocGlobal>(
-    rt: &R,
-    words: SolveWords<'_>,
-    priced: PricedFiles<'_>,
-    group: Group,
-    effort: Effort,
-) -> Result<Verdict, EngineFault> {
-    if words.progress {
-        solve_priced_files(rt, words, priced, group, effort, &Meter::new(rt, effort.steps))
-    } else {
-        solve_priced_files(rt, words, priced, group, effort, &Unwatched)
     }
 }
 

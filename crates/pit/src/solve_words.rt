@@ -3,7 +3,9 @@
 ghost use Rattle.std.specs.Prelude.{◌≤◌, IfOk};
 
 use command_line::{NamedOption, SolveWords, WrongWord};
-use engines::{Effort, Method, factor_named, group_named, method_named, steps_named, workers_named};
+use engines::{
+    Effort, Method, factor_named, group_named, method_named, steps_named, workers_named,
+};
 use ordered_group::Group;
 use shells::Factor;
 
