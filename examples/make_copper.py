@@ -3,7 +3,8 @@
 
     python3 examples/make_copper.py [FOLDER]
 
-writes copper.blocks, copper.prec, copper.upit and copper.cert (a pit with a flow that proves it).
+writes copper.blocks, copper.prec, copper.upit and copper.cert (a pit with a flow that proves it), and the same blocks
+with a revenue and a cost each: priced.blocks and settings.toml.
 Standard library alone, no random numbers: the files are the same on every machine.
 The certificate's flow comes from a plain maximum-flow search made here, not from `pit`.
 """
@@ -29,9 +30,18 @@ def grade(x, y, z):
     return max(0, round(24 - 7 * distance))
 
 
-def value(x, y, z):
+def revenue(x, y, z):
+    """Whole dollars."""
+    return PRICE * grade(x, y, z)
+
+
+def cost(x, y, z):
     """Whole dollars; benches are numbered from the lowest, which costs most to haul from."""
-    return PRICE * grade(x, y, z) - COST - 150 * (BENCHES - 1 - z)
+    return COST + 150 * (BENCHES - 1 - z)
+
+
+def value(x, y, z):
+    return revenue(x, y, z) - cost(x, y, z)
 
 
 def predecessors(x, y, z):
@@ -131,6 +141,8 @@ def main():
         (folder / name).write_text("".join(line + "\n" for line in lines))
 
     write("copper.blocks", ["%d %d %d %d %d %d" % (b, *place, grade(*place), values[b]) for b, place in enumerate(places)])
+    write("priced.blocks", ["%d %d %d %d %d %d" % (b, *place, revenue(*place), cost(*place)) for b, place in enumerate(places)])
+    write("settings.toml", ["revenue = 0    # the first column behind z in priced.blocks", "cost = 1       # the second"])
     write("copper.prec", ["%d %d%s" % (b, len(ps), "".join(" %d" % p for p in ps)) for b, ps in enumerate(above)])
     write("copper.upit", ["NAME: copper", "TYPE: UPIT", "NBLOCKS: %d" % len(values), "OBJECTIVE_FUNCTION:"]
           + ["%d %d" % pair for pair in enumerate(values)] + ["EOF"])
