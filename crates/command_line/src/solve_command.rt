@@ -52,6 +52,7 @@ fn with_factor<'a>(alloc: Global, command: Command<'a>) -> Result<Command<'a>, A
             "The share of the revenues that counts, in thousandths, from 0 to 10000; needed with --blocks",
         )
         .requires_arg("blocks")?
+        .conflicts_with("upit")?
         .required_unless_present("upit")?,
     )
 }
