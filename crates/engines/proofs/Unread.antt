@@ -50,7 +50,6 @@ values_fault text n fault r (inr h) =
 values_stand : (texts : MineTexts) (n : ℕ) (q : Problem UpitFault) → WorthsRead texts n → ValuesFail texts q → ⊥
 values_stand (mine_texts u p) n problem.InputTooLong r h = let within = r.within in omega (arith, within, h)
 values_stand (mine_texts u p) n (problem.Fault f) r h = values_fault u n f r h.1
-
 values_stand (priced_texts s b p k) n q r h = h
 
 -- what the settings name is one thing

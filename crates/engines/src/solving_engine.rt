@@ -75,7 +75,17 @@ pub fn solve_engine<
     let rests = rests_from(alloc, prec, upit.len())?;
     let nanos = nanos_of(alloc, &upit)?;
     let price = Price::Objective;
-    solve_mine(rt, alloc, nanos.as_slice(), rests, price, group, effort, gate, out)
+    solve_mine(
+        rt,
+        alloc,
+        nanos.as_slice(),
+        rests,
+        price,
+        group,
+        effort,
+        gate,
+        out,
+    )
 }
 
 /// The same, where the mine is read, and its blocks are worth so many billionths at a price.
@@ -100,8 +110,12 @@ pub fn solve_mine<R: Threads + Wait + Sync, T: Gate + Progress, W: CountedWrite>
     laws::greatest_set_is_richest_pit();
     laws::greatest_set_is_best_pit::<WorthSize>();
     match group {
-        Group::Worth => solve_by::<Worth, R, T, W>(rt, alloc, nanos, rests, price, effort, gate, out),
-        Group::Pair => solve_by::<WorthSize, R, T, W>(rt, alloc, nanos, rests, price, effort, gate, out),
+        Group::Worth => solve_by::<Worth, R, T, W>(
+            rt, alloc, nanos, rests, price, effort, gate, out,
+        ),
+        Group::Pair => solve_by::<WorthSize, R, T, W>(
+            rt, alloc, nanos, rests, price, effort, gate, out,
+        ),
     }
 }
 
