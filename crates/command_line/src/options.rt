@@ -34,7 +34,8 @@ pub fn file_option<'a>(alloc: Global, name: &'a str, help: &'a str) -> Arg<'a> {
 }
 
 /// The help of `--settings`.
-pub const SETTINGS_HELP: &str = "Which columns of the blocks are revenues and costs: a TOML text";
+pub const SETTINGS_HELP: &str =
+    "Which columns of the blocks are revenues and costs, and the factors of shells: a TOML text";
 
 /// The help of `--blocks` of a priced model.
 pub const PRICED_BLOCKS_HELP: &str =
@@ -82,6 +83,39 @@ pub fn model_words<'a>(words: &ArgMatches<'a>) -> ModelWords<'a> {
             upit: text_of(words, "upit"),
         },
     }
+}
+
+/// The option that names the engine which makes the flow.
+pub fn method_option<'a>(alloc: Global) -> Arg<'a> {
+    named_option(
+        alloc,
+        "method",
+        "METHOD",
+        "Which engine makes the flow: auto (the default), pseudoflow or push-relabel",
+    )
+}
+
+/// The option that bounds a run.
+pub fn steps_option<'a>(alloc: Global) -> Arg<'a> {
+    named_option(
+        alloc,
+        "steps",
+        "STEPS",
+        "The most steps of a run, from 1 to 1099511627776 (1000000000 by default)",
+    )
+}
+
+/// The option that says how many workers there are.
+pub fn workers_option<'a>(alloc: Global, help: &'a str) -> Arg<'a> {
+    named_option(alloc, "workers", "WORKERS", help)
+}
+
+/// The option that shows how far a run is.
+pub fn progress_option<'a>(alloc: Global, help: &'a str) -> Arg<'a> {
+    Arg::new(alloc, "progress")
+        .long("progress")
+        .action(ArgAction::SetTrue)
+        .help(help)
 }
 
 /// The option that asks why a file failed.

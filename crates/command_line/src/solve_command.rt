@@ -1,9 +1,10 @@
 //! The command `solve`.
 
 use crate::options::{
-    ModelWords, STATUSES, model_words, named_option, text_of, verbose_option, with_model,
+    ModelWords, STATUSES, method_option, model_words, named_option, progress_option, steps_option,
+    text_of, verbose_option, with_model, workers_option,
 };
-use clap::{Arg, ArgAction, ArgMatches, Command};
+use clap::{ArgMatches, Command};
 use std::alloc::{AllocError, Global};
 
 const ABOUT: &str = "Finds the best pit and writes its certificate";
@@ -59,42 +60,26 @@ fn with_factor<'a>(alloc: Global, command: Command<'a>) -> Result<Command<'a>, A
 
 // The options that say how it is solved.
 fn with_kinds<'a>(alloc: Global, command: Command<'a>) -> Result<Command<'a>, AllocError> {
-    command
-        .arg(named_option(
-            alloc,
-            "method",
-            "METHOD",
-            "Which engine makes the flow: auto (the default), pseudoflow or push-relabel",
-        ))?
-        .arg(named_option(
-            alloc,
-            "group",
-            "GROUP",
-            "What amounts count: pair, worth and then the fewer blocks (the default), or worth alone",
-        ))
+    command.arg(method_option(alloc))?.arg(named_option(
+        alloc,
+        "group",
+        "GROUP",
+        "What amounts count: pair, worth and then the fewer blocks (the default), or worth alone",
+    ))
 }
 
 // The options that bound the run or show it.
 fn with_limits<'a>(alloc: Global, command: Command<'a>) -> Result<Command<'a>, AllocError> {
     command
-        .arg(named_option(
+        .arg(steps_option(alloc))?
+        .arg(workers_option(
             alloc,
-            "steps",
-            "STEPS",
-            "The most steps of the run, from 1 to 1099511627776 (1000000000 by default)",
-        ))?
-        .arg(named_option(
-            alloc,
-            "workers",
-            "WORKERS",
             "The threads of the push-relabel machine, from 1 to 64 (1 by default); they share one lock",
         ))?
-        .arg(
-            Arg::new(alloc, "progress")
-                .long("progress")
-                .action(ArgAction::SetTrue)
-                .help("Tells on standard error, once a second, how far the run is"),
-        )?
+        .arg(progress_option(
+            alloc,
+            "Tells on standard error, once a second, how far the run is",
+        ))?
         .arg(verbose_option(alloc))
 }
 

@@ -1,34 +1,48 @@
 //! A word that names nothing for its option, told in the library's form of error.
 
 use crate::declined::Declined;
+use crate::shells_command::shells_command;
 use crate::slopes_command::slopes_command;
 use crate::solve_command::solve_command;
 use clap::error::ErrorKind;
 use clap::{Command, Error};
 use std::alloc::{AllocError, Global};
 
+/// A command whose options name things.
+#[derive(Clone, Copy)]
+pub enum Commanded {
+    /// `slopes`.
+    Slopes,
+    /// `solve`.
+    Solve,
+    /// `shells`.
+    Shells,
+}
+
 /// An option that names one of a few things, or a number.
 #[derive(Clone, Copy)]
 pub enum NamedOption {
-    /// `--pattern` of `slopes`.
+    /// `--pattern`.
     Pattern,
-    /// `--up` of `slopes`.
+    /// `--up`.
     Up,
-    /// `--factor` of `solve`.
+    /// `--factor`.
     Factor,
-    /// `--method` of `solve`.
+    /// `--method`.
     Method,
-    /// `--group` of `solve`.
+    /// `--group`.
     Group,
-    /// `--steps` of `solve`.
+    /// `--steps`.
     Steps,
-    /// `--workers` of `solve`.
+    /// `--workers`.
     Workers,
 }
 
 /// A word that names nothing that its option takes. Which words those are is decided above, where they are read.
 #[derive(Clone, Copy)]
 pub struct WrongWord<'a> {
+    /// The command.
+    pub command: Commanded,
     /// The option.
     pub option: NamedOption,
     /// The word.
@@ -48,15 +62,16 @@ fn error_for(alloc: Global, wrong: WrongWord<'_>) -> Result<Error, AllocError> {
     let taken = taken(wrong.option);
     let word = wrong.word;
     let text = format!(in alloc; "invalid value '{word}' for '{shown}': {taken}")?;
-    let mut command = command_of(alloc, wrong.option)?;
+    let mut command = command_of(alloc, wrong.command)?;
     command.error(ErrorKind::ValueValidation, text.as_str())
 }
 
-// The command that has the option, by the name that its usage shows.
-fn command_of<'a>(alloc: Global, option: NamedOption) -> Result<Command<'a>, AllocError> {
-    match option {
-        NamedOption::Pattern | NamedOption::Up => slopes_command(alloc)?.bin_name("pit slopes"),
-        _ => solve_command(alloc)?.bin_name("pit solve"),
+// The command, by the name that its usage shows.
+fn command_of<'a>(alloc: Global, command: Commanded) -> Result<Command<'a>, AllocError> {
+    match command {
+        Commanded::Slopes => slopes_command(alloc)?.bin_name("pit slopes"),
+        Commanded::Solve => solve_command(alloc)?.bin_name("pit solve"),
+        Commanded::Shells => shells_command(alloc)?.bin_name("pit shells"),
     }
 }
 

@@ -8,10 +8,10 @@ use Rattle.prec_file.specs.Rests.{ArePairsOf, IsRising}
 use Rattle.prec_file.proofs.Pairs.{is_pair, tells_pair, pair_told}
 use Rattle.engines.specs.Mines.{rests_by}
 
-is_listed : (listed : List (ℕ × ℕ)) (b p : ℕ) → Contains listed (b, p) → list_any (is_pair b p) listed ≡ true
+pub is_listed : (listed : List (ℕ × ℕ)) (b p : ℕ) → Contains listed (b, p) → list_any (is_pair b p) listed ≡ true
 is_listed listed b p c = list_any_at (is_pair b p) listed c.0 (b, p) c.1 (tells_pair b p (get_or listed c.0 (b, p)) c.2)
 
-where_listed : (listed : List (ℕ × ℕ)) (b p : ℕ) → list_any (is_pair b p) listed ≡ true → Contains listed (b, p)
+pub where_listed : (listed : List (ℕ × ℕ)) (b p : ℕ) → list_any (is_pair b p) listed ≡ true → Contains listed (b, p)
 where_listed listed b p h =
     let a = Any-from_list_any (is_pair b p) listed h in
     (a.0, a.2, get_or_default listed a.0 (b, p) a.1 a.2 ∙ a.3 ∙ pair_told b p a.1 a.4)

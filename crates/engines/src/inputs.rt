@@ -94,6 +94,7 @@ fn listed_from<R: CountedRead>(
     requires blocks { n ≤ 2 ^ 24 }
     requires room { R.failed from.old < 2 ^ 64 - 1 }
     ensures read { IfSome (R.remaining from.old) (λ text. MatchResult result (ListsPrec n text) (PrecReadFails n text)) }
+    ensures size { IfOk result (λ listed. listed.blocks ≡ n) }
     ensures device { IsErrOf result EngineFault.Device ↔ (R.failed from.new ≡ R.failed from.old + 1) }
     ensures kept { ¬ IsErrOf result EngineFault.Device → R.failed from.new ≡ R.failed from.old }
 {
@@ -110,6 +111,7 @@ pub fn rests_from<R: CountedRead>(alloc: Global, from: &mut R, n: u32) -> Result
     requires blocks { n ≤ 2 ^ 24 }
     requires room { R.failed from.old < 2 ^ 64 - 1 }
     ensures read { IfSome (R.remaining from.old) (λ text. MatchResult result (ReadsPrec n text) (PrecReadFails n text)) }
+    ensures size { IfOk result (λ rests. rests.blocks ≡ n) }
     ensures device { IsErrOf result EngineFault.Device ↔ (R.failed from.new ≡ R.failed from.old + 1) }
     ensures kept { ¬ IsErrOf result EngineFault.Device → R.failed from.new ≡ R.failed from.old }
 {

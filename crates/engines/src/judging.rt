@@ -159,8 +159,8 @@ fn judge_for<G: OrderedGroup>(
     }
 }
 
-// The number of blocks of an accepted pit.
-fn size_of<G: OrderedGroup>(accepted: &Accepted<'_, G>) -> u32
+/// The number of blocks of an accepted pit.
+pub fn size_of<G: OrderedGroup>(accepted: &Accepted<'_, G>) -> u32
     ensures size { result ≡ length accepted.now.pit }
     ensures most { result ≤ length accepted.now.net.worths }
     ensures ascending { IsAscending accepted.now.pit }
@@ -171,8 +171,8 @@ fn size_of<G: OrderedGroup>(accepted: &Accepted<'_, G>) -> u32
     blocks.len() as u32
 }
 
-// The worth of an accepted pit of this many blocks, in billionths.
-fn worth_of<G: OrderedGroup>(accepted: &Accepted<'_, G>, count: u32) -> i128
+/// The worth of an accepted pit of this many blocks, in billionths.
+pub fn worth_of<G: OrderedGroup>(accepted: &Accepted<'_, G>, count: u32) -> i128
     requires { count ≤ length accepted.now.net.worths }
     ensures worth { result ≡ G.set_worth (group_worth accepted.now.net.worths (holds_of accepted.now.pit)) (length accepted.now.net.worths) count }
     ensures greatest { IsGreatest accepted.now.net (holds_of accepted.now.pit) }

@@ -7,27 +7,27 @@
 //! opens the files that the words name, and hands them on.
 #![tactic(auto)]
 
-mod certify;
+pub mod certify;
 mod checking;
 mod effort;
 mod engine_fault;
 mod fault_line;
-mod inputs;
+pub mod inputs;
 mod judgement;
 mod judgement_line;
-mod judging;
+pub mod judging;
 pub mod laws;
 mod method;
 mod mines;
 mod pattern_choice;
 mod pattern_words;
 mod priced_checking;
-mod priced_inputs;
+pub mod priced_inputs;
 mod priced_solving;
 mod slope_pairs;
 mod slopes;
 mod solve_words;
-mod solving;
+pub mod solving;
 mod solving_engine;
 mod stored_run;
 mod unwatched;

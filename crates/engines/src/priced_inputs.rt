@@ -61,8 +61,8 @@ pub fn price_columns(settings: &Settings) -> Result<PriceColumns, EngineFault>
     Ok(PriceColumns { revenue, cost })
 }
 
-// The fault of settings without a key that is needed.
-fn missing(key: Key) -> EngineFault
+/// The fault of settings without a key that is needed.
+pub fn missing(key: Key) -> EngineFault
     ensures { result ≡ EngineFault.Settings (Problem.Fault (SettingsFault.Missing key)) }
 {
     EngineFault::Settings(Problem::Fault(SettingsFault::Missing(key)))

@@ -4,6 +4,7 @@
 //! the words of the command line, to files and to standard output, and the exit status is given.
 #![tactic(auto)]
 
+mod effort_words;
 mod files;
 mod progress;
 mod slopes_words;
@@ -11,14 +12,16 @@ mod solve_words;
 mod told;
 
 use command_line::{
-    Declined, ModelWords, Request, SlopesWords, SolveWords, WrongWord, declined_for, request_of,
+    Declined, ModelWords, Request, ShellsWords, SlopesWords, SolveWords, WrongWord, declined_for,
+    request_of,
 };
+use effort_words::{effort_for_shells, effort_to_solve};
 use engines::{EngineFault, Unwatched, Verdict, status, stored_check, write_fault};
-use files::{check_files, slopes_file, solve_files, solve_priced_files};
+use files::{check_files, shells_files, slopes_file, solve_files, solve_priced_files};
 use fixed_worth::Counted;
 use progress::Meter;
 use slopes_words::{pattern_asked, up_asked};
-use solve_words::{effort_asked, factor_asked, group_asked};
+use solve_words::{factor_asked, group_asked};
 use std::process::ExitCode;
 use std::rt::{Clock, Env, Files};
 use std::sync::Wait;
@@ -78,6 +81,7 @@ fn answer<R: Files + Print + Eprint + Clock + Threads + Wait + Sync + AllocGloba
     match request {
         Request::Check(words) => Ok(Ending::Answered(check_files(rt, words)?)),
         Request::Solve(words) => solve(rt, words),
+        Request::Shells(words) => shells(rt, words),
         Request::Slopes(words) => slopes(rt, words),
     }
 }
@@ -91,7 +95,7 @@ fn solve<R: Files + Print + Eprint + Clock + Threads + Wait + Sync + AllocGlobal
         Ok(group) => group,
         Err(wrong) => return refused(rt, wrong),
     };
-    let effort = match effort_asked(words) {
+    let effort = match effort_to_solve(words) {
         Ok(effort) => effort,
         Err(wrong) => return refused(rt, wrong),
     };
@@ -127,6 +131,23 @@ fn solve<R: Files + Print + Eprint + Clock + Threads + Wait + Sync + AllocGlobal
             Ok(Ending::Answered(verdict))
         }
     }
+}
+
+// Draws the shells of the mine of three files, and tells how far it is where that is asked for.
+fn shells<R: Files + Print + Eprint + Clock + Threads + Wait + Sync + AllocGlobal>(
+    rt: &R,
+    words: ShellsWords<'_>,
+) -> Result<Ending, EngineFault> {
+    let effort = match effort_for_shells(words) {
+        Ok(effort) => effort,
+        Err(wrong) => return refused(rt, wrong),
+    };
+    let verdict = if words.progress {
+        shells_files(rt, words, effort, &Meter::new(rt, effort.steps))?
+    } else {
+        shells_files(rt, words, effort, &Unwatched)?
+    };
+    Ok(Ending::Answered(verdict))
 }
 
 // Writes the predecessors of the blocks of a file, by a pattern.

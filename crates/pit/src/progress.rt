@@ -3,6 +3,7 @@
 ghost use Rattle.std.specs.Prelude.{◌≡◌};
 
 use pseudoflow::Progress;
+use shell_engines::SeriesProgress;
 use std::rt::Clock;
 use std::sync::atomic::{AtomicU64, Ordering};
 use std::time::Instant;
@@ -13,7 +14,7 @@ const STRIDE: u64 = 1 << 16;
 
 /// Tells on standard error, at most once a second, how far an engine is, and how many seconds have passed: of
 /// pseudoflow the blocks that are settled; of the machine the steps that were made and what share of the limit that is.
-/// As a gate of the machine it is always open. It counts turns: those of one worker each make a step; of several
+/// Of shells it tells each factor at which a pit is proved. As a gate of the machine it is always open. It counts turns: those of one worker each make a step; of several
 /// workers some find nothing to do, and are counted too.
 #[derive(Drop)]
 pub struct Meter<'a, R> {
@@ -85,5 +86,13 @@ impl<R: Clock + Eprint> Progress for Meter<'_, R> {
                 "progress: {settled} of {blocks} blocks settled, {seconds} s"
             ));
         }
+    }
+}
+
+impl<R: Clock + Eprint> SeriesProgress for Meter<'_, R> {
+    fn settled(&self, factor: u32, place: u32, count: u32) {
+        let _ = self.rt.eprintln(format_args!(
+            "progress: factor {factor}: the pit is proved, {place} of {count}"
+        ));
     }
 }

@@ -3,7 +3,7 @@
 ghost use Rattle.std.specs.Prelude.{IfOk};
 ghost use Rattle.engines.specs.Slopes.{IsChoice};
 
-use command_line::{NamedOption, SlopesWords, WrongWord};
+use command_line::{Commanded, NamedOption, SlopesWords, WrongWord};
 use engines::{PatternChoice, pattern_named, up_named};
 use slope::Up;
 
@@ -12,6 +12,7 @@ pub fn pattern_asked<'a>(words: SlopesWords<'a>) -> Result<PatternChoice, WrongW
     ensures { IfOk result IsChoice }
 {
     pattern_named(words.pattern.as_bytes()).ok_or(WrongWord {
+        command: Commanded::Slopes,
         option: NamedOption::Pattern,
         word: words.pattern,
     })
@@ -21,6 +22,7 @@ pub fn pattern_asked<'a>(words: SlopesWords<'a>) -> Result<PatternChoice, WrongW
 pub fn up_asked<'a>(words: SlopesWords<'a>) -> Result<Up, WrongWord<'a>> {
     match words.up {
         Some(word) => up_named(word.as_bytes()).ok_or(WrongWord {
+            command: Commanded::Slopes,
             option: NamedOption::Up,
             word,
         }),

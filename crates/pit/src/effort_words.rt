@@ -1,0 +1,92 @@
+//! How a mine is to be solved, by the words of `solve` or of `shells`, or the word that names nothing that there is.
+
+ghost use Rattle.std.specs.Prelude.{◌≤◌, IfOk};
+
+use command_line::{Commanded, NamedOption, ShellsWords, SolveWords, WrongWord};
+use engines::{Effort, Method, method_named, steps_named, workers_named};
+
+// The most steps of a run, where no word says.
+const USUAL_STEPS: u64 = 1_000_000_000;
+
+// The words that say how a mine is solved, of a command that has them.
+#[derive(Clone, Copy)]
+struct EffortWords<'a> {
+    command: Commanded,
+    method: Option<&'a str>,
+    steps: Option<&'a str>,
+    workers: Option<&'a str>,
+}
+
+/// How `solve` solves the mine. Steps and workers are the push-relabel machine's, so that `auto` leaves the choice to it
+/// where one of them is given.
+pub fn effort_to_solve<'a>(words: SolveWords<'a>) -> Result<Effort, WrongWord<'a>> {
+    let limits_are_given = words.workers.is_some() || words.steps.is_some();
+    let words = EffortWords {
+        command: Commanded::Solve,
+        method: words.method,
+        steps: words.steps,
+        workers: words.workers,
+    };
+    effort_asked(words, limits_are_given)
+}
+
+/// How `shells` solves the mine at each factor. Workers are of use to both engines here, so that steps alone leave the
+/// choice to the push-relabel machine.
+pub fn effort_for_shells<'a>(words: ShellsWords<'a>) -> Result<Effort, WrongWord<'a>> {
+    let limits_are_given = words.steps.is_some();
+    let words = EffortWords {
+        command: Commanded::Shells,
+        method: words.method,
+        steps: words.steps,
+        workers: words.workers,
+    };
+    effort_asked(words, limits_are_given)
+}
+
+fn effort_asked<'a>(
+    words: EffortWords<'a>,
+    limits_are_given: bool,
+) -> Result<Effort, WrongWord<'a>> {
+    let method = method_asked(words)?.where_limits_are(limits_are_given);
+    let workers = workers_asked(words)?;
+    let steps = steps_asked(words)?;
+    Ok(Effort::new(method, workers, steps))
+}
+
+// The engine: by the mine's size, where no word says.
+fn method_asked<'a>(words: EffortWords<'a>) -> Result<Method, WrongWord<'a>> {
+    match words.method {
+        Some(word) => method_named(word.as_bytes()).ok_or(WrongWord {
+            command: words.command,
+            option: NamedOption::Method,
+            word,
+        }),
+        None => Ok(Method::Auto),
+    }
+}
+
+// The most steps of a run.
+fn steps_asked<'a>(words: EffortWords<'a>) -> Result<u64, WrongWord<'a>> {
+    match words.steps {
+        Some(word) => steps_named(word.as_bytes()).ok_or(WrongWord {
+            command: words.command,
+            option: NamedOption::Steps,
+            word,
+        }),
+        None => Ok(USUAL_STEPS),
+    }
+}
+
+// How many workers there are: one, where no word says.
+fn workers_asked<'a>(words: EffortWords<'a>) -> Result<u32, WrongWord<'a>>
+    ensures { IfOk result (λ workers. (1 ≤ workers) × (workers ≤ 64)) }
+{
+    match words.workers {
+        Some(word) => workers_named(word.as_bytes()).ok_or(WrongWord {
+            command: words.command,
+            option: NamedOption::Workers,
+            word,
+        }),
+        None => Ok(1),
+    }
+}

@@ -1,0 +1,45 @@
+-- A series and its rows, one factor after another.
+use Rattle.std.proofs.Common.{◌≡◌, ℕ, ◌+◌, ◌<◌, ◌≤◌, List, [], ◌∷◌, ◌++◌, map, take, length, get_or, sym, ap, ◌∙◌, subst, arith, All}
+use Rattle.std.specs.List.{Contains}
+use Rattle.std.proofs.lemmas.List.{take_more, map_push, get_or_default, get_or-take, length-take-le}
+use Rattle.std.proofs.lemmas.List.Elements.{All-append}
+use Rattle.closure_net.specs.Network.{IsAscending}
+use Rattle.shells.specs.Prices.{PricesView}
+use Rattle.shells.specs.Series.{SeriesView, mine_at, IsAbove}
+use Rattle.shell_engines.specs.declared.shell_rows.ShellRow.{ShellRow}
+use Rattle.shell_engines.specs.ShellTable.{IsRowOf, AreRowsOf}
+use Rattle.shell_engines.specs.Settling.{IsSettled}
+use Rattle.shell_engines.specs.Internal.{IsAdded}
+
+-- a factor of an ascending list is above those before it
+pub above_before : (factors done : List ℕ) (i : ℕ) → IsAscending factors → i < length factors → done ≡ take i factors → IsAbove done (get_or factors i 0)
+above_before factors done i rising l is j c =
+    let held : Contains (take i factors) j = subst (λ (xs : List ℕ). Contains xs j) is c in
+    let low : held.0 < i = omega (arith, held.1, length-take-le i factors (omega (arith, l))) in
+    let at : get_or factors held.0 0 ≡ j = sym (get_or-take i factors held.0 0 low) ∙ get_or_default (take i factors) held.0 0 j held.1 ∙ held.2 in
+    omega (arith, at, rising held.0 i low l)
+
+module _ (pairs : List (ℕ × ℕ)) (prices : PricesView) (factors : List ℕ) (i : ℕ) (s t : SeriesView) (rows rows' : List ShellRow) (k : ℕ) (l : i < length factors) (is : k ≡ get_or factors i 0) (h : IsSettled pairs prices (take i factors) s rows) (a : IsAdded s t rows rows' k) where
+  more : take (i + 1) factors ≡ take i factors ++ k ∷ []
+  more = take_more factors i 0 l ∙ ap (λ x. take i factors ++ x ∷ []) (sym is)
+
+  row_is : IsRowOf (mine_at pairs prices a.row.factor) a.row
+  row_is =
+      let M : ℕ → Type 0 = λ f. IsRowOf (mine_at pairs prices f) a.row in
+      let P : List (ℕ × ℕ) → Type 0 = λ ps. IsRowOf (mine_at ps s.prices k) a.row in
+      let Q : PricesView → Type 0 = λ table. IsRowOf (mine_at pairs table k) a.row in
+      subst M (sym a.at) (subst Q h.same_prices (subst P h.same_pairs a.is))
+
+  one : All (λ row. IsRowOf (mine_at pairs prices row.factor) row) (a.row ∷ [])
+  one j d low = let z : j ≡ 0 = omega (arith, low) in subst (λ n. IsRowOf (mine_at pairs prices (get_or (a.row ∷ []) n d).factor) (get_or (a.row ∷ []) n d)) (sym z) row_is
+
+  pub settled_more : IsSettled pairs prices (take (i + 1) factors) t rows'
+  settled_more = record {
+    same_pairs = a.pairs ∙ h.same_pairs;
+    same_prices = a.prices ∙ h.same_prices;
+    same_factors = a.factors ∙ ap (λ xs. xs ++ k ∷ []) h.same_factors ∙ sym more;
+    rows_are = record {
+      at = ap (map (λ row. row.factor)) a.last ∙ map_push (λ (row : ShellRow). row.factor) rows a.row ∙ ap (λ xs. xs ++ a.row.factor ∷ []) h.rows_are.at ∙ ap (λ x. take i factors ++ x ∷ []) a.at ∙ sym more;
+      each = subst (λ rs. All (λ row. IsRowOf (mine_at pairs prices row.factor) row) rs) (sym a.last) (All-append (λ row. IsRowOf (mine_at pairs prices row.factor) row) rows (a.row ∷ []) h.rows_are.each one);
+    };
+  }

@@ -1,0 +1,6 @@
+pub mod Keys
+pub mod Readings
+pub mod Nets
+pub mod Growing
+pub mod Lifted
+pub mod Answers

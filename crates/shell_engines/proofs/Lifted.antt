@@ -1,0 +1,119 @@
+-- Mines of prices and pairs that were read are those of their texts.
+use Rattle.std.proofs.Common.{◌≡◌, ◌↔◌, ℕ, ◌≤◌, ◌<◌, ℤ, Bool, true, false, List, length, refl, sym, ap, ◌∙◌, subst, IsTrue, Result, Ok, Err, inl, inr, MatchResult}
+use Rattle.std.specs.Prelude.{Contains}
+use Rattle.ordered_group.specs.Amount.{Amount}
+use Rattle.ordered_group.specs.Block.{counted_block}
+use Rattle.prec_file.specs.Rests.{RestsView, ArePairsOf}
+use Rattle.prec_file.specs.Records as prec
+use Rattle.closure_net.specs.Network.{NetView}
+use Rattle.closure_net.specs.Mine.{Mine, IsBest, LiesWithin, IsNetOf}
+use Rattle.closure_net.specs.FaultStands.{WorthsFaultStands}
+use Rattle.closure_net.specs.declared.net.NetFault.{NetFault}
+use Rattle.closure_net.specs.declared.net.NetFault.TheVariants as net_fault
+use Rattle.shells.specs.Prices.{PricesView, NoneNegative, blocks_of, worth_at, worths_at}
+use Rattle.shells.specs.Series as series
+use Rattle.shells.specs.Series.{mine_at}
+use Rattle.shells.specs.Nesting.{BestPitsAreNested}
+use Rattle.shells.proofs.OverNets.{net_of_over}
+use Rattle.engines.specs.declared.method.Method.{Method}
+use Rattle.engines.specs.declared.solving.Unsolved.{Unsolved}
+use Rattle.engines.specs.declared.judgement.Verdict.{Verdict}
+use Rattle.engines.specs.declared.judgement.Verdict.TheVariants.{No}
+use Rattle.engines.specs.declared.engine_fault.EngineFault.{EngineFault}
+use Rattle.engines.specs.Mines.{priced_texts, rests_by, mine_of, DenoteMine}
+use Rattle.engines.specs.ReadMines.{ArePricesRead, of_model}
+use Rattle.engines.specs.FaultStands.{NetFails, ModelFails}
+use Rattle.engines.specs.Solving.{IsNetBy, UnsolvedStands}
+use Rattle.engines.proofs.Listed.{is_listed, where_listed, listed_rests}
+use Rattle.engines.proofs.Priced.{worths_priced}
+use Rattle.shell_engines.specs.declared.shell_rows.ShellRow.{ShellRow}
+use Rattle.shell_engines.specs.ShellTable.{AreRowsOf, table_text, IsLineOf}
+use Rattle.shell_engines.specs.SeriesTexts.{factors_said, IsSeriesRead}
+use Rattle.shell_engines.specs.Settling.{IsNetAt, NoSeriesStands}
+use Rattle.shell_engines.specs.Internal.{IsWant}
+use Rattle.shell_engines.specs.declared.no_series.NoSeries.TheVariants as none
+use Rattle.shell_engines.specs.declared.series_engine.Answer.{Answer}
+use Rattle.shell_engines.specs.Shells.{shell_group, mine_at_factor, AreNested, IsShellTable, IsNoTable, NoNetAt, AnswersShells, ShellsFail}
+
+-- two tests that are true together are the same
+same_test : (t u : Bool) → (IsTrue t → IsTrue u) → (IsTrue u → IsTrue t) → t ≡ u
+same_test true u f g = sym (f refl)
+same_test false true f g = g refl
+same_test false false f g = refl
+
+rests_same : (listed pairs : List (ℕ × ℕ)) → ArePairsOf listed pairs → (b p : ℕ) → series.rests_by pairs b p ≡ rests_by listed b p
+rests_same listed pairs a b p =
+    let both = listed_rests listed pairs a b p in
+    same_test (series.rests_by pairs b p) (rests_by listed b p) (λ h. both.0 (where_listed pairs b p h)) (λ h. is_listed pairs b p (both.1 h))
+
+module _ (s t p : List ℕ) (table : PricesView) (rests : RestsView) (r : ArePricesRead s t p table rests) where
+  pub mine_is : (k : ℕ) → mine_at rests.pairs table k ≡ mine_at_factor rests.blocks s t p k
+  mine_is k = λ i. record { blocks = r.size i; rests = λ b q. rests_same (prec.listed p) rests.pairs r.pairs b q i; worth = worth_at (r.table i) k }
+
+  nested : BestPitsAreNested → AreNested (mine_at_factor rests.blocks s t p)
+  nested law j k e c le low high =
+      let B : (ℕ → Bool) → Mine → Type 0 = λ d m. IsBest m d in
+      let W : Mine → Type 0 = λ m. LiesWithin m e c in
+      let none : NoneNegative table = subst NoneNegative (sym r.table) (r.mine j).worths_read.revenues in
+      subst W (mine_is j) (law (series.rests_by rests.pairs) table j k e c none le (subst (B e) (sym (mine_is j)) low) (subst (B c) (sym (mine_is k)) high))
+
+  rows_of : (factors : List ℕ) (rows : List ShellRow) → AreRowsOf (mine_at rests.pairs table) factors rows → AreRowsOf (mine_at_factor rests.blocks s t p) factors rows
+  rows_of factors rows h = subst (λ (m : ℕ → Mine). AreRowsOf m factors rows) (λ i k. mine_is k i) h
+
+  net_by : (k : ℕ) (net : NetView) → IsNetAt counted_block rests.pairs table k net → IsNetBy (priced_texts s t p k) shell_group net
+  net_by k net at =
+      let size : rests.blocks ≡ length net.worths = sym (at.over.blocks ∙ r.size) in
+      let D : ℕ → Type 0 = λ n. DenoteMine (priced_texts s t p k) n in
+      let N : Mine → Type 0 = λ m. IsNetOf counted_block m net in
+      record {
+        mine = subst D size (r.mine k);
+        is_net = at.is_net;
+        of_mine = subst (λ n. N (mine_of n (priced_texts s t p k))) size (subst N (mine_is k) (net_of_over counted_block rests.pairs table k net at.over));
+      }
+
+  net_fails : (k : ℕ) (fault : NetFault) → WorthsFaultStands counted_block rests.blocks (worths_at table k) fault → NetFails (priced_texts s t p k) rests.blocks shell_group fault
+  net_fails k fault f = record { worths = worths_at table k; are = (worths_priced s t p table rests k r).worths; stands = f }
+
+module _ (s t p : List ℕ) (table : PricesView) (rests : RestsView) (factors : List ℕ) (read : IsSeriesRead s t p table rests factors) where
+  pub is_table : BestPitsAreNested → (rows : List ShellRow) (text : List ℕ) → AreRowsOf (mine_at rests.pairs table) factors rows → text ≡ table_text rows → IsShellTable s t p text
+  is_table law rows text are spelled = record {
+    size = rests.blocks;
+    mine = read.mine.mine;
+    keys = read.keys;
+    rows = rows;
+    rows_are = subst (λ (fs : List ℕ). AreRowsOf (mine_at_factor rests.blocks s t p) fs rows) read.factors_are (rows_of s t p table rests read.mine factors rows are);
+    nested = nested s t p table rests read.mine law;
+    spelled = spelled;
+  }
+
+  said : (k : ℕ) → Contains factors k → Contains (factors_said s) k
+  said k c = subst (λ (fs : List ℕ). Contains fs k) read.factors_are c
+
+  pub is_no_table : (method : Method) (limit factor : ℕ) (why : Unsolved) (net : NetView) (text : List ℕ) → Contains factors factor → IsNetAt counted_block rests.pairs table factor net → UnsolvedStands net method limit why → IsLineOf factor why text → IsNoTable s t p method limit text
+  is_no_table method limit factor why net text c at stands spelled = record {
+    factor = factor;
+    said = said factor c;
+    net = net;
+    by = net_by s t p table rests read.mine factor net at;
+    why = why;
+    stands = stands;
+    spelled = spelled;
+  }
+
+  -- the answer where no pit is proved at a factor
+  pub no_pit_answer : (method : Method) (limit factor : ℕ) (why : Unsolved) (answer : Result Answer EngineFault) → NoSeriesStands counted_block rests table factors method limit (none.Unsolved factor why) → MatchResult answer (λ a. (a.verdict ≡ No) × IsLineOf factor why a.text.items) IsWant
+      → MatchResult answer (λ a. AnswersShells s t p method limit a.verdict a.text.items) (ShellsFail s t p)
+  no_pit_answer method limit factor why (Ok a) h line =
+      subst (λ (v : Verdict). AnswersShells s t p method limit v a.text.items) (sym line.0) (is_no_table method limit factor why h.1.0 a.text.items h.0 h.1.1 h.1.2 line.1)
+  no_pit_answer method limit factor why (Err e) h (inl is) = subst (ShellsFail s t p) (sym is) tt
+  no_pit_answer method limit factor why (Err e) h (inr (inl is)) = subst (ShellsFail s t p) (sym is) tt
+  no_pit_answer method limit factor why (Err e) h (inr (inr is)) = subst (ShellsFail s t p) (sym is) tt
+
+  -- an amount of the mine doesn't fit at a factor
+  no_net : (factor : ℕ) (fault : NetFault) → Contains factors factor → ModelFails (priced_texts s t p factor) rests.blocks shell_group fault → NoNetAt s t p fault
+  no_net factor fault c m = record { factor = factor; said = said factor c; size = rests.blocks; mine = read.mine.mine factor; stands = m }
+
+  pub no_net_answer : (factor : ℕ) (fault : NetFault) → Contains factors factor × WorthsFaultStands counted_block rests.blocks (worths_at table factor) fault → ShellsFail s t p (of_model fault)
+  no_net_answer factor net_fault.WrongLength h = no_net factor net_fault.WrongLength h.0 (net_fails s t p table rests read.mine factor net_fault.WrongLength h.1)
+  no_net_answer factor net_fault.TooLarge h = no_net factor net_fault.TooLarge h.0 (net_fails s t p table rests read.mine factor net_fault.TooLarge h.1)
+  no_net_answer factor net_fault.NoMemory h = tt

@@ -1,0 +1,50 @@
+-- The net of pairs, and of the worths by prices at a factor; and what an accepted pit of it has.
+use Rattle.std.proofs.Common.{◌≡◌, ℕ, ℤ, pos, ◌<◌, ◌+◌, List, length, map, get_or, refl, sym, ap, ◌∙◌, subst, arith, All}
+use Rattle.std.proofs.lemmas.List.{length-map, get_or-map}
+use Rattle.std.proofs.lemmas.List.FromFn.{length-map-range_with_len, get_or-map-range_with_len}
+use Rattle.ordered_group.specs.Amount.{Amount, zero_amount}
+use Rattle.ordered_group.specs.Sums.{where_so}
+use Rattle.ordered_group.specs.Sets.{group_sum, worth_in, count_in}
+use Rattle.ordered_group.specs.Laws.{SumsTellWorth}
+use Rattle.ordered_group.proofs.Totals.Ranges.{total-same}
+use Rattle.prec_file.specs.Rests.{RestsView}
+use Rattle.closure_net.specs.Network.{NetView, net_view, IsAscending, holds_of}
+use Rattle.closure_net.specs.Closure.{group_worth}
+use Rattle.closure_net.specs.Mine.{Mine, IsNetOf, IsBest}
+use Rattle.shells.specs.Prices.{PricesView, blocks_of, worth_at, worths_at}
+use Rattle.shells.specs.Series.{IsOver}
+use Rattle.engines.proofs.Counted.{count_in-ascending}
+use Rattle.shell_engines.specs.declared.shell_rows.ShellRow.{ShellRow}
+use Rattle.shell_engines.specs.ShellTable.{IsRowOf}
+
+pub over_of : (block : ℤ → ℕ → Amount) (rests : RestsView) (prices : PricesView) (k : ℕ) (net : NetView) → net ≡ net_view rests.pairs (map (λ v. block v rests.blocks) (worths_at prices k)) → rests.blocks ≡ length (worths_at prices k) → IsOver block rests.pairs prices k net
+over_of block rests prices k net is l =
+    let n = blocks_of prices in
+    let counted : length (worths_at prices k) ≡ n = length-map-range_with_len (worth_at prices k) 0 n in
+    let size : length net.worths ≡ n = ap (λ (x : NetView). length x.worths) is ∙ length-map (worths_at prices k) (λ v. block v rests.blocks) ∙ counted in
+    record {
+      blocks = size;
+      pairs = ap (λ (x : NetView). x.pairs) is;
+      worths = λ b low.
+          let inside : b < length (worths_at prices k) = omega (arith, low, size, counted) in
+          let here : b < n = omega (arith, low, size) in
+          ap (λ (x : NetView). get_or x.worths b zero_amount) is ∙ get_or-map (λ v. block v rests.blocks) (worths_at prices k) b (pos 0) zero_amount inside
+          ∙ ap (λ v. block v rests.blocks) (get_or-map-range_with_len (worth_at prices k) 0 n b b (pos 0) here (omega arith)) ∙ ap (block (worth_at prices k b)) (l ∙ counted ∙ sym size);
+    }
+
+-- the row of a best pit whose net is the mine's
+pub row_is : (block : ℤ → ℕ → Amount) (set_worth : Amount → ℕ → ℕ → ℤ) → SumsTellWorth block set_worth → (net : NetView) (pit : List ℕ) → All (λ b. b < length net.worths) pit → IsAscending pit → (factor blocks : ℕ) (worth shown : ℤ) → blocks ≡ length pit
+    → worth ≡ set_worth (group_worth net.worths (holds_of pit)) (length net.worths) blocks → shown ≡ worth → (mine : Mine) → IsNetOf block mine net → IsBest mine (holds_of pit) → IsRowOf mine (record { factor = factor; blocks = blocks; worth = shown })
+row_is block set_worth tells net pit known ascending factor blocks worth shown b w s mine of_mine best =
+    let n = length net.worths in
+    let e = holds_of pit in
+    let size = count_in-ascending pit n ascending known in
+    let at : (x : ℕ) → x < n → get_or net.worths x zero_amount ≡ block (mine.worth x) n = λ x low. of_mine.worths x (omega (arith, low, of_mine.blocks)) ∙ ap (block (mine.worth x)) (sym of_mine.blocks) in
+    let sums : group_worth net.worths e ≡ group_sum block mine.worth e n = total-same _ _ n (λ x low. ap (λ a. where_so (e x) a) (at x low)) in
+    let told = tells mine.worth e n in
+    record {
+      pit = e;
+      best = best;
+      blocks_are = ap (λ k. count_in e k) (sym of_mine.blocks) ∙ size ∙ sym b;
+      worth_is = sym (s ∙ w ∙ ap (λ a. set_worth a n blocks) sums ∙ ap (λ (k : ℕ). set_worth (group_sum block mine.worth e n) n k) (b ∙ sym size) ∙ told ∙ ap (worth_in mine.worth e) of_mine.blocks);
+    }

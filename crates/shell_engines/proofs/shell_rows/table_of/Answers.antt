@@ -1,0 +1,13 @@
+use Rattle.std.proofs.Common.{◌≡◌, ℕ, ◌+◌, ◌<◌, List, [], ◌∷◌, ◌++◌, take, get_or, length, sym, ap, ◌∙◌, arith}
+use Rattle.std.specs.List.{flat_map}
+use Rattle.std.proofs.lemmas.List.{take_more, flat_map_more}
+use Rattle.shell_engines.specs.ShellTable.{row_line, table_text}
+use Rattle.shell_engines.specs.declared.shell_rows.ShellRow.{ShellRow}
+use Rattle.shell_engines.proofs.shell_rows.table_of.Goals as goal
+
+next : (rows : List ShellRow) (i : ℕ) (d : ShellRow) (old new : List ℕ) → i < length rows → old ≡ table_text (take i rows) → new ≡ old ++ row_line (get_or rows i d) → new ≡ table_text (take (i + 1) rows)
+next rows i d old new l is more = more ∙ ap (λ (t : List ℕ). t ++ row_line (get_or rows i d)) is ∙ flat_map_more row_line [] (take i rows) (get_or rows i d) ∙ sym (ap table_text (take_more rows i d l))
+
+pub loop-i-preserved : goal.loop-i-preserved
+loop-i-preserved c =
+    next c.args.rows.now c.loop-i.i _ c.loop-i.text.items _ (omega arith) c.loop-i.invariant (c.in_ok-extend_from_slice.ensures.items ∙ ap (λ (l : List ℕ). c.loop-i.text.items ++ l) (c.as_bytes.ensures.value ∙ c.in_ok-line.ensures))

@@ -1,0 +1,31 @@
+-- What only the functions of this crate say to one another.
+use Rattle.std.specs.Prelude.{◌≡◌, ℕ, ℤ, ◌⊎◌, ◌++◌, ◌∷◌, [], List, Contains}
+use Rattle.ordered_group.specs.Amount.{Amount}
+use Rattle.prec_file.specs.Rests.{RestsView}
+use Rattle.engines.specs.declared.method.Method.{Method}
+use Rattle.shells.specs.Prices.{PricesView}
+use Rattle.shells.specs.Series.{SeriesView, mine_at}
+use Rattle.engines.specs.declared.engine_fault.EngineFault.{EngineFault}
+use Rattle.engines.specs.declared.engine_fault.EngineFault.TheVariants as engine
+use Rattle.shell_engines.specs.declared.shell_rows.ShellRow.{ShellRow}
+use Rattle.shell_engines.specs.ShellTable.{IsRowOf}
+use Rattle.shell_engines.specs.declared.no_series.NoSeries.{NoSeries}
+use Rattle.shell_engines.specs.Settling.{NoSeriesStands}
+
+-- why there is no net at a factor, whatever else there is
+abbrev pub NoNetStands : (ℤ → ℕ → Amount) → RestsView → PricesView → ℕ → NoSeries → Type 0
+NoNetStands block rests prices factor e = (factors : List ℕ) (method : Method) (limit : ℕ) → Contains factors factor → NoSeriesStands block rests prices factors method limit e
+
+-- one factor more, with its row
+pub record IsAdded (s t : SeriesView) (rows rows' : List ShellRow) (factor : ℕ) : Type 0 where
+  pub pairs : t.pairs ≡ s.pairs
+  pub prices : t.prices ≡ s.prices
+  pub factors : t.factors ≡ s.factors ++ factor ∷ []
+  pub row : ShellRow
+  pub last : rows' ≡ rows ++ row ∷ []
+  pub at : row.factor ≡ factor
+  pub is : IsRowOf (mine_at s.pairs s.prices factor) row
+
+-- memory or a thread is wanted, or a board came back as another's
+abbrev pub IsWant : EngineFault → Type 0
+IsWant e = (e ≡ engine.Memory) ⊎ (e ≡ engine.Thread) ⊎ (e ≡ engine.Stranger)

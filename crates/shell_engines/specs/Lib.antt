@@ -1,0 +1,5 @@
+pub mod Internal
+pub mod SeriesTexts
+pub mod Settling
+pub mod ShellTable
+pub mod Shells

@@ -1,0 +1,88 @@
+-- How the engine of `shells` ends, by the bytes of its inputs and of its output.
+use Rattle.std.specs.Prelude.{◌≡◌, ℕ, ◌≤◌, ◌⊎◌, Bool, List, Contains, Option, Result, Ok, Err}
+use Rattle.std.specs.Io.KnownBytes.{Appends, Keeps}
+use Rattle.fixed_worth.specs.Device.{ReceivedPrefix}
+use Rattle.ordered_group.specs.declared.groups.Group.{Group}
+use Rattle.ordered_group.specs.declared.groups.Group.TheVariants.{Pair}
+use Rattle.closure_net.specs.Network.{NetView}
+use Rattle.closure_net.specs.declared.net.NetFault.{NetFault}
+use Rattle.closure_net.specs.Mine.{Mine, IsBest, LiesWithin}
+use Rattle.engines.specs.declared.judgement.Verdict.{Verdict}
+use Rattle.engines.specs.declared.judgement.Verdict.TheVariants.{Done, No}
+use Rattle.engines.specs.declared.engine_fault.EngineFault.{EngineFault}
+use Rattle.engines.specs.declared.engine_fault.EngineFault.TheVariants as engine
+use Rattle.engines.specs.declared.method.Method.{Method}
+use Rattle.engines.specs.Mines.{priced_texts, mine_of, DenoteMine}
+use Rattle.engines.specs.FaultStands.{ModelFails}
+use Rattle.engines.specs.declared.solving.Unsolved.{Unsolved}
+use Rattle.engines.specs.Solving.{IsNetBy, UnsolvedStands}
+use Rattle.shell_engines.specs.declared.shell_rows.ShellRow.{ShellRow}
+use Rattle.shell_engines.specs.ShellTable.{AreRowsOf, table_text, IsLineOf}
+use Rattle.shell_engines.specs.SeriesTexts.{KeysKnown, factors_said, SeriesMineFails}
+
+-- the amounts in which each flow is checked: worth, and then the fewer blocks
+abbrev pub shell_group : Group
+shell_group = Pair
+
+-- the mine of n blocks that the texts denote at a factor
+abbrev pub mine_at_factor : ℕ → List ℕ → List ℕ → List ℕ → ℕ → Mine
+mine_at_factor n settings blocks precedence factor = mine_of n (priced_texts settings blocks precedence factor)
+
+-- of two of these factors, the best pit at the lower one lies within that at the other
+abbrev pub AreNested : (ℕ → Mine) → Type 0
+AreNested mine = (j k : ℕ) (e c : ℕ → Bool) → j ≤ k → IsBest (mine j) e → IsBest (mine k) c → LiesWithin (mine j) e c
+
+-- The texts denote a mine at each of the factors of the settings, and this one the table of its best pits, each of which
+-- lies within the next.
+pub record IsShellTable (settings blocks precedence text : List ℕ) : Type 0 where
+  pub size : ℕ
+  pub mine : (factor : ℕ) → DenoteMine (priced_texts settings blocks precedence factor) size
+  pub keys : KeysKnown settings
+  pub rows : List ShellRow
+  pub rows_are : AreRowsOf (mine_at_factor size settings blocks precedence) (factors_said settings) rows
+  pub nested : AreNested (mine_at_factor size settings blocks precedence)
+  pub spelled : text ≡ table_text rows
+
+-- At one of the factors of the settings no pit is proved, for a reason that stands.
+pub record IsNoTable (settings blocks precedence : List ℕ) (method : Method) (limit : ℕ) (text : List ℕ) : Type 0 where
+  pub factor : ℕ
+  pub said : Contains (factors_said settings) factor
+  pub net : NetView
+  pub by : IsNetBy (priced_texts settings blocks precedence factor) shell_group net
+  pub why : Unsolved
+  pub stands : UnsolvedStands net method limit why
+  pub spelled : IsLineOf factor why text
+
+-- the text that answers for them
+abbrev pub AnswersShells : List ℕ → List ℕ → List ℕ → Method → ℕ → Verdict → List ℕ → Type 0
+AnswersShells settings blocks precedence method limit Done text = IsShellTable settings blocks precedence text
+AnswersShells settings blocks precedence method limit No text = IsNoTable settings blocks precedence method limit text
+
+-- at one of the factors of the settings an amount of the mine's doesn't fit
+pub record NoNetAt (settings blocks precedence : List ℕ) (fault : NetFault) : Type 0 where
+  pub factor : ℕ
+  pub said : Contains (factors_said settings) factor
+  pub size : ℕ
+  pub mine : DenoteMine (priced_texts settings blocks precedence factor) size
+  pub stands : ModelFails (priced_texts settings blocks precedence factor) size shell_group fault
+
+-- Why the engine answers a fault: it stands, and none before it does. Want of memory, of a thread, a failing device and a
+-- board that comes back as another's say nothing of the texts.
+abbrev pub ShellsFail : List ℕ → List ℕ → List ℕ → EngineFault → Type 0
+ShellsFail settings blocks precedence (engine.Model fault) = NoNetAt settings blocks precedence fault
+ShellsFail settings blocks precedence engine.Thread = Unit {0}
+ShellsFail settings blocks precedence engine.Stranger = Unit {0}
+ShellsFail settings blocks precedence fault = SeriesMineFails settings blocks precedence fault
+
+-- what is in the writer at a fault: what was there before, unless a device failed; then perhaps a prefix of an answer too
+abbrev pub WritesShellsPrefix : List ℕ → List ℕ → List ℕ → Method → ℕ → Option (List ℕ) → Option (List ℕ) → Type 0
+WritesShellsPrefix settings blocks precedence method limit old new = Keeps old new ⊎ ((verdict : Verdict) × (text : List ℕ) × AnswersShells settings blocks precedence method limit verdict text × ReceivedPrefix old new text)
+
+abbrev pub ShellsAtFault : List ℕ → List ℕ → List ℕ → Method → ℕ → Option (List ℕ) → Option (List ℕ) → EngineFault → Type 0
+ShellsAtFault settings blocks precedence method limit old new engine.Device = WritesShellsPrefix settings blocks precedence method limit old new
+ShellsAtFault settings blocks precedence method limit old new _ = Keeps old new
+
+-- the answer, and what was written with it
+abbrev pub Shells : List ℕ → List ℕ → List ℕ → Method → ℕ → Option (List ℕ) → Option (List ℕ) → Result Verdict EngineFault → Type 0
+Shells settings blocks precedence method limit old new (Ok verdict) = (text : List ℕ) × AnswersShells settings blocks precedence method limit verdict text × Appends old new text
+Shells settings blocks precedence method limit old new (Err fault) = ShellsFail settings blocks precedence fault × ShellsAtFault settings blocks precedence method limit old new fault

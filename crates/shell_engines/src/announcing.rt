@@ -1,0 +1,13 @@
+//! Who is told how far a series is.
+
+use engines::Unwatched;
+
+/// What settling a series calls as it goes on. It can't change the series.
+pub trait SeriesProgress {
+    /// The pit at a factor, in thousandths, is proved: the `place`-th of `count` factors, from 1.
+    fn settled(&self, factor: u32, place: u32, count: u32);
+}
+
+impl SeriesProgress for Unwatched {
+    fn settled(&self, _factor: u32, _place: u32, _count: u32) {}
+}
