@@ -108,12 +108,7 @@ pub fn solve_priced_files<
 pub fn shells_files<
     R: Files + Print + Eprint + Threads + Wait + Sync + AllocGlobal,
     T: Gate + Progress + SeriesProgress,
->(
-    rt: &R,
-    words: ShellsWords<'_>,
-    effort: Effort,
-    watch: &T,
-) -> Result<Verdict, EngineFault> {
+>(rt: &R, words: ShellsWords<'_>, effort: Effort, watch: &T) -> Result<Verdict, EngineFault> {
     let mut prec = file(rt, words.verbose, words.prec)?;
     let mut settings = file(rt, words.verbose, words.settings)?;
     let mut blocks = file(rt, words.verbose, words.blocks)?;

@@ -129,10 +129,12 @@ fn accepted_by<'a, G: OrderedGroup>(
     ensures { IfSome result (λ a. IfOk candidate.now (λ c. a.net ≡ c.net)) }
 {
     match candidate {
-        Ok(Candidate {
-            net,
-            solution: Some(solution),
-        }) => check(net, &solution.pit, &solution.flow).ok(),
+        Ok(
+            Candidate {
+                net,
+                solution: Some(solution),
+            },
+        ) => check(net, &solution.pit, &solution.flow).ok(),
         _ => None,
     }
 }

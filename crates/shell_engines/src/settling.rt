@@ -214,7 +214,14 @@ where
     while done < factors.len() {
         let next = done + step.min(factors.len() - done);
         shells.settle_from::<G, R, T>(
-            rt, alloc, &rests, factors.as_slice(), done, next, effort, gate,
+            rt,
+            alloc,
+            &rests,
+            factors.as_slice(),
+            done,
+            next,
+            effort,
+            gate,
         )?;
         done = next;
     }
