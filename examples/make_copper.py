@@ -142,7 +142,8 @@ def main():
 
     write("copper.blocks", ["%d %d %d %d %d %d" % (b, *place, grade(*place), values[b]) for b, place in enumerate(places)])
     write("priced.blocks", ["%d %d %d %d %d %d" % (b, *place, revenue(*place), cost(*place)) for b, place in enumerate(places)])
-    write("settings.toml", ["revenue = 0    # the first column behind z in priced.blocks", "cost = 1       # the second"])
+    write("settings.toml", ["revenue = 0    # the first column behind z in priced.blocks", "cost = 1       # the second",
+                            "factors = [500, 650, 800, 1000, 1200]    # of the price of the revenues, in thousandths"])
     write("copper.prec", ["%d %d%s" % (b, len(ps), "".join(" %d" % p for p in ps)) for b, ps in enumerate(above)])
     write("copper.upit", ["NAME: copper", "TYPE: UPIT", "NBLOCKS: %d" % len(values), "OBJECTIVE_FUNCTION:"]
           + ["%d %d" % pair for pair in enumerate(values)] + ["EOF"])
