@@ -12,14 +12,15 @@ use Rattle.fixed_worth.specs.declared.limits.TheConstants.{MOST_BLOCKS, LINE_BYT
 use Rattle.fixed_worth.specs.declared.numerals.NumberFault.{NumberFault}
 use Rattle.fixed_worth.specs.Numeral.{plain_of}
 use Rattle.fixed_worth.proofs.PlainNumbers.{printed_is_plain}
-use Rattle.ordered_group.specs.Amount.{Amount, FitsPair}
+use Rattle.ordered_group.specs.Amount.{Amount, is_zero, FitsPair}
 use Rattle.check_pit.specs.declared.lines_of_body.LineKind.{LineKind}
 use Rattle.check_pit.specs.declared.lines_of_body.LineKind.TheVariants.{Pit, Source, Rest, Sink}
 use Rattle.check_pit.specs.declared.lines_of_body.BodyLine.{BodyLine}
 use Rattle.check_pit.specs.Pieces.{within, number_below}
 use Rattle.check_pit.specs.BodyLines.{is_amount, amount_said, amount_in, numbered_line, block_line, line_of_words, line_of}
 use Rattle.check_pit.specs.ReadBack.{Writable}
-use Rattle.check_pit.specs.Written.{spaced, words_with, line_words, pit_at, block_at, is_zero}
+use Rattle.check_pit.specs.Written.{spaced, words_with, line_words, pit_at, block_at}
+use Rattle.check_pit.proofs.Amounts.{zero_numbers}
 use Rattle.check_pit.proofs.Texts.{is_word, are_words, has_no_feed, words_read, spaced_no_feed, decimal_is_word, signed_is_word}
 use Rattle.check_pit.proofs.Going.{Counted}
 
@@ -51,7 +52,7 @@ tested counts w c true false e f h k = refl
 tested counts w c false u e f h k = elim k [ inl i ↦ i | inr i ↦ absurd (let z : true ≡ false = sym ((Decides-int_eq c (pos 0)).1 i) ∙ e in cc) ]
 
 pub is_amount_so : (counts : Bool) (x : Amount) → is_zero x ≡ false → Counted counts x.c → is_amount counts x.w x.c ≡ true
-is_amount_so counts x h k = tested counts x.w x.c (int_eq x.c (pos 0)) (int_eq x.w (pos 0)) refl refl h k
+is_amount_so counts x h k = tested counts x.w x.c (int_eq x.c (pos 0)) (int_eq x.w (pos 0)) refl refl (sym (zero_numbers x) ∙ h) k
 
 amount_read : (counts : Bool) (x : Amount) → is_zero x ≡ false → Counted counts x.c → FitsPair x → amount_in counts (signed_decimal x.w) (signed_decimal x.c) ≡ Some (x.w, x.c)
 amount_read counts x h k f =

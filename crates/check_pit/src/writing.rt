@@ -15,7 +15,7 @@ use crate::header::{Header, Price};
 use crate::lines_of_body::{BodyLine, LineKind};
 use closure_net::{Carried, Flow, Pit};
 use fixed_worth::{CountedWrite, MOST_BLOCKS, Page, ShortLine, WriteFault};
-use ordered_group::{Group, OrderedGroup};
+use ordered_group::{Group, OrderedGroup, is_zero};
 use prec_file::{MOST_PAIRS, Rests};
 
 // Adds a number with its sign.
@@ -110,12 +110,12 @@ fn written_header(header: &Header) -> ShortLine
     text
 }
 
-fn is_zero<G: OrderedGroup>(amount: G) -> bool
-    ensures zero { result ≡ spec.is_zero (G.parts_of amount) }
-    ensures writable { Writable G.counts (G.parts_of amount) }
+// The numbers of an amount fit their type, and its count is zero where the group has none.
+fn can_be_written<G: OrderedGroup>(amount: G)
+    ensures { Writable G.counts (G.parts_of amount) }
 {
-    let (worth, count) = amount.parts();
-    worth == 0 && count == 0
+    // proof: what `parts` returns fits its type
+    let _numbers = amount.parts();
 }
 
 // The line of an amount at a block.
@@ -201,6 +201,8 @@ fn put_blocks<G: OrderedGroup, W: CountedWrite>(
     ensures counted { OnErr result (W.failed out.new ≡ W.failed out.old + 1) }
 {
     for (k, amount) in amounts.iter().enumerate() {
+        // proof: every amount can be written
+        can_be_written(*amount);
         if !is_zero(*amount) {
             put_line(page, out, &block_line(kind, k as u32, *amount))?;
         }
@@ -226,6 +228,8 @@ fn put_pairs<G: OrderedGroup, W: CountedWrite>(
 {
     for k in 0..amounts.len() {
         let amount = amounts.at(k as u32);
+        // proof: every amount can be written
+        can_be_written(amount);
         if !is_zero(amount) {
             put_line(page, out, &pair_line(rests, k as u32, amount))?;
         }
