@@ -8,6 +8,7 @@ ghost use Rattle.workers.specs.Solving.{AreBadWorkers, IsLeft, IsLoss, RunFaultS
 use crate::gate::Gate;
 use crate::locked::{Locked, Shared};
 use crate::worker::serve;
+use async_step::MOST_STEPS;
 use boards::{End, TurnBoard, finish};
 use closure_net::{Flow, Net};
 use ordered_group::OrderedGroup;
@@ -15,9 +16,6 @@ use std::alloc::Global;
 use std::sync::Wait;
 use std::thread;
 use std::thread::Threads;
-
-// The most steps that are counted.
-const MOST_STEPS: u64 = 1 << 40;
 
 // The most workers.
 const MOST_WORKERS: u32 = 64;
