@@ -10,6 +10,7 @@ use Rattle.machine_law.specs.declared.operations.Operation.TheVariants.{Idle}
 use Rattle.machine_law.specs.States.{State, put}
 use Rattle.machine_law.specs.Steps.{becomes}
 use Rattle.machine_law.proofs.Points.{put-same, put-other, put-each}
+use Rattle.async_step.specs.declared.limits.TheConstants.{MOST_STEPS}
 use Rattle.async_step.specs.Views.{StateView, state_of, operation_at, IsSized}
 use Rattle.async_step.specs.Answers.{Fits, IsStateOf, GoesTo, Stays}
 use Rattle.async_step.specs.Changes.{CanChange, changed, lists_changed}
@@ -136,7 +137,7 @@ module _ (net : NetView) (v : StateView) (over : IsStateOf net v) (b : ℕ) (l :
   pub still_there : (change : Change Amount) → b < length (lists_changed v b change).operation
   still_there change = subst (λ os. b < length os) (sym (same_blocks change)) (omega (arith, l, over.blocks))
 
-  pub goes : v.steps < 2 ^ 40 → IsSized v → (change : Change Amount) → CanChange net b change → GoesTo net v (changed (becomes (state_of v) b o) b change) (gone_on change)
+  pub goes : v.steps < MOST_STEPS → IsSized v → (change : Change Amount) → CanChange net b change → GoesTo net v (changed (becomes (state_of v) b o) b change) (gone_on change)
   goes few sized change can =
       let e = shows sized change can in
       record {

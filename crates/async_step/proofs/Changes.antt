@@ -1,14 +1,13 @@
 -- A state's lists with one element changed.
-use Rattle.std.proofs.Common.{◌≡◌, ℕ, ◌<◌, ◌+◌, Bool, false, not, ◌&&◌, ◌||◌, inl, inr, List, [], ◌∷◌, ◌++◌, replicate, length, set, map, sym, ap, ap₂, subst, ◌∙◌, arith, length-set, get_or-set_same, get_or-set_other}
+use Rattle.std.proofs.Common.{◌≡◌, ℕ, ◌<◌, ◌+◌, Bool, false, not, ◌&&◌, ◌||◌, inl, inr, List, length, set, sym, ap, subst, ◌∙◌, arith, length-set, get_or-set_same, get_or-set_other}
 use Rattle.std.proofs.lemmas.Bool.{cases_eq}
-use Rattle.std.proofs.lemmas.List.{map-append, replicate-append-replicate}
-use Rattle.ordered_group.specs.Amount.{Amount, zero_amount}
+use Rattle.ordered_group.specs.Amount.{Amount, zero_amount, is_zero}
 use Rattle.ordered_group.specs.Sums.{amount_at}
 use Rattle.machine_law.specs.declared.operations.Operation.{Operation}
 use Rattle.machine_law.specs.declared.operations.Operation.TheVariants.{Idle}
 use Rattle.machine_law.specs.Reads.{is_positive}
 use Rattle.async_step.specs.Marks.{mark_at}
-use Rattle.async_step.specs.Views.{StateView, operation_at, IsMarked, IsState, is_zero, is_waiting, is_busy}
+use Rattle.async_step.specs.Views.{StateView, operation_at, IsMarked, IsState, is_waiting, is_busy}
 use Rattle.machine_law.specs.Operations.{is_idle}
 
 -- the marks with one mark changed
@@ -102,7 +101,3 @@ marked_next test n marks i t h l e = record {
     | inr d ↦ get_or-set_other marks i k t false d ∙ h.at k (omega (arith, d))
   ];
 }
-
--- one more of the same
-pub filled_next : {X Y : Type 0} (f : X → Y) (xs : List X) (x : X) (k : ℕ) (z : Y) → map f xs ≡ replicate k z → f x ≡ z → map f (xs ++ x ∷ []) ≡ replicate (k + 1) z
-filled_next f xs x k z h e = map-append f xs (x ∷ []) ∙ (ap₂ (λ ys y. ys ++ y ∷ []) h e ∙ replicate-append-replicate k 1 z)

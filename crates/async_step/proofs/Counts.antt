@@ -6,6 +6,7 @@ use Rattle.std.proofs.lemmas.Bool.{cases_eq}
 use Rattle.std.proofs.lemmas.List.{get_or_default}
 use Rattle.ordered_group.specs.Sets.{count_in}
 use Rattle.ordered_group.proofs.BlockSets.{count_in-same, count_in-most}
+use Rattle.async_step.specs.declared.marks.TheConstants.{SMALL, MIDDLE, LARGE}
 use Rattle.async_step.specs.Marks.{mark_at, run_count, IsCounted, IsMarks, shifted, CanShift}
 
 -- one more number passes
@@ -142,15 +143,15 @@ pub all_can_shift : (marks : List Bool) (b : ℕ) (t v : Bool) (count : ℕ) →
 all_can_shift marks b t v count l e d few h = subst (CanShift v) (sym h) (run_can_shift marks b l v 0 (length marks) (read_off marks b t v l e d) (omega arith) (omega arith) few)
 
 pub marks_set : (marks : List Bool) (smalls middles larges : List ℕ) (count b : ℕ) (t v : Bool) (x y z x' y' z' held : ℕ) → IsMarks marks smalls middles larges count → b < length marks → t ≡ get_or marks b t → (t ≡ v → ⊥)
-    → x ≡ get_or smalls (b / 64) x → x' ≡ shifted v x → y ≡ get_or middles (b / 4096) y → y' ≡ shifted v y → z ≡ get_or larges (b / 262144) z → z' ≡ shifted v z → held ≡ shifted v count
-    → IsMarks (set marks b v) (set smalls (b / 64) x') (set middles (b / 4096) y') (set larges (b / 262144) z') held
+    → x ≡ get_or smalls (b / SMALL) x → x' ≡ shifted v x → y ≡ get_or middles (b / MIDDLE) y → y' ≡ shifted v y → z ≡ get_or larges (b / LARGE) z → z' ≡ shifted v z → held ≡ shifted v count
+    → IsMarks (set marks b v) (set smalls (b / SMALL) x') (set middles (b / MIDDLE) y') (set larges (b / LARGE) z') held
 marks_set marks smalls middles larges count b t v x y z x' y' z' held h l e d rx qx ry qy rz qz q =
     let n = length-set marks b v in
     record {
       few = omega (arith, n, h.few);
-      small = level_shifted marks b t v 64 smalls x x' l e d (omega arith) h.small rx qx;
-      middle = level_shifted marks b t v 4096 middles y y' l e d (omega arith) h.middle ry qy;
-      large = level_shifted marks b t v 262144 larges z z' l e d (omega arith) h.large rz qz;
+      small = level_shifted marks b t v SMALL smalls x x' l e d (omega arith) h.small rx qx;
+      middle = level_shifted marks b t v MIDDLE middles y y' l e d (omega arith) h.middle ry qy;
+      large = level_shifted marks b t v LARGE larges z z' l e d (omega arith) h.large rz qz;
       held = q ∙ (ap (shifted v) h.held ∙ (run_shifted marks b l v 0 (length marks) (read_off marks b t v l e d) (omega arith) (omega arith) ∙ ap (run_count (set marks b v) 0) (sym n)));
     }
 

@@ -1,11 +1,13 @@
 -- What counts tell of stretches without a mark, and of the first mark going round.
-use Rattle.std.proofs.Common.{◌≡◌, ◌↔◌, ℕ, zero, suc, ◌+◌, ◌*◌, ◌/◌, ◌%◌, ◌<◌, ◌≤◌, ◌^◌, Bool, true, false, inl, inr, List, length, get_or, replicate, sym, refl, subst, ◌∙◌, arith}
+use Rattle.std.proofs.Common.{◌≡◌, ◌↔◌, ℕ, zero, suc, ◌+◌, ◌*◌, ◌/◌, ◌%◌, ◌<◌, ◌≤◌, Bool, true, false, inl, inr, List, length, get_or, replicate, sym, refl, subst, ◌∙◌, arith}
 use Rattle.std.proofs.Math.Nat.{lt-div-mul-add, div-lt_iff_lt-mul}
 use Rattle.std.proofs.lemmas.Nat.{div-add-mod'}
 use Rattle.std.proofs.lemmas.Bool.{cases_lt}
 use Rattle.std.proofs.lemmas.Bool.Decides.{nat_tests}
 use Rattle.std.proofs.lemmas.List.{get_or_default, length-replicate}
+use Rattle.fixed_worth.specs.declared.limits.TheConstants.{MOST_BLOCKS}
 use Rattle.ordered_group.specs.Sets.{count_in}
+use Rattle.async_step.specs.declared.marks.TheConstants.{SMALL, MIDDLE, LARGE}
 use Rattle.async_step.specs.Marks.{mark_at, run_count, IsCounted, IsMarks, NoneWithin, IsFirstWithin, ahead_of, IsFirstRound}
 use Rattle.async_step.proofs.Counts.{run_none}
 
@@ -54,13 +56,13 @@ counted_none n width w = record {
   at = λ i l. zeros_at (n / width + 1) i ∙ sym (run_empty (replicate n false) (i * width) width (λ b. none_at n b));
 }
 
-pub marks_none : (n : ℕ) (marks : List Bool) (smalls middles larges : List ℕ) → n ≤ 2 ^ 24 → marks ≡ replicate n false → smalls ≡ replicate (n / 64 + 1) 0 → middles ≡ replicate (n / 4096 + 1) 0 → larges ≡ replicate (n / 262144 + 1) 0 → IsMarks marks smalls middles larges 0
+pub marks_none : (n : ℕ) (marks : List Bool) (smalls middles larges : List ℕ) → n ≤ MOST_BLOCKS → marks ≡ replicate n false → smalls ≡ replicate (n / SMALL + 1) 0 → middles ≡ replicate (n / MIDDLE + 1) 0 → larges ≡ replicate (n / LARGE + 1) 0 → IsMarks marks smalls middles larges 0
 marks_none n marks smalls middles larges h e p q r =
     rw (e, p, q, r) (record {
       few = omega (arith, length-replicate n false);
-      small = counted_none n 64 (omega arith);
-      middle = counted_none n 4096 (omega arith);
-      large = counted_none n 262144 (omega arith);
+      small = counted_none n SMALL (omega arith);
+      middle = counted_none n MIDDLE (omega arith);
+      large = counted_none n LARGE (omega arith);
       held = sym (run_empty (replicate n false) 0 (length (replicate n false)) (λ b. none_at n b));
     })
 

@@ -1,5 +1,5 @@
 -- The opening state.
-use Rattle.std.proofs.Common.{◌≡◌, ℕ, zero, suc, ◌≤◌, ◌^◌, Bool, not, inl, inr, List, [], ◌∷◌, length, get_or, map, replicate, sym, refl, ap, subst, ◌∙◌, arith}
+use Rattle.std.proofs.Common.{◌≡◌, ℕ, zero, suc, ◌≤◌, Bool, not, inl, inr, List, [], ◌∷◌, length, get_or, map, replicate, sym, refl, ap, subst, ◌∙◌, arith}
 use Rattle.std.specs.Prelude.{All}
 use Rattle.std.proofs.Math.Path.{fun_ext}
 use Rattle.std.proofs.Math.ListN.{get_or-map}
@@ -7,7 +7,8 @@ use Rattle.std.proofs.lemmas.Bool.{cases_lt}
 use Rattle.std.proofs.lemmas.List.{length-replicate, get_or_past}
 use Rattle.std.proofs.lemmas.List.Elements.{All-get_or}
 use Rattle.std.proofs.lemmas.Int.{ints}
-use Rattle.ordered_group.specs.Amount.{Amount, zero_amount, minus, positive, negative, FitsPair}
+use Rattle.fixed_worth.specs.declared.limits.TheConstants.{MOST_BLOCKS}
+use Rattle.ordered_group.specs.Amount.{Amount, zero_amount, minus, positive, negative, FitsPair, is_zero}
 use Rattle.ordered_group.specs.Sums.{amount_at}
 use Rattle.ordered_group.proofs.Order.{larger_is}
 use Rattle.closure_net.specs.Network.{NetView, IsNet}
@@ -15,7 +16,7 @@ use Rattle.machine_law.specs.declared.operations.Operation.{Operation}
 use Rattle.machine_law.specs.declared.operations.Operation.TheVariants.{Idle}
 use Rattle.machine_law.specs.States.{opening}
 use Rattle.machine_law.specs.Reads.{is_positive}
-use Rattle.async_step.specs.Views.{StateView, state_of, operation_at, IsMarked, IsState, is_waiting, is_busy, is_zero}
+use Rattle.async_step.specs.Views.{StateView, state_of, operation_at, IsMarked, IsState, is_waiting, is_busy}
 use Rattle.async_step.specs.Answers.{Fits, IsStateOf}
 
 -- a list of one value
@@ -106,7 +107,7 @@ marked_same t u n k marks h e s = record {
   at = λ b l. h.at b (omega (arith, e)) ∙ sym (s b);
 }
 
-pub opening_state : (v : StateView) (n k : ℕ) (ready undone : List Bool) → n ≤ 2 ^ 24 → k ≡ n → length v.excess ≡ n → length v.source ≡ n → v.label ≡ replicate n 0 → v.sink ≡ replicate n zero_amount → v.operation ≡ replicate n Idle
+pub opening_state : (v : StateView) (n k : ℕ) (ready undone : List Bool) → n ≤ MOST_BLOCKS → k ≡ n → length v.excess ≡ n → length v.source ≡ n → v.label ≡ replicate n 0 → v.sink ≡ replicate n zero_amount → v.operation ≡ replicate n Idle
     → IsMarked (λ b. is_positive (amount_at v.excess b)) k ready → IsMarked (λ b. not (is_zero (amount_at v.excess b))) k undone → IsState v ready undone
 opening_state v n k ready undone few kn e s l t o w u =
     let size : length v.operation ≡ n = ap length o ∙ length-replicate n Idle in

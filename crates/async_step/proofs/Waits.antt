@@ -2,7 +2,7 @@
 use Rattle.std.proofs.Common.{◌≡◌, ◌↔◌, ℕ, ◌<◌, ◌≤◌, Bool, true, false, not, ◌||◌, List, length, Option, Some, None, refl, sym, ap, ap₂, subst, ◌∙◌, arith}
 use Rattle.std.proofs.lemmas.Bool.{and_parts}
 use Rattle.std.specs.Prelude.{MatchOption}
-use Rattle.ordered_group.specs.Amount.{Amount, zero_amount, amount_cmp}
+use Rattle.ordered_group.specs.Amount.{Amount, zero_amount, amount_cmp, is_zero}
 use Rattle.ordered_group.specs.Sums.{amount_at}
 use Rattle.ordered_group.proofs.Order.{amount_ranks, is_eq_tells}
 use Rattle.closure_net.specs.Network.{NetView, FlowView}
@@ -13,7 +13,7 @@ use Rattle.machine_law.specs.Quiet.{IsFlowOf}
 use Rattle.machine_law.specs.Reads.{is_positive}
 use Rattle.machine_law.proofs.Numbers.{positive-yes, tells_below}
 use Rattle.async_step.specs.Marks.{mark_at, NoneWithin, ahead_of, IsFirstRound}
-use Rattle.async_step.specs.Views.{StateView, state_of, operation_at, IsSized, IsState, is_zero, is_waiting, is_busy}
+use Rattle.async_step.specs.Views.{StateView, state_of, operation_at, IsSized, IsState, is_waiting, is_busy}
 use Rattle.machine_law.specs.Operations.{is_idle}
 use Rattle.async_step.specs.Answers.{IsStateOf, IsWaiting}
 

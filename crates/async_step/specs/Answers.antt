@@ -12,6 +12,7 @@ use Rattle.machine_law.specs.declared.operations.Operation.TheVariants.{Idle, Sc
 use Rattle.machine_law.specs.States.{State, opening}
 use Rattle.machine_law.specs.Residual.{room, capacity, end_label}
 use Rattle.machine_law.specs.Steps.{Step, Run, IsStateOfRun, next_kind, advance, push_amount}
+use Rattle.async_step.specs.declared.limits.TheConstants.{MOST_STEPS}
 use Rattle.async_step.specs.Views.{StateView, state_of}
 use Rattle.async_step.specs.declared.saw.Saw.{Saw}
 use Rattle.async_step.specs.declared.saw.Saw.TheVariants.{Excess, Capacity, Label, Moved, Raised}
@@ -86,7 +87,7 @@ pub record IsStateOf (net : NetView) (v : StateView) : Type 0 where
 -- the state goes over to this one, in one step
 pub record GoesTo (net : NetView) (old : StateView) (after : State) (new : StateView) : Type 0 where
   pub state : state_of new ≡ after
-  pub counted : old.steps < 2 ^ 40
+  pub counted : old.steps < MOST_STEPS
   pub fits : Fits net (state_of new)
   pub blocks : length new.operation ≡ length old.operation
   pub pairs : length new.flow ≡ length old.flow
@@ -96,7 +97,7 @@ abbrev pub CannotGo : NetView → StateView → State → StepRefusal → Type 0
 CannotGo net old after NoSuchBlock = ⊥
 CannotGo net old after (OutOfTurn kind) = ⊥
 CannotGo net old after TooLarge = ¬ (Fits net after)
-CannotGo net old after TooManySteps = Fits net after × (2 ^ 40 ≤ old.steps)
+CannotGo net old after TooManySteps = Fits net after × (MOST_STEPS ≤ old.steps)
 
 -- and it stays
 pub record Stays (net : NetView) (old : StateView) (after : State) (new : StateView) (refusal : StepRefusal) : Type 0 where
@@ -115,7 +116,7 @@ LeadsTelling f net old after tells new result = MatchResult result (λ saw. Goes
 pub record Stepped (net : NetView) (old : StateView) (event : Event) (new : StateView) (saw : Saw Amount) : Type 0 where
   pub step : Step net (state_of old) event (state_of new)
   pub saw_is : saw ≡ told net (state_of old) event.block
-  pub counted : old.steps < 2 ^ 40
+  pub counted : old.steps < MOST_STEPS
   pub state : IsStateOf net new
 
 -- the event's step is the one that is next for its block
@@ -128,7 +129,7 @@ abbrev pub RefusalStands : NetView → State → Event → StepRefusal → Type 
 RefusalStands net s event NoSuchBlock = length net.worths ≤ event.block
 RefusalStands net s event (OutOfTurn kind) = (event.block < length net.worths) × (next_kind net s event.block ≡ kind) × ¬ (kind ≡ event.kind)
 RefusalStands net s event TooLarge = IsNext net s event × ¬ (Fits net (advance net s event.block))
-RefusalStands net s event TooManySteps = IsNext net s event × Fits net (advance net s event.block) × (2 ^ 40 ≤ s.steps)
+RefusalStands net s event TooManySteps = IsNext net s event × Fits net (advance net s event.block) × (MOST_STEPS ≤ s.steps)
 
 -- a refused step: it changes nothing
 pub record IsRefused (net : NetView) (old : StateView) (event : Event) (new : StateView) (refusal : StepRefusal) : Type 0 where

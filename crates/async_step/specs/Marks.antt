@@ -1,6 +1,8 @@
 -- A set of blocks as marks, and what is counted of them.
 use Rattle.std.specs.Prelude.{◌≡◌, ℕ, ◌+◌, ◌-◌, ◌*◌, ◌/◌, ◌<◌, ◌≤◌, ◌^◌, nat_le, Bool, true, false, if◌then◌else◌, List, length, slice_index, slice_index_or}
+use Rattle.fixed_worth.specs.declared.limits.TheConstants.{MOST_BLOCKS}
 use Rattle.ordered_group.specs.Sets.{count_in}
+use Rattle.async_step.specs.declared.marks.TheConstants.{SMALL, MIDDLE, LARGE}
 
 -- whether block b is in the set
 abbrev pub mark_at : List Bool → ℕ → Bool
@@ -17,10 +19,10 @@ pub record IsCounted (marks : List Bool) (width : ℕ) (counts : List ℕ) : Typ
 
 -- the counts of all levels, and of all blocks
 pub record IsMarks (marks : List Bool) (smalls middles larges : List ℕ) (count : ℕ) : Type 0 where
-  pub few : length marks ≤ 2 ^ 24
-  pub small : IsCounted marks 64 smalls
-  pub middle : IsCounted marks 4096 middles
-  pub large : IsCounted marks 262144 larges
+  pub few : length marks ≤ MOST_BLOCKS
+  pub small : IsCounted marks SMALL smalls
+  pub middle : IsCounted marks MIDDLE middles
+  pub large : IsCounted marks LARGE larges
   pub held : count ≡ run_count marks 0 (length marks)
 
 -- a count of one more, or of one fewer

@@ -1,7 +1,7 @@
 -- States as lists, and what is kept beside them.
-use Rattle.std.specs.Prelude.{◌≡◌, ℕ, ◌<◌, ◌≤◌, ◌^◌, Bool, not, ◌&&◌, ◌||◌, List, map, length, slice_index, slice_index_or}
-use Rattle.std.specs.Ordering.{is_eq}
-use Rattle.ordered_group.specs.Amount.{Amount, zero_amount, amount_cmp}
+use Rattle.std.specs.Prelude.{◌≡◌, ℕ, ◌<◌, ◌≤◌, Bool, not, ◌&&◌, ◌||◌, List, map, length, slice_index, slice_index_or}
+use Rattle.fixed_worth.specs.declared.limits.TheConstants.{MOST_BLOCKS}
+use Rattle.ordered_group.specs.Amount.{Amount, is_zero}
 use Rattle.ordered_group.specs.Sums.{amount_at}
 use Rattle.machine_law.specs.declared.operations.Operation.{Operation}
 use Rattle.machine_law.specs.declared.operations.Operation.TheVariants.{Idle}
@@ -56,15 +56,11 @@ view_of f excess label source sink flow operation at_source at_sink steps = reco
 
 -- each list of blocks has the same length, which isn't great
 pub record IsSized (v : StateView) : Type 0 where
-  pub few : length v.operation ≤ 2 ^ 24
+  pub few : length v.operation ≤ MOST_BLOCKS
   pub excess : length v.excess ≡ length v.operation
   pub label : length v.label ≡ length v.operation
   pub source : length v.source ≡ length v.operation
   pub sink : length v.sink ≡ length v.operation
-
--- whether the amount is zero
-abbrev pub is_zero : Amount → Bool
-is_zero x = is_eq (amount_cmp x zero_amount)
 
 -- whether a block with this excess and operation is ready to begin one, and whether it is done for now
 abbrev pub is_waiting : Amount → Operation Amount → Bool

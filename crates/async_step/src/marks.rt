@@ -3,6 +3,7 @@
 ghost use Rattle.std.specs.Prelude.{◌≡◌, ◌↔◌, ℕ, ◌+◌, ◌<◌, ◌≤◌, ◌^◌, true, false, IsTrue, IfOk, MatchOption, length, replicate, slice_set};
 ghost use Rattle.async_step.specs.Marks.{mark_at, shifted, CanShift, NoneWithin, IsFirstWithin, IsFirstRound};
 
+use fixed_worth::MOST_BLOCKS;
 use std::alloc::{AllocError, Global};
 use std::marker::Model;
 
@@ -46,7 +47,7 @@ fn shifted(count: u32, up: bool) -> u32
 impl Marks {
     /// No block of these.
     pub fn new(alloc: Global, blocks: u32) -> Result<Marks, AllocError>
-        requires { blocks ≤ 2 ^ 24 }
+        requires { blocks ≤ MOST_BLOCKS }
         ensures { IfOk result (λ m. m ≡ replicate blocks false) }
     {
         let n = blocks as usize;

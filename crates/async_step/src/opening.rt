@@ -1,17 +1,18 @@
 //! The lists of the opening state.
 
-ghost use Rattle.std.specs.Prelude.{◌≡◌, ◌≤◌, ◌^◌, not, IfOk, All, length, map, replicate};
-ghost use Rattle.ordered_group.specs.Amount.{zero_amount, positive, FitsPair};
+ghost use Rattle.std.specs.Prelude.{◌≡◌, ◌≤◌, not, IfOk, All, length, map, replicate};
+ghost use Rattle.ordered_group.specs.Amount.{is_zero, positive, FitsPair};
 ghost use Rattle.ordered_group.specs.Sums.{amount_at};
 ghost use Rattle.machine_law.specs.declared.operations.Operation.TheVariants.{Idle};
 ghost use Rattle.machine_law.specs.Reads.{is_positive};
-ghost use Rattle.async_step.specs.Views.{is_zero, IsMarked};
+ghost use Rattle.async_step.specs.Views.{IsMarked};
 
 use crate::marks::Marks;
-use crate::predicates::{is_positive, is_zero, value_fits};
+use crate::predicates::{is_positive, value_fits};
 use closure_net::Net;
+use fixed_worth::MOST_BLOCKS;
 use machine_law::Operation;
-use ordered_group::{OrderedGroup, positive_part};
+use ordered_group::{OrderedGroup, is_zero, positive_part};
 use std::alloc::{AllocError, Global};
 
 /// What is positive of each block's worth.
@@ -30,17 +31,6 @@ pub fn positives<G: OrderedGroup>(alloc: Global, net: &Net<G>) -> Result<Vec<G>,
     Ok(amounts)
 }
 
-/// So many zeros.
-pub fn zeros<G: OrderedGroup>(alloc: Global, n: u32) -> Result<Vec<G>, AllocError>
-    ensures { IfOk result (λ v. map G.parts_of v.items ≡ replicate n zero_amount) }
-{
-    let mut amounts: Vec<G> = Vec::new(alloc);
-    for _k in 0..n {
-        amounts.push(G::zero())?;
-    }
-    Ok(amounts)
-}
-
 /// No operation for each of so many blocks.
 pub fn idle_operations<N: Copy>(alloc: Global, n: u32) -> Result<Vec<Operation<N>>, AllocError>
     ensures { IfOk result (λ v. v.items ≡ replicate n Idle) }
@@ -54,7 +44,7 @@ pub fn idle_operations<N: Copy>(alloc: Global, n: u32) -> Result<Vec<Operation<N
 
 /// The blocks whose excess is positive.
 pub fn waiting_marks<G: OrderedGroup>(alloc: Global, excess: &[G]) -> Result<Marks, AllocError>
-    requires { length excess.now ≤ 2 ^ 24 }
+    requires { length excess.now ≤ MOST_BLOCKS }
     ensures { IfOk result (λ m. IsMarked (λ b. is_positive (amount_at (map G.parts_of excess.now) b)) (length excess.now) m) }
 {
     let blocks = excess.len() as u32;
@@ -67,7 +57,7 @@ pub fn waiting_marks<G: OrderedGroup>(alloc: Global, excess: &[G]) -> Result<Mar
 
 /// The blocks whose excess isn't zero.
 pub fn busy_marks<G: OrderedGroup>(alloc: Global, excess: &[G]) -> Result<Marks, AllocError>
-    requires { length excess.now ≤ 2 ^ 24 }
+    requires { length excess.now ≤ MOST_BLOCKS }
     ensures { IfOk result (λ m. IsMarked (λ b. not (is_zero (amount_at (map G.parts_of excess.now) b))) (length excess.now) m) }
 {
     let blocks = excess.len() as u32;

@@ -1,26 +1,18 @@
 //! Tests of amounts and operations.
 
 ghost use Rattle.std.specs.Prelude.{◌≡◌, not, ◌&&◌, ◌||◌};
-ghost use Rattle.ordered_group.specs.Amount.{FitsPair};
+ghost use Rattle.ordered_group.specs.Amount.{is_zero, FitsPair};
 ghost use Rattle.machine_law.specs.Reads.{is_positive};
 ghost use Rattle.machine_law.specs.Operations.{operation_as, is_idle};
-ghost use Rattle.async_step.specs.Views.{is_zero};
 
 use machine_law::Operation;
-use ordered_group::OrderedGroup;
+use ordered_group::{OrderedGroup, is_zero};
 
 /// Whether the amount is above zero.
 pub fn is_positive<G: OrderedGroup>(amount: G) -> bool
     ensures { result ≡ is_positive (G.parts_of amount) }
 {
     G::zero().cmp(&amount).is_lt()
-}
-
-/// Whether the amount is zero.
-pub fn is_zero<G: OrderedGroup>(amount: G) -> bool
-    ensures { result ≡ is_zero (G.parts_of amount) }
-{
-    amount.cmp(&G::zero()).is_eq()
 }
 
 /// Whether there is no operation.

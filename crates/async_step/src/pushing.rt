@@ -215,7 +215,7 @@ impl<G: OrderedGroup> State<G> {
         ensures { let s = state_of self.old in Leads net.now self.old (given s block (G.parts_of amount) port) self.new result }
     {
         let rests = net.rests();
-        // proof: there are at most 2^24 blocks and 2^27 pairs
+        // proof: there are at most `MOST_BLOCKS` blocks and `MOST_PAIRS` pairs
         let _few = rests.len();
         match port.kind {
             PortKind::Sink => self.arrive_at_sink(net, block, amount),

@@ -13,7 +13,7 @@ pub enum StepRefusal {
     NoSuchBlock,
     /// The block's next step is of another kind: this one.
     OutOfTurn(Kind),
-    /// A number of the state after the step would leave its type.
+    /// A number of the state after the step would overflow its type.
     TooLarge,
     /// As many steps were made as are counted.
     TooManySteps,

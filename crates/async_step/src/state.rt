@@ -1,6 +1,6 @@
 //! The state of the machine.
 
-ghost use Rattle.std.specs.Prelude.{◌≡◌, ◌↔◌, ℕ, ◌+◌, ◌<◌, ◌≤◌, ◌^◌, true, IsTrue, IfOk, MatchOption, MatchResult, length, map, slice_set, slice_index};
+ghost use Rattle.std.specs.Prelude.{◌≡◌, ◌↔◌, ℕ, ◌+◌, ◌<◌, ◌≤◌, true, IsTrue, IfOk, MatchOption, MatchResult, length, map, slice_set, slice_index};
 ghost use Rattle.ordered_group.specs.Amount.{zero_amount};
 ghost use Rattle.ordered_group.specs.Sums.{amount_at};
 ghost use Rattle.closure_net.specs.Network.{NetView, flow_view};
@@ -14,18 +14,16 @@ ghost use Rattle.async_step.specs.Scans.{seen_by, chosen_by};
 ghost use Rattle.machine_law.specs.Reads.{IsScan};
 ghost use Rattle.async_step.specs.Answers.{IsStateOf, IsWaiting};
 
+use crate::limits::MOST_STEPS;
 use crate::marks::Marks;
-use crate::opening::{busy_marks, idle_operations, positives, waiting_marks, zeros};
+use crate::opening::{busy_marks, idle_operations, positives, waiting_marks};
 use crate::operations::{choose, see};
-use crate::predicates::{is_busy, is_idle, is_positive, is_waiting, is_zero};
+use crate::predicates::{is_busy, is_idle, is_positive, is_waiting};
 use closure_net::{Carried, Flow, Net, Port};
 use machine_law::Operation;
-use ordered_group::OrderedGroup;
+use ordered_group::{OrderedGroup, is_zero, zeros};
 use std::alloc::{AllocError, Global};
 use std::marker::Model;
-
-// The most steps that are made.
-const MOST_STEPS: u64 = 1 << 40;
 
 /// The state of the machine over a net: for each block its excess, its label, what it has of the
 /// source, what it gave the sink and its operation, and for each pair its flow.
@@ -70,7 +68,7 @@ impl<G: OrderedGroup> State<G> {
     {
         let blocks = net.worths().len() as u32;
         let rests = net.rests();
-        // proof: there are at most 2^24 blocks and 2^27 pairs
+        // proof: there are at most `MOST_BLOCKS` blocks and `MOST_PAIRS` pairs
         let _few = rests.len();
         let pairs = rests.pairs();
         let excess = positives(alloc, net)?;
@@ -240,7 +238,7 @@ impl<G: OrderedGroup> State<G> {
 
     /// Whether no further step is made.
     pub(crate) fn is_full(&self) -> bool
-        ensures { IsTrue result ↔ (2 ^ 40 ≤ self.now.steps) }
+        ensures { IsTrue result ↔ (MOST_STEPS ≤ self.now.steps) }
     {
         self.steps >= MOST_STEPS
     }
@@ -303,7 +301,7 @@ impl<G: OrderedGroup> State<G> {
     // Gives a block its next operation, and counts a step.
     pub(crate) fn go_on(&mut self, b: u32, operation: Operation<G>)
         requires block { b < length self.old.operation }
-        requires room { self.old.steps < 2 ^ 40 }
+        requires room { self.old.steps < MOST_STEPS }
         ensures { self.new ≡ record self.old {
           operation = slice_set self.old.operation b (operation_as G.parts_of operation);
           steps = self.old.steps + 1;
@@ -322,7 +320,7 @@ impl<G: OrderedGroup> State<G> {
     // changed in its place: to make it anew costs more than the rest of the step.
     pub(crate) fn see(&mut self, b: u32, ports: u32, capacity: G)
         requires block { b < length self.old.operation }
-        requires room { self.old.steps < 2 ^ 40 }
+        requires room { self.old.steps < MOST_STEPS }
         requires scan { IsScan ports ((state_of self.old).operation b) }
         ensures { let s = state_of self.old in self.new ≡ record self.old {
           operation = slice_set self.old.operation b (seen_by ports (s.label b) (G.parts_of capacity) (s.operation b));
@@ -344,7 +342,7 @@ impl<G: OrderedGroup> State<G> {
     // operation and has one after, so no mark changes.
     pub(crate) fn choose(&mut self, b: u32, ports: u32, port: Port, label: u64)
         requires block { b < length self.old.operation }
-        requires room { self.old.steps < 2 ^ 40 }
+        requires room { self.old.steps < MOST_STEPS }
         requires scan { IsScan ports ((state_of self.old).operation b) }
         ensures { let s = state_of self.old in self.new ≡ record self.old {
           operation = slice_set self.old.operation b (chosen_by ports (s.label b) port label (s.operation b));

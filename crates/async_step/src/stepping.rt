@@ -93,7 +93,7 @@ impl<G: OrderedGroup> State<G> {
     ///
     /// # Errors
     /// The first of these that stands: `TooLarge` where a number of the state after the step would
-    /// leave its type; `TooManySteps` where 2^40 steps were made.
+    /// overflow its type; `TooManySteps` where 2^40 steps were made.
     pub fn next_step(&mut self, net: &Net<G>, b: u32) -> Result<Saw<G>, StepRefusal>
         requires over { IsStateOf net.now self.old }
         requires block { b < length net.now.worths }
@@ -110,7 +110,7 @@ impl<G: OrderedGroup> State<G> {
     /// # Errors
     /// The first of these that stands: `NoSuchBlock` for a block that the net hasn't; `OutOfTurn`
     /// where the block's next step is of another kind, with that kind; `TooLarge` where a number of
-    /// the state after the step would leave its type; `TooManySteps` where 2^40 steps were made.
+    /// the state after the step would overflow its type; `TooManySteps` where 2^40 steps were made.
     pub fn step(&mut self, net: &Net<G>, event: Event) -> Result<Saw<G>, StepRefusal>
         requires { IsStateOf net.now self.old }
         ensures made { MatchResult result

@@ -1,10 +1,11 @@
 //! Runs whose steps and states are known from elsewhere.
 
-ghost use Rattle.std.specs.Prelude.{◌≤◌, ◌^◌};
+ghost use Rattle.std.specs.Prelude.{◌≤◌};
 ghost use Rattle.async_step.specs.Answers.{IsStateOf};
 
 use crate::{ReplayFault, Saw, State, StepRefusal, replay};
 use closure_net::{Carried, Flow, Net};
+use fixed_worth::MOST_BLOCKS;
 use machine_law::{Event, Kind};
 use ordered_group::{Worth, WorthSize};
 use prec_file::Rests;
@@ -308,7 +309,7 @@ fn worth(value: i128) -> Worth {
 }
 
 fn rests(alloc: Global, n: u32, pairs: &[(u32, u32)]) -> Result<Rests, Fail>
-    requires { n ≤ 2 ^ 24 }
+    requires { n ≤ MOST_BLOCKS }
 {
     Ok(Rests::from_pairs(alloc, n, pairs).ok().ok_or("pairs")?)
 }

@@ -2,10 +2,11 @@
 use Rattle.std.proofs.Common.{◌≡◌, ℕ, ℤ, pos, ◌+◌, ◌*◌, ◌<◌, ◌≤◌, ◌≢◌, Bool, true, false, cond, eqb, inl, inr, List, [], ◌∷◌, ◌++◌, length, get_or, set, replicate, Option, Some, None, refl, sym, ap, ◌∙◌, subst, arith, append-nil, get_or-set_same, get_or-set_other, true≢false}
 use Rattle.std.specs.Prelude.{◌||◌, nat_le}
 use Rattle.std.specs.Option.{option_or}
-use Rattle.std.proofs.lemmas.Bool.{cases_lt}
+use Rattle.std.proofs.lemmas.Bool.{cases_lt, or_parts}
 use Rattle.std.proofs.lemmas.Bool.Decides.{nat_tests}
 use Rattle.std.proofs.lemmas.List.{length-replicate, get_or-replicate}
 use Rattle.std.proofs.lemmas.List.Folds.{list_any-append}
+use Rattle.std.proofs.Math.Bool.{or-false}
 use Rattle.std.proofs.Math.ListN.{length-set}
 use Rattle.fixed_worth.specs.declared.limits.TheConstants.{MOST_BLOCKS}
 use Rattle.fixed_worth.specs.Text.{Left, BeginsTooLong, fields_of}
@@ -54,25 +55,17 @@ begins n chosen all seen places values left e s p v = record {
   all_values = v;
 }
 
-or_false : (x : Bool) → (x || false) ≡ x
-or_false true = refl
-or_false false = refl
-
 or_true : (x : Bool) → (x || true) ≡ true
 or_true true = refl
 or_true false = refl
 
 has-push : (before : List Line) (l : Line) (b : ℕ) → has_record (before ++ l ∷ []) b ≡ (has_record before b || is_record_of b (fields_of l.text))
-has-push before l b = list_any-append (λ x. is_record_of b (fields_of x.text)) before (l ∷ []) ∙ ap (λ t. has_record before b || t) (or_false (is_record_of b (fields_of l.text)))
+has-push before l b = list_any-append (λ x. is_record_of b (fields_of x.text)) before (l ∷ []) ∙ ap (λ t. has_record before b || t) (or-false (is_record_of b (fields_of l.text)))
 
 -- A line that is no record of b leaves b's record.
 record_other : (before : List Line) (l : Line) (b : ℕ) → is_record_of b (fields_of l.text) ≡ false → record_among (before ++ l ∷ []) b ≡ record_among before b
 record_other [] l b e = rw e refl
 record_other (x ∷ xs) l b e = ap (cond (is_record_of b (fields_of x.text)) (fields_of x.text)) (record_other xs l b e)
-
-or_parts : (a b : Bool) → (a || b) ≡ false → (a ≡ false) × (b ≡ false)
-or_parts true b h = absurd (true≢false h)
-or_parts false b h = (refl, h)
 
 -- A block's first record is its record.
 record_first : (before : List Line) (l : Line) (b : ℕ) → has_record before b ≡ false → is_record_of b (fields_of l.text) ≡ true → record_among (before ++ l ∷ []) b ≡ fields_of l.text
@@ -131,7 +124,7 @@ passes n chosen all seen places values left next k text g h s =
       fault = no_fault n chosen all seen places values left next k text g h (rw s refl);
       whole = moved all g.before left next k text g.whole h;
       long = still_long all left next k text g.long h;
-      marks = λ b i. g.marks b i ∙ sym (has-push g.before l b ∙ ap (λ t. has_record g.before b || t) (out b) ∙ or_false (has_record g.before b));
+      marks = λ b i. g.marks b i ∙ sym (has-push g.before l b ∙ ap (λ t. has_record g.before b || t) (out b) ∙ or-false (has_record g.before b));
       count = g.count ∙ sym (ap length (push_skipped g.before k text s));
       place = λ b i t. g.place b i t ∙ ap place_of (sym (record_other g.before l b (out b)));
       value = λ b i j t m. g.value b i j t m ∙ ap (λ (fs : List (List ℕ)). value_in (columns_of fs) (get_or chosen i 0)) (sym (record_other g.before l b (out b)));
@@ -152,7 +145,7 @@ mark_at seen before block b l i h r true e =
     subst (λ (x : ℕ). get_or (set seen block true) x false ≡ true) (sym same) (get_or-set_same seen block true false i) ∙ sym (has-push before l b ∙ ap (λ t. has_record before b || t) (r ∙ e) ∙ or_true (has_record before b))
 mark_at seen before block b l i h r false e =
     let ne : b ≢ block = grind (arith, nat_tests) in
-    get_or-set_other seen block b true false ne ∙ h ∙ sym (has-push before l b ∙ ap (λ t. has_record before b || t) (r ∙ e) ∙ or_false (has_record before b))
+    get_or-set_other seen block b true false ne ∙ h ∙ sym (has-push before l b ∙ ap (λ t. has_record before b || t) (r ∙ e) ∙ or-false (has_record before b))
 
 place_here : (places : List Place) (before : List Line) (block b : ℕ) (p : Place) (l : Line) → block < length places → has_record before block ≡ false → is_record_of b (fields_of l.text) ≡ eqb block b → p ≡ place_of (fields_of l.text)
     → (t : Bool) → eqb block b ≡ t → (t ≡ false → get_or places b origin ≡ place_of (record_among before b)) → get_or (set places block p) b origin ≡ place_of (record_among (before ++ l ∷ []) b)

@@ -1,12 +1,8 @@
 -- How faults are printed.
-use Rattle.std.specs.Prelude.{ℕ, List, ◌++◌, codes}
-use Rattle.std.specs.Fmt.{decimal}
+use Rattle.std.specs.Prelude.{ℕ, List, codes}
+pub use Rattle.fixed_worth.specs.FaultText.{at_line}
 use Rattle.blocks_file.specs.declared.faults.BlocksFault.{BlocksFault}
 use Rattle.blocks_file.specs.declared.faults.BlocksFault.TheVariants.{Text, Number, NoColumn, UnknownBlock, Repeated, TooMany, NoMemory}
-
--- A word with a line number in parentheses.
-abbrev pub at_line : List ℕ → ℕ → List ℕ
-at_line word line = word ++ (codes "(" ++ (decimal line ++ codes ")"))
 
 -- The fault's name, with its line number in parentheses where it has one.
 abbrev pub blocks_fault_text : BlocksFault → List ℕ

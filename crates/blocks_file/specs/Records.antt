@@ -7,9 +7,9 @@ use Rattle.fixed_worth.specs.declared.limits.TheConstants.{MOST_BLOCKS, LINE_BYT
 use Rattle.fixed_worth.specs.declared.numerals.NumberFault.{NumberFault}
 use Rattle.fixed_worth.specs.Numeral.{signed_of}
 use Rattle.fixed_worth.specs.Decimal.{decimal_of}
-use Rattle.fixed_worth.specs.Text.{lines_of, fields_of}
-use Rattle.fixed_worth.specs.Record.{Line, numbered, reads, is_skipped}
-pub use Rattle.fixed_worth.specs.Record.{number_of}
+use Rattle.fixed_worth.specs.Text.{fields_of}
+use Rattle.fixed_worth.specs.Record.{Line, reads, is_skipped}
+pub use Rattle.fixed_worth.specs.Record.{lines_in, number_of}
 use Rattle.blocks_file.specs.declared.coordinates.Place.{Place}
 use Rattle.blocks_file.specs.declared.faults.BlocksFault.{BlocksFault}
 use Rattle.blocks_file.specs.declared.faults.BlocksFault.TheVariants.{Text, Number, NoColumn, UnknownBlock, Repeated, TooMany, NoMemory}
@@ -116,10 +116,6 @@ many_fault lines = extra_fault MOST_BLOCKS (record_lines lines)
 -- The faults that come before all that is wrong with single records.
 abbrev pub early_fault : List Line → Option BlocksFault
 early_fault lines = option_or (long_fault lines) (many_fault lines)
-
--- The lines of a text, numbered from 1 on.
-abbrev pub lines_in : List ℕ → List Line
-lines_in text = numbered 0 (lines_of text)
 
 -- The number of blocks of a text: that of its records.
 abbrev pub count_of : List ℕ → ℕ

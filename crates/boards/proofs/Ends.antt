@@ -1,5 +1,5 @@
 -- What turns leave of a board, and how they end its run.
-use Rattle.std.proofs.Common.{◌≡◌, ◌↔◌, ℕ, ◌≤◌, ◌^◌, IsTrue, Bool, refl, sym, ap, subst, ◌∙◌, arith, inl, inr, true, false, Option, ◌∷◌, [], ◌++◌}
+use Rattle.std.proofs.Common.{◌≡◌, ◌↔◌, ℕ, ◌≤◌, IsTrue, Bool, refl, sym, ap, subst, ◌∙◌, arith, inl, inr, true, false, Option, ◌∷◌, [], ◌++◌}
 use Rattle.ordered_group.specs.Amount.{zero_amount}
 use Rattle.ordered_group.proofs.Order.{AtMost-same, Below-not}
 use Rattle.closure_net.specs.Network.{NetView, FlowView, IsNet}
@@ -8,8 +8,9 @@ use Rattle.machine_law.specs.Steps.{next_event, ReadsNoZero}
 use Rattle.machine_law.specs.Quiet.{IsFlowOf}
 use Rattle.machine_law.proofs.Quiet.{quiet_solves}
 use Rattle.machine_law.proofs.ActiveRuns.{active_more, excess_read_idle}
+use Rattle.async_step.specs.declared.limits.TheConstants.{MOST_STEPS}
 use Rattle.async_step.specs.Answers.{Fits}
-use Rattle.boards.specs.Runs.{SomeNextLeaves, IsMadeByTurns}
+use Rattle.boards.specs.Runs.{SomeNextOverflows, IsMadeByTurns}
 use Rattle.boards.specs.Boards.{BoardView, shown, IsBoard, IsTurnBoard, IsOpened, HasSettled}
 use Rattle.boards.specs.Turns.{IsPicked, IsDue, HasNoneDue, HasServed, Sticks, IsStepOf, IsEnd, IsTurn}
 use Rattle.boards.specs.Ends.{HasEnded, GoesOn}
@@ -80,7 +81,7 @@ module _ (old new : BoardView) (was : IsTurnBoard old) (is : IsBoard new) where
   sticks own from steps b due h = record {
     is_board = is;
     made = subst (λ (x : BoardView). IsMadeByTurns x.net (shown x)) (sym h.marked) was.made;
-    why = λ t. subst (λ (x : BoardView). SomeNextLeaves x.net (shown x)) (sym h.marked) (record { block = b; known = picked_inside old own from b due.picked; leaves = h.leaves });
+    why = λ t. subst (λ (x : BoardView). SomeNextOverflows x.net (shown x)) (sym h.marked) (record { block = b; known = picked_inside old own from b due.picked; overflows = h.overflows });
   }
 
   pub turned : (own : Option ℕ) (from steps : ℕ) (turn : Turn) → IsTurn old own from steps new turn → IsTurnBoard new
@@ -101,7 +102,7 @@ opened net board is o = record {
 }
 
 -- ---- how turns end a run
-module _ (first old new : BoardView) (own : Option ℕ) (from steps : ℕ) (small : steps ≤ 2 ^ 40) (goes : GoesOn first old steps) (is : IsTurnBoard new) where
+module _ (first old new : BoardView) (own : Option ℕ) (from steps : ℕ) (small : steps ≤ MOST_STEPS) (goes : GoesOn first old steps) (is : IsTurnBoard new) where
   same_state : (end : End) → IsEnd old own from steps new end → (new.net ≡ old.net) × (new.state ≡ old.state)
   same_state Quiet h = (ap (λ (x : BoardView). x.net) h.1, ap (λ (x : BoardView). x.state) h.1)
   same_state Stuck (inl h) = (ap (λ (x : BoardView). x.net) h.1, ap (λ (x : BoardView). x.state) h.1)

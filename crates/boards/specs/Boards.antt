@@ -9,7 +9,7 @@ use Rattle.machine_law.specs.States.{State, opening, IsQuiet}
 use Rattle.machine_law.specs.Quiet.{IsFlowOf, IsSolved}
 use Rattle.async_step.specs.Views.{StateView, state_of}
 use Rattle.async_step.specs.Answers.{IsStateOf, Stepped, RefusalStands}
-use Rattle.boards.specs.Runs.{SomeNextLeaves, SomeRunLeaves, IsMadeByTurns}
+use Rattle.boards.specs.Runs.{SomeNextOverflows, SomeRunOverflows, IsMadeByTurns}
 
 -- a net, the lists of a state, and whether the run can't go on since a number wouldn't fit
 pub record BoardView : Type 0 where
@@ -32,13 +32,13 @@ blocks_of board = length board.net.worths
 -- doesn't fit. Steps of any block may have been made on it.
 pub record IsBoard (board : BoardView) : Type 0 where
   pub over : IsStateOf board.net board.state
-  pub why : board.stuck ≡ true → SomeRunLeaves board.net
+  pub why : board.stuck ≡ true → SomeRunOverflows board.net
 
 -- Turns alone made its steps; and it is stuck only where a number of the state after its own next step of some block doesn't fit.
 pub record IsTurnBoard (board : BoardView) : Type 0 where
   pub is_board : IsBoard board
   pub made : IsMadeByTurns board.net (shown board)
-  pub why : board.stuck ≡ true → SomeNextLeaves board.net (shown board)
+  pub why : board.stuck ≡ true → SomeNextOverflows board.net (shown board)
 
 -- a board as it opens over a net
 pub record IsOpened (net : NetView) (board : BoardView) : Type 0 where

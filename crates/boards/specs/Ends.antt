@@ -2,7 +2,7 @@
 use Rattle.std.specs.Prelude.{◌≡◌, ℕ, ◌<◌, ◌≤◌, Option, Some}
 use Rattle.machine_law.specs.declared.operations.Operation.TheVariants.{Idle}
 use Rattle.machine_law.specs.States.{State, IsQuiet}
-use Rattle.boards.specs.Runs.{SomeNextLeaves}
+use Rattle.boards.specs.Runs.{SomeNextOverflows}
 use Rattle.boards.specs.Boards.{BoardView, shown}
 use Rattle.boards.specs.declared.turn.End.{End}
 use Rattle.boards.specs.declared.turn.End.TheVariants.{Quiet, Stuck, Limit, Full}
@@ -24,7 +24,7 @@ pub record IsCutOffAt (board : BoardView) (steps : ℕ) : Type 0 where
 -- why the run of this board ends
 abbrev pub HasEnded : BoardView → ℕ → End → Type 0
 HasEnded board limit Quiet = IsQuiet board.net (shown board)
-HasEnded board limit Stuck = SomeNextLeaves board.net (shown board)
+HasEnded board limit Stuck = SomeNextOverflows board.net (shown board)
 HasEnded board limit Limit = IsCutOffAt board limit
 HasEnded board limit Full = ⊥
 

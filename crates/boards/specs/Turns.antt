@@ -1,8 +1,9 @@
 -- What a turn at a board does.
-use Rattle.std.specs.Prelude.{◌≡◌, ℕ, ◌<◌, ◌≤◌, ◌^◌, ◌⊎◌, ◌↔◌, IsTrue, Bool, true, false, Option, Some}
+use Rattle.std.specs.Prelude.{◌≡◌, ℕ, ◌<◌, ◌≤◌, ◌⊎◌, ◌↔◌, IsTrue, Bool, true, false, Option, Some}
 use Rattle.machine_law.specs.declared.operations.Operation.TheVariants.{Idle}
 use Rattle.machine_law.specs.States.{IsQuiet}
 use Rattle.machine_law.specs.Steps.{Step, advance, next_event}
+use Rattle.async_step.specs.declared.limits.TheConstants.{MOST_STEPS}
 use Rattle.async_step.specs.Marks.{IsFirstRound}
 use Rattle.async_step.specs.Answers.{Fits, IsWaiting}
 use Rattle.boards.specs.Boards.{BoardView, shown, blocks_of}
@@ -74,20 +75,20 @@ HasNoneDue board own steps (Ended end) = IsOver board steps end
 
 -- the one step that is next for the block was made; more tells whether its operation goes on
 pub record HasServed (old : BoardView) (b : ℕ) (new : BoardView) (more : Bool) : Type 0 where
-  pub counted : (shown old).steps < 2 ^ 40
+  pub counted : (shown old).steps < MOST_STEPS
   pub step : Step old.net (shown old) (next_event old.net (shown old) b) (shown new)
   pub rest : new ≡ record old { state = new.state }
   pub goes_on : IsTrue more ↔ ¬ ((shown new).operation b ≡ Idle)
 
--- a number of the state after it would leave its type: the board is marked as stuck, and nothing else changes
+-- the step overflows: the board is marked as stuck, and nothing else changes
 pub record Sticks (old : BoardView) (b : ℕ) (new : BoardView) : Type 0 where
-  pub leaves : ¬ (Fits old.net (advance old.net (shown old) b))
+  pub overflows : ¬ (Fits old.net (advance old.net (shown old) b))
   pub marked : new ≡ record old { stuck = true }
 
 -- the step would fit, but as many were made as are counted
 pub record IsUncounted (board : BoardView) (b : ℕ) : Type 0 where
   pub fits : Fits board.net (advance board.net (shown board) b)
-  pub full : 2 ^ 40 ≤ (shown board).steps
+  pub full : MOST_STEPS ≤ (shown board).steps
 
 -- what is answered of the step that is next for block b, and what it leaves
 abbrev pub IsStepOf : BoardView → ℕ → BoardView → Turn → Type 0

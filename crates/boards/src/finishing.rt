@@ -1,17 +1,18 @@
 //! All the turns that are left of a run.
 
-ghost use Rattle.std.specs.Prelude.{◌≡◌, ◌+◌, ◌<◌, ◌≤◌, ◌^◌, MatchOption};
+ghost use Rattle.std.specs.Prelude.{◌≡◌, ◌+◌, ◌<◌, ◌≤◌, MatchOption};
 ghost use Rattle.boards.specs.Boards.{shown, blocks_of, IsTurnBoard};
 ghost use Rattle.boards.specs.Ends.{AreIdleBelow, HasEnded, GoesOn};
 
 use crate::turn::{End, Turn};
 use crate::turn_board::TurnBoard;
+use async_step::MOST_STEPS;
 use ordered_group::OrderedGroup;
 
 // Ends the operation of a block, if it has one. Answers why the run ends, where it ends before.
 fn end_operation<G: OrderedGroup>(board: &mut TurnBoard<G>, block: u32, steps: u64) -> Option<End>
     requires inside { block < blocks_of board.old }
-    requires counted { steps ≤ 2 ^ 40 }
+    requires counted { steps ≤ MOST_STEPS }
     requires within { (shown board.old).steps ≤ steps }
     requires idle { AreIdleBelow board.old block }
     ensures goes_on { GoesOn board.old board.new steps }
@@ -31,7 +32,7 @@ fn end_operation<G: OrderedGroup>(board: &mut TurnBoard<G>, block: u32, steps: u
 
 // Ends the operations that there are. Answers why the run ends, where it ends before.
 fn end_operations<G: OrderedGroup>(board: &mut TurnBoard<G>, steps: u64) -> Option<End>
-    requires counted { steps ≤ 2 ^ 40 }
+    requires counted { steps ≤ MOST_STEPS }
     requires within { (shown board.old).steps ≤ steps }
     ensures goes_on { GoesOn board.old board.new steps }
     ensures end { MatchOption result (AreIdleBelow board.new (blocks_of board.new)) (λ end. HasEnded board.new steps end) }
@@ -46,7 +47,7 @@ fn end_operations<G: OrderedGroup>(board: &mut TurnBoard<G>, steps: u64) -> Opti
 
 // Makes one operation after the other until the run ends, and answers why.
 fn take_turns<G: OrderedGroup>(board: &mut TurnBoard<G>, steps: u64) -> End
-    requires counted { steps ≤ 2 ^ 40 }
+    requires counted { steps ≤ MOST_STEPS }
     requires within { (shown board.old).steps ≤ steps }
     requires idle { AreIdleBelow board.old (blocks_of board.old) }
     ensures goes_on { GoesOn board.old board.new steps }
@@ -72,7 +73,7 @@ fn take_turns<G: OrderedGroup>(board: &mut TurnBoard<G>, steps: u64) -> End
 /// Makes the turns that are left, on this thread, until the run ends, and answers why it does. Each is
 /// a turn of the first block that has an operation, or where none has of the next one that waits.
 pub fn finish<G: OrderedGroup>(board: &mut TurnBoard<G>, steps: u64) -> End
-    requires counted { steps ≤ 2 ^ 40 }
+    requires counted { steps ≤ MOST_STEPS }
     requires within { (shown board.old).steps ≤ steps }
     ensures goes_on { GoesOn board.old board.new steps }
     ensures end { HasEnded board.new steps result }

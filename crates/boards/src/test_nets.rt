@@ -3,7 +3,7 @@
 //! `workers` has the same file. What stands under `cfg(test)` in one crate is not to be seen by the tests of
 //! another, so to share these nets a crate would have to publish them: an interface that no program needs.
 
-ghost use Rattle.std.specs.Prelude.{◌≤◌, ◌^◌};
+ghost use Rattle.std.specs.Prelude.{◌≤◌};
 
 use closure_net::Net;
 use ordered_group::{OrderedGroup, WorthSize};
@@ -18,7 +18,7 @@ pub fn net_of<G: OrderedGroup>(
     pairs: &[(u32, u32)],
     nanos: &[i128],
 ) -> Result<Net<G>, Fail>
-    requires { n ≤ 2 ^ 24 }
+    requires { n ≤ 100 }
 {
     let rests = Rests::from_pairs(alloc, n, pairs).ok().ok_or("pairs")?;
     Ok(Net::of_worths(alloc, rests, nanos).ok().ok_or("worths")?)

@@ -21,7 +21,7 @@ pub enum Turn {
 pub enum End {
     /// No block has excess or an operation.
     Quiet,
-    /// A number of the state after a step would leave its type.
+    /// A number of the state after a step would overflow its type.
     Stuck,
     /// As many steps were made as the run may make.
     Limit,

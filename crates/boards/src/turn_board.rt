@@ -14,7 +14,7 @@ use std::marker::Model;
 
 /// A board whose steps are made by turns alone, so its type keeps what is true of such runs: no step
 /// read an excess of zero, after each step all numbers fit, and where the board is stuck a number of
-/// the state after its next step of some block would leave its type.
+/// the state after its next step of some block would overflow its type.
 #[derive(Drop)]
 pub struct TurnBoard<G: OrderedGroup> {
     board: Board<G>,

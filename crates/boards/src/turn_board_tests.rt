@@ -1,9 +1,10 @@
 //! Whole runs on one thread, by turns alone.
 
-ghost use Rattle.std.specs.Prelude.{◌≤◌, ◌^◌};
+ghost use Rattle.std.specs.Prelude.{◌≤◌};
 
 use crate::test_nets::{sizes_too_large, two_on_dear_waste};
 use crate::{Board, End, Turn, TurnBoard, finish};
+use async_step::MOST_STEPS;
 use closure_net::{Net, pit_of};
 use ordered_group::WorthSize;
 use std::alloc::Global;
@@ -18,7 +19,7 @@ fn ends(
     steps: u64,
     end: End,
 ) -> Result<Board<WorthSize>, Fail>
-    requires { steps ≤ 2 ^ 40 }
+    requires { steps ≤ MOST_STEPS }
 {
     let mut board = TurnBoard::open(alloc, net)?;
     assert_eq!(rt; finish(&mut board, steps), end);

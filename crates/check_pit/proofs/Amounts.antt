@@ -1,7 +1,11 @@
--- Amounts of values that were read from a list.
-use Rattle.std.proofs.Common.{◌≡◌, ℕ, ◌<◌, List, length, get_or, map, sym, ap, subst, ◌∙◌}
+-- Amounts of values that were read from a list, and the numbers of zero.
+use Rattle.std.proofs.Common.{◌≡◌, ℕ, ◌<◌, pos, List, length, get_or, map, refl, sym, ap, subst, ◌∙◌}
+use Rattle.std.specs.Prelude.{◌&&◌}
+use Rattle.std.specs.Ordering.{ordering_then, int_cmp, int_eq, is_eq}
+use Rattle.std.specs.declared.cmp.Ordering.{Ordering}
+use Rattle.std.specs.declared.cmp.Ordering.TheVariants.{Less, Equal, Greater}
 use Rattle.closure_net.proofs.Views.{at_view}
-use Rattle.ordered_group.specs.Amount.{Amount, zero_amount, minus, positive, FitsPair}
+use Rattle.ordered_group.specs.Amount.{Amount, zero_amount, is_zero, minus, positive, FitsPair}
 use Rattle.ordered_group.specs.Sums.{amount_at}
 use Rattle.closure_net.specs.Flows.{Within, WithinAt, room_at}
 
@@ -20,3 +24,12 @@ within_there f ws ss ts worths source sink i w s t is_w is_s is_t hw hs ht ew es
 -- what the source could still give block i, by what was read and computed
 pub room_here : (ws ss : List Amount) (i : ℕ) (w s p r : Amount) → amount_at ws i ≡ w → amount_at ss i ≡ s → p ≡ positive w → r ≡ minus p s → room_at ws ss i ≡ r
 room_here ws ss i w s p r is_w is_s e d = ap (λ x. minus (positive x) (amount_at ss i)) is_w ∙ ap (minus (positive w)) is_s ∙ ap (λ x. minus x s) (sym e) ∙ sym d
+
+equal_then : (a b : Ordering) → is_eq (ordering_then a b) ≡ (is_eq a && is_eq b)
+equal_then Less b = refl
+equal_then Equal b = refl
+equal_then Greater b = refl
+
+-- an amount is zero where both its numbers are
+pub zero_numbers : (x : Amount) → is_zero x ≡ (int_eq x.w (pos 0) && int_eq x.c (pos 0))
+zero_numbers x = equal_then (int_cmp x.w (pos 0)) (int_cmp x.c (pos 0))

@@ -1,11 +1,12 @@
 -- A header without a fault is spelled as its values are.
-use Rattle.std.proofs.Common.{◌≡◌, ℕ, ◌+◌, ◌^◌, Bool, true, false, cond, eqb, List, [], ◌∷◌, ◌++◌, drop, Option, Some, None, Result, Ok, Err, refl, sym, ap, ◌∙◌, append_assoc}
+use Rattle.std.proofs.Common.{◌≡◌, ℕ, ◌+◌, Bool, true, false, cond, eqb, List, [], ◌∷◌, ◌++◌, drop, Option, Some, None, Result, Ok, Err, refl, sym, ap, ◌∙◌, append_assoc}
 use Rattle.std.specs.Prelude.{unwrap_or}
 use Rattle.std.specs.Result.{result_unwrap_or}
 use Rattle.std.specs.Str.{bytes_eq}
 use Rattle.std.specs.Fmt.{decimal}
 use Rattle.std.proofs.lemmas.Slice.Eq.{bytes_eq-Decides}
 use lib.Chars.{codes}
+use Rattle.fixed_worth.specs.declared.limits.TheConstants.{MOST_BLOCKS}
 use Rattle.ordered_group.specs.declared.groups.Group.{Group}
 use Rattle.ordered_group.specs.declared.groups.Group.TheVariants.{Worth, Pair}
 use Rattle.check_pit.specs.declared.header.Header.{Header}
@@ -61,7 +62,7 @@ number_wanted (Some w) (Some k) n h = number_kept w k n (eqb k w.blocks) h
 number_wanted (Some w) None n h = absurd cc
 
 blocks_at : (wanted : Option Wanted) (text : List ℕ) (o : Option (List ℕ)) (n : ℕ) → value_behind (codes "BLOCKS") (words_of text) ≡ o → blocks_said wanted o ≡ Ok n → text ≡ spaced (codes "BLOCKS" ∷ decimal n ∷ [])
-blocks_at wanted text (Some w) n e h = keyed (codes "BLOCKS") w text e ∙ ap (λ (x : List ℕ). spaced (codes "BLOCKS" ∷ x ∷ [])) (number_is w (2 ^ 24 + 1) n (number_wanted wanted (number_below (2 ^ 24 + 1) w) n h))
+blocks_at wanted text (Some w) n e h = keyed (codes "BLOCKS") w text e ∙ ap (λ (x : List ℕ). spaced (codes "BLOCKS" ∷ x ∷ [])) (number_is w (MOST_BLOCKS + 1) n (number_wanted wanted (number_below (MOST_BLOCKS + 1) w) n h))
 blocks_at wanted text None n e h = absurd cc
 
 -- The price.

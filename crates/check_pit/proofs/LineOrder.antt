@@ -6,12 +6,12 @@ use Rattle.std.specs.Ordering.{int_eq, nat_cmp, ordering_then, ordering_reverse,
 use Rattle.std.specs.declared.cmp.Ordering.{Ordering}
 use Rattle.std.specs.declared.cmp.Ordering.TheVariants.{Less, Equal, Greater}
 use Rattle.std.proofs.lemmas.Cmp.{nat_cmp_total, on_total, then_total}
-use Rattle.ordered_group.specs.Amount.{Amount, zero_amount}
+use Rattle.ordered_group.specs.Amount.{Amount, zero_amount, is_zero}
 use Rattle.check_pit.specs.declared.lines_of_body.LineKind.TheVariants.{Pit}
 use Rattle.check_pit.specs.declared.lines_of_body.BodyLine.{BodyLine}
 use Rattle.check_pit.specs.BodyLines.{rank, is_end, is_above, is_of_model}
 use Rattle.check_pit.specs.Certificate.{amount_of, given, is_rest}
-use Rattle.check_pit.specs.Written.{is_zero}
+use Rattle.check_pit.proofs.Amounts.{zero_numbers}
 use Rattle.check_pit.proofs.Going.{carries}
 use Rattle.check_pit.proofs.Order.{InOrder, Good}
 
@@ -97,7 +97,7 @@ good_is_proper counts n has l g = record {
   last = g.last;
   other = g.sound.other;
   none = g.sound.none;
-  some = λ h. not_zero counts l.worth l.count (int_eq l.count (pos 0)) (int_eq l.worth (pos 0)) refl refl (g.sound.some h);
+  some = λ h. zero_numbers (amount_of l) ∙ not_zero counts l.worth l.count (int_eq l.count (pos 0)) (int_eq l.worth (pos 0)) refl refl (g.sound.some h);
   pair = g.of_model;
 }
 

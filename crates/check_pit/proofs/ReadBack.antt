@@ -1,5 +1,5 @@
 -- The text of a value is read without a fault.
-use Rattle.std.proofs.Common.{◌≡◌, ℕ, ◌+◌, ◌≤◌, ◌^◌, Bool, true, false, cond, ltb, List, [], ◌∷◌, ◌++◌, length, drop, Option, Some, None, Result, Ok, refl, sym, ap, ◌∙◌, subst, arith, append_assoc, length-append}
+use Rattle.std.proofs.Common.{◌≡◌, ℕ, ◌+◌, ◌≤◌, Bool, true, false, cond, ltb, List, [], ◌∷◌, ◌++◌, length, drop, Option, Some, None, Result, Ok, refl, sym, ap, ◌∙◌, subst, arith, append_assoc, length-append}
 use Rattle.std.proofs.lemmas.Bool.{eq-eqb}
 use Rattle.std.specs.Prelude.{pos}
 use Rattle.std.specs.Str.{bytes_eq}
@@ -8,6 +8,7 @@ use Rattle.std.proofs.lemmas.Slice.Eq.{bytes_eq-Decides}
 use Rattle.std.proofs.lemmas.Bool.Decides.{nat_tests}
 use Rattle.std.proofs.lemmas.Fmt.{length-decimal-le_wide}
 use lib.Chars.{codes}
+use Rattle.fixed_worth.specs.declared.limits.TheConstants.{MOST_BLOCKS, LINE_BYTES}
 use Rattle.ordered_group.specs.declared.groups.Group.{Group}
 use Rattle.ordered_group.specs.declared.groups.Group.TheVariants.{Worth, Pair}
 use Rattle.check_pit.specs.declared.header.Price.{Price}
@@ -34,10 +35,10 @@ abbrev pub line_piece : List ℕ → Piece
 line_piece text = record { text = text; ended = true }
 
 -- A line that is short enough is read.
-short_line : (k : ℕ) (text : List ℕ) → length text ≤ 65536 → no_line k (line_piece text) ≡ None
-short_line k text h = let t : ltb 65536 (length text) ≡ false = grind (arith, nat_tests) in rw t refl
+short_line : (k : ℕ) (text : List ℕ) → length text ≤ LINE_BYTES → no_line k (line_piece text) ≡ None
+short_line k text h = let t : ltb LINE_BYTES (length text) ≡ false = grind (arith, nat_tests) in rw t refl
 
-pub line_read : {A : Type 0} (f : List ℕ → Result A LineFault) (k : ℕ) (text : List ℕ) (x : A) → length text ≤ 65536 → f text ≡ Ok x → read_line f k (line_piece text) ≡ Ok x
+pub line_read : {A : Type 0} (f : List ℕ → Result A LineFault) (k : ℕ) (text : List ℕ) (x : A) → length text ≤ LINE_BYTES → f text ≡ Ok x → read_line f k (line_piece text) ≡ Ok x
 line_read f k text x h e = rw (short_line k text h, e) refl
 
 next_read : (counts : Bool) (n : ℕ) (has : ℕ → ℕ → Bool) (previous : Option BodyLine) (k : ℕ) (l : BodyLine) → Readable counts n l → may_follow previous l ≡ true → is_of_model has l.kind l ≡ true → next_line counts n has previous k (line_piece (spaced (line_words l))) ≡ Ok l
@@ -95,10 +96,10 @@ keyed_read key w k h e =
 keyed_feed : (key w : List ℕ) → is_word key ≡ true → is_word w ≡ true → has_no_feed (spaced (key ∷ w ∷ [])) ≡ true
 keyed_feed key w k h = let both : are_words (key ∷ w ∷ []) ≡ true = rw (k, h) refl in spaced_no_feed key (w ∷ []) both
 
-blocks_read : (n : ℕ) (name : Group) → n ≤ 2 ^ 24 → blocks_in (wanted_for n name) (spaced (codes "BLOCKS" ∷ decimal n ∷ [])) ≡ Ok n
+blocks_read : (n : ℕ) (name : Group) → n ≤ MOST_BLOCKS → blocks_in (wanted_for n name) (spaced (codes "BLOCKS" ∷ decimal n ∷ [])) ≡ Ok n
 blocks_read n name h =
     ap (blocks_said (wanted_for n name)) (keyed_read (codes "BLOCKS") (decimal n) refl (decimal_is_word n (omega arith)) refl)
-    ∙ ap (λ (o : Option ℕ). or_number (wanted_blocks (wanted_for n name) o)) (number_read (2 ^ 24 + 1) n (omega arith) (omega arith))
+    ∙ ap (λ (o : Option ℕ). or_number (wanted_blocks (wanted_for n name) o)) (number_read (MOST_BLOCKS + 1) n (omega arith) (omega arith))
     ∙ ap (λ (t : Bool). or_number (cond t (Some n) None)) (eq-eqb n n refl)
 
 price_length : (price : Price) → IsPrice price → length (price_word price) ≤ 9
@@ -130,14 +131,14 @@ group_feed : (name : Group) → has_no_feed (spaced (codes "GROUP" ∷ group_wor
 group_feed Worth = refl
 group_feed Pair = refl
 
-group_short : (name : Group) → length (spaced (codes "GROUP" ∷ group_word name ∷ [])) ≤ 65536
+group_short : (name : Group) → length (spaced (codes "GROUP" ∷ group_word name ∷ [])) ≤ LINE_BYTES
 group_short Worth = omega arith
 group_short Pair = omega arith
 
 abbrev pub head_of : ℕ → Price → Group → List ℕ
 head_of n price name = lines_text (header_words (header_with n price name))
 
-pieces_four : (n : ℕ) (price : Price) (name : Group) (rest : List ℕ) → n ≤ 2 ^ 24 → IsPrice price
+pieces_four : (n : ℕ) (price : Price) (name : Group) (rest : List ℕ) → n ≤ MOST_BLOCKS → IsPrice price
     → pieces_of (head_of n price name ++ rest) ≡ line_piece (codes "PITCERT 1") ∷ line_piece (spaced (codes "BLOCKS" ∷ decimal n ∷ [])) ∷ line_piece (spaced (codes "PRICE" ∷ price_word price ∷ [])) ∷ line_piece (spaced (codes "GROUP" ∷ group_word name ∷ [])) ∷ pieces_of rest
 pieces_four n price name rest h p =
     let b = spaced (codes "BLOCKS" ∷ decimal n ∷ []) in
@@ -149,14 +150,14 @@ pieces_four n price name rest h p =
     ∙ ap (λ (ps : List Piece). line_piece (codes "PITCERT 1") ∷ line_piece b ∷ ps) (line_before c (d ++ (10 ∷ rest)) (keyed_feed (codes "PRICE") (price_word price) refl (price_is_word price p)))
     ∙ ap (λ (ps : List Piece). line_piece (codes "PITCERT 1") ∷ line_piece b ∷ line_piece c ∷ ps) (line_before d rest (group_feed name))
 
-short_pair : (key w : List ℕ) → length key ≤ 100 → length w ≤ 100 → length (spaced (key ∷ w ∷ [])) ≤ 65536
+short_pair : (key w : List ℕ) → length key ≤ 100 → length w ≤ 100 → length (spaced (key ∷ w ∷ [])) ≤ LINE_BYTES
 short_pair key w h i = omega (arith, length-append key (32 ∷ w))
 
 all_ok : (a : Result (Unit {0}) CertFault) (b : Result ℕ CertFault) (c : Result Price CertFault) (d : Result Group CertFault) (n : ℕ) (price : Price) (name : Group) → a ≡ Ok tt → b ≡ Ok n → c ≡ Ok price → d ≡ Ok name
     → (a >>= λ x. b >>= λ blocks. c >>= λ price. d >>= λ group. Ok (record { blocks = blocks; price = price; group = group })) ≡ Ok (header_with n price name)
 all_ok a b c d n price name e f g h = rw (e, f, g, h) refl
 
-header_steps : (n : ℕ) (price : Price) (name : Group) (ps qs : List Piece) → n ≤ 2 ^ 24 → IsPrice price
+header_steps : (n : ℕ) (price : Price) (name : Group) (ps qs : List Piece) → n ≤ MOST_BLOCKS → IsPrice price
     → ps ≡ line_piece (codes "PITCERT 1") ∷ line_piece (spaced (codes "BLOCKS" ∷ decimal n ∷ [])) ∷ line_piece (spaced (codes "PRICE" ∷ price_word price ∷ [])) ∷ line_piece (spaced (codes "GROUP" ∷ group_word name ∷ [])) ∷ qs
     → header_for (wanted_for n name) ps ≡ Ok (header_with n price name)
 header_steps n price name ps qs h p e =
@@ -168,8 +169,8 @@ header_steps n price name ps qs h p e =
     let d : read_line (group_in (wanted_for n name)) 4 (line_piece (spaced (codes "GROUP" ∷ group_word name ∷ []))) ≡ Ok name = line_read (group_in (wanted_for n name)) 4 (spaced (codes "GROUP" ∷ group_word name ∷ [])) name (group_short name) (group_read n name) in
     ap (header_for (wanted_for n name)) e ∙ all_ok (read_line version_in 1 (line_piece (codes "PITCERT 1"))) (read_line (blocks_in (wanted_for n name)) 2 (line_piece (spaced (codes "BLOCKS" ∷ decimal n ∷ [])))) (read_line price_in 3 (line_piece (spaced (codes "PRICE" ∷ price_word price ∷ [])))) (read_line (group_in (wanted_for n name)) 4 (line_piece (spaced (codes "GROUP" ∷ group_word name ∷ [])))) n price name a b c d
 
-pub header_read : (n : ℕ) (price : Price) (name : Group) (rest : List ℕ) → n ≤ 2 ^ 24 → IsPrice price → header_for (wanted_for n name) (pieces_of (head_of n price name ++ rest)) ≡ Ok (header_with n price name)
+pub header_read : (n : ℕ) (price : Price) (name : Group) (rest : List ℕ) → n ≤ MOST_BLOCKS → IsPrice price → header_for (wanted_for n name) (pieces_of (head_of n price name ++ rest)) ≡ Ok (header_with n price name)
 header_read n price name rest h p = header_steps n price name (pieces_of (head_of n price name ++ rest)) (pieces_of rest) h p (pieces_four n price name rest h p)
 
-pub body_left : (n : ℕ) (price : Price) (name : Group) (rest : List ℕ) → n ≤ 2 ^ 24 → IsPrice price → drop 4 (pieces_of (head_of n price name ++ rest)) ≡ pieces_of rest
+pub body_left : (n : ℕ) (price : Price) (name : Group) (rest : List ℕ) → n ≤ MOST_BLOCKS → IsPrice price → drop 4 (pieces_of (head_of n price name ++ rest)) ≡ pieces_of rest
 body_left n price name rest h p = ap (drop 4) (pieces_four n price name rest h p)

@@ -4,7 +4,7 @@ use Rattle.std.proofs.lemmas.Bool.{eqb-true, eq-eqb}
 use Rattle.std.specs.Prelude.{◌&&◌, ◌||◌}
 use Rattle.std.specs.Ordering.{nat_cmp, ordering_then}
 use Rattle.std.proofs.lemmas.Bool.Decides.{nat_tests}
-use Rattle.ordered_group.specs.Amount.{Amount, zero_amount}
+use Rattle.ordered_group.specs.Amount.{Amount, zero_amount, is_zero}
 use Rattle.ordered_group.specs.Sums.{amount_at}
 use Rattle.closure_net.specs.Network.{FlowView}
 use Rattle.check_pit.specs.declared.lines_of_body.LineKind.{LineKind}
@@ -12,7 +12,6 @@ use Rattle.check_pit.specs.declared.lines_of_body.LineKind.TheVariants.{Pit, Sou
 use Rattle.check_pit.specs.declared.lines_of_body.BodyLine.{BodyLine}
 use Rattle.check_pit.specs.BodyLines.{rank, is_end, is_of_model}
 use Rattle.check_pit.specs.Certificate.{Denotes, has_pair, pit_of, block_if_pit, amount_of, given, gives_source, gives_rest, gives_sink, is_source, is_rest, is_sink}
-use Rattle.check_pit.specs.Written.{is_zero}
 use Rattle.check_pit.proofs.Going.{carries}
 use Rattle.check_pit.proofs.Order.{InOrder}
 use Rattle.check_pit.proofs.LineOrder.{line_cmp, Above, not_itself, Has, has_good, same_lines, Proper, Found, found, Tells, given_by}

@@ -5,6 +5,7 @@ use Rattle.std.specs.Str.{bytes_eq}
 use Rattle.std.specs.Fmt.{decimal, signed_decimal}
 use Rattle.std.proofs.lemmas.Slice.Eq.{bytes_eq-Decides}
 use lib.Chars.{codes}
+use Rattle.fixed_worth.specs.declared.limits.TheConstants.{LINE_BYTES}
 use Rattle.fixed_worth.specs.declared.numerals.NumberFault.{NumberFault}
 use Rattle.fixed_worth.specs.Numeral.{plain_of}
 use Rattle.fixed_worth.proofs.PlainNumbers.{one_spelling}
@@ -143,7 +144,7 @@ no_fault_of (Some e) r x h = absurd cc
 no_fault_of None r x h = refl
 
 pub read_ends : {A : Type 0} (f : List ℕ → Result A LineFault) (k : ℕ) (p : Piece) (x : A) → read_line f k p ≡ Ok x → p.ended ≡ true
-read_ends f k p x h = ends_so k p (ltb 65536 (length p.text)) p.ended (no_fault_of (no_line k p) (in_line k (f p.text)) x h)
+read_ends f k p x h = ends_so k p (ltb LINE_BYTES (length p.text)) p.ended (no_fault_of (no_line k p) (in_line k (f p.text)) x h)
 
 pub piece_text : (p : Piece) (ps : List Piece) (line : List ℕ) → p.ended ≡ true → p.text ≡ line → pieces_text (p ∷ ps) ≡ line ++ (10 ∷ pieces_text ps)
 piece_text p ps line e f = rw (e, f) refl

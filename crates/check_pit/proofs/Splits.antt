@@ -1,5 +1,6 @@
 -- Where a text is cut into pieces, and a line into words.
 use Rattle.std.proofs.Common.{◌≡◌, ℕ, zero, suc, get_or, ◌+◌, ◌<◌, ◌≤◌, Bool, true, false, cond, eqb, List, [], ◌∷◌, length, take, drop, Some, None, refl, sym, ap, ◌∙◌, subst, arith, ltb}
+use Rattle.fixed_worth.specs.declared.limits.TheConstants.{LINE_BYTES}
 use Rattle.fixed_worth.proofs.Cuts.{position_none}
 use Rattle.std.specs.Prelude.{position}
 use Rattle.std.specs.List.{onto_first, position_or_len}
@@ -78,26 +79,26 @@ pub last_word : (bs : List ℕ) → position (λ x. eqb x 32) bs ≡ None → wo
 last_word bs e = unspaced bs (position_none _ bs e)
 
 -- The steps of the readers.
-too_long : (k : ℕ) (p : Piece) (bs : List ℕ) → p.text ≡ bs → 65536 < length bs → no_line k p ≡ Some (fault.Text k)
+too_long : (k : ℕ) (p : Piece) (bs : List ℕ) → p.text ≡ bs → LINE_BYTES < length bs → no_line k p ≡ Some (fault.Text k)
 too_long k p bs e h =
-    let t : ltb 65536 (length p.text) ≡ true = rw e (grind (arith, nat_tests)) in
+    let t : ltb LINE_BYTES (length p.text) ≡ true = rw e (grind (arith, nat_tests)) in
     rw t refl
 
-pub long_first : (bs : List ℕ) (j k : ℕ) (v : Unread) → record { pieces = pieces_of bs; number = k } ≡ v → position (λ x. eqb x 10) bs ≡ Some j → 65536 < j → no_line (v.number + 1) (piece_at v.pieces 0) ≡ Some (fault.Text (k + 1))
+pub long_first : (bs : List ℕ) (j k : ℕ) (v : Unread) → record { pieces = pieces_of bs; number = k } ≡ v → position (λ x. eqb x 10) bs ≡ Some j → LINE_BYTES < j → no_line (v.number + 1) (piece_at v.pieces 0) ≡ Some (fault.Text (k + 1))
 long_first bs j k v is e h =
     let q = position-Some (λ x. eqb x 10) bs j 0 e in
     let all : length (take j bs) ≡ j = length-take-le j bs (omega (arith, q.0)) in
     subst (λ (w : Unread). no_line (w.number + 1) (piece_at w.pieces 0) ≡ Some (fault.Text (k + 1))) is
     (too_long (k + 1) (piece_at (pieces_of bs) 0) (take j bs) (ap (λ (ps : List Piece). (piece_at ps 0).text) (first_piece bs j e)) (omega arith))
 
-pub long_last : (bs : List ℕ) (k : ℕ) (v : Unread) → record { pieces = pieces_of bs; number = k } ≡ v → position (λ x. eqb x 10) bs ≡ None → 65536 < length bs → no_line (v.number + 1) (piece_at v.pieces 0) ≡ Some (fault.Text (k + 1))
+pub long_last : (bs : List ℕ) (k : ℕ) (v : Unread) → record { pieces = pieces_of bs; number = k } ≡ v → position (λ x. eqb x 10) bs ≡ None → LINE_BYTES < length bs → no_line (v.number + 1) (piece_at v.pieces 0) ≡ Some (fault.Text (k + 1))
 long_last bs k v is e h =
     subst (λ (w : Unread). no_line (w.number + 1) (piece_at w.pieces 0) ≡ Some (fault.Text (k + 1))) is
     (too_long (k + 1) (piece_at (pieces_of bs) 0) bs (ap (λ (p : Piece). p.text) (last_piece bs e)) h)
 
-pub cut_off : (bs : List ℕ) (k : ℕ) (v : Unread) → record { pieces = pieces_of bs; number = k } ≡ v → position (λ x. eqb x 10) bs ≡ None → length bs ≤ 65536 → no_line (v.number + 1) (piece_at v.pieces 0) ≡ Some fault.Truncated
+pub cut_off : (bs : List ℕ) (k : ℕ) (v : Unread) → record { pieces = pieces_of bs; number = k } ≡ v → position (λ x. eqb x 10) bs ≡ None → length bs ≤ LINE_BYTES → no_line (v.number + 1) (piece_at v.pieces 0) ≡ Some fault.Truncated
 cut_off bs k v is e h =
-    let t : ltb 65536 (length bs) ≡ false = grind (arith, nat_tests) in
+    let t : ltb LINE_BYTES (length bs) ≡ false = grind (arith, nat_tests) in
     subst (λ (w : Unread). no_line (w.number + 1) (piece_at w.pieces 0) ≡ Some fault.Truncated) is
     (ap (no_line (k + 1)) (last_piece bs e) ∙ rw t refl)
 

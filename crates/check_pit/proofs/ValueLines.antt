@@ -4,12 +4,12 @@ use Rattle.std.proofs.lemmas.Bool.{eq-eqb, ne_eqb}
 use Rattle.std.specs.Prelude.{◌&&◌}
 use Rattle.std.specs.List.{All}
 use Rattle.std.specs.Cmp.{nat_cmp_is}
-use Rattle.std.specs.Ordering.{int_eq, nat_cmp, ordering_then, is_lt}
+use Rattle.std.specs.Ordering.{nat_cmp, ordering_then, is_lt}
 use Rattle.std.specs.declared.cmp.Ordering.{Ordering}
 use Rattle.std.specs.declared.cmp.Ordering.TheVariants.{Less, Equal}
-use Rattle.std.proofs.lemmas.Bool.Decides.{Decides-int_eq}
-use Rattle.ordered_group.specs.Amount.{Amount, zero_amount, Amount_eq}
+use Rattle.ordered_group.specs.Amount.{Amount, zero_amount, is_zero}
 use Rattle.ordered_group.specs.Sums.{amount_at}
+use Rattle.ordered_group.proofs.Order.{is_eq_tells}
 use Rattle.prec_file.proofs.Pairs.{tells_pair, pair_told}
 use Rattle.prec_file.specs.Rests.{IsRising, IsKnown}
 use Rattle.closure_net.specs.Network.{FlowView, IsAscending}
@@ -18,7 +18,7 @@ use Rattle.check_pit.specs.declared.lines_of_body.LineKind.TheVariants.{Pit, Sou
 use Rattle.check_pit.specs.declared.lines_of_body.BodyLine.{BodyLine}
 use Rattle.check_pit.specs.BodyLines.{rank, is_end, may_follow, is_of_model}
 use Rattle.check_pit.specs.Certificate.{Covers, Denotes, has_pair, pit_of, block_if_pit, amount_of, given, gives_source, gives_rest, gives_sink}
-use Rattle.check_pit.specs.Written.{pit_at, block_at, pair_at, is_zero, amount_lines, flow_lines, value_lines}
+use Rattle.check_pit.specs.Written.{pit_at, block_at, pair_at, amount_lines, flow_lines, value_lines}
 use Rattle.check_pit.proofs.Additions.{present, one_place}
 use Rattle.check_pit.proofs.Order.{InOrder}
 use Rattle.check_pit.proofs.LineOrder.{Proper}
@@ -150,16 +150,8 @@ amounts_give_nothing gives line top (x ∷ xs) k y l f =
     ∙ ap (λ (a : Amount). given gives a (amount_lines line (k + 1) xs)) (not_given (is_zero x) (gives (line k x)) (amount_of (line k x)) y (f k x (omega arith) (omega arith)))
     ∙ amounts_give_nothing gives line top xs (k + 1) y (omega arith) (λ j a g h. f j a (omega arith) h)
 
-both_zero : (x : Amount) (t u : Bool) → int_eq x.w (pos 0) ≡ t → int_eq x.c (pos 0) ≡ u → (t && u) ≡ true → x ≡ zero_amount
-both_zero x true true e f h = Amount_eq x zero_amount ((Decides-int_eq x.w (pos 0)).0 e) ((Decides-int_eq x.c (pos 0)).0 f)
-both_zero x true false e f h = absurd (let z : false ≡ true = h in cc)
-both_zero x false u e f h = absurd (let z : false ≡ true = h in cc)
-
-zero_so : (x : Amount) → is_zero x ≡ true → x ≡ zero_amount
-zero_so x h = both_zero x (int_eq x.w (pos 0)) (int_eq x.c (pos 0)) refl refl h
-
 own_given : (x : Amount) (t u : Bool) (a : Amount) → is_zero x ≡ t → u ≡ true → a ≡ x → cond t zero_amount (cond u a zero_amount) ≡ x
-own_given x true u a e f g = sym (zero_so x e)
+own_given x true u a e f g = sym ((is_eq_tells x zero_amount).0 e)
 own_given x false true a e f g = g
 own_given x false false a e f g = absurd (let z : false ≡ true = f in cc)
 

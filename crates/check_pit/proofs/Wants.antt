@@ -1,9 +1,10 @@
 -- A certificate that is read for a model, as a whole.
-use Rattle.std.proofs.Common.{◌≡◌, ℕ, ◌+◌, ◌^◌, Bool, true, false, cond, eqb, List, Option, Some, None, Result, Ok, Err, refl, sym, ap, ◌∙◌, arith}
+use Rattle.std.proofs.Common.{◌≡◌, ℕ, ◌+◌, Bool, true, false, cond, eqb, List, Option, Some, None, Result, Ok, Err, refl, sym, ap, ◌∙◌, arith}
 use Rattle.std.specs.Result.{result_unwrap_or}
 use Rattle.std.specs.Str.{bytes_eq}
 use Rattle.std.proofs.lemmas.Bool.Decides.{nat_tests}
 use lib.Chars.{codes}
+use Rattle.fixed_worth.specs.declared.limits.TheConstants.{MOST_BLOCKS}
 use Rattle.ordered_group.specs.declared.groups.Group.{Group}
 use Rattle.ordered_group.specs.declared.groups.Group.TheVariants.{Worth, Pair}
 use Rattle.check_pit.specs.declared.header.Header.{Header}
@@ -50,7 +51,7 @@ wanted_option w (Some k) n h = wanted_number w k n (eqb k w.blocks) refl h
 wanted_option w None n h = absurd cc
 
 blocks_wanted : (w : Wanted) (o : Option (List ℕ)) (n : ℕ) → blocks_said (Some w) o ≡ Ok n → n ≡ w.blocks
-blocks_wanted w (Some word) n h = wanted_option w (number_below (2 ^ 24 + 1) word) n h
+blocks_wanted w (Some word) n h = wanted_option w (number_below (MOST_BLOCKS + 1) word) n h
 blocks_wanted w None n h = absurd cc
 
 same_group : (a b : Group) → is_same_group a b ≡ true → b ≡ a

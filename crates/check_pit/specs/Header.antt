@@ -1,7 +1,8 @@
 -- The first four lines of a certificate.
-use Rattle.std.specs.Prelude.{ℕ, ◌+◌, ◌^◌, ◌==◌, Bool, true, false, cond, List, [], ◌∷◌, Option, Some, None, Result, Ok, Err}
+use Rattle.std.specs.Prelude.{ℕ, ◌+◌, ◌==◌, Bool, true, false, cond, List, [], ◌∷◌, Option, Some, None, Result, Ok, Err}
 use Rattle.std.specs.Str.{bytes_eq}
 use lib.Chars.{codes}
+use Rattle.fixed_worth.specs.declared.limits.TheConstants.{MOST_BLOCKS}
 use Rattle.ordered_group.specs.declared.groups.Group.{Group}
 use Rattle.ordered_group.specs.declared.groups.Group.TheVariants.{Worth, Pair}
 use Rattle.check_pit.specs.declared.header.Header.{Header}
@@ -36,9 +37,9 @@ wanted_blocks (Some wanted) (Some n) = cond (n == wanted.blocks) (Some n) None
 -- the number of blocks that a word says
 abbrev pub blocks_said : Option Wanted → Option (List ℕ) → Result ℕ LineFault
 blocks_said wanted None = Err Text
-blocks_said wanted (Some word) = or_number (wanted_blocks wanted (number_below (2 ^ 24 + 1) word))
+blocks_said wanted (Some word) = or_number (wanted_blocks wanted (number_below (MOST_BLOCKS + 1) word))
 
--- BLOCKS n, of at most 2 ^ 24 blocks
+-- BLOCKS n, of at most `MOST_BLOCKS` blocks
 abbrev pub blocks_in : Option Wanted → List ℕ → Result ℕ LineFault
 blocks_in wanted text = blocks_said wanted (value_behind (codes "BLOCKS") (words_of text))
 

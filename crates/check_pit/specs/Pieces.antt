@@ -1,6 +1,7 @@
 -- A text as pieces between line feeds, and a line as words between spaces.
 use Rattle.std.specs.Prelude.{◌≡◌, ℕ, ℤ, pos, negsuc, ◌+◌, ◌==◌, Bool, true, false, cond, List, [], ◌∷◌, length, nat_lt, slice_index_or, Option, Some, None, Result, Ok, Err}
 use Rattle.std.specs.List.{onto_first}
+use Rattle.fixed_worth.specs.declared.limits.TheConstants.{LINE_BYTES}
 use Rattle.fixed_worth.specs.declared.numerals.NumberFault.{NumberFault}
 use Rattle.fixed_worth.specs.Numeral.{plain_of}
 use Rattle.check_pit.specs.declared.cert_fault.CertFault.{CertFault}
@@ -39,7 +40,7 @@ piece_at ps k = slice_index_or ps k (record { text = []; ended = false })
 
 -- why a piece is no line: it is too long, or no line feed ends it
 abbrev pub no_line : ℕ → Piece → Option CertFault
-no_line k p = cond (nat_lt 65536 (length p.text)) (Some (fault.Text k)) (cond p.ended None (Some fault.Truncated))
+no_line k p = cond (nat_lt LINE_BYTES (length p.text)) (Some (fault.Text k)) (cond p.ended None (Some fault.Truncated))
 
 -- what a line gives, or its fault with its number
 abbrev pub in_line : {A : Type 0} → ℕ → Result A LineFault → Result A CertFault

@@ -1,11 +1,10 @@
 -- The one text of a certificate.
-use Rattle.std.specs.Prelude.{ℕ, pos, ◌+◌, ◌&&◌, Bool, cond, List, [], ◌∷◌, ◌++◌, map, slice_index_or}
+use Rattle.std.specs.Prelude.{ℕ, pos, ◌+◌, cond, List, [], ◌∷◌, ◌++◌, map, slice_index_or}
 use Rattle.std.specs.Fmt.{decimal, signed_decimal}
-use Rattle.std.specs.Ordering.{int_eq}
 use lib.Chars.{codes}
 use Rattle.ordered_group.specs.declared.groups.Group.{Group}
 use Rattle.ordered_group.specs.declared.groups.Group.TheVariants as group
-use Rattle.ordered_group.specs.Amount.{Amount}
+use Rattle.ordered_group.specs.Amount.{Amount, is_zero}
 use Rattle.closure_net.specs.Network.{FlowView}
 use Rattle.check_pit.specs.declared.header.Header.{Header}
 use Rattle.check_pit.specs.declared.header.Price.{Price}
@@ -67,10 +66,6 @@ block_at kind b x = record { kind = kind; block = b; other = 0; worth = x.w; cou
 -- the line of the amount over the pair at a place
 abbrev pub pair_at : List (ℕ × ℕ) → ℕ → Amount → BodyLine
 pair_at pairs k x = record { kind = Rest; block = (slice_index_or pairs k (0, 0)).0; other = (slice_index_or pairs k (0, 0)).1; worth = x.w; count = x.c }
-
--- both numbers of the amount are 0
-abbrev pub is_zero : Amount → Bool
-is_zero x = int_eq x.w (pos 0) && int_eq x.c (pos 0)
 
 -- the lines of amounts from place k on; a zero has none
 abbrev pub amount_lines : (ℕ → Amount → BodyLine) → ℕ → List Amount → List BodyLine

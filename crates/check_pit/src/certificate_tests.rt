@@ -1,9 +1,9 @@
-ghost use Rattle.std.specs.Prelude.{◌≤◌, ◌^◌};
+ghost use Rattle.std.specs.Prelude.{◌≤◌};
 
 use crate::reading::header;
 use crate::{CertFault, Certificate, Header, Price, read_certificate, write_certificate};
 use closure_net::Flow;
-use fixed_worth::Counted;
+use fixed_worth::{Counted, MOST_BLOCKS};
 use ordered_group::{Group, OrderedGroup, Worth, WorthSize};
 use prec_file::Rests;
 use std::alloc::Global;
@@ -221,7 +221,7 @@ fn rewritten<G: OrderedGroup>(
     pairs: &[(u32, u32)],
     text: &[u8],
 ) -> Result<Vec<u8>, Fail>
-    requires { n ≤ 2 ^ 24 }
+    requires { n ≤ MOST_BLOCKS }
 {
     let rests = Rests::from_pairs(alloc, n, pairs).ok().ok_or("rests")?;
     let read: Certificate<G> = read_certificate(alloc, text, &rests).ok().ok_or("read")?;

@@ -1,9 +1,10 @@
 //! Small nets, checked.
 
-ghost use Rattle.std.specs.Prelude.{◌≤◌, ◌^◌, length};
+ghost use Rattle.std.specs.Prelude.{◌≤◌, length};
 
 use crate::{PitFault, check};
 use closure_net::{Carried, Flow, Net, Pit};
+use fixed_worth::MOST_BLOCKS;
 use ordered_group::{OrderedGroup, Worth, WorthSize};
 use prec_file::Rests;
 use std::alloc::Global;
@@ -14,7 +15,7 @@ fn net_of<G: OrderedGroup>(
     pairs: &[(u32, u32)],
     worths: &[G],
 ) -> Result<Net<G>, Fail>
-    requires { length worths.now ≤ 2 ^ 24 }
+    requires { length worths.now ≤ MOST_BLOCKS }
 {
     let rests = Rests::from_pairs(alloc, worths.len() as u32, pairs)
         .ok()
@@ -55,7 +56,7 @@ struct Case<'a, G> {
 }
 
 fn fault_of<G: OrderedGroup>(alloc: Global, case: &Case<'_, G>) -> Result<Option<PitFault>, Fail>
-    requires { length case.now.worths.now ≤ 2 ^ 24 }
+    requires { length case.now.worths.now ≤ MOST_BLOCKS }
 {
     let net = net_of(alloc, case.pairs, case.worths)?;
     let pit = pit_of(alloc, case.pit)?;

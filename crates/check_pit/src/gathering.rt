@@ -1,6 +1,6 @@
 //! The pit and the flow of a certificate while its lines are read.
 
-ghost use Rattle.std.specs.Prelude.{◌≡◌, ◌≢◌, ℕ, ◌<◌, Bool, true, false, ◌⊎◌, pos, [], ◌∷◌, length, map, replicate, IfOk, MatchOption, MatchResult};
+ghost use Rattle.std.specs.Prelude.{◌≡◌, ◌≢◌, ℕ, ◌<◌, Bool, true, false, ◌⊎◌, pos, [], ◌∷◌, length, IfOk, MatchOption, MatchResult};
 ghost use Rattle.ordered_group.specs.Amount.{zero_amount};
 ghost use Rattle.ordered_group.specs.Sums.{amount_at};
 ghost use Rattle.prec_file.specs.Rests.{IsRests};
@@ -12,7 +12,7 @@ ghost use Rattle.check_pit.specs.Gathered.{Gathered, Adds, with_block, with_sour
 use crate::cert_fault::CertFault;
 use crate::lines_of_body::{BodyLine, LineKind};
 use closure_net::{Carried, Flow, Pit};
-use ordered_group::OrderedGroup;
+use ordered_group::{OrderedGroup, zeros};
 use prec_file::Rests;
 use std::alloc::{AllocError, Global};
 use std::marker::Model;
@@ -34,17 +34,6 @@ impl<G: OrderedGroup> Model for Parts<G> {
     ghost Value = { Gathered };
 
     ghost view = { λ p. record { pit = p.pit.items; flow = flow_view (map G.parts_of p.source.items) p.rest (map G.parts_of p.sink.items) } };
-}
-
-// So many amounts of zero. A clone of an amount isn't known to be the same, so each is made anew.
-fn zeros<G: OrderedGroup>(alloc: Global, n: u32) -> Result<Vec<G>, AllocError>
-    ensures { IfOk result (λ v. map G.parts_of v.items ≡ replicate n zero_amount) }
-{
-    let mut list = Vec::with_capacity(alloc, n as usize)?;
-    for _i in 0..n {
-        list.push_reserved(G::zero());
-    }
-    Ok(list)
 }
 
 /// Whether amounts of the group have a count.

@@ -1,6 +1,6 @@
 //! The first four lines of a certificate, one after another.
 
-ghost use Rattle.std.specs.Prelude.{◌≡◌, ℕ, ◌+◌, ◌^◌, List, drop, MatchOption, MatchResult, Some, None, Ok, Err};
+ghost use Rattle.std.specs.Prelude.{◌≡◌, ℕ, ◌+◌, List, drop, MatchOption, MatchResult, Some, None, Ok, Err};
 ghost use Rattle.std.specs.Str.{bytes_eq};
 ghost use Rattle.check_pit.specs.Pieces as pieces;
 ghost use Rattle.check_pit.specs.Pieces.{Unread, Passed, words_of, piece_at, read_line};
@@ -9,7 +9,7 @@ ghost use Rattle.check_pit.specs.Header as spec;
 use crate::cert_fault::{CertFault, LineFault};
 use crate::header::{Header, Price, Wanted};
 use crate::piece_reader::{Pieces, Words};
-use fixed_worth::plain_signed;
+use fixed_worth::{MOST_BLOCKS, plain_signed};
 use ordered_group::Group;
 
 const VERSION: &[u8] = b"PITCERT 1";
@@ -24,8 +24,6 @@ const GROUP_WORTH: &[u8] = b"GROUP WORTH";
 
 const GROUP_PAIR: &[u8] = b"GROUP PAIR";
 
-/// The most blocks that a model has.
-const MOST_BLOCKS: u32 = 1 << 24;
 /// The highest price factor, in thousandths.
 const HIGHEST_FACTOR: u32 = 10_000;
 

@@ -1,14 +1,12 @@
 //! The pieces of a text and the words of a line, one after another.
 
-ghost use Rattle.std.specs.Prelude.{◌≡◌, ℕ, ◌+◌, ◌<◌, ◌≤◌, ◌^◌, ◌==◌, Bool, true, cond, List, [], ◌∷◌, length, MatchResult, Some, None, position, drop};
+ghost use Rattle.std.specs.Prelude.{◌≡◌, ℕ, ◌+◌, ◌<◌, ◌≤◌, ◌^◌, ◌==◌, Bool, true, cond, List, [], ◌∷◌, length, MatchResult, Some, None, position};
 ghost use Rattle.std.specs.Iterator.{item_count, YieldsFirstBy};
 ghost use Rattle.check_pit.specs.Pieces.{Unread, pieces_of, piece_at, no_line, words_of};
 
 use crate::cert_fault::CertFault;
+use fixed_worth::{LINE_BYTES, behind_first, first_line_feed};
 use std::marker::Model;
-
-/// The most bytes that a line may have, its line feed not counted.
-const LINE_BYTES: usize = 65_536;
 
 /// The pieces of a text, of which each that ends in a line feed is a line.
 #[derive(Drop)]
@@ -25,25 +23,10 @@ impl<'a> Model for Pieces<'a> {
     ghost invariant = { λ s. s.number + length s.rest.now < 2 ^ 63 };
 }
 
-fn first_line_feed(text: &[u8]) -> Option<usize>
-    ensures { result ≡ position (λ b. b == 10) text.now }
-{
-    text.iter().position(|b| *b == b'\n')
-}
-
 fn first_space(text: &[u8]) -> Option<usize>
     ensures { result ≡ position (λ b. b == 32) text.now }
 {
     text.iter().position(|b| *b == b' ')
-}
-
-fn behind_first(text: &[u8]) -> &[u8]
-    ensures { result.now ≡ drop 1 text.now }
-{
-    match text {
-        [] => text,
-        [_, after @ ..] => after,
-    }
 }
 
 impl<'a> Pieces<'a> {
@@ -76,7 +59,7 @@ impl<'a> Pieces<'a> {
     /// The next line without its line feed.
     pub fn next_line(&mut self) -> Result<&'a [u8], CertFault>
         ensures { MatchResult result
-            (λ line. (length line.now ≤ 65536) × (self.old.pieces ≡ record { text = line.now; ended = true } ∷ self.new.pieces) × (self.new.number ≡ self.old.number + 1))
+            (λ line. (length line.now ≤ LINE_BYTES) × (self.old.pieces ≡ record { text = line.now; ended = true } ∷ self.new.pieces) × (self.new.number ≡ self.old.number + 1))
             (λ e. no_line (self.old.number + 1) (piece_at self.old.pieces 0) ≡ Some e) }
     {
         match first_line_feed(self.rest) {

@@ -14,9 +14,9 @@ use crate::certificate::Certificate;
 use crate::header::{Header, Price};
 use crate::lines_of_body::{BodyLine, LineKind};
 use closure_net::{Carried, Flow, Pit};
-use fixed_worth::{CountedWrite, Page, ShortLine, WriteFault};
-use ordered_group::{Group, OrderedGroup};
-use prec_file::Rests;
+use fixed_worth::{CountedWrite, MOST_BLOCKS, Page, ShortLine, WriteFault};
+use ordered_group::{Group, OrderedGroup, is_zero};
+use prec_file::{MOST_PAIRS, Rests};
 
 // Adds a number with its sign.
 fn push_signed(text: &mut ShortLine, number: i128)
@@ -110,12 +110,12 @@ fn written_header(header: &Header) -> ShortLine
     text
 }
 
-fn is_zero<G: OrderedGroup>(amount: G) -> bool
-    ensures zero { result ≡ spec.is_zero (G.parts_of amount) }
-    ensures writable { Writable G.counts (G.parts_of amount) }
+// The numbers of an amount fit their type, and its count is zero where the group has none.
+fn can_be_written<G: OrderedGroup>(amount: G)
+    ensures { Writable G.counts (G.parts_of amount) }
 {
-    let (worth, count) = amount.parts();
-    worth == 0 && count == 0
+    // proof: what `parts` returns fits its type
+    let _numbers = amount.parts();
 }
 
 // The line of an amount at a block.
@@ -192,7 +192,7 @@ fn put_blocks<G: OrderedGroup, W: CountedWrite>(
     kind: LineKind,
     amounts: &[G],
 ) -> Result<(), WriteFault>
-    requires few { length amounts.now ≤ 2 ^ 24 }
+    requires few { length amounts.now ≤ MOST_BLOCKS }
     requires room { W.failed out.old < 2 ^ 64 - 1 }
     ensures held { OnOk result (SentOrHeld (W.contents out.old) (W.contents out.new) page.new (page.old ++ body_text (amount_lines (block_at kind) 0 (map G.parts_of amounts.now)))) }
     ensures writable { OnOk result ((k : ℕ) → k < length amounts.now → Writable G.counts (amount_at (map G.parts_of amounts.now) k)) }
@@ -201,6 +201,8 @@ fn put_blocks<G: OrderedGroup, W: CountedWrite>(
     ensures counted { OnErr result (W.failed out.new ≡ W.failed out.old + 1) }
 {
     for (k, amount) in amounts.iter().enumerate() {
+        // proof: every amount can be written
+        can_be_written(*amount);
         if !is_zero(*amount) {
             put_line(page, out, &block_line(kind, k as u32, *amount))?;
         }
@@ -215,7 +217,7 @@ fn put_pairs<G: OrderedGroup, W: CountedWrite>(
     rests: &Rests,
     amounts: &Carried<G>,
 ) -> Result<(), WriteFault>
-    requires few { length rests.now.pairs ≤ 2 ^ 27 }
+    requires few { length rests.now.pairs ≤ MOST_PAIRS }
     requires fits { length amounts.now ≡ length rests.now.pairs }
     requires room { W.failed out.old < 2 ^ 64 - 1 }
     ensures held { OnOk result (SentOrHeld (W.contents out.old) (W.contents out.new) page.new (page.old ++ body_text (amount_lines (pair_at rests.now.pairs) 0 amounts.now))) }
@@ -226,6 +228,8 @@ fn put_pairs<G: OrderedGroup, W: CountedWrite>(
 {
     for k in 0..amounts.len() {
         let amount = amounts.at(k as u32);
+        // proof: every amount can be written
+        can_be_written(amount);
         if !is_zero(amount) {
             put_line(page, out, &pair_line(rests, k as u32, amount))?;
         }
@@ -248,7 +252,7 @@ fn put_flow<G: OrderedGroup, W: CountedWrite>(
     ensures prefix { OnErr result (ReceivedPrefix (W.contents out.old) (W.contents out.new) (page.old ++ body_text (flow_lines rests.now.pairs flow.now))) }
     ensures counted { OnErr result (W.failed out.new ≡ W.failed out.old + 1) }
 {
-    // proof: a `Rests` is in order, with at most 2^27 pairs
+    // proof: a `Rests` is in order, with at most `MOST_PAIRS` pairs
     let _n = rests.len();
     put_blocks(page, out, LineKind::Source, flow.source())?;
     put_pairs(page, out, rests, flow.rest())?;

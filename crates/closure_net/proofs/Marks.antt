@@ -1,8 +1,9 @@
 -- The marks of a search.
-use Rattle.std.proofs.Common.{◌^◌, ◌≡◌, ℕ, zero, suc, ◌<◌, ◌≤◌, Bool, true, false, inl, inr, List, [], ◌∷◌, ◌++◌, length, get_or, set, replicate, sym, refl, ap, subst, ◌∙◌, arith, All, length-append, length-set, get_or-set_same, get_or-set_other}
+use Rattle.std.proofs.Common.{◌≡◌, ℕ, zero, suc, ◌<◌, ◌≤◌, Bool, true, false, inl, inr, List, [], ◌∷◌, ◌++◌, length, get_or, set, replicate, sym, refl, ap, subst, ◌∙◌, arith, All, length-append, length-set, get_or-set_same, get_or-set_other}
 use Rattle.std.proofs.lemmas.List.{get_or_default, length-replicate}
 use Rattle.std.proofs.lemmas.List.Elements.{All-push, All-nil}
 use Rattle.std.proofs.lemmas.Bool.{cases_eq}
+use Rattle.fixed_worth.specs.declared.limits.TheConstants.{MOST_BLOCKS}
 use Rattle.closure_net.specs.Network.{holds_of}
 use Rattle.closure_net.specs.Searches.{trues, IsSearch}
 use Rattle.closure_net.proofs.Holding.{push_holds_last, push_holds_rest}
@@ -32,7 +33,7 @@ none_at (suc n) zero = refl
 none_at (suc n) (suc b) = none_at n b
 
 -- a search begins with no mark set
-pub search_none : (n space : ℕ) (marks : List Bool) (found : List ℕ) → n ≤ 2 ^ 24 → n ≤ space → marks ≡ replicate n false → found ≡ [] → IsSearch marks found space
+pub search_none : (n space : ℕ) (marks : List Bool) (found : List ℕ) → n ≤ MOST_BLOCKS → n ≤ space → marks ≡ replicate n false → found ≡ [] → IsSearch marks found space
 search_none n space marks found h r e f =
     let P : List Bool → Type 0 = λ ts. IsSearch ts found space in
     let Q : List ℕ → Type 0 = λ xs. IsSearch (replicate n false) xs space in

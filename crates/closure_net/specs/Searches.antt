@@ -1,5 +1,6 @@
 -- A breadth-first search among the blocks of a net: its marks, what it has found, and what one pass adds.
-use Rattle.std.specs.Prelude.{◌⊎◌, ◌≡◌, ℕ, suc, ◌<◌, ◌≤◌, ◌^◌, Bool, true, false, cond, List, [], ◌∷◌, ◌++◌, length, slice_index_or, slice_index, All}
+use Rattle.std.specs.Prelude.{◌⊎◌, ◌≡◌, ℕ, suc, ◌<◌, ◌≤◌, Bool, true, false, cond, List, [], ◌∷◌, ◌++◌, length, slice_index_or, slice_index, All}
+use Rattle.fixed_worth.specs.declared.limits.TheConstants.{MOST_BLOCKS}
 use Rattle.ordered_group.specs.Amount.{Amount}
 use Rattle.closure_net.specs.Network.{holds_of}
 use Rattle.prec_file.specs.Rests.{from_at, above_of, below_of}
@@ -22,7 +23,7 @@ trues (false ∷ ts) = trues ts
 
 -- a mark for each block that is found, and room for all
 pub record IsSearch (marks : List Bool) (found : List ℕ) (space : ℕ) : Type 0 where
-  pub few : length marks ≤ 2 ^ 24
+  pub few : length marks ≤ MOST_BLOCKS
   pub room : length marks ≤ space
   pub count : length found ≡ trues marks
   pub same : (b : ℕ) → slice_index_or marks b false ≡ holds_of found b

@@ -7,7 +7,7 @@ ghost use Rattle.closure_net.specs.Ports.{is_below, forwards, backwards, port_li
 
 use crate::net::Net;
 use ordered_group::OrderedGroup;
-use prec_file::Rests;
+use prec_file::{MOST_PAIRS, Rests};
 
 /// Where a port leads.
 #[derive(Clone, Copy, Debug, PartialEq, Eq)]
@@ -45,7 +45,7 @@ fn forward_at(rests: &Rests, b: u32, i: u32) -> Option<Port>
     requires { b < rests.now.blocks }
     ensures { let list = forwards (from_at rests.now.pairs) (to_at rests.now.pairs) (length rests.now.pairs) b in MatchOption result (length list ≤ i) (λ p. slice_get list i ≡ Some p) }
 {
-    // proof: a `Rests` is in order, with at most 2^27 pairs
+    // proof: a `Rests` is in order, with at most `MOST_PAIRS` pairs
     let _n = rests.len();
     let first = rests.first(b);
     let tops = rests.above(b);
@@ -83,9 +83,9 @@ fn backward_at(rests: &Rests, b: u32, i: u32) -> Option<Port>
 fn forward_count(rests: &Rests, b: u32) -> u32
     requires { b < rests.now.blocks }
     ensures is { result ≡ length (forwards (from_at rests.now.pairs) (to_at rests.now.pairs) (length rests.now.pairs) b) }
-    ensures few { result ≤ 134217728 }
+    ensures few { result ≤ MOST_PAIRS }
 {
-    // proof: a `Rests` is in order, with at most 2^27 pairs
+    // proof: a `Rests` is in order, with at most `MOST_PAIRS` pairs
     let _n = rests.len();
     rests.above(b).len() as u32
 }
@@ -94,9 +94,9 @@ fn forward_count(rests: &Rests, b: u32) -> u32
 fn backward_count(rests: &Rests, b: u32) -> u32
     requires { b < rests.now.blocks }
     ensures is { result ≡ length (backwards (from_at rests.now.pairs) (to_at rests.now.pairs) (length rests.now.pairs) b) }
-    ensures few { result ≤ 134217728 }
+    ensures few { result ≤ MOST_PAIRS }
 {
-    // proof: a `Rests` is in order, with at most 2^27 pairs
+    // proof: a `Rests` is in order, with at most `MOST_PAIRS` pairs
     let _n = rests.len();
     rests.below(b).len() as u32
 }

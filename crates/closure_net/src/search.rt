@@ -1,10 +1,11 @@
 //! A breadth-first search among the blocks of a net.
 
-ghost use Rattle.std.specs.Prelude.{◌≡◌, [], ◌^◌, ◌<◌, ◌≤◌, length, IfOk, slice_index};
+ghost use Rattle.std.specs.Prelude.{◌≡◌, [], ◌<◌, ◌≤◌, length, IfOk, slice_index};
 ghost use Rattle.closure_net.specs.Network.{holds_of};
 ghost use Rattle.closure_net.specs.Searches.{added};
 ghost use Rattle.prec_file.specs.Rests.{passing};
 
+use fixed_worth::MOST_BLOCKS;
 use std::alloc::{AllocError, Global};
 use std::marker::Model;
 
@@ -30,7 +31,7 @@ impl Model for Search {
 impl Search {
     // Among n blocks, of which none is found yet.
     pub(crate) fn new(alloc: Global, n: u32) -> Result<Search, AllocError>
-        requires { n ≤ 2 ^ 24 }
+        requires { n ≤ MOST_BLOCKS }
         ensures { IfOk result (λ s. (s.blocks ≡ n) × (s.found ≡ [])) }
     {
         let marks: Vec<bool> = vec![in alloc; false; n as usize]?;

@@ -1,6 +1,7 @@
-ghost use Rattle.std.specs.Prelude.{◌≤◌, ◌^◌};
+ghost use Rattle.std.specs.Prelude.{◌≤◌};
 
 use crate::{Carried, Flow, Net, NetFault, Pit, Port, PortKind, pit_of};
+use fixed_worth::MOST_BLOCKS;
 use ordered_group::{Worth, WorthSize};
 use prec_file::Rests;
 use std::alloc::Global;
@@ -12,7 +13,7 @@ fn amount(nanos: i128, size: i128) -> WorthSize {
 }
 
 fn rests(alloc: Global, n: u32, pairs: &[(u32, u32)]) -> Result<Rests, Fail>
-    requires { n ≤ 2 ^ 24 }
+    requires { n ≤ MOST_BLOCKS }
 {
     Ok(Rests::from_pairs(alloc, n, pairs).ok().ok_or("pairs")?)
 }

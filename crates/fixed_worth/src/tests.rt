@@ -1,7 +1,8 @@
 use crate::NumberFault::{NotANumber, TooLarge, TooLong};
 use crate::{
     Field, Fields, InputFault, Lines, Micros, MicrosTotal, Nanos, NumberFault, TextFault,
-    WriteFault, laws, plain_signed, signed_whole, trimmed_fraction, whole,
+    WriteFault, behind_first, first_line_feed, is_separator, laws, plain_signed, signed_whole,
+    trimmed_fraction, whole,
 };
 use std::test::Fail;
 
@@ -177,6 +178,30 @@ fn printed_device_faults(rt: HostRuntime) -> Result<(), Fail> {
         "Device"
     );
     Ok(())
+}
+
+#[test]
+fn where_a_text_is_cut(rt: HostRuntime) {
+    let rows: [(&[u8], Option<usize>, &[u8]); 4] = [
+        (b"", None, b""),
+        (b"a", None, b""),
+        (b"\nb", Some(0), b"b"),
+        (b"a:b\r\n\nc", Some(4), b":b\r\n\nc"),
+    ];
+    for (text, end, behind) in rows {
+        assert_eq!(rt; first_line_feed(text), end);
+        assert_eq!(rt; behind_first(text), behind);
+    }
+    for (byte, separates) in [
+        (b' ', true),
+        (b'\t', true),
+        (b':', true),
+        (b'\r', true),
+        (b'\n', false),
+        (b',', false),
+    ] {
+        assert_eq!(rt; is_separator(byte), separates);
+    }
 }
 
 #[test]

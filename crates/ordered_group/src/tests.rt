@@ -1,8 +1,8 @@
 //! The groups at the ends of their numbers, and their order.
 
 use crate::{
-    Group, OrderedGroup, Worth, WorthSize, at_most, laws, negative_part, positive_part, same,
-    smaller, try_sum,
+    Group, OrderedGroup, Worth, WorthSize, at_most, is_zero, laws, negative_part, positive_part,
+    same, smaller, try_sum, zeros,
 };
 use std::test::Fail;
 
@@ -103,6 +103,29 @@ fn parts_of_either_sign(rt: HostRuntime) {
     assert_eq!(rt; negative_part(pair(4, -1)), Some(pair(0, 0)));
     assert_eq!(rt; negative_part(worth(LEAST)), None);
     assert_eq!(rt; negative_part(pair(3, LEAST)), None);
+}
+
+#[test]
+fn lists_of_zeros(rt: HostRuntime) -> Result<(), Fail> {
+    let rows: [(u32, &[WorthSize]); 3] = [
+        (0, &[]),
+        (1, &[pair(0, 0)]),
+        (3, &[pair(0, 0), pair(0, 0), pair(0, 0)]),
+    ];
+    for (n, list) in rows {
+        let made: Vec<WorthSize> = zeros(rt.alloc(), n)?;
+        assert_eq!(rt; made.as_slice(), list);
+    }
+    for (amount, zero) in [
+        (pair(0, 0), true),
+        (pair(0, -1), false),
+        (pair(1, 0), false),
+        (pair(1, -1), false),
+    ] {
+        assert_eq!(rt; is_zero(amount), zero);
+    }
+    assert!(rt; is_zero(worth(0)) && !is_zero(worth(-1)));
+    Ok(())
 }
 
 #[test]

@@ -1,6 +1,6 @@
 //! Each flow is one that leaves the pit.
 
-ghost use Rattle.std.specs.Prelude.{◌≤◌, ◌^◌};
+ghost use Rattle.std.specs.Prelude.{◌≤◌};
 
 use crate::{Progress, PseudoflowFault, Silent, solve};
 use closure_net::{Net, Pit, pit_of};
@@ -20,7 +20,7 @@ fn net_of<G: OrderedGroup>(
     pairs: &[(u32, u32)],
     nanos: &[i128],
 ) -> Result<Net<G>, Fail>
-    requires { n ≤ 2 ^ 24 }
+    requires { n ≤ 10000 }
 {
     let rests = Rests::from_pairs(alloc, n, pairs)?;
     Ok(Net::of_worths(alloc, rests, nanos)?)
@@ -41,7 +41,7 @@ fn has_pit(
     nanos: &[i128],
     pit: &[u32],
 ) -> Result<(), Fail>
-    requires { n ≤ 2 ^ 24 }
+    requires { n ≤ 10000 }
 {
     let by_size: Net<WorthSize> = net_of(alloc, n, pairs, nanos)?;
     let by_worth: Net<Worth> = net_of(alloc, n, pairs, nanos)?;

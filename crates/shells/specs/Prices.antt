@@ -1,6 +1,7 @@
 -- A table of prices, and what it says a block is worth at a factor.
-use Rattle.std.specs.Prelude.{◌≡◌, ◌≢◌, ℕ, ◌<◌, ◌≤◌, ◌^◌, ℤ, pos, ◌*ℤ◌, ◌-ℤ◌, ◌≤ℤ◌, ◌<ℤ◌, ◌⊎◌, List, length, map, slice_index_or}
+use Rattle.std.specs.Prelude.{◌≡◌, ◌≢◌, ℕ, ◌<◌, ◌≤◌, ℤ, pos, ◌*ℤ◌, ◌-ℤ◌, ◌≤ℤ◌, ◌<ℤ◌, ◌⊎◌, List, length, map, slice_index_or}
 use Rattle.std.specs.List.{range_with_len}
+use Rattle.fixed_worth.specs.declared.limits.TheConstants.{MOST_BLOCKS}
 use Rattle.shells.specs.declared.prices_fault.PricesFault.{PricesFault}
 use Rattle.shells.specs.declared.prices_fault.PricesFault.TheVariants.{WrongLength, NegativeRevenue}
 
@@ -29,10 +30,10 @@ worths_at table k = map (worth_at table k) (range_with_len 0 (blocks_of table))
 abbrev pub NoneNegative : PricesView → Type 0
 NoneNegative table = (b : ℕ) → b < blocks_of table → pos 0 ≤ℤ number_at table.revenue b
 
--- as many costs as revenues, at most 2^24, and no revenue is negative
+-- as many costs as revenues, at most `MOST_BLOCKS`, and no revenue is negative
 pub record IsTable (table : PricesView) : Type 0 where
   pub lengths : length table.cost ≡ length table.revenue
-  pub blocks : blocks_of table ≤ 2 ^ 24
+  pub blocks : blocks_of table ≤ MOST_BLOCKS
   pub revenues : NoneNegative table
 
 -- b is the first block with a negative revenue
@@ -43,5 +44,5 @@ pub record IsFirstNegative (revenue : List ℤ) (b : ℕ) : Type 0 where
 
 -- why these are no table
 abbrev pub PricesFaultStands : List ℤ → List ℤ → PricesFault → Type 0
-PricesFaultStands revenue cost WrongLength = (length revenue ≢ length cost) ⊎ (2 ^ 24 < length revenue)
-PricesFaultStands revenue cost (NegativeRevenue b) = (length revenue ≡ length cost) × (length revenue ≤ 2 ^ 24) × IsFirstNegative revenue b
+PricesFaultStands revenue cost WrongLength = (length revenue ≢ length cost) ⊎ (MOST_BLOCKS < length revenue)
+PricesFaultStands revenue cost (NegativeRevenue b) = (length revenue ≡ length cost) × (length revenue ≤ MOST_BLOCKS) × IsFirstNegative revenue b

@@ -1,10 +1,11 @@
 //! Giving shells to the blocks of a pit.
 
-ghost use Rattle.std.specs.Prelude.{◌≡◌, ◌<◌, ◌≤◌, ◌^◌, ℕ, length, ◌↔◌, IsTrue};
+ghost use Rattle.std.specs.Prelude.{◌≡◌, ◌<◌, ◌≤◌, ℕ, length, ◌↔◌, IsTrue};
 ghost use Rattle.closure_net.specs.Network.{IsAscending, holds_of};
 ghost use Rattle.shells.specs.Series.{shell_at, with_shell, IsAbove};
 
 use closure_net::Pit;
+use fixed_worth::MOST_BLOCKS;
 
 // The shell of a block after a push at k.
 fn shell_with(shell: Option<u32>, held: bool, k: u32) -> Option<u32>
@@ -27,7 +28,7 @@ pub(crate) fn is_above_all(factors: &[u32], k: u32) -> bool
 
 // Gives each block of the pit that has no shell the shell k.
 pub(crate) fn give_shells(shells: &mut [Option<u32>], pit: &Pit, k: u32)
-    requires { length shells.old ≤ 2 ^ 24 }
+    requires { length shells.old ≤ MOST_BLOCKS }
     ensures size { length shells.new ≡ length shells.old }
     ensures each { (b : ℕ) → b < length shells.old → shell_at shells.new b ≡ with_shell (shell_at shells.old b) (holds_of pit.now b) k }
 {

@@ -5,7 +5,7 @@ ghost use Rattle.shells.specs.Prices.{blocks_of, worth_at, worths_at, IsTable, P
 
 use crate::prices_fault::PricesFault;
 use crate::thousandths::Factor;
-use fixed_worth::Micros;
+use fixed_worth::{MOST_BLOCKS, Micros};
 use rayon::prelude::*;
 use std::alloc::{AllocError, Global};
 use std::marker::Model;
@@ -59,7 +59,7 @@ impl Prices {
             (λ p. p ≡ record { revenue = revenue.items; cost = cost.items })
             (λ e. PricesFaultStands revenue.items cost.items e) }
     {
-        if revenue.len() != cost.len() || revenue.len() > 16_777_216 {
+        if revenue.len() != cost.len() || revenue.len() > MOST_BLOCKS as usize {
             return Err(PricesFault::WrongLength);
         }
         for b in 0..revenue.len() {

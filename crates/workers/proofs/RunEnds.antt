@@ -2,10 +2,10 @@
 use Rattle.std.proofs.Common.{◌≡◌, ℕ, ◌≤◌, ◌∙◌, ap, sym, subst, Result, Ok, Err}
 use Rattle.std.specs.Prelude.{MatchResult}
 use Rattle.closure_net.specs.Network.{NetView, FlowView}
-use Rattle.boards.specs.Runs.{SomeNextLeaves}
+use Rattle.boards.specs.Runs.{SomeNextOverflows}
 use Rattle.boards.specs.Boards.{BoardView, shown, IsTurnBoard, HasSettled}
 use Rattle.boards.specs.Ends.{IsCutOffAt, GoesOn}
-use Rattle.workers.specs.Runs.{most_steps, Settles, IsCutOff, SomeStepLeaves}
+use Rattle.workers.specs.Runs.{most_steps, Settles, IsCutOff, SomeStepOverflows}
 use Rattle.workers.specs.Solving.{RunFaultStands, SolveFaultStands}
 use Rattle.workers.specs.declared.solving.SolveFault.{SolveFault}
 use Rattle.workers.specs.declared.solving.SolveFault.TheVariants.{BadWorkers, Unsettled, TooLarge, StrangerNet, NoMemory, NoThread}
@@ -17,8 +17,8 @@ module _ (first new : BoardView) (limit steps : ℕ) (e : steps ≡ most_steps l
   within : (shown new).steps ≤ most_steps limit
   within = subst (λ (k : ℕ). (shown new).steps ≤ k) e goes.within
 
-  pub leaves : SomeNextLeaves new.net (shown new) → SomeStepLeaves first.net limit
-  leaves h = subst (λ (n : NetView). SomeStepLeaves n limit) goes.net_is (record { state = shown new; made = is.made; within = within; next = h })
+  pub overflows : SomeNextOverflows new.net (shown new) → SomeStepOverflows first.net limit
+  overflows h = subst (λ (n : NetView). SomeStepOverflows n limit) goes.net_is (record { state = shown new; made = is.made; within = within; next = h })
 
   -- the board that is taken out, its count and its flow
   pub settles : (last : BoardView) (count : ℕ) (net : NetView) (flow : FlowView) → last ≡ new → count ≡ (shown last).steps → HasSettled last net flow → Settles first.net limit flow count

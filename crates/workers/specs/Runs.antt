@@ -1,13 +1,14 @@
 -- How whole runs end.
-use Rattle.std.specs.Prelude.{◌≡◌, ℕ, ◌≤◌, ◌^◌, min}
+use Rattle.std.specs.Prelude.{◌≡◌, ℕ, ◌≤◌, min}
 use Rattle.closure_net.specs.Network.{NetView, FlowView}
 use Rattle.machine_law.specs.States.{State, IsQuiet}
 use Rattle.machine_law.specs.Quiet.{IsFlowOf, IsSolved}
-use Rattle.boards.specs.Runs.{SomeNextLeaves, IsMadeByTurns}
+use Rattle.async_step.specs.declared.limits.TheConstants.{MOST_STEPS}
+use Rattle.boards.specs.Runs.{SomeNextOverflows, IsMadeByTurns}
 
--- the most steps of a run with this limit: a limit above 2^40 counts as 2^40
+-- the most steps of a run with this limit: no more than a state counts
 abbrev pub most_steps : ℕ → ℕ
-most_steps limit = min limit (2 ^ 40)
+most_steps limit = min limit MOST_STEPS
 
 -- Turns end a run over the net quiet after so many steps, at most those of the limit. It leaves this flow, which is a greatest one,
 -- and what the source reaches in what the flow leaves is closed and tight.
@@ -27,9 +28,9 @@ pub record IsCutOff (net : NetView) (limit : ℕ) : Type 0 where
   pub counted : state.steps ≡ most_steps limit
   pub unquiet : ¬ (IsQuiet net state)
 
--- turns within the limit lead to a state over the net whose next step of some block leads to a number that leaves its type
-pub record SomeStepLeaves (net : NetView) (limit : ℕ) : Type 0 where
+-- turns within the limit lead to a state over the net in which the next step of some block overflows
+pub record SomeStepOverflows (net : NetView) (limit : ℕ) : Type 0 where
   pub state : State
   pub made : IsMadeByTurns net state
   pub within : state.steps ≤ most_steps limit
-  pub next : SomeNextLeaves net state
+  pub next : SomeNextOverflows net state

@@ -2,7 +2,7 @@
 use Rattle.std.specs.Prelude.{◌≡◌, ℕ, ◌<◌, ◌≤◌, ◌⊎◌}
 use Rattle.closure_net.specs.Network.{NetView}
 use Rattle.boards.specs.Boards.{BoardView, shown}
-use Rattle.workers.specs.Runs.{most_steps, IsCutOff, SomeStepLeaves}
+use Rattle.workers.specs.Runs.{most_steps, IsCutOff, SomeStepOverflows}
 use Rattle.workers.specs.declared.solving.SolveFault.{SolveFault}
 use Rattle.workers.specs.declared.solving.SolveFault.TheVariants.{BadWorkers, Unsettled, TooLarge, StrangerNet, NoMemory, NoThread}
 
@@ -25,7 +25,7 @@ IsLoss _ = ⊥
 -- why a run that has ended gives no flow
 abbrev pub RunFaultStands : NetView → ℕ → SolveFault → Type 0
 RunFaultStands net limit Unsettled = IsCutOff net limit
-RunFaultStands net limit TooLarge = SomeStepLeaves net limit
+RunFaultStands net limit TooLarge = SomeStepOverflows net limit
 RunFaultStands net limit _ = ⊥
 
 -- Why a run gives no flow. What a thread does with the board that it is lent can't be said, so the board that comes back is compared
@@ -33,7 +33,7 @@ RunFaultStands net limit _ = ⊥
 abbrev pub SolveFaultStands : NetView → ℕ → ℕ → SolveFault → Type 0
 SolveFaultStands net workers limit BadWorkers = AreBadWorkers workers
 SolveFaultStands net workers limit Unsettled = IsCutOff net limit
-SolveFaultStands net workers limit TooLarge = SomeStepLeaves net limit
+SolveFaultStands net workers limit TooLarge = SomeStepOverflows net limit
 SolveFaultStands net workers limit StrangerNet = Unit {0}
 SolveFaultStands net workers limit NoMemory = Unit {0}
 SolveFaultStands net workers limit NoThread = Unit {0}

@@ -8,6 +8,7 @@ ghost use Rattle.workers.specs.Solving.{AreBadWorkers, IsLeft, IsLoss, RunFaultS
 use crate::gate::Gate;
 use crate::locked::{Locked, Shared};
 use crate::worker::serve;
+use async_step::MOST_STEPS;
 use boards::{End, TurnBoard, finish};
 use closure_net::{Flow, Net};
 use ordered_group::OrderedGroup;
@@ -15,9 +16,6 @@ use std::alloc::Global;
 use std::sync::Wait;
 use std::thread;
 use std::thread::Threads;
-
-// The most steps that are counted.
-const MOST_STEPS: u64 = 1 << 40;
 
 // The most workers.
 const MOST_WORKERS: u32 = 64;
@@ -38,7 +36,7 @@ pub enum SolveFault {
     BadWorkers,
     /// The run made all its steps, and some block has excess or an operation.
     Unsettled,
-    /// A number of the state after the next step would leave its type.
+    /// A number of the state after the next step would overflow its type.
     TooLarge,
     /// The board that came back from the workers isn't one of this run: its net is another, or it
     /// made more steps than it may. No run is known to answer this; see `solve`.
@@ -92,7 +90,7 @@ pub fn serve_all<R: Threads + Wait + Sync, S: Shared, T: Gate>(
 /// refused. `NoThread` where a worker couldn't be started, whatever the others did; those have ended.
 /// `StrangerNet` where the board that the workers shared comes back as another: what a thread does under
 /// a lock is beyond a contract, so the board is compared with the net that was handed in. Then
-/// `TooLarge` where a number of the state after the next step would leave its type, and `Unsettled`
+/// `TooLarge` where a number of the state after the next step would overflow its type, and `Unsettled`
 /// where all steps were made.
 pub fn solve<G: OrderedGroup, R: Threads + Wait + Sync, T: Gate>(
     rt: &R,

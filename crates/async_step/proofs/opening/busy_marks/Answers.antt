@@ -1,8 +1,7 @@
 use Rattle.std.proofs.Common.{◌≡◌, ◌+◌, ap, subst, sym, ◌∙◌, length, map, ℕ, Bool, List, not}
 use Rattle.std.proofs.lemmas.List.{get_or-map}
-use Rattle.ordered_group.specs.Amount.{zero_amount}
+use Rattle.ordered_group.specs.Amount.{zero_amount, is_zero}
 use Rattle.ordered_group.specs.Sums.{amount_at}
-use Rattle.async_step.specs.Views.{is_zero}
 use Rattle.async_step.proofs.Changes.{IsMarkedUpTo, marked_next}
 use Rattle.async_step.proofs.opening.busy_marks.Goals as goal
 

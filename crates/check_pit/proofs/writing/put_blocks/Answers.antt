@@ -23,7 +23,7 @@ returns-in_err-put_line-clause-prefix g c =
     let x = c.index-amounts-k.result in
     on_err c.from_residual.result
     (line_failed line xs k (f x) c.block_line.result (g.W.Write.contents c.args.out.now) (g.W.Write.contents c.loop-k.out) (g.W.Write.contents c.put_line.new.out) c.args.page.now c.loop-k.page (body_text (amount_lines line 0 xs))
-    (simp length-map c.loop-k-test.true) (at_map f c.args.amounts.now k x c.loop-k-test.true c.index-amounts-k.is) (sym c.is_zero.ensures.zero ∙ c.if-not-is_zero.true) c.block_line.ensures c.loop-k.invariant.put c.in_err-put_line.ensures.prefix)
+    (simp length-map c.loop-k-test.true) (at_map f c.args.amounts.now k x c.loop-k-test.true c.index-amounts-k.is) (sym c.is_zero.ensures ∙ c.if-not-is_zero.true) c.block_line.ensures c.loop-k.invariant.put c.in_err-put_line.ensures.prefix)
 
 pub loop-k-preserved : goal.loop-k-preserved
 loop-k-preserved g c =
@@ -39,18 +39,18 @@ loop-k-preserved g c =
     let left = body_text (amount_lines line (k + 1) (drop (k + 1) xs)) in
     let inside : k < length xs = simp length-map c.loop-k-test.true in
     let here = at_map f c.args.amounts.now k x c.loop-k-test.true c.index-amounts-k.is in
-    let here_too = subst (Writable g.G.OrderedGroup.counts) (sym here) c.is_zero.ensures.writable in
+    let here_too = subst (Writable g.G.OrderedGroup.counts) (sym here) c.can_be_written.ensures in
     let more = below_more (λ j. Writable g.G.OrderedGroup.counts (amount_at xs j)) k c.loop-k.invariant.writable here_too in
     elim c.if-not-is_zero.branch [
       | then-not-is_zero+in_ok-put_line w ↦
-          let put = line_put line xs k (f x) w.block_line.result first before (g.W.Write.contents w.put_line.new.out) c.args.page.now c.loop-k.page w.put_line.new.page all inside here (sym c.is_zero.ensures.zero ∙ w.if-not-is_zero.true) w.block_line.ensures c.loop-k.invariant.put w.in_ok-put_line.ensures.held in
+          let put = line_put line xs k (f x) w.block_line.result first before (g.W.Write.contents w.put_line.new.out) c.args.page.now c.loop-k.page w.put_line.new.page all inside here (sym c.is_zero.ensures ∙ w.if-not-is_zero.true) w.block_line.ensures c.loop-k.invariant.put w.in_ok-put_line.ensures.held in
           record {
             put = rw (w.page-is, w.out-is) put;
             writable = more;
             kept = rw w.out-is (w.in_ok-put_line.ensures.kept ∙ c.loop-k.invariant.kept);
           }
       | else-not-is_zero w ↦
-          let put = line_skipped line xs k (f x) first before c.args.page.now c.loop-k.page all inside here (sym c.is_zero.ensures.zero ∙ w.if-not-is_zero.false) c.loop-k.invariant.put in
+          let put = line_skipped line xs k (f x) first before c.args.page.now c.loop-k.page all inside here (sym c.is_zero.ensures ∙ w.if-not-is_zero.false) c.loop-k.invariant.put in
           record {
             put = rw (w.page-is, w.out-is) put;
             writable = more;

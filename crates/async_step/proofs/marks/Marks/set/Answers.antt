@@ -1,4 +1,5 @@
 use Rattle.std.proofs.Common.{◌<◌, length, arith, ap}
+use Rattle.async_step.specs.declared.marks.TheConstants.{SMALL, MIDDLE, LARGE}
 use Rattle.async_step.proofs.Counts.{level_can_shift, all_can_shift, marks_set, differ}
 use Rattle.async_step.proofs.marks.Marks.set.Goals as goal
 
@@ -6,19 +7,19 @@ pub shifted-requires : goal.shifted-requires
 shifted-requires c =
     let m = c.self.inside in
     let l : c.args.block < length m.marks.items = omega (arith, c.requires, ap length c.self.view_is) in
-    level_can_shift m.marks.items c.args.block c.index.result.now c.args.marked 64 m.small.items c.index-2.result.now l c.index.ensures (differ _ _ c.if-index-marked.false) (omega arith) (omega arith) c.self.invariant.small c.index-2.ensures
+    level_can_shift m.marks.items c.args.block c.index.result.now c.args.marked SMALL m.small.items c.index-2.result.now l c.index.ensures (differ _ _ c.if-index-marked.false) (omega arith) (omega arith) c.self.invariant.small c.index-2.ensures
 
 pub shifted-requires-2 : goal.shifted-requires-2
 shifted-requires-2 c =
     let m = c.self.inside in
     let l : c.args.block < length m.marks.items = omega (arith, c.requires, ap length c.self.view_is) in
-    level_can_shift m.marks.items c.args.block c.index.result.now c.args.marked 4096 m.middle.items c.index-3.result.now l c.index.ensures (differ _ _ c.if-index-marked.false) (omega arith) (omega arith) c.self.invariant.middle c.index-3.ensures
+    level_can_shift m.marks.items c.args.block c.index.result.now c.args.marked MIDDLE m.middle.items c.index-3.result.now l c.index.ensures (differ _ _ c.if-index-marked.false) (omega arith) (omega arith) c.self.invariant.middle c.index-3.ensures
 
 pub shifted-requires-3 : goal.shifted-requires-3
 shifted-requires-3 c =
     let m = c.self.inside in
     let l : c.args.block < length m.marks.items = omega (arith, c.requires, ap length c.self.view_is) in
-    level_can_shift m.marks.items c.args.block c.index.result.now c.args.marked 262144 m.large.items c.index-4.result.now l c.index.ensures (differ _ _ c.if-index-marked.false) (omega arith) (omega arith) c.self.invariant.large c.index-4.ensures
+    level_can_shift m.marks.items c.args.block c.index.result.now c.args.marked LARGE m.large.items c.index-4.result.now l c.index.ensures (differ _ _ c.if-index-marked.false) (omega arith) (omega arith) c.self.invariant.large c.index-4.ensures
 
 pub shifted-self-inside-requires : goal.shifted-self-inside-requires
 shifted-self-inside-requires c =

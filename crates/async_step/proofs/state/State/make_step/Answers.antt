@@ -1,8 +1,9 @@
-use Rattle.std.proofs.Common.{◌<◌, ◌+◌, ◌^◌, ◌∙◌, ap, subst, sym, refl, set}
+use Rattle.std.proofs.Common.{◌<◌, ◌+◌, ◌∙◌, ap, subst, sym, refl, set}
 use Rattle.ordered_group.specs.Amount.{Amount}
 use Rattle.machine_law.specs.declared.operations.Operation.{Operation}
 use Rattle.machine_law.specs.Operations.{operation_as}
 use Rattle.machine_law.specs.Steps.{becomes}
+use Rattle.async_step.specs.declared.limits.TheConstants.{MOST_STEPS}
 use Rattle.async_step.specs.Views.{StateView, state_of}
 use Rattle.async_step.specs.Answers.{GoesTo}
 use Rattle.async_step.specs.Changes.{change_as, changed}
@@ -23,7 +24,7 @@ returns g c =
     let o : Operation Amount = operation_as f c.args.operation in
     let change : Change Amount = change_as f c.args.change in
     let v : StateView = c.args.self.now in
-    let few : v.steps < 2 ^ 40 = not_full c.is_full.result v.steps (2 ^ 40) c.is_full.ensures c.if-is_full.false in
+    let few : v.steps < MOST_STEPS = not_full c.is_full.result v.steps MOST_STEPS c.is_full.ensures c.if-is_full.false in
     subst (GoesTo c.args.net.now v (changed (becomes (state_of v) c.args.b o) c.args.b change))
     (sym (c.go_on.ensures ∙ ap (λ (w : StateView). record w { operation = set w.operation c.args.b o; steps = w.steps + 1 }) c.change.ensures))
     (goes c.args.net.now v c.requires.over c.args.b c.requires.block o few c.len-sized.ensures.sized change c.requires.can)

@@ -1,11 +1,11 @@
 use Rattle.std.proofs.Common.{◌≡◌, ◌∙◌, ap, sym, subst, map, length, replicate, List, arith, rules, refl, not}
 use Rattle.std.proofs.lemmas.List.{length-map}
-use Rattle.ordered_group.specs.Amount.{positive}
+use Rattle.ordered_group.specs.Amount.{positive, is_zero}
 use Rattle.machine_law.specs.declared.operations.Operation.TheVariants.{Idle}
 use Rattle.machine_law.specs.Operations.{operation_as}
 use Rattle.machine_law.specs.Reads.{is_positive}
 use Rattle.ordered_group.specs.Sums.{amount_at}
-use Rattle.async_step.specs.Views.{StateView, view_of, IsMarked, is_zero}
+use Rattle.async_step.specs.Views.{StateView, view_of, IsMarked}
 use Rattle.async_step.proofs.Opens.{shows_opening, opens, opening_state, mapped_replicate}
 use Rattle.async_step.proofs.state.State.open.Goals as goal
 

@@ -1,12 +1,12 @@
 use Rattle.std.proofs.Common.{◌≡◌, ◌<◌, ◌+◌, ◌∙◌, not, ◌&&◌, ◌||◌, ap, ap₂, subst, sym, set, map, List, Bool, true, length, arith, get_or-set_same}
 use Rattle.std.specs.Prelude.{slice_index}
 use Rattle.std.proofs.lemmas.List.{length-map, get_or-map, get_or_read}
-use Rattle.ordered_group.specs.Amount.{Amount, zero_amount}
+use Rattle.ordered_group.specs.Amount.{Amount, zero_amount, is_zero}
 use Rattle.ordered_group.specs.Sums.{amount_at}
 use Rattle.machine_law.specs.declared.operations.Operation.{Operation}
 use Rattle.machine_law.specs.Operations.{operation_as, is_idle}
 use Rattle.machine_law.specs.Reads.{is_positive, IsScan}
-use Rattle.async_step.specs.Views.{StateView, view_of, IsState, operation_at, is_zero, is_waiting, is_busy}
+use Rattle.async_step.specs.Views.{StateView, view_of, IsState, operation_at, is_waiting, is_busy}
 use Rattle.async_step.specs.Scans.{seen_by}
 use Rattle.async_step.proofs.Changes.{state_operation, state_works}
 use Rattle.async_step.proofs.Scanning.{scan_under, scan_works, place_is, place_changed}
