@@ -1,7 +1,8 @@
 -- A header that is the wanted one is read so by itself.
-use Rattle.std.proofs.Common.{◌≡◌, ℕ, ◌+◌, ◌^◌, Bool, true, false, cond, eqb, List, Option, Some, None, Result, Ok, Err, refl, sym, ap, ◌∙◌}
+use Rattle.std.proofs.Common.{◌≡◌, ℕ, ◌+◌, Bool, true, false, cond, eqb, List, Option, Some, None, Result, Ok, Err, refl, sym, ap, ◌∙◌}
 use Rattle.std.specs.Str.{bytes_eq}
 use lib.Chars.{codes}
+use Rattle.fixed_worth.specs.declared.limits.TheConstants.{MOST_BLOCKS}
 use Rattle.ordered_group.specs.declared.groups.Group.{Group}
 use Rattle.ordered_group.specs.declared.groups.Group.TheVariants.{Worth, Pair}
 use Rattle.check_pit.specs.declared.header.Header.{Header}
@@ -24,7 +25,7 @@ option_alone w (Some k) n h = number_alone w k n (eqb k w.blocks) h
 option_alone w None n h = absurd cc
 
 blocks_alone : (w : Wanted) (o : Option (List ℕ)) (n : ℕ) → blocks_said (Some w) o ≡ Ok n → blocks_said None o ≡ Ok n
-blocks_alone w (Some word) n h = option_alone w (number_below (2 ^ 24 + 1) word) n h
+blocks_alone w (Some word) n h = option_alone w (number_below (MOST_BLOCKS + 1) word) n h
 blocks_alone w None n h = absurd cc
 
 abbrev named : Group → Result Group LineFault

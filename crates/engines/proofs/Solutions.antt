@@ -33,7 +33,7 @@ use Rattle.engines.specs.ReadMines.{AreRead, IsGroupNamed, of_model, billionths_
 use Rattle.engines.specs.Mines.{MineTexts, mine_texts, price_wanted, mine_of, DenoteMine}
 use Rattle.engines.specs.Certifying.{IsRefusedFlow}
 use Rattle.engines.specs.declared.method.Method.{Method}
-use Rattle.engines.specs.Solving.{CheckLeaves, IsNoOf, IsCertificateOf, AnswersNet, SolvesNet, IsCertificate, IsNetBy, AnswersMine, Solves}
+use Rattle.engines.specs.Solving.{CheckOverflows, IsNoOf, IsCertificateOf, AnswersNet, SolvesNet, IsCertificate, IsNetBy, AnswersMine, Solves}
 use Rattle.engines.proofs.Answered.{read_both, keeps_self}
 use Rattle.engines.proofs.Judged.{HasRead, reads, net_made, read_as, worths_fail}
 use Rattle.engines.proofs.Lone.{header_alone}
@@ -41,8 +41,8 @@ use Rattle.engines.proofs.Lone.{header_alone}
 -- ---- the check of a run's pit
 
 -- what the source reaches in the flow of a settled run is refused for sums that don't fit, and nothing else
-pub check_leaves : (net : NetView) (limit : ℕ) (flow : FlowView) (steps : ℕ) (fault : PitFault) → Settles net limit flow steps → FlowFits net flow → IsRefusedFlow net flow fault → CheckLeaves net limit
-check_leaves net limit flow steps fault settles fits refused =
+pub check_overflows : (net : NetView) (limit : ℕ) (flow : FlowView) (steps : ℕ) (fault : PitFault) → Settles net limit flow steps → FlowFits net flow → IsRefusedFlow net flow fault → CheckOverflows net limit
+check_overflows net limit flow steps fault settles fits refused =
     let reached = refused.reached fits in
     let of_net = refused.of_net fits in
     let e = refused_for_size_only net flow refused.pit fault (record { of_net = of_net; is_flow = settles.solved.greatest.is_flow; closed = settles.solved.closed (holds_of refused.pit) reached; tight = settles.solved.tight (holds_of refused.pit) reached }) refused.stands.holds in

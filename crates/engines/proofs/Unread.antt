@@ -1,10 +1,11 @@
 -- Where the texts are read, no fault of a text stands.
-use Rattle.std.proofs.Common.{◌≡◌, ℕ, ◌≤◌, ◌^◌, List, length, get_or, refl, arith, sym, ap, ◌∙◌, subst, Bool, true, false, cond, Option, Some, None, unwrap_or, Result, Ok, Err, ◌⊎◌, inl, inr}
+use Rattle.std.proofs.Common.{◌≡◌, ℕ, ◌≤◌, List, length, get_or, refl, arith, sym, ap, ◌∙◌, subst, Bool, true, false, cond, Option, Some, None, unwrap_or, Result, Ok, Err, ◌⊎◌, inl, inr}
 use Rattle.std.specs.Prelude.{nat_lt}
 use Rattle.std.specs.Option.{option_or}
 use Rattle.std.proofs.lemmas.Bool.Decides.{nat_tests}
 use Rattle.std.proofs.lemmas.Int.{ints}
 use Rattle.std.proofs.lemmas.List.FromFn.{length-map-range_with_len}
+use Rattle.fixed_worth.specs.declared.limits.TheConstants.{MOST_BLOCKS}
 use Rattle.settings_file.specs.Settings.{settings_of}
 use Rattle.blocks_file.specs.Records as blocks
 use Rattle.blocks_file.specs.declared.faults.BlocksFault.TheVariants as blocks_fault
@@ -84,15 +85,15 @@ or_second : {F : Type 0} (a b : Option F) → option_or a b ≡ None → b ≡ N
 or_second None b h = h
 or_second (Some x) b h = absurd cc
 
-few_records : (records : List ℕ) (t : Bool) → nat_lt (2 ^ 24) (length records) ≡ t → cond t (Some (blocks_fault.TooMany (get_or records (2 ^ 24) 0))) None ≡ None → length records ≤ 2 ^ 24
+few_records : (records : List ℕ) (t : Bool) → nat_lt MOST_BLOCKS (length records) ≡ t → cond t (Some (blocks_fault.TooMany (get_or records MOST_BLOCKS 0))) None ≡ None → length records ≤ MOST_BLOCKS
 few_records records true e h = absurd cc
 few_records records false e h = grind (arith, nat_tests)
 
--- a text without a fault has at most 2^24 blocks
-few_blocks : (text chosen : List ℕ) → blocks.fault_of chosen text ≡ None → blocks.count_of text ≤ 2 ^ 24
+-- a text without a fault has at most `MOST_BLOCKS` blocks
+few_blocks : (text chosen : List ℕ) → blocks.fault_of chosen text ≡ None → blocks.count_of text ≤ MOST_BLOCKS
 few_blocks text chosen h =
     let records = blocks.record_lines (blocks.lines_in text) in
-    few_records records (nat_lt (2 ^ 24) (length records)) refl (or_second (blocks.long_fault (blocks.lines_in text)) (blocks.many_fault (blocks.lines_in text)) (or_first _ _ h))
+    few_records records (nat_lt MOST_BLOCKS (length records)) refl (or_second (blocks.long_fault (blocks.lines_in text)) (blocks.many_fault (blocks.lines_in text)) (or_first _ _ h))
 
 -- the columns of a text of blocks have one length, and no revenue is negative
 table_stands : (settings text : List ℕ) (n : ℕ) (fault : PricesFault) → PricesRead settings text n → PricesFail settings text fault → ⊥

@@ -7,6 +7,7 @@ use Rattle.blocks_file.specs.Denotes.{BlocksView, Denotes}
 use Rattle.blocks_file.specs.declared.faults.BlocksFault.{BlocksFault}
 use Rattle.prec_file.specs.Rests.{RestsView}
 use Rattle.prec_file.specs.Written.{prec_text}
+use Rattle.slope.specs.declared.pattern.TheConstants.{MOST_OFFSETS}
 use Rattle.slope.specs.Lists.{AreMoreThan}
 use Rattle.slope.specs.Offsets.{Offset, AreOffsets}
 use Rattle.slope.specs.Patterns.{five_offsets, nine_offsets, IsInCone}
@@ -67,7 +68,7 @@ BlocksFails chosen text (problem.Fault fault) = IsWithinLimit text × (blocks.fa
 
 -- there is no such pattern: a cone has too many offsets, and nothing else can be wrong
 abbrev pub PatternFails : PatternChoice → PatternFault → Type 0
-PatternFails (Cone levels run rise) pattern.TooMany = AreMoreThan 4096 (IsInCone levels run rise)
+PatternFails (Cone levels run rise) pattern.TooMany = AreMoreThan MOST_OFFSETS (IsInCone levels run rise)
 PatternFails _ _ = ⊥
 
 -- the offsets give no pairs; want of memory isn't a fault of theirs

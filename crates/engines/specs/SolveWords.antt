@@ -1,8 +1,9 @@
 -- The words that name a factor, a kind of amount, a number of steps and a number of workers.
-use Rattle.std.specs.Prelude.{ℕ, ◌^◌, ◌&&◌, cond, List, codes, nat_le, Option, Some, None, Result, Ok, Err}
+use Rattle.std.specs.Prelude.{ℕ, ◌&&◌, cond, List, codes, nat_le, Option, Some, None, Result, Ok, Err}
 use Rattle.std.specs.Str.{bytes_eq}
 use Rattle.fixed_worth.specs.declared.numerals.NumberFault.{NumberFault}
 use Rattle.fixed_worth.specs.Numeral.{whole_of}
+use Rattle.async_step.specs.declared.limits.TheConstants.{MOST_STEPS}
 use Rattle.ordered_group.specs.declared.groups.Group.{Group}
 use Rattle.ordered_group.specs.declared.groups.Group.TheVariants.{Worth, Pair}
 
@@ -10,9 +11,9 @@ use Rattle.ordered_group.specs.declared.groups.Group.TheVariants.{Worth, Pair}
 abbrev pub group_of : List ℕ → Option Group
 group_of word = cond (bytes_eq word (codes "worth")) (Some Worth) (cond (bytes_eq word (codes "pair")) (Some Pair) None)
 
--- a whole number from 1 to 2^40
+-- a whole number from 1 to `MOST_STEPS`
 abbrev pub steps_number : Result ℕ NumberFault → Option ℕ
-steps_number (Ok k) = cond (nat_le 1 k && nat_le k (2 ^ 40)) (Some k) None
+steps_number (Ok k) = cond (nat_le 1 k && nat_le k MOST_STEPS) (Some k) None
 steps_number (Err e) = None
 
 -- a whole number from 1 to 64

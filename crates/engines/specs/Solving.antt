@@ -6,7 +6,7 @@ use Rattle.ordered_group.specs.declared.groups.Group.{Group}
 use Rattle.closure_net.specs.Network.{NetView, FlowView, IsNet, holds_of}
 use Rattle.closure_net.specs.Reached.{IsReached}
 use Rattle.closure_net.specs.Mine.{IsNetOf}
-use Rattle.workers.specs.Runs.{Settles, IsCutOff, SomeStepLeaves}
+use Rattle.workers.specs.Runs.{Settles, IsCutOff, SomeStepOverflows}
 use Rattle.workers.specs.declared.solving.SolveFault.{SolveFault}
 use Rattle.workers.specs.declared.solving.SolveFault.TheVariants as run
 use Rattle.check_pit.specs.Checks.{IsOfNet, IsSound, FaultStands}
@@ -31,7 +31,7 @@ use Rattle.engines.specs.Readings.{block_by, Reads, IsProvedPit}
 -- ---- a net
 
 -- The check of what a run leaves, with the blocks that the source reaches in it, finds a sum that doesn't fit.
-pub record CheckLeaves (net : NetView) (limit : ℕ) : Type 0 where
+pub record CheckOverflows (net : NetView) (limit : ℕ) : Type 0 where
   pub flow : FlowView
   pub steps : ℕ
   pub settles : Settles net limit flow steps
@@ -41,13 +41,13 @@ pub record CheckLeaves (net : NetView) (limit : ℕ) : Type 0 where
   pub stands : FaultStands net flow pit pit_fault.TooLarge
 
 -- a step of a run, or the check of what it leaves, needs a number that doesn't fit
-abbrev pub SomeNumberLeaves : NetView → ℕ → Type 0
-SomeNumberLeaves net limit = SomeStepLeaves net limit ⊎ CheckLeaves net limit
+abbrev pub SomeNumberOverflows : NetView → ℕ → Type 0
+SomeNumberOverflows net limit = SomeStepOverflows net limit ⊎ CheckOverflows net limit
 
 -- why the machine's run gives none
 abbrev pub MachineStands : NetView → ℕ → Unsolved → Type 0
 MachineStands net limit Unsettled = IsCutOff net limit
-MachineStands net limit TooLarge = SomeNumberLeaves net limit
+MachineStands net limit TooLarge = SomeNumberOverflows net limit
 MachineStands net limit GaveUp = ⊥
 MachineStands net limit NoMemory = Unit {0}
 MachineStands net limit NoThread = Unit {0}
@@ -83,7 +83,7 @@ too_large_line = judgement_line (Refused pit_fault.TooLarge)
 
 -- such a line, and why it is answered: but for pseudoflow alone, which may give up on any net, it is by the machine's run
 abbrev pub IsNoOf : NetView → Method → ℕ → List ℕ → Type 0
-IsNoOf net method limit text = ((method ≡ Pseudoflow) × (text ≡ unsettled_line)) ⊎ (IsCutOff net limit × (text ≡ unsettled_line)) ⊎ (SomeNumberLeaves net limit × (text ≡ too_large_line))
+IsNoOf net method limit text = ((method ≡ Pseudoflow) × (text ≡ unsettled_line)) ⊎ (IsCutOff net limit × (text ≡ unsettled_line)) ⊎ (SomeNumberOverflows net limit × (text ≡ too_large_line))
 
 -- the text that answers for a net
 abbrev pub AnswersNet : Bool → Group → Price → NetView → Method → ℕ → Verdict → List ℕ → Type 0

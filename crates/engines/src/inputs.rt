@@ -7,7 +7,7 @@ ghost use Rattle.engines.specs.Inputs.{ReadsUpit, ListsPrec, ReadsPrec, UpitRead
 
 use crate::engine_fault::{CertificateProblem, EngineFault, Problem};
 use blocks_file::{BlockModel, BlocksFault, read_blocks};
-use fixed_worth::{CountedRead, InputFault, read_whole};
+use fixed_worth::{CountedRead, InputFault, MOST_BLOCKS, read_whole};
 use prec_file::{ListedPairs, PrecFault, Rests, read_listed};
 use std::alloc::Global;
 use upit_file::{Upit, UpitFault, declared_blocks, read_upit};
@@ -91,7 +91,7 @@ fn listed_from<R: CountedRead>(
     from: &mut R,
     n: u32,
 ) -> Result<ListedPairs, EngineFault>
-    requires blocks { n ≤ 2 ^ 24 }
+    requires blocks { n ≤ MOST_BLOCKS }
     requires room { R.failed from.old < 2 ^ 64 - 1 }
     ensures read { IfSome (R.remaining from.old) (λ text. MatchResult result (ListsPrec n text) (PrecReadFails n text)) }
     ensures size { IfOk result (λ listed. listed.blocks ≡ n) }
@@ -108,7 +108,7 @@ fn listed_from<R: CountedRead>(
 
 /// What rests on what among n blocks.
 pub fn rests_from<R: CountedRead>(alloc: Global, from: &mut R, n: u32) -> Result<Rests, EngineFault>
-    requires blocks { n ≤ 2 ^ 24 }
+    requires blocks { n ≤ MOST_BLOCKS }
     requires room { R.failed from.old < 2 ^ 64 - 1 }
     ensures read { IfSome (R.remaining from.old) (λ text. MatchResult result (ReadsPrec n text) (PrecReadFails n text)) }
     ensures size { IfOk result (λ rests. rests.blocks ≡ n) }

@@ -165,7 +165,7 @@ pub fn size_of<G: OrderedGroup>(accepted: &Accepted<'_, G>) -> u32
     ensures most { result ≤ length accepted.now.net.worths }
     ensures ascending { IsAscending accepted.now.pit }
 {
-    // proof: a net has at most 2^24 blocks
+    // proof: a net has at most `MOST_BLOCKS` blocks
     let _size = accepted.net().len();
     let blocks = accepted.pit().blocks();
     blocks.len() as u32

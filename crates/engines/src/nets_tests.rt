@@ -1,6 +1,6 @@
 //! Both engines on nets that are made up: small ones against the best of all their closed sets, larger ones against each other.
 
-ghost use Rattle.std.specs.Prelude.{◌≤◌, ◌^◌};
+ghost use Rattle.std.specs.Prelude.{◌≤◌};
 
 use crate::certify::Solution;
 use crate::effort::Effort;
@@ -8,6 +8,7 @@ use crate::method::Method;
 use crate::solving::{by_machine, by_pseudoflow};
 use crate::unwatched::Unwatched;
 use closure_net::{Net, Pit};
+use fixed_worth::MOST_BLOCKS;
 use ordered_group::{OrderedGroup, Worth, WorthSize};
 use prec_file::Rests;
 use std::alloc::Global;
@@ -106,7 +107,7 @@ fn net_of<G: OrderedGroup>(
     pairs: &[(u32, u32)],
     nanos: &[i128],
 ) -> Result<Net<G>, Fail>
-    requires { n ≤ 2 ^ 24 }
+    requires { n ≤ MOST_BLOCKS }
 {
     let rests = Rests::from_pairs(alloc, n, pairs).ok().ok_or("pairs")?;
     Ok(Net::of_worths(alloc, rests, nanos).ok().ok_or("worths")?)
@@ -190,7 +191,7 @@ fn both_find_the_best<G: OrderedGroup, R: Threads + Wait + Sync + Abort>(
 ) -> Result<(), Fail>
 where
     Locked<TurnBoard<G>>: Shared,
-    requires { n ≤ 2 ^ 24 }
+    requires { n ≤ MOST_BLOCKS }
 {
     let net: Net<G> = net_of(alloc, n, pairs, nanos)?;
     let best = best_of_all(n, pairs, nanos);

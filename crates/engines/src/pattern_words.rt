@@ -1,11 +1,11 @@
 //! The words that name a pattern and a direction.
 
-ghost use Rattle.std.specs.Prelude.{◌≡◌, ◌==◌, [], ◌∷◌, drop, position, IfSome, MatchOption};
+ghost use Rattle.std.specs.Prelude.{◌≡◌, ◌==◌, [], ◌∷◌, position, IfSome, MatchOption};
 ghost use Rattle.engines.specs.PatternWords.{pieces_of, cone_number_of, cone_of, plain_pattern_of, pattern_of, up_of};
 ghost use Rattle.engines.specs.Slopes.{IsConeNumber, IsChoice};
 
 use crate::pattern_choice::PatternChoice;
-use fixed_worth::whole;
+use fixed_worth::{behind_first, whole};
 use slope::Up;
 
 // The greatest number of a cone.
@@ -15,15 +15,6 @@ fn first_colon(word: &[u8]) -> Option<usize>
     ensures { result ≡ position (λ b. b == 58) word.now }
 {
     word.iter().position(|b| *b == b':')
-}
-
-fn behind_first(word: &[u8]) -> &[u8]
-    ensures { result.now ≡ drop 1 word.now }
-{
-    match word {
-        [] => word,
-        [_, after @ ..] => after,
-    }
 }
 
 // What stands before the first colon, and what stands behind it.

@@ -3,12 +3,10 @@
 ghost use Rattle.std.specs.Prelude.{◌≡◌, ◌≤◌, IfSome};
 ghost use Rattle.engines.specs.SolveWords.{factor_of, group_of, steps_of, workers_of};
 
+use async_step::MOST_STEPS;
 use fixed_worth::whole;
 use ordered_group::Group;
 use shells::Factor;
-
-// The most steps of a run.
-const MOST_STEPS: u64 = 1 << 40;
 
 // The most thousandths of a factor.
 const MOST_FACTOR: u64 = 10_000;
