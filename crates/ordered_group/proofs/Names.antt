@@ -1,6 +1,7 @@
 -- The words of the kinds of amount.
-use Rattle.std.proofs.Common.{◌≡◌, ℕ, ◌≤◌, Bool, true, false, cond, List, Option, Some, None, refl, sym, ap, ◌∙◌, arith, rules, length, All}
+use Rattle.std.proofs.Common.{◌≡◌, ℕ, ◌≤◌, Bool, true, false, cond, not, eqb, ◌&&◌, List, Option, Some, None, refl, sym, ap, ◌∙◌, arith, length}
 use Rattle.std.specs.Prelude.{unwrap_or}
+use Rattle.std.specs.List.{list_all}
 use Rattle.std.specs.Str.{bytes_eq}
 use Rattle.std.proofs.lemmas.Slice.Eq.{bytes_eq-Decides}
 use Rattle.ordered_group.specs.declared.groups.Group.{Group}
@@ -30,11 +31,11 @@ group_spelled word g h =
 pub group_name-same : (a b : Group) → group_name a ≡ group_name b → a ≡ b
 group_name-same a b h = ap (λ (o : Option Group). unwrap_or o b) (let e : Some a ≡ Some b = sym (group_read a) ∙ ap group_of h ∙ group_read b in e)
 
--- a word has capital letters, and at most six
-pub group_name-capitals : (g : Group) → All (λ b. (65 ≤ b) × (b ≤ 90)) (group_name g)
-group_name-capitals Worth = search rules
-group_name-capitals Pair = search rules
-group_name-capitals Scaled = search rules
+-- a word has no line feed and no space, and at most six letters
+pub group_name-one_word : (g : Group) → list_all (λ b. not (eqb b 10) && not (eqb b 32)) (group_name g) ≡ true
+group_name-one_word Worth = refl
+group_name-one_word Pair = refl
+group_name-one_word Scaled = refl
 
 pub group_name-few : (g : Group) → length (group_name g) ≤ 6
 group_name-few Worth = omega arith

@@ -29,4 +29,6 @@ pub use worth_alone::Worth;
 pub use worth_with_size::WorthSize;
 
 #[cfg(test)]
+mod scaled_tests;
+#[cfg(test)]
 mod tests;
