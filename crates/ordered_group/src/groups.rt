@@ -1,6 +1,6 @@
 //! What the solver and the checker need of amounts.
 
-ghost use Rattle.std.specs.Prelude.{FitsSigned, ◌≤◌, ◌≡◌, ◌↔◌, ℕ, ℤ, Bool, IsTrue, false, pos};
+ghost use Rattle.std.specs.Prelude.{FitsSigned, ◌≤◌, ◌≡◌, ◌↔◌, ℕ, ℤ, Bool, IsTrue, false, length, pos};
 ghost use Rattle.std.specs.Int.{w128};
 ghost use Rattle.ordered_group.specs.Amount.{Amount, FitsPair, AtMost, GivesExactly, amount_cmp, minus, plus, zero_amount};
 ghost use Rattle.ordered_group.specs.Block.{TakesParts, TellsWorth};
@@ -22,9 +22,10 @@ pub enum Group {
 }
 
 impl Group {
-    /// The word that a certificate has for the kind.
+    /// The word that a certificate has for the kind. None has more than six letters.
     pub fn word(self) -> &'static str
-        ensures { result.now ≡ group_name self }
+        ensures text { result.now ≡ group_name self }
+        ensures few { length result.now ≤ 6 }
     {
         match self {
             Group::Worth => "WORTH",
