@@ -8,7 +8,8 @@ use Rattle.std.proofs.lemmas.Slice.Eq.{bytes_eq-Decides}
 use lib.Chars.{codes}
 use Rattle.fixed_worth.specs.declared.limits.TheConstants.{MOST_BLOCKS}
 use Rattle.ordered_group.specs.declared.groups.Group.{Group}
-use Rattle.ordered_group.specs.declared.groups.Group.TheVariants.{Worth, Pair}
+use Rattle.ordered_group.specs.Group.{group_name, group_of}
+use Rattle.ordered_group.proofs.Names.{group_spelled}
 use Rattle.check_pit.specs.declared.header.Header.{Header}
 use Rattle.check_pit.specs.declared.header.Wanted.{Wanted}
 use Rattle.check_pit.specs.declared.header.Price.{Price}
@@ -16,8 +17,8 @@ use Rattle.check_pit.specs.declared.header.Price.TheVariants.{Objective}
 use Rattle.check_pit.specs.declared.cert_fault.LineFault.{LineFault}
 use Rattle.check_pit.specs.declared.cert_fault.LineFault.TheVariants.{Text}
 use Rattle.check_pit.specs.Pieces.{Piece, piece_at, read_line, words_of, number_below}
-use Rattle.check_pit.specs.Header.{header_for, version_in, value_behind, or_number, wanted_blocks, blocks_said, blocks_in, factor_of, price_said, price_in, is_same_group, wanted_group, group_in}
-use Rattle.check_pit.specs.Written.{spaced, lines_text, price_word, group_word, header_words}
+use Rattle.check_pit.specs.Header.{header_for, version_in, value_behind, or_number, wanted_blocks, blocks_said, blocks_in, factor_of, price_said, price_in, is_same_group, wanted_group, group_named, group_said, group_in}
+use Rattle.check_pit.specs.Written.{spaced, lines_text, price_word, header_words}
 use Rattle.check_pit.proofs.Texts.{pieces_text, words_make_line}
 use Rattle.check_pit.proofs.Going.{text_read}
 use Rattle.check_pit.proofs.Spelling.{number_is, read_ends, piece_text}
@@ -87,11 +88,13 @@ group_same : (wanted : Option Wanted) (b g : Group) → wanted_group wanted b �
 group_same None b g h = ap (λ (r : Result Group LineFault). result_unwrap_or r g) h
 group_same (Some w) b g h = group_kept w.group b g (is_same_group w.group b) h
 
-group_at : (wanted : Option Wanted) (text : List ℕ) (g : Group) (t u : Bool) → (t ≡ true → text ≡ codes "GROUP WORTH") → (u ≡ true → text ≡ codes "GROUP PAIR") → cond t (wanted_group wanted Worth) (cond u (wanted_group wanted Pair) (Err Text)) ≡ Ok g
-    → text ≡ spaced (codes "GROUP" ∷ group_word g ∷ [])
-group_at wanted text g true u e f h = e refl ∙ ap (λ (x : Group). spaced (codes "GROUP" ∷ group_word x ∷ [])) (group_same wanted Worth g h)
-group_at wanted text g false true e f h = f refl ∙ ap (λ (x : Group). spaced (codes "GROUP" ∷ group_word x ∷ [])) (group_same wanted Pair g h)
-group_at wanted text g false false e f h = absurd cc
+group_kind : (wanted : Option Wanted) (w : List ℕ) (o : Option Group) (g : Group) → group_of w ≡ o → group_named wanted o ≡ Ok g → w ≡ group_name g
+group_kind wanted w (Some b) g e h = group_spelled w b e ∙ ap group_name (group_same wanted b g h)
+group_kind wanted w None g e h = absurd cc
+
+group_at : (wanted : Option Wanted) (text : List ℕ) (o : Option (List ℕ)) (g : Group) → value_behind (codes "GROUP") (words_of text) ≡ o → group_said wanted o ≡ Ok g → text ≡ spaced (codes "GROUP" ∷ group_name g ∷ [])
+group_at wanted text (Some w) g e h = keyed (codes "GROUP") w text e ∙ ap (λ (x : List ℕ). spaced (codes "GROUP" ∷ x ∷ [])) (group_kind wanted w (group_of w) g refl h)
+group_at wanted text None g e h = absurd cc
 
 -- A text that has no more lines can't be read.
 no_piece : {A : Type 0} (f : List ℕ → Result A LineFault) (k : ℕ) (x : A) {P : Type 0} → read_line f k (record { text = []; ended = false }) ≡ Ok x → P
@@ -110,11 +113,11 @@ four (p ∷ q ∷ r ∷ s ∷ ps) wanted h a b c d =
     let one = piece_text p (q ∷ r ∷ s ∷ ps) (codes "PITCERT 1") (read_ends version_in 1 p tt a) (version_is p.text (text_read version_in 1 p tt a)) in
     let two = piece_text q (r ∷ s ∷ ps) (spaced (codes "BLOCKS" ∷ decimal h.blocks ∷ [])) (read_ends (blocks_in wanted) 2 q h.blocks b) (blocks_at wanted q.text (value_behind (codes "BLOCKS") (words_of q.text)) h.blocks refl (text_read (blocks_in wanted) 2 q h.blocks b)) in
     let three = piece_text r (s ∷ ps) (spaced (codes "PRICE" ∷ price_word h.price ∷ [])) (read_ends price_in 3 r h.price c) (price_at r.text (value_behind (codes "PRICE") (words_of r.text)) h.price refl (text_read price_in 3 r h.price c)) in
-    let last = piece_text s ps (spaced (codes "GROUP" ∷ group_word h.group ∷ [])) (read_ends (group_in wanted) 4 s h.group d)
-    (group_at wanted s.text h.group (bytes_eq s.text (codes "GROUP WORTH")) (bytes_eq s.text (codes "GROUP PAIR")) (bytes_eq-Decides s.text (codes "GROUP WORTH")).0 (bytes_eq-Decides s.text (codes "GROUP PAIR")).0 (text_read (group_in wanted) 4 s h.group d)) in
-    let all : pieces_text (p ∷ q ∷ r ∷ s ∷ ps) ≡ codes "PITCERT 1" ++ (10 ∷ (spaced (codes "BLOCKS" ∷ decimal h.blocks ∷ []) ++ (10 ∷ (spaced (codes "PRICE" ∷ price_word h.price ∷ []) ++ (10 ∷ (spaced (codes "GROUP" ∷ group_word h.group ∷ []) ++ (10 ∷ pieces_text ps))))))) =
+    let last = piece_text s ps (spaced (codes "GROUP" ∷ group_name h.group ∷ [])) (read_ends (group_in wanted) 4 s h.group d)
+    (group_at wanted s.text (value_behind (codes "GROUP") (words_of s.text)) h.group refl (text_read (group_in wanted) 4 s h.group d)) in
+    let all : pieces_text (p ∷ q ∷ r ∷ s ∷ ps) ≡ codes "PITCERT 1" ++ (10 ∷ (spaced (codes "BLOCKS" ∷ decimal h.blocks ∷ []) ++ (10 ∷ (spaced (codes "PRICE" ∷ price_word h.price ∷ []) ++ (10 ∷ (spaced (codes "GROUP" ∷ group_name h.group ∷ []) ++ (10 ∷ pieces_text ps))))))) =
     one ∙ ap (λ (t : List ℕ). codes "PITCERT 1" ++ (10 ∷ t)) (two ∙ ap (λ (t : List ℕ). spaced (codes "BLOCKS" ∷ decimal h.blocks ∷ []) ++ (10 ∷ t)) (three ∙ ap (λ (t : List ℕ). spaced (codes "PRICE" ∷ price_word h.price ∷ []) ++ (10 ∷ t)) last)) in
-    all ∙ sym (regroup (spaced (codes "BLOCKS" ∷ decimal h.blocks ∷ [])) (spaced (codes "PRICE" ∷ price_word h.price ∷ [])) (spaced (codes "GROUP" ∷ group_word h.group ∷ [])) (pieces_text ps))
+    all ∙ sym (regroup (spaced (codes "BLOCKS" ∷ decimal h.blocks ∷ [])) (spaced (codes "PRICE" ∷ price_word h.price ∷ [])) (spaced (codes "GROUP" ∷ group_name h.group ∷ [])) (pieces_text ps))
 
 pub header_is : (wanted : Option Wanted) (ps : List Piece) (h : Header) → header_for wanted ps ≡ Ok h → pieces_text ps ≡ lines_text (header_words h) ++ pieces_text (drop 4 ps)
 header_is wanted ps h e =

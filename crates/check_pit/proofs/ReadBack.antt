@@ -1,5 +1,5 @@
 -- The text of a value is read without a fault.
-use Rattle.std.proofs.Common.{◌≡◌, ℕ, ◌+◌, ◌≤◌, Bool, true, false, cond, ltb, List, [], ◌∷◌, ◌++◌, length, drop, Option, Some, None, Result, Ok, refl, sym, ap, ◌∙◌, subst, arith, append_assoc, length-append}
+use Rattle.std.proofs.Common.{◌≡◌, ℕ, ◌+◌, ◌≤◌, Bool, true, false, cond, ltb, List, [], ◌∷◌, ◌++◌, length, drop, Option, Some, None, Result, Ok, Err, refl, sym, ap, ◌∙◌, subst, arith, append_assoc, length-append}
 use Rattle.std.proofs.lemmas.Bool.{eq-eqb}
 use Rattle.std.specs.Prelude.{pos}
 use Rattle.std.specs.Str.{bytes_eq}
@@ -10,20 +10,22 @@ use Rattle.std.proofs.lemmas.Fmt.{length-decimal-le_wide}
 use lib.Chars.{codes}
 use Rattle.fixed_worth.specs.declared.limits.TheConstants.{MOST_BLOCKS, LINE_BYTES}
 use Rattle.ordered_group.specs.declared.groups.Group.{Group}
-use Rattle.ordered_group.specs.declared.groups.Group.TheVariants.{Worth, Pair}
+use Rattle.ordered_group.specs.Group.{group_name, group_of}
+use Rattle.ordered_group.proofs.Names.{group_read, group_name-one_word, group_name-few}
 use Rattle.check_pit.specs.declared.header.Price.{Price}
 use Rattle.check_pit.specs.declared.header.Price.TheVariants.{Objective, Factor}
 use Rattle.check_pit.specs.declared.cert_fault.CertFault.{CertFault}
 use Rattle.check_pit.specs.declared.cert_fault.LineFault.{LineFault}
+use Rattle.check_pit.specs.declared.cert_fault.LineFault.TheVariants.{Text}
 use Rattle.check_pit.specs.declared.lines_of_body.LineKind.{LineKind}
 use Rattle.check_pit.specs.declared.lines_of_body.LineKind.TheVariants.{Pit, Source, Rest, Sink, End}
 use Rattle.check_pit.specs.declared.lines_of_body.BodyLine.{BodyLine}
 use Rattle.check_pit.specs.Pieces.{Piece, pieces_of, words_of, read_line, no_line, number_below}
-use Rattle.check_pit.specs.Header.{◌>>=◌, header_for, version_in, value_behind, or_number, wanted_blocks, blocks_said, blocks_in, factor_of, price_said, price_in, group_in}
+use Rattle.check_pit.specs.Header.{◌>>=◌, header_for, version_in, value_behind, or_number, wanted_blocks, blocks_said, blocks_in, factor_of, price_said, price_in, group_named, group_said, group_in}
 use Rattle.check_pit.specs.BodyLines.{line_of, is_end, rank, is_of_model, may_follow, next_line, end_fault, fault_from, body_fault, lines_from, lines_in}
 use Rattle.check_pit.specs.Certificate.{wanted_for}
 use Rattle.check_pit.specs.ReadBack.{IsPrice}
-use Rattle.check_pit.specs.Written.{spaced, lines_text, line_words, price_word, group_word, header_words, header_with, body_text, end_text}
+use Rattle.check_pit.specs.Written.{spaced, lines_text, line_words, price_word, header_words, header_with, body_text, end_text}
 use Rattle.check_pit.proofs.Texts.{is_word, are_words, has_no_feed, words_read, spaced_no_feed, line_before, decimal_is_word}
 use Rattle.check_pit.proofs.Heads.{regroup}
 use Rattle.check_pit.proofs.Order.{InOrder}
@@ -123,32 +125,27 @@ price_read (Factor k) h =
     ap price_said (keyed_read (codes "PRICE") (decimal k) refl (decimal_is_word k (omega arith)) refl)
     ∙ factor_read k (bytes_eq (decimal k) (codes "OBJECTIVE")) h (bytes_eq-Decides (decimal k) (codes "OBJECTIVE")).0
 
-group_read : (n : ℕ) (name : Group) → group_in (wanted_for n name) (spaced (codes "GROUP" ∷ group_word name ∷ [])) ≡ Ok name
-group_read n Worth = refl
-group_read n Pair = refl
-
-group_feed : (name : Group) → has_no_feed (spaced (codes "GROUP" ∷ group_word name ∷ [])) ≡ true
-group_feed Worth = refl
-group_feed Pair = refl
-
-group_short : (name : Group) → length (spaced (codes "GROUP" ∷ group_word name ∷ [])) ≤ LINE_BYTES
-group_short Worth = omega arith
-group_short Pair = omega arith
+kind_read : (n : ℕ) (name : Group) → group_in (wanted_for n name) (spaced (codes "GROUP" ∷ group_name name ∷ [])) ≡ Ok name
+kind_read n name =
+    let same : bytes_eq (group_name name) (group_name name) ≡ true = (bytes_eq-Decides (group_name name) (group_name name)).1 refl in
+    ap (group_said (wanted_for n name)) (keyed_read (codes "GROUP") (group_name name) refl (group_name-one_word name) refl)
+    ∙ ap (group_named (wanted_for n name)) (group_read name)
+    ∙ ap (λ (t : Bool). cond t (Ok name) (Err Text)) same
 
 abbrev pub head_of : ℕ → Price → Group → List ℕ
 head_of n price name = lines_text (header_words (header_with n price name))
 
 pieces_four : (n : ℕ) (price : Price) (name : Group) (rest : List ℕ) → n ≤ MOST_BLOCKS → IsPrice price
-    → pieces_of (head_of n price name ++ rest) ≡ line_piece (codes "PITCERT 1") ∷ line_piece (spaced (codes "BLOCKS" ∷ decimal n ∷ [])) ∷ line_piece (spaced (codes "PRICE" ∷ price_word price ∷ [])) ∷ line_piece (spaced (codes "GROUP" ∷ group_word name ∷ [])) ∷ pieces_of rest
+    → pieces_of (head_of n price name ++ rest) ≡ line_piece (codes "PITCERT 1") ∷ line_piece (spaced (codes "BLOCKS" ∷ decimal n ∷ [])) ∷ line_piece (spaced (codes "PRICE" ∷ price_word price ∷ [])) ∷ line_piece (spaced (codes "GROUP" ∷ group_name name ∷ [])) ∷ pieces_of rest
 pieces_four n price name rest h p =
     let b = spaced (codes "BLOCKS" ∷ decimal n ∷ []) in
     let c = spaced (codes "PRICE" ∷ price_word price ∷ []) in
-    let d = spaced (codes "GROUP" ∷ group_word name ∷ []) in
+    let d = spaced (codes "GROUP" ∷ group_name name ∷ []) in
     ap pieces_of (regroup b c d rest)
     ∙ line_before (codes "PITCERT 1") (b ++ (10 ∷ (c ++ (10 ∷ (d ++ (10 ∷ rest)))))) refl
     ∙ ap (λ (ps : List Piece). line_piece (codes "PITCERT 1") ∷ ps) (line_before b (c ++ (10 ∷ (d ++ (10 ∷ rest)))) (keyed_feed (codes "BLOCKS") (decimal n) refl (decimal_is_word n (omega arith))))
     ∙ ap (λ (ps : List Piece). line_piece (codes "PITCERT 1") ∷ line_piece b ∷ ps) (line_before c (d ++ (10 ∷ rest)) (keyed_feed (codes "PRICE") (price_word price) refl (price_is_word price p)))
-    ∙ ap (λ (ps : List Piece). line_piece (codes "PITCERT 1") ∷ line_piece b ∷ line_piece c ∷ ps) (line_before d rest (group_feed name))
+    ∙ ap (λ (ps : List Piece). line_piece (codes "PITCERT 1") ∷ line_piece b ∷ line_piece c ∷ ps) (line_before d rest (keyed_feed (codes "GROUP") (group_name name) refl (group_name-one_word name)))
 
 short_pair : (key w : List ℕ) → length key ≤ 100 → length w ≤ 100 → length (spaced (key ∷ w ∷ [])) ≤ LINE_BYTES
 short_pair key w h i = omega (arith, length-append key (32 ∷ w))
@@ -158,7 +155,7 @@ all_ok : (a : Result (Unit {0}) CertFault) (b : Result ℕ CertFault) (c : Resul
 all_ok a b c d n price name e f g h = rw (e, f, g, h) refl
 
 header_steps : (n : ℕ) (price : Price) (name : Group) (ps qs : List Piece) → n ≤ MOST_BLOCKS → IsPrice price
-    → ps ≡ line_piece (codes "PITCERT 1") ∷ line_piece (spaced (codes "BLOCKS" ∷ decimal n ∷ [])) ∷ line_piece (spaced (codes "PRICE" ∷ price_word price ∷ [])) ∷ line_piece (spaced (codes "GROUP" ∷ group_word name ∷ [])) ∷ qs
+    → ps ≡ line_piece (codes "PITCERT 1") ∷ line_piece (spaced (codes "BLOCKS" ∷ decimal n ∷ [])) ∷ line_piece (spaced (codes "PRICE" ∷ price_word price ∷ [])) ∷ line_piece (spaced (codes "GROUP" ∷ group_name name ∷ [])) ∷ qs
     → header_for (wanted_for n name) ps ≡ Ok (header_with n price name)
 header_steps n price name ps qs h p e =
     let few = length-decimal-le_wide 8 n (omega arith) (omega arith) (omega arith) in
@@ -166,8 +163,8 @@ header_steps n price name ps qs h p e =
     let b : read_line (blocks_in (wanted_for n name)) 2 (line_piece (spaced (codes "BLOCKS" ∷ decimal n ∷ []))) ≡ Ok n = line_read (blocks_in (wanted_for n name)) 2 (spaced (codes "BLOCKS" ∷ decimal n ∷ [])) n (short_pair (codes "BLOCKS") (decimal n) (omega arith) (omega arith)) (blocks_read n name h) in
     let long = price_length price p in
     let c : read_line price_in 3 (line_piece (spaced (codes "PRICE" ∷ price_word price ∷ []))) ≡ Ok price = line_read price_in 3 (spaced (codes "PRICE" ∷ price_word price ∷ [])) price (short_pair (codes "PRICE") (price_word price) (omega arith) (omega arith)) (price_read price p) in
-    let d : read_line (group_in (wanted_for n name)) 4 (line_piece (spaced (codes "GROUP" ∷ group_word name ∷ []))) ≡ Ok name = line_read (group_in (wanted_for n name)) 4 (spaced (codes "GROUP" ∷ group_word name ∷ [])) name (group_short name) (group_read n name) in
-    ap (header_for (wanted_for n name)) e ∙ all_ok (read_line version_in 1 (line_piece (codes "PITCERT 1"))) (read_line (blocks_in (wanted_for n name)) 2 (line_piece (spaced (codes "BLOCKS" ∷ decimal n ∷ [])))) (read_line price_in 3 (line_piece (spaced (codes "PRICE" ∷ price_word price ∷ [])))) (read_line (group_in (wanted_for n name)) 4 (line_piece (spaced (codes "GROUP" ∷ group_word name ∷ [])))) n price name a b c d
+    let d : read_line (group_in (wanted_for n name)) 4 (line_piece (spaced (codes "GROUP" ∷ group_name name ∷ []))) ≡ Ok name = line_read (group_in (wanted_for n name)) 4 (spaced (codes "GROUP" ∷ group_name name ∷ [])) name (short_pair (codes "GROUP") (group_name name) (omega arith) (omega (arith, group_name-few name))) (kind_read n name) in
+    ap (header_for (wanted_for n name)) e ∙ all_ok (read_line version_in 1 (line_piece (codes "PITCERT 1"))) (read_line (blocks_in (wanted_for n name)) 2 (line_piece (spaced (codes "BLOCKS" ∷ decimal n ∷ [])))) (read_line price_in 3 (line_piece (spaced (codes "PRICE" ∷ price_word price ∷ [])))) (read_line (group_in (wanted_for n name)) 4 (line_piece (spaced (codes "GROUP" ∷ group_name name ∷ [])))) n price name a b c d
 
 pub header_read : (n : ℕ) (price : Price) (name : Group) (rest : List ℕ) → n ≤ MOST_BLOCKS → IsPrice price → header_for (wanted_for n name) (pieces_of (head_of n price name ++ rest)) ≡ Ok (header_with n price name)
 header_read n price name rest h p = header_steps n price name (pieces_of (head_of n price name ++ rest)) (pieces_of rest) h p (pieces_four n price name rest h p)

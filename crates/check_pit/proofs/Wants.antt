@@ -2,11 +2,13 @@
 use Rattle.std.proofs.Common.{◌≡◌, ℕ, ◌+◌, Bool, true, false, cond, eqb, List, Option, Some, None, Result, Ok, Err, refl, sym, ap, ◌∙◌, arith}
 use Rattle.std.specs.Result.{result_unwrap_or}
 use Rattle.std.specs.Str.{bytes_eq}
+use Rattle.std.proofs.lemmas.Slice.Eq.{bytes_eq-Decides}
 use Rattle.std.proofs.lemmas.Bool.Decides.{nat_tests}
 use lib.Chars.{codes}
 use Rattle.fixed_worth.specs.declared.limits.TheConstants.{MOST_BLOCKS}
 use Rattle.ordered_group.specs.declared.groups.Group.{Group}
-use Rattle.ordered_group.specs.declared.groups.Group.TheVariants.{Worth, Pair}
+use Rattle.ordered_group.specs.Group.{group_name, group_of}
+use Rattle.ordered_group.proofs.Names.{group_name-same}
 use Rattle.check_pit.specs.declared.header.Header.{Header}
 use Rattle.check_pit.specs.declared.header.Wanted.{Wanted}
 use Rattle.check_pit.specs.declared.header.Price.{Price}
@@ -14,7 +16,7 @@ use Rattle.check_pit.specs.declared.cert_fault.CertFault.{CertFault}
 use Rattle.check_pit.specs.declared.cert_fault.LineFault.{LineFault}
 use Rattle.check_pit.specs.declared.cert_fault.LineFault.TheVariants.{Text}
 use Rattle.check_pit.specs.Pieces.{Piece, piece_at, read_line, words_of, number_below}
-use Rattle.check_pit.specs.Header.{◌>>=◌, header_for, version_in, blocks_in, price_in, group_in, blocks_said, wanted_blocks, wanted_group, is_same_group, or_number, value_behind}
+use Rattle.check_pit.specs.Header.{◌>>=◌, header_for, version_in, blocks_in, price_in, group_in, blocks_said, wanted_blocks, wanted_group, is_same_group, group_named, group_said, or_number, value_behind}
 use Rattle.check_pit.proofs.Going.{text_read}
 
 -- A header has the blocks and the group that are wanted.
@@ -55,23 +57,23 @@ blocks_wanted w (Some word) n h = wanted_option w (number_below (MOST_BLOCKS + 1
 blocks_wanted w None n h = absurd cc
 
 same_group : (a b : Group) → is_same_group a b ≡ true → b ≡ a
-same_group Worth Worth h = refl
-same_group Worth Pair h = absurd cc
-same_group Pair Worth h = absurd cc
-same_group Pair Pair h = refl
+same_group a b h = sym (group_name-same a b ((bytes_eq-Decides (group_name a) (group_name b)).0 h))
 
 group_tested : (a b g : Group) (t : Bool) → is_same_group a b ≡ t → cond t (Ok b) (Err Text) ≡ Ok g → g ≡ a
 group_tested a b g true e h = sym (ap (λ (r : Result Group LineFault). result_unwrap_or r g) h) ∙ same_group a b e
 group_tested a b g false e h = absurd cc
 
-group_wanted : (w : Wanted) (t u : Bool) (g : Group) → cond t (wanted_group (Some w) Worth) (cond u (wanted_group (Some w) Pair) (Err Text)) ≡ Ok g → g ≡ w.group
-group_wanted w true u g h = group_tested w.group Worth g (is_same_group w.group Worth) refl h
-group_wanted w false true g h = group_tested w.group Pair g (is_same_group w.group Pair) refl h
-group_wanted w false false g h = absurd cc
+kind_wanted : (w : Wanted) (o : Option Group) (g : Group) → group_named (Some w) o ≡ Ok g → g ≡ w.group
+kind_wanted w (Some b) g h = group_tested w.group b g (is_same_group w.group b) refl h
+kind_wanted w None g h = absurd cc
+
+group_wanted : (w : Wanted) (o : Option (List ℕ)) (g : Group) → group_said (Some w) o ≡ Ok g → g ≡ w.group
+group_wanted w (Some word) g h = kind_wanted w (group_of word) g h
+group_wanted w None g h = absurd cc
 
 pub header_wanted : (w : Wanted) (ps : List Piece) (h : Header) → header_for (Some w) ps ≡ Ok h → (h.blocks ≡ w.blocks) × (h.group ≡ w.group)
 header_wanted w ps h e =
     let q = joined (read_line version_in 1 (piece_at ps 0)) (read_line (blocks_in (Some w)) 2 (piece_at ps 1)) (read_line price_in 3 (piece_at ps 2)) (read_line (group_in (Some w)) 4 (piece_at ps 3)) h e in (
       blocks_wanted w (value_behind (codes "BLOCKS") (words_of (piece_at ps 1).text)) h.blocks (text_read (blocks_in (Some w)) 2 (piece_at ps 1) h.blocks q.blocks),
-      group_wanted w (bytes_eq (piece_at ps 3).text (codes "GROUP WORTH")) (bytes_eq (piece_at ps 3).text (codes "GROUP PAIR")) h.group (text_read (group_in (Some w)) 4 (piece_at ps 3) h.group q.group),
+      group_wanted w (value_behind (codes "GROUP") (words_of (piece_at ps 3).text)) h.group (text_read (group_in (Some w)) 4 (piece_at ps 3) h.group q.group),
     )

@@ -4,7 +4,7 @@ use Rattle.std.specs.Str.{bytes_eq}
 use lib.Chars.{codes}
 use Rattle.fixed_worth.specs.declared.limits.TheConstants.{MOST_BLOCKS}
 use Rattle.ordered_group.specs.declared.groups.Group.{Group}
-use Rattle.ordered_group.specs.declared.groups.Group.TheVariants.{Worth, Pair}
+use Rattle.ordered_group.specs.Group.{group_name, group_of}
 use Rattle.check_pit.specs.declared.header.Header.{Header}
 use Rattle.check_pit.specs.declared.header.Wanted.{Wanted}
 use Rattle.check_pit.specs.declared.header.Price.{Price}
@@ -59,19 +59,26 @@ price_in text = price_said (value_behind (codes "PRICE") (words_of text))
 
 -- two names of one group
 abbrev pub is_same_group : Group → Group → Bool
-is_same_group Worth Worth = true
-is_same_group Worth Pair = false
-is_same_group Pair Worth = false
-is_same_group Pair Pair = true
+is_same_group a b = bytes_eq (group_name a) (group_name b)
 
 -- the group, where it is the one that is wanted
 abbrev pub wanted_group : Option Wanted → Group → Result Group LineFault
 wanted_group None group = Ok group
 wanted_group (Some wanted) group = cond (is_same_group wanted.group group) (Ok group) (Err Text)
 
--- GROUP WORTH or GROUP PAIR
+-- the group that is read of a word, if it names one
+abbrev pub group_named : Option Wanted → Option Group → Result Group LineFault
+group_named wanted None = Err Text
+group_named wanted (Some group) = wanted_group wanted group
+
+-- the group that a word says
+abbrev pub group_said : Option Wanted → Option (List ℕ) → Result Group LineFault
+group_said wanted None = Err Text
+group_said wanted (Some word) = group_named wanted (group_of word)
+
+-- GROUP and the word of a kind of amount
 abbrev pub group_in : Option Wanted → List ℕ → Result Group LineFault
-group_in wanted text = cond (bytes_eq text (codes "GROUP WORTH")) (wanted_group wanted Worth) (cond (bytes_eq text (codes "GROUP PAIR")) (wanted_group wanted Pair) (Err Text))
+group_in wanted text = group_said wanted (value_behind (codes "GROUP") (words_of text))
 
 -- a result, and what is made of it where it is no fault
 infixl 10 ◌>>=◌

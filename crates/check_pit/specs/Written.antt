@@ -3,7 +3,7 @@ use Rattle.std.specs.Prelude.{ℕ, pos, ◌+◌, cond, List, [], ◌∷◌, ◌+
 use Rattle.std.specs.Fmt.{decimal, signed_decimal}
 use lib.Chars.{codes}
 use Rattle.ordered_group.specs.declared.groups.Group.{Group}
-use Rattle.ordered_group.specs.declared.groups.Group.TheVariants as group
+use Rattle.ordered_group.specs.Group.{group_name}
 use Rattle.ordered_group.specs.Amount.{Amount, is_zero}
 use Rattle.closure_net.specs.Network.{FlowView}
 use Rattle.check_pit.specs.declared.header.Header.{Header}
@@ -29,18 +29,13 @@ abbrev pub price_word : Price → List ℕ
 price_word Objective = codes "OBJECTIVE"
 price_word (Factor k) = decimal k
 
--- the word of a group
-abbrev pub group_word : Group → List ℕ
-group_word group.Worth = codes "WORTH"
-group_word group.Pair = codes "PAIR"
-
 -- the words of the first four lines
 abbrev pub header_words : Header → List (List (List ℕ))
 header_words h =
     (codes "PITCERT" ∷ codes "1" ∷ [])
     ∷ (codes "BLOCKS" ∷ decimal h.blocks ∷ [])
     ∷ (codes "PRICE" ∷ price_word h.price ∷ [])
-    ∷ (codes "GROUP" ∷ group_word h.group ∷ [])
+    ∷ (codes "GROUP" ∷ group_name h.group ∷ [])
     ∷ []
 
 -- the words of a line of a kind

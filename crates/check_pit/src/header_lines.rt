@@ -20,9 +20,7 @@ const PRICE: &[u8] = b"PRICE";
 
 const OBJECTIVE: &[u8] = b"OBJECTIVE";
 
-const GROUP_WORTH: &[u8] = b"GROUP WORTH";
-
-const GROUP_PAIR: &[u8] = b"GROUP PAIR";
+const GROUP: &[u8] = b"GROUP";
 
 /// The highest price factor, in thousandths.
 const HIGHEST_FACTOR: u32 = 10_000;
@@ -122,13 +120,9 @@ fn wanted_group(wanted: Option<Wanted>, group: Group) -> Result<Group, LineFault
 fn group_in(wanted: Option<Wanted>, text: &[u8]) -> Result<Group, LineFault>
     ensures { result ≡ spec.group_in wanted text.now }
 {
-    if text == GROUP_WORTH {
-        wanted_group(wanted, Group::Worth)
-    } else if text == GROUP_PAIR {
-        wanted_group(wanted, Group::Pair)
-    } else {
-        Err(LineFault::Text)
-    }
+    let word = value_behind(GROUP, text).ok_or(LineFault::Text)?;
+    let group = Group::of_word(word).ok_or(LineFault::Text)?;
+    wanted_group(wanted, group)
 }
 
 /// What a line gives, or its fault with its number.

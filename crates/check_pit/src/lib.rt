@@ -37,3 +37,5 @@ pub use writing::write_certificate;
 mod certificate_tests;
 #[cfg(test)]
 mod check_tests;
+#[cfg(test)]
+mod scaled_tests;

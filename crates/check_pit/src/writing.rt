@@ -4,6 +4,7 @@ ghost use Rattle.std.specs.Prelude.{◌≡◌, ℕ, ◌+◌, ◌-◌, ◌^◌, �
 ghost use Rattle.std.specs.Fmt.{decimal, signed_decimal};
 ghost use Rattle.std.specs.Io.KnownBytes.{Appends};
 ghost use Rattle.fixed_worth.specs.Device.{ReceivedPrefix, SentOrHeld};
+ghost use Rattle.ordered_group.specs.Group.{group_name};
 ghost use Rattle.ordered_group.specs.Sums.{amount_at};
 ghost use Rattle.check_pit.specs.Written as spec;
 ghost use Rattle.check_pit.specs.Written.{spaced, line_words, lines_text, header_words, body_text, end_text, amount_lines, block_at, pair_at, pit_at, flow_lines, value_lines, header_with, text_of};
@@ -87,13 +88,11 @@ fn push_price(text: &mut ShortLine, price: Price)
 }
 
 fn push_group(text: &mut ShortLine, group: Group)
-    requires { length text.old + 6 ≤ 192 }
-    ensures text { text.new ≡ text.old ++ (spec.group_word group ++ (10 ∷ [])) }
+    requires { length text.old + 7 ≤ 192 }
+    ensures text { text.new ≡ text.old ++ (group_name group ++ (10 ∷ [])) }
 {
-    match group {
-        Group::Worth => text.push(b"WORTH\n"),
-        Group::Pair => text.push(b"PAIR\n"),
-    }
+    text.push(group.word().as_bytes());
+    text.push(b"\n");
 }
 
 // The first four lines.

@@ -10,6 +10,7 @@ use Rattle.ordered_group.specs.Sums.{where_so}
 use Rattle.ordered_group.specs.Sets.{worth_in, count_in, group_sum, IsBefore}
 use Rattle.ordered_group.specs.Block.{worth_block}
 use Rattle.ordered_group.specs.LawProofs.{worth_told}
+pub use Rattle.ordered_group.specs.ScaledProofs.{count_in-most}
 use Rattle.ordered_group.specs.Laws.{SumsTellWorth, BlocksTellWorth, SumsOrderSets}
 use Rattle.ordered_group.proofs.Totals.Sets.{union, intersection, within_first, within_second, total-one, two_sets}
 use Rattle.ordered_group.proofs.Totals.Ranges.{total-same}
@@ -25,15 +26,6 @@ count_in-same e c (suc n) h = rw (count_in-same e c n (λ b l. h b (omega (arith
 
 pub group_sum-same : (block : ℤ → ℕ → Amount) (v : ℕ → ℤ) (e c : ℕ → Bool) (n : ℕ) → ((b : ℕ) → b < n → e b ≡ c b) → group_sum block v e n ≡ group_sum block v c n
 group_sum-same block v e c n h = total-same _ _ n (λ b l. ap (λ t. where_so t (block (v b) n)) (h b l))
-
-one_or_none : (t : Bool) → cond t 1 0 ≤ 1
-one_or_none true = omega arith
-one_or_none false = omega arith
-
--- no set has more blocks than there are
-pub count_in-most : (e : ℕ → Bool) (n : ℕ) → count_in e n ≤ n
-count_in-most e zero = omega arith
-count_in-most e (suc n) = omega (arith, count_in-most e n, one_or_none (e n))
 
 -- the union and the intersection are worth together what both sets are
 pub worth_of_two : (v : ℕ → ℤ) (e c : ℕ → Bool) (n : ℕ) → worth_in v (union e c) n +ℤ worth_in v (intersection e c) n ≡ worth_in v e n +ℤ worth_in v c n

@@ -6,3 +6,5 @@ pub mod BlockSets
 pub mod Lists
 pub mod Steps
 pub mod Numbers
+pub mod Quotients
+pub mod Names

@@ -5,3 +5,4 @@ pub mod Block
 pub mod Laws
 pub mod Group
 pub mod LawProofs
+pub mod ScaledProofs

@@ -1,11 +1,12 @@
 //! What the solver and the checker need of amounts.
 
-ghost use Rattle.std.specs.Prelude.{FitsSigned, ◌≤◌, ◌≡◌, ◌↔◌, ℕ, ℤ, Bool, IsTrue, false, pos};
+ghost use Rattle.std.specs.Prelude.{FitsSigned, ◌≤◌, ◌≡◌, ◌↔◌, ℕ, ℤ, Bool, IsTrue, false, length, pos};
 ghost use Rattle.std.specs.Int.{w128};
 ghost use Rattle.ordered_group.specs.Amount.{Amount, FitsPair, AtMost, GivesExactly, amount_cmp, minus, plus, zero_amount};
 ghost use Rattle.ordered_group.specs.Block.{TakesParts, TellsWorth};
 ghost use Rattle.ordered_group.specs.Laws.{SumsTellWorth};
 ghost use Rattle.ordered_group.specs.declared.groups.Group.{Group as GroupName};
+ghost use Rattle.ordered_group.specs.Group.{group_name, group_of};
 
 use std::fmt;
 
@@ -16,6 +17,37 @@ pub enum Group {
     Worth,
     /// Worth, and a count of blocks beside it.
     Pair,
+    /// Worth and the count of blocks in one number.
+    Scaled,
+}
+
+impl Group {
+    /// The word that a certificate has for the kind. None has more than six letters.
+    pub fn word(self) -> &'static str
+        ensures text { result.now ≡ group_name self }
+        ensures few { length result.now ≤ 6 }
+    {
+        match self {
+            Group::Worth => "WORTH",
+            Group::Pair => "PAIR",
+            Group::Scaled => "SCALED",
+        }
+    }
+
+    /// The kind that has this word in a certificate, if one has.
+    pub fn of_word(word: &[u8]) -> Option<Group>
+        ensures { result ≡ group_of word.now }
+    {
+        if word == Group::Worth.word().as_bytes() {
+            Some(Group::Worth)
+        } else if word == Group::Pair.word().as_bytes() {
+            Some(Group::Pair)
+        } else if word == Group::Scaled.word().as_bytes() {
+            Some(Group::Scaled)
+        } else {
+            None
+        }
+    }
 }
 
 /// The word that a certificate has for the kind.
@@ -29,10 +61,7 @@ impl fmt::Display for Group {
     ghost styled_output = { λ g spec. Some (padded spec (group_name g)) };
 
     fn fmt<W: fmt::Write>(&self, f: &mut fmt::Formatter<W>) -> fmt::Result {
-        f.pad(match self {
-            Group::Worth => "WORTH",
-            Group::Pair => "PAIR",
-        })
+        f.pad(self.word())
     }
 }
 

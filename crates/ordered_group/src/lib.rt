@@ -2,8 +2,9 @@
 //!
 //! The solver and the checker add, subtract and compare amounts, and nothing else. What an
 //! amount is differs: worth alone, or worth with a count of blocks that breaks ties, so that the
-//! smallest of the best pits is found. `OrderedGroup` is what they need of either. Every value
-//! stands for an `Amount`, a pair of whole numbers of any size, and the contracts speak of that.
+//! smallest of the best pits is found, as two numbers or as one. `OrderedGroup` is what they need
+//! of each. Every value stands for an `Amount`, a pair of whole numbers of any size, and the
+//! contracts speak of that.
 //!
 //! Stands on nothing. Promises upward: exact sums, or `None` exactly where a number leaves its
 //! type; the order of the amounts; that the sum of a set of blocks tells its worth; and for a
@@ -15,15 +16,19 @@
 mod amounts;
 mod groups;
 pub mod laws;
+mod scaled;
 mod size;
 mod worth_alone;
 mod worth_with_size;
 
 pub use amounts::{at_most, is_zero, negative_part, positive_part, same, smaller, try_sum, zeros};
 pub use groups::{Group, OrderedGroup};
+pub use scaled::Scaled;
 pub use size::SizeGroup;
 pub use worth_alone::Worth;
 pub use worth_with_size::WorthSize;
 
+#[cfg(test)]
+mod scaled_tests;
 #[cfg(test)]
 mod tests;

@@ -158,7 +158,14 @@ fn laws_at_each_group(rt: HostRuntime) {
 #[test]
 fn words_of_the_kinds(rt: HostRuntime) -> Result<(), Fail> {
     let alloc = rt.alloc();
-    assert_eq!(rt; format!(in alloc; "{}", Group::Worth)?.as_str(), "WORTH");
-    assert_eq!(rt; format!(in alloc; "{}", Group::Pair)?.as_str(), "PAIR");
+    for (group, word) in [
+        (Group::Worth, "WORTH"),
+        (Group::Pair, "PAIR"),
+        (Group::Scaled, "SCALED"),
+    ] {
+        assert_eq!(rt; format!(in alloc; "{group}")?.as_str(), word);
+        assert_eq!(rt; Group::of_word(word.as_bytes()), Some(group));
+    }
+    assert_eq!(rt; Group::of_word(b"scaled"), None);
     Ok(())
 }

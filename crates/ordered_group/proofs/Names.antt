@@ -1,0 +1,43 @@
+-- The words of the kinds of amount.
+use Rattle.std.proofs.Common.{◌≡◌, ℕ, ◌≤◌, Bool, true, false, cond, not, eqb, ◌&&◌, List, Option, Some, None, refl, sym, ap, ◌∙◌, arith, length}
+use Rattle.std.specs.Prelude.{unwrap_or}
+use Rattle.std.specs.List.{list_all}
+use Rattle.std.specs.Str.{bytes_eq}
+use Rattle.std.proofs.lemmas.Slice.Eq.{bytes_eq-Decides}
+use Rattle.ordered_group.specs.declared.groups.Group.{Group}
+use Rattle.ordered_group.specs.declared.groups.Group.TheVariants.{Worth, Pair, Scaled}
+use Rattle.ordered_group.specs.Group.{group_name, group_of}
+
+-- each kind is read of its word
+pub group_read : (g : Group) → group_of (group_name g) ≡ Some g
+group_read Worth = refl
+group_read Pair = refl
+group_read Scaled = refl
+
+named_at : (word : List ℕ) (g : Group) (t u v : Bool) → (t ≡ true → word ≡ group_name Worth) → (u ≡ true → word ≡ group_name Pair) → (v ≡ true → word ≡ group_name Scaled)
+    → cond t (Some Worth) (cond u (Some Pair) (cond v (Some Scaled) None)) ≡ Some g → word ≡ group_name g
+named_at word g true u v a b c h = a refl ∙ ap (λ (o : Option Group). group_name (unwrap_or o g)) h
+named_at word g false true v a b c h = b refl ∙ ap (λ (o : Option Group). group_name (unwrap_or o g)) h
+named_at word g false false true a b c h = c refl ∙ ap (λ (o : Option Group). group_name (unwrap_or o g)) h
+named_at word g false false false a b c h = absurd cc
+
+-- a kind is read of no other word
+pub group_spelled : (word : List ℕ) (g : Group) → group_of word ≡ Some g → word ≡ group_name g
+group_spelled word g h =
+    let is = λ (k : Group). (bytes_eq-Decides word (group_name k)).0 in
+    named_at word g (bytes_eq word (group_name Worth)) (bytes_eq word (group_name Pair)) (bytes_eq word (group_name Scaled)) (is Worth) (is Pair) (is Scaled) h
+
+-- no two kinds have one word
+pub group_name-same : (a b : Group) → group_name a ≡ group_name b → a ≡ b
+group_name-same a b h = ap (λ (o : Option Group). unwrap_or o b) (let e : Some a ≡ Some b = sym (group_read a) ∙ ap group_of h ∙ group_read b in e)
+
+-- a word has no line feed and no space, and at most six letters
+pub group_name-one_word : (g : Group) → list_all (λ b. not (eqb b 10) && not (eqb b 32)) (group_name g) ≡ true
+group_name-one_word Worth = refl
+group_name-one_word Pair = refl
+group_name-one_word Scaled = refl
+
+pub group_name-few : (g : Group) → length (group_name g) ≤ 6
+group_name-few Worth = omega arith
+group_name-few Pair = omega arith
+group_name-few Scaled = omega arith
