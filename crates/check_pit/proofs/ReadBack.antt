@@ -10,7 +10,7 @@ use Rattle.std.proofs.lemmas.Fmt.{length-decimal-le_wide}
 use lib.Chars.{codes}
 use Rattle.fixed_worth.specs.declared.limits.TheConstants.{MOST_BLOCKS, LINE_BYTES}
 use Rattle.ordered_group.specs.declared.groups.Group.{Group}
-use Rattle.ordered_group.specs.Group.{group_name, group_of}
+use Rattle.ordered_group.specs.Group.{group_name}
 use Rattle.ordered_group.proofs.Names.{group_read, group_name-one_word, group_name-few}
 use Rattle.check_pit.specs.declared.header.Price.{Price}
 use Rattle.check_pit.specs.declared.header.Price.TheVariants.{Objective, Factor}

@@ -1,7 +1,6 @@
 -- A certificate that is read for a model, as a whole.
 use Rattle.std.proofs.Common.{◌≡◌, ℕ, ◌+◌, Bool, true, false, cond, eqb, List, Option, Some, None, Result, Ok, Err, refl, sym, ap, ◌∙◌, arith}
 use Rattle.std.specs.Result.{result_unwrap_or}
-use Rattle.std.specs.Str.{bytes_eq}
 use Rattle.std.proofs.lemmas.Slice.Eq.{bytes_eq-Decides}
 use Rattle.std.proofs.lemmas.Bool.Decides.{nat_tests}
 use lib.Chars.{codes}
@@ -16,7 +15,7 @@ use Rattle.check_pit.specs.declared.cert_fault.CertFault.{CertFault}
 use Rattle.check_pit.specs.declared.cert_fault.LineFault.{LineFault}
 use Rattle.check_pit.specs.declared.cert_fault.LineFault.TheVariants.{Text}
 use Rattle.check_pit.specs.Pieces.{Piece, piece_at, read_line, words_of, number_below}
-use Rattle.check_pit.specs.Header.{◌>>=◌, header_for, version_in, blocks_in, price_in, group_in, blocks_said, wanted_blocks, wanted_group, is_same_group, group_named, group_said, or_number, value_behind}
+use Rattle.check_pit.specs.Header.{◌>>=◌, header_for, version_in, blocks_in, price_in, group_in, blocks_said, wanted_blocks, is_same_group, group_named, group_said, or_number, value_behind}
 use Rattle.check_pit.proofs.Going.{text_read}
 
 -- A header has the blocks and the group that are wanted.

@@ -35,7 +35,12 @@ fn units_are_read_checked_and_written(rt: HostRuntime) -> Result<(), Fail> {
     let net: Net<Scaled> = Net::of_worths(alloc, rests, &nanos).ok().ok_or("net")?;
     let accepted = check(&net, &read.pit, &read.flow).ok().ok_or("refused")?;
     assert_eq!(rt; accepted.pit().blocks(), [0, 1, 2].as_slice());
-    assert_eq!(rt; accepted.worth(), Scaled { units: 3_999_999_997 });
+    assert_eq!(rt;
+        accepted.worth(),
+        Scaled {
+            units: 3_999_999_997
+        }
+    );
     assert_eq!(rt; accepted.worth().nanos_of_set(3, 3), Some(1_000_000_000));
     Ok(())
 }
@@ -44,8 +49,11 @@ fn units_are_read_checked_and_written(rt: HostRuntime) -> Result<(), Fail> {
 fn units_have_no_size(rt: HostRuntime) -> Result<(), Fail> {
     let alloc: Global = rt.alloc();
     let size = b"PITCERT 1\nBLOCKS 3\nPRICE OBJECTIVE\nGROUP SCALED\nSINK 2 40000000001 1\nEND\n";
-    let read: Result<Certificate<Scaled>, CertFault> =
-        read_certificate(alloc, size.as_slice(), &rests(alloc)?);
+    let read: Result<Certificate<Scaled>, CertFault> = read_certificate(
+        alloc,
+        size.as_slice(),
+        &rests(alloc)?,
+    );
     assert_eq!(rt; read.err(), Some(CertFault::Number(5)));
     Ok(())
 }
@@ -54,8 +62,11 @@ fn units_have_no_size(rt: HostRuntime) -> Result<(), Fail> {
 fn units_are_no_pairs(rt: HostRuntime) -> Result<(), Fail> {
     let alloc: Global = rt.alloc();
     assert!(rt; header(UNITS).is_ok_and(|header| header.group == Group::Scaled));
-    let read: Result<Certificate<WorthSize>, CertFault> =
-        read_certificate(alloc, UNITS, &rests(alloc)?);
+    let read: Result<Certificate<WorthSize>, CertFault> = read_certificate(
+        alloc,
+        UNITS,
+        &rests(alloc)?,
+    );
     assert_eq!(rt; read.err(), Some(CertFault::Text(4)));
     Ok(())
 }

@@ -6,7 +6,7 @@ use Rattle.std.proofs.lemmas.List.{length-map, get_or-map}
 use Rattle.ordered_group.specs.Amount.{Amount, zero_amount, plus, minus, positive, FitsPair}
 use Rattle.ordered_group.specs.Sums.{total, amount_at}
 use Rattle.ordered_group.specs.declared.groups.Group.{Group}
-use Rattle.ordered_group.specs.declared.groups.Group.TheVariants.{Worth, Pair}
+use Rattle.ordered_group.specs.declared.groups.Group.TheVariants.{Worth, Pair, Scaled}
 use Rattle.ordered_group.proofs.Signs.{NonNeg, NonNeg-positive, positive-of_NonNeg, sign_or}
 use Rattle.ordered_group.proofs.Totals.Ranges.{total_nonneg}
 use Rattle.closure_net.specs.Network.{NetView, IsNet}
@@ -40,6 +40,7 @@ net_worth_fits net is_net b h =
 block_fits : (group : Group) (v : ℤ) (n : ℕ) → FitsSigned w128 (block_by group v n).w → FitsPair (block_by group v n)
 block_fits Worth v n h = (h, omega (arith, ints))
 block_fits Pair v n h = (h, omega (arith, ints))
+block_fits Scaled v n h = (h, omega (arith, ints))
 
 module _ (texts : MineTexts) (n : ℕ) (group : Group) (net : NetView) (is_net : IsNet net) (of_mine : IsNetOf (block_by group) (mine_of n texts) net) where
   -- the amounts of the worths are those of the net

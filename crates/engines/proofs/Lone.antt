@@ -4,7 +4,7 @@ use Rattle.std.specs.Str.{bytes_eq}
 use lib.Chars.{codes}
 use Rattle.fixed_worth.specs.declared.limits.TheConstants.{MOST_BLOCKS}
 use Rattle.ordered_group.specs.declared.groups.Group.{Group}
-use Rattle.ordered_group.specs.declared.groups.Group.TheVariants.{Worth, Pair}
+use Rattle.ordered_group.specs.Group.{group_of}
 use Rattle.check_pit.specs.declared.header.Header.{Header}
 use Rattle.check_pit.specs.declared.header.Wanted.{Wanted}
 use Rattle.check_pit.specs.declared.header.Price.{Price}
@@ -12,7 +12,7 @@ use Rattle.check_pit.specs.declared.cert_fault.CertFault.{CertFault}
 use Rattle.check_pit.specs.declared.cert_fault.LineFault.{LineFault}
 use Rattle.check_pit.specs.declared.cert_fault.LineFault.TheVariants.{Text}
 use Rattle.check_pit.specs.Pieces.{Piece, piece_at, read_line, words_of, number_below, unless_fault, in_line, no_line}
-use Rattle.check_pit.specs.Header.{◌>>=◌, header_for, version_in, blocks_in, price_in, group_in, blocks_said, wanted_blocks, wanted_group, is_same_group, or_number, value_behind}
+use Rattle.check_pit.specs.Header.{◌>>=◌, header_for, version_in, blocks_in, price_in, group_in, blocks_said, wanted_blocks, is_same_group, group_named, group_said, or_number, value_behind}
 use Rattle.check_pit.proofs.Going.{text_read}
 use Rattle.check_pit.proofs.Wants.{joined}
 
@@ -35,10 +35,13 @@ named_alone : (b g : Group) (t : Bool) → cond t (named b) (Err Text) ≡ Ok g 
 named_alone b g true h = h
 named_alone b g false h = absurd cc
 
-group_alone : (w : Wanted) (t u : Bool) (g : Group) → cond t (wanted_group (Some w) Worth) (cond u (wanted_group (Some w) Pair) (Err Text)) ≡ Ok g → cond t (wanted_group None Worth) (cond u (wanted_group None Pair) (Err Text)) ≡ Ok g
-group_alone w true u g h = named_alone Worth g (is_same_group w.group Worth) h
-group_alone w false true g h = named_alone Pair g (is_same_group w.group Pair) h
-group_alone w false false g h = absurd cc
+group_alone : (w : Wanted) (o : Option Group) (g : Group) → group_named (Some w) o ≡ Ok g → group_named None o ≡ Ok g
+group_alone w (Some b) g h = named_alone b g (is_same_group w.group b) h
+group_alone w None g h = absurd cc
+
+word_alone : (w : Wanted) (o : Option (List ℕ)) (g : Group) → group_said (Some w) o ≡ Ok g → group_said None o ≡ Ok g
+word_alone w (Some word) g h = group_alone w (group_of word) g h
+word_alone w None g h = absurd cc
 
 -- two readings that agree on a piece's text
 line_by : {A : Type 0} (f g : List ℕ → Result A LineFault) (k : ℕ) (p : Piece) (x : A) → (f p.text ≡ Ok x → g p.text ≡ Ok x) → read_line f k p ≡ Ok x → read_line g k p ≡ Ok x
@@ -57,4 +60,4 @@ header_alone w ps h e =
     q.version
     (line_by (blocks_in (Some w)) (blocks_in None) 2 (piece_at ps 1) h.blocks (blocks_alone w (value_behind (codes "BLOCKS") (words_of (piece_at ps 1).text)) h.blocks) q.blocks)
     q.price
-    (line_by (group_in (Some w)) (group_in None) 4 (piece_at ps 3) h.group (group_alone w (bytes_eq (piece_at ps 3).text (codes "GROUP WORTH")) (bytes_eq (piece_at ps 3).text (codes "GROUP PAIR")) h.group) q.group)
+    (line_by (group_in (Some w)) (group_in None) 4 (piece_at ps 3) h.group (word_alone w (value_behind (codes "GROUP") (words_of (piece_at ps 3).text)) h.group) q.group)

@@ -11,6 +11,9 @@ use Rattle.shells.specs.Series.{priced}
 use Rattle.shells.proofs.Rising.{best_is_nested}
 use Rattle.engines.specs.PricedTexts.{cell, table_of, PricesRead}
 use Rattle.engines.specs.Mines.{priced_texts, rests_by, mine_of}
+use Rattle.ordered_group.specs.declared.groups.Group.{Group}
+use Rattle.ordered_group.specs.declared.groups.Group.TheVariants.{Worth, Pair, Scaled}
+use Rattle.engines.specs.Readings.{IsProvedPit, TellsSizes}
 use Rattle.engines.specs.Nested.{AcceptedAreNested}
 
 -- the table is of the blocks that the mine has
@@ -24,8 +27,14 @@ mine_is settings text precedence k n e = λ i. record { blocks = e i; rests = re
 same_mine : (above above' : ℕ → ℕ → Bool) (table table' : PricesView) (k : ℕ) → ((b p : ℕ) → above b p ≡ above' b p) → table ≡ table' → priced above' table' k ≡ priced above table k
 same_mine above above' table table' k e f = let g = sym f in λ i. record { blocks = blocks_of (g i); rests = λ b p. sym (e b p) i; worth = worth_at (g i) k }
 
+-- a pit that is proved in amounts that tell sizes is the best one
+best_of : (name : Group) (mine : Mine) (e : ℕ → Bool) → TellsSizes name → IsProvedPit name mine e → IsBest mine e
+best_of Worth mine e tells h = absurd tells
+best_of Pair mine e tells h = h
+best_of Scaled mine e tells h = h
+
 pub accepted_are_nested : AcceptedAreNested
-accepted_are_nested s t p s' t' p' lower higher j k count count' worth worth' one le low high =
+accepted_are_nested s t p s' t' p' lower higher j k count count' worth worth' name name' tells tells' one le low high =
     let table = table_of s t in
     let above = rests_by (prec.listed p) in
     let here = mine_is s t p j low.read.blocks (table_size s t low.read.blocks low.read.mine.worths_read) in
@@ -35,4 +44,8 @@ accepted_are_nested s t p s' t' p' lower higher j k count count' worth worth' on
     let L : Mine → Type 0 = λ m. IsBest m e in
     let H : Mine → Type 0 = λ m. IsBest m c in
     let W : Mine → Type 0 = λ m. LiesWithin m e c in
-    subst W (sym here) (best_is_nested above table j k e c low.read.mine.worths_read.revenues le (subst L here low.proved) (subst H there high.proved))
+    let P : (g : Group) → Mine → Type 0 = λ g m. IsProvedPit g m e in
+    let Q : (g : Group) → Mine → Type 0 = λ g m. IsProvedPit g m c in
+    let best_low = best_of name _ e tells (subst (λ (g : Group). P g (mine_of low.read.blocks (priced_texts s t p j))) low.group low.proved) in
+    let best_high = best_of name' _ c tells' (subst (λ (g : Group). Q g (mine_of high.read.blocks (priced_texts s' t' p' k))) high.group high.proved) in
+    subst W (sym here) (best_is_nested above table j k e c low.read.mine.worths_read.revenues le (subst L here best_low) (subst H there best_high))

@@ -1,11 +1,12 @@
 -- Two accepted pits over one table of prices.
 use Rattle.std.specs.Prelude.{◌≡◌, ℕ, ◌≤◌, ℤ, List}
-use Rattle.ordered_group.specs.declared.groups.Group.TheVariants.{Pair}
+use Rattle.ordered_group.specs.declared.groups.Group.{Group}
 use Rattle.prec_file.specs.Records as prec
 use Rattle.closure_net.specs.Network.{holds_of}
 use Rattle.closure_net.specs.Mine.{LiesWithin}
 use Rattle.engines.specs.PricedTexts.{table_of}
 use Rattle.engines.specs.Mines.{priced_texts, rests_by, mine_of}
+use Rattle.engines.specs.Readings.{TellsSizes}
 use Rattle.engines.specs.Judgements.{IsAccepted}
 
 -- The texts name the same prices, and the same blocks rest on the same ones: settings may differ in other keys, and lines in their order.
@@ -13,8 +14,8 @@ pub record IsOneTable (settings blocks precedence settings' blocks' precedence' 
   pub prices : table_of settings blocks ≡ table_of settings' blocks'
   pub rests : (b p : ℕ) → rests_by (prec.listed precedence) b p ≡ rests_by (prec.listed precedence') b p
 
--- Of two pits that are accepted over one price table, the one at the lower factor lies within the other.
+-- Of two pits that are accepted over one price table, each in amounts that tell sizes, the one at the lower factor lies within the other.
 abbrev pub AcceptedAreNested : Type 0
-AcceptedAreNested = (settings blocks precedence settings' blocks' precedence' lower higher : List ℕ) (j k count count' : ℕ) (worth worth' : ℤ) → IsOneTable settings blocks precedence settings' blocks' precedence' → j ≤ k
-    → (low : IsAccepted (priced_texts settings blocks precedence j) lower Pair count worth) (high : IsAccepted (priced_texts settings' blocks' precedence' k) higher Pair count' worth')
+AcceptedAreNested = (settings blocks precedence settings' blocks' precedence' lower higher : List ℕ) (j k count count' : ℕ) (worth worth' : ℤ) (name name' : Group) → TellsSizes name → TellsSizes name' → IsOneTable settings blocks precedence settings' blocks' precedence' → j ≤ k
+    → (low : IsAccepted (priced_texts settings blocks precedence j) lower name count worth) (high : IsAccepted (priced_texts settings' blocks' precedence' k) higher name' count' worth')
     → LiesWithin (mine_of low.read.blocks (priced_texts settings blocks precedence j)) (holds_of low.read.pit) (holds_of high.read.pit)

@@ -2,7 +2,7 @@
 use Rattle.std.specs.Prelude.{ℕ, List, [], ◌∷◌, ◌++◌, codes, decimal, Option, Some}
 use Rattle.fixed_worth.specs.Printed.{printed}
 use Rattle.ordered_group.specs.declared.groups.Group.{Group}
-use Rattle.ordered_group.specs.declared.groups.Group.TheVariants.{Worth, Pair}
+use Rattle.ordered_group.specs.declared.groups.Group.TheVariants.{Worth, Pair, Scaled}
 use Rattle.closure_net.specs.FaultText.{net_fault_text}
 use Rattle.upit_file.specs.FaultText.{upit_fault_text}
 use Rattle.prec_file.specs.FaultText.{prec_fault_text}
@@ -27,6 +27,7 @@ use Rattle.engines.specs.declared.engine_fault.EngineFault.TheVariants as engine
 abbrev pub group_mark : Group → List ℕ
 group_mark Worth = codes " GROUP WORTH"
 group_mark Pair = []
+group_mark Scaled = []
 
 -- the line of a judgement
 abbrev pub judgement_line : Judgement → List ℕ

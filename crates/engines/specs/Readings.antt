@@ -1,9 +1,9 @@
 -- What the texts of a mine and of a certificate denote together.
 use Rattle.std.specs.Prelude.{◌≡◌, ℕ, ◌<◌, All, ℤ, Bool, false, true, List, None, Ok}
 use Rattle.ordered_group.specs.Amount.{Amount}
-use Rattle.ordered_group.specs.Block.{worth_block, counted_block}
+use Rattle.ordered_group.specs.Block.{worth_block, counted_block, scaled_block}
 use Rattle.ordered_group.specs.declared.groups.Group.{Group}
-use Rattle.ordered_group.specs.declared.groups.Group.TheVariants.{Worth, Pair}
+use Rattle.ordered_group.specs.declared.groups.Group.TheVariants.{Worth, Pair, Scaled}
 use Rattle.closure_net.specs.Network.{NetView, FlowView, IsNet, IsAscending}
 use Rattle.closure_net.specs.Mine.{Mine, IsRichest, IsBest, IsNetOf}
 use Rattle.check_pit.specs.Pieces.{pieces_of}
@@ -15,15 +15,24 @@ use Rattle.engines.specs.Mines.{MineTexts, price_wanted, mine_of, DenoteMine}
 abbrev pub block_by : Group → ℤ → ℕ → Amount
 block_by Worth = worth_block
 block_by Pair = counted_block
+block_by Scaled = scaled_block
 
 abbrev pub counts_by : Group → Bool
 counts_by Worth = false
 counts_by Pair = true
+counts_by Scaled = false
 
 -- What a certificate proves: that no pit is worth more; and where sizes count too, that the pit is the best one.
 abbrev pub IsProvedPit : Group → Mine → (ℕ → Bool) → Type 0
 IsProvedPit Worth mine e = IsRichest mine e
 IsProvedPit Pair mine e = IsBest mine e
+IsProvedPit Scaled mine e = IsBest mine e
+
+-- what is counted tells the sizes of sets: only then is a best pit proved
+abbrev pub TellsSizes : Group → Type 0
+TellsSizes Worth = ⊥
+TellsSizes Pair = Unit {0}
+TellsSizes Scaled = Unit {0}
 
 -- The texts denote a mine, its net, and a certificate for it with a pit and a flow.
 pub record Reads (texts : MineTexts) (certificate : List ℕ) : Type 0 where

@@ -5,11 +5,11 @@ use Rattle.fixed_worth.specs.declared.numerals.NumberFault.{NumberFault}
 use Rattle.fixed_worth.specs.Numeral.{whole_of}
 use Rattle.async_step.specs.declared.limits.TheConstants.{MOST_STEPS}
 use Rattle.ordered_group.specs.declared.groups.Group.{Group}
-use Rattle.ordered_group.specs.declared.groups.Group.TheVariants.{Worth, Pair}
+use Rattle.ordered_group.specs.declared.groups.Group.TheVariants.{Worth, Pair, Scaled}
 
 -- the kind of amount that a word names, if it names one
 abbrev pub group_of : List ℕ → Option Group
-group_of word = cond (bytes_eq word (codes "worth")) (Some Worth) (cond (bytes_eq word (codes "pair")) (Some Pair) None)
+group_of word = cond (bytes_eq word (codes "worth")) (Some Worth) (cond (bytes_eq word (codes "pair")) (Some Pair) (cond (bytes_eq word (codes "scaled")) (Some Scaled) None))
 
 -- a whole number from 1 to `MOST_STEPS`
 abbrev pub steps_number : Result ℕ NumberFault → Option ℕ

@@ -62,5 +62,6 @@ fn mark_of(group: Group) -> &'static str
     match group {
         Group::Worth => " GROUP WORTH",
         Group::Pair => "",
+        Group::Scaled => "",
     }
 }

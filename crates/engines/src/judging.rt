@@ -19,7 +19,7 @@ use crate::judgement::Judgement;
 use crate::mines::nanos_of;
 use check_pit::{Accepted, CertFault, Header, Price, check, read_certificate, reading};
 use closure_net::{Net, laws};
-use ordered_group::{Group, OrderedGroup, Worth, WorthSize};
+use ordered_group::{Group, OrderedGroup, Scaled, Worth, WorthSize};
 use prec_file::Rests;
 use shells::{Factor, Prices};
 use std::alloc::Global;
@@ -107,9 +107,11 @@ fn judge_in(
     // proof: a greatest set of the net is a pit that is worth most, and of amounts with sizes the best one
     laws::greatest_set_is_richest_pit();
     laws::greatest_set_is_best_pit::<WorthSize>();
+    laws::greatest_set_is_best_pit::<Scaled>();
     match group {
         Group::Worth => judge_by::<Worth>(alloc, nanos, rests, certificate),
         Group::Pair => judge_by::<WorthSize>(alloc, nanos, rests, certificate),
+        Group::Scaled => judge_by::<Scaled>(alloc, nanos, rests, certificate),
     }
 }
 

@@ -14,7 +14,7 @@ const MOST_FACTOR: u64 = 10_000;
 // The most workers of a run.
 const MOST_WORKERS: u64 = 64;
 
-/// The kind of amount that a word names: `worth` or `pair`.
+/// The kind of amount that a word names: `worth`, `pair` or `scaled`.
 pub fn group_named(word: &[u8]) -> Option<Group>
     ensures { result ≡ group_of word.now }
 {
@@ -22,6 +22,8 @@ pub fn group_named(word: &[u8]) -> Option<Group>
         Some(Group::Worth)
     } else if word == b"pair".as_slice() {
         Some(Group::Pair)
+    } else if word == b"scaled".as_slice() {
+        Some(Group::Scaled)
     } else {
         None
     }

@@ -15,7 +15,7 @@ use crate::solving::solve_net;
 use check_pit::Price;
 use closure_net::{Net, laws};
 use fixed_worth::{CountedRead, CountedWrite};
-use ordered_group::{Group, OrderedGroup, Worth, WorthSize};
+use ordered_group::{Group, OrderedGroup, Scaled, Worth, WorthSize};
 use prec_file::Rests;
 use pseudoflow::Progress;
 use std::alloc::Global;
@@ -26,7 +26,7 @@ use workers::{Gate, Locked, Shared, TurnBoard};
 /// Finds the best pit of the mine of two texts, and writes its certificate.
 ///
 /// `Done` where it wrote a certificate, which a check has accepted: with each block its pit holds all predecessors, and
-/// no such pit is worth more; and with `Group::Pair` every other that is worth the same has more blocks (Picard 1976).
+/// no such pit is worth more; and with `Group::Pair` and `Group::Scaled` every other that is worth the same has more blocks (Picard 1976).
 /// That rests on the check alone, whatever engine the effort's method chose.
 ///
 /// `No` where it wrote `UNSETTLED`, since the machine's run needs more than the effort's steps, or `REFUSED TooLarge`,
@@ -109,11 +109,15 @@ pub fn solve_mine<R: Threads + Wait + Sync, T: Gate + Progress, W: CountedWrite>
     // proof: a greatest set of the net is a pit that is worth most, and of amounts with sizes the best one
     laws::greatest_set_is_richest_pit();
     laws::greatest_set_is_best_pit::<WorthSize>();
+    laws::greatest_set_is_best_pit::<Scaled>();
     match group {
         Group::Worth => solve_by::<Worth, R, T, W>(
             rt, alloc, nanos, rests, price, effort, gate, out,
         ),
         Group::Pair => solve_by::<WorthSize, R, T, W>(
+            rt, alloc, nanos, rests, price, effort, gate, out,
+        ),
+        Group::Scaled => solve_by::<Scaled, R, T, W>(
             rt, alloc, nanos, rests, price, effort, gate, out,
         ),
     }

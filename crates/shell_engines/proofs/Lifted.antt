@@ -2,7 +2,7 @@
 use Rattle.std.proofs.Common.{◌≡◌, ◌↔◌, ℕ, ◌≤◌, ◌<◌, ℤ, Bool, true, false, List, length, refl, sym, ap, ◌∙◌, subst, IsTrue, Result, Ok, Err, inl, inr, MatchResult}
 use Rattle.std.specs.Prelude.{Contains}
 use Rattle.ordered_group.specs.Amount.{Amount}
-use Rattle.ordered_group.specs.Block.{counted_block}
+use Rattle.ordered_group.specs.Block.{scaled_block}
 use Rattle.prec_file.specs.Rests.{RestsView, ArePairsOf}
 use Rattle.prec_file.specs.Records as prec
 use Rattle.closure_net.specs.Network.{NetView}
@@ -60,18 +60,18 @@ module _ (s t p : List ℕ) (table : PricesView) (rests : RestsView) (r : ArePri
   rows_of : (factors : List ℕ) (rows : List ShellRow) → AreRowsOf (mine_at rests.pairs table) factors rows → AreRowsOf (mine_at_factor rests.blocks s t p) factors rows
   rows_of factors rows h = subst (λ (m : ℕ → Mine). AreRowsOf m factors rows) (λ i k. mine_is k i) h
 
-  net_by : (k : ℕ) (net : NetView) → IsNetAt counted_block rests.pairs table k net → IsNetBy (priced_texts s t p k) shell_group net
+  net_by : (k : ℕ) (net : NetView) → IsNetAt scaled_block rests.pairs table k net → IsNetBy (priced_texts s t p k) shell_group net
   net_by k net at =
       let size : rests.blocks ≡ length net.worths = sym (at.over.blocks ∙ r.size) in
       let D : ℕ → Type 0 = λ n. DenoteMine (priced_texts s t p k) n in
-      let N : Mine → Type 0 = λ m. IsNetOf counted_block m net in
+      let N : Mine → Type 0 = λ m. IsNetOf scaled_block m net in
       record {
         mine = subst D size (r.mine k);
         is_net = at.is_net;
-        of_mine = subst (λ n. N (mine_of n (priced_texts s t p k))) size (subst N (mine_is k) (net_of_over counted_block rests.pairs table k net at.over));
+        of_mine = subst (λ n. N (mine_of n (priced_texts s t p k))) size (subst N (mine_is k) (net_of_over scaled_block rests.pairs table k net at.over));
       }
 
-  net_fails : (k : ℕ) (fault : NetFault) → WorthsFaultStands counted_block rests.blocks (worths_at table k) fault → NetFails (priced_texts s t p k) rests.blocks shell_group fault
+  net_fails : (k : ℕ) (fault : NetFault) → WorthsFaultStands scaled_block rests.blocks (worths_at table k) fault → NetFails (priced_texts s t p k) rests.blocks shell_group fault
   net_fails k fault f = record { worths = worths_at table k; are = (worths_priced s t p table rests k r).worths; stands = f }
 
 module _ (s t p : List ℕ) (table : PricesView) (rests : RestsView) (factors : List ℕ) (read : IsSeriesRead s t p table rests factors) where
@@ -89,7 +89,7 @@ module _ (s t p : List ℕ) (table : PricesView) (rests : RestsView) (factors : 
   said : (k : ℕ) → Contains factors k → Contains (factors_said s) k
   said k c = subst (λ (fs : List ℕ). Contains fs k) read.factors_are c
 
-  pub is_no_table : (method : Method) (limit factor : ℕ) (why : Unsolved) (net : NetView) (text : List ℕ) → Contains factors factor → IsNetAt counted_block rests.pairs table factor net → UnsolvedStands net method limit why → IsLineOf factor why text → IsNoTable s t p method limit text
+  pub is_no_table : (method : Method) (limit factor : ℕ) (why : Unsolved) (net : NetView) (text : List ℕ) → Contains factors factor → IsNetAt scaled_block rests.pairs table factor net → UnsolvedStands net method limit why → IsLineOf factor why text → IsNoTable s t p method limit text
   is_no_table method limit factor why net text c at stands spelled = record {
     factor = factor;
     said = said factor c;
@@ -101,7 +101,7 @@ module _ (s t p : List ℕ) (table : PricesView) (rests : RestsView) (factors : 
   }
 
   -- the answer where no pit is proved at a factor
-  pub no_pit_answer : (method : Method) (limit factor : ℕ) (why : Unsolved) (answer : Result Answer EngineFault) → NoSeriesStands counted_block rests table factors method limit (none.Unsolved factor why) → MatchResult answer (λ a. (a.verdict ≡ No) × IsLineOf factor why a.text.items) IsWant
+  pub no_pit_answer : (method : Method) (limit factor : ℕ) (why : Unsolved) (answer : Result Answer EngineFault) → NoSeriesStands scaled_block rests table factors method limit (none.Unsolved factor why) → MatchResult answer (λ a. (a.verdict ≡ No) × IsLineOf factor why a.text.items) IsWant
       → MatchResult answer (λ a. AnswersShells s t p method limit a.verdict a.text.items) (ShellsFail s t p)
   no_pit_answer method limit factor why (Ok a) h line =
       subst (λ (v : Verdict). AnswersShells s t p method limit v a.text.items) (sym line.0) (is_no_table method limit factor why h.1.0 a.text.items h.0 h.1.1 h.1.2 line.1)
@@ -113,7 +113,7 @@ module _ (s t p : List ℕ) (table : PricesView) (rests : RestsView) (factors : 
   no_net : (factor : ℕ) (fault : NetFault) → Contains factors factor → ModelFails (priced_texts s t p factor) rests.blocks shell_group fault → NoNetAt s t p fault
   no_net factor fault c m = record { factor = factor; said = said factor c; size = rests.blocks; mine = read.mine.mine factor; stands = m }
 
-  pub no_net_answer : (factor : ℕ) (fault : NetFault) → Contains factors factor × WorthsFaultStands counted_block rests.blocks (worths_at table factor) fault → ShellsFail s t p (of_model fault)
+  pub no_net_answer : (factor : ℕ) (fault : NetFault) → Contains factors factor × WorthsFaultStands scaled_block rests.blocks (worths_at table factor) fault → ShellsFail s t p (of_model fault)
   no_net_answer factor net_fault.WrongLength h = no_net factor net_fault.WrongLength h.0 (net_fails s t p table rests read.mine factor net_fault.WrongLength h.1)
   no_net_answer factor net_fault.TooLarge h = no_net factor net_fault.TooLarge h.0 (net_fails s t p table rests read.mine factor net_fault.TooLarge h.1)
   no_net_answer factor net_fault.NoMemory h = tt

@@ -3,7 +3,7 @@ use Rattle.std.specs.Prelude.{◌≡◌, ℕ, ◌≤◌, ◌⊎◌, Bool, List, 
 use Rattle.std.specs.Io.KnownBytes.{Appends, Keeps}
 use Rattle.fixed_worth.specs.Device.{ReceivedPrefix}
 use Rattle.ordered_group.specs.declared.groups.Group.{Group}
-use Rattle.ordered_group.specs.declared.groups.Group.TheVariants.{Pair}
+use Rattle.ordered_group.specs.declared.groups.Group.TheVariants.{Scaled}
 use Rattle.closure_net.specs.Network.{NetView}
 use Rattle.closure_net.specs.declared.net.NetFault.{NetFault}
 use Rattle.closure_net.specs.Mine.{Mine, IsBest, LiesWithin}
@@ -20,9 +20,9 @@ use Rattle.shell_engines.specs.declared.shell_rows.ShellRow.{ShellRow}
 use Rattle.shell_engines.specs.ShellTable.{AreRowsOf, table_text, IsLineOf}
 use Rattle.shell_engines.specs.SeriesTexts.{KeysKnown, factors_said, SeriesMineFails}
 
--- the amounts in which each flow is checked: worth, and then the fewer blocks
+-- the amounts in which each flow is checked: worth and the count of blocks in one number
 abbrev pub shell_group : Group
-shell_group = Pair
+shell_group = Scaled
 
 -- the mine of n blocks that the texts denote at a factor
 abbrev pub mine_at_factor : ℕ → List ℕ → List ℕ → List ℕ → ℕ → Mine

@@ -14,7 +14,7 @@ use crate::shell_rows::table_of;
 use engines::solving::Unsolved;
 use engines::{Effort, EngineFault, Verdict};
 use fixed_worth::{CountedRead, CountedWrite, write_text};
-use ordered_group::WorthSize;
+use ordered_group::Scaled;
 use pseudoflow::Progress;
 use shells::laws;
 use std::alloc::Global;
@@ -96,7 +96,7 @@ fn answer_of<R: Threads + Wait + Sync, T: Gate + Progress + SeriesProgress>(
 {
     // proof: of two factors, the best pit at the lower one lies within that at the other
     laws::best_pits_at_factors_are_nested();
-    match settle::<WorthSize, R, T>(rt, alloc, mine, effort, gate) {
+    match settle::<Scaled, R, T>(rt, alloc, mine, effort, gate) {
         Ok(shells) => Ok(Answer {
             verdict: Verdict::Done,
             text: table_of(alloc, shells.rows.as_slice())?,

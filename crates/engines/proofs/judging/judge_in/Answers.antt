@@ -12,3 +12,8 @@ pub returns-in-Pair-clause-judged : goal.returns-in-Pair-clause-judged
 returns-in-Pair-clause-judged c = λ texts read header.
     let P : Group → Type 0 = λ k. IsHeader texts c.args.certificate.now c.args.rests.blocks k in
     c.judge_by-in-Pair.ensures.judged texts read (record { block_is = refl; counts_is = refl; proves = c.greatest_set_is_best_pit.ensures }) (subst P c.in-Pair.is header)
+
+pub returns-in-Scaled-clause-judged : goal.returns-in-Scaled-clause-judged
+returns-in-Scaled-clause-judged c = λ texts read header.
+    let P : Group → Type 0 = λ k. IsHeader texts c.args.certificate.now c.args.rests.blocks k in
+    c.judge_by-in-Scaled.ensures.judged texts read (record { block_is = refl; counts_is = refl; proves = c.greatest_set_is_best_pit-2.ensures }) (subst P c.in-Scaled.is header)
