@@ -1,5 +1,5 @@
 -- Sets of blocks, block by block.
-use Rattle.std.proofs.Common.{◌≡◌, ℕ, zero, suc, ◌+◌, ◌<◌, ℤ, pos, ◌+ℤ◌, Bool, true, false, cond, refl, sym, ap, ◌∙◌, arith, inl, inr}
+use Rattle.std.proofs.Common.{◌≡◌, ℕ, zero, suc, ◌+◌, ◌<◌, ℤ, pos, ◌+ℤ◌, Bool, true, false, cond, refl, ap, ◌∙◌, arith, inl, inr}
 use Rattle.std.proofs.lemmas.Int.{ints}
 use Rattle.std.proofs.lemmas.Bool.{cases_lt}
 use Rattle.ordered_group.specs.Sets.{worth_in, count_in}
@@ -28,7 +28,7 @@ one_more false h = absurd cc
 pub some_blocks : (e : ℕ → Bool) (n b : ℕ) → b < n → e b ≡ true → 0 < count_in e n
 some_blocks e zero b l h = absurd (omega (arith, l))
 some_blocks e (suc n) b l h = elim (cases_lt b n) [
-    inl k ↦ omega (arith, some_blocks e n b k h)
+  | inl k ↦ omega (arith, some_blocks e n b k h)
   | inr k ↦ (let same : n ≡ b = omega (arith, k, l) in omega (arith, one_more (e n) (ap e same ∙ h)))
 ]
 

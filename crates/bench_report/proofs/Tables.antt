@@ -1,5 +1,5 @@
 -- From rows by bench and shell to the table.
-use Rattle.std.proofs.Common.{◌≡◌, ℕ, ◌<◌, ℤ, Bool, true, false, cond, ◌==◌, Option, Some, None, List, [], ◌∷◌, map, refl, sym, ap, subst, ◌∙◌, arith}
+use Rattle.std.proofs.Common.{◌≡◌, ℕ, ◌<◌, ℤ, Bool, true, false, cond, ◌==◌, Some, None, List, [], ◌∷◌, map, refl, sym, subst, ◌∙◌, arith}
 use Rattle.std.specs.Prelude.{IsSome}
 use Rattle.std.specs.BTreeMap.{BTreeMap, IsOrdered, get, values, keys}
 use Rattle.std.specs.Map.{keys_of, values_of}

@@ -1,5 +1,5 @@
 -- Rows by bench and shell, as blocks are added to them.
-use Rattle.std.proofs.Common.{◌≡◌, ℕ, zero, suc, ◌+◌, ◌<◌, ◌≤◌, ℤ, pos, ◌+ℤ◌, Bool, true, false, cond, ◌==◌, ◌&&◌, ◌⊎◌, inl, inr, Option, Some, None, refl, sym, ap, subst, ◌∙◌, add-one, rules, arith}
+use Rattle.std.proofs.Common.{◌≡◌, ℕ, suc, ◌+◌, ◌<◌, ◌≤◌, ℤ, Bool, true, false, cond, ◌==◌, ◌&&◌, inl, inr, Option, Some, None, refl, sym, ap, subst, ◌∙◌, add-one, rules, arith}
 use Rattle.std.specs.Prelude.{unwrap_or, FitsSigned}
 use Rattle.std.specs.Int.{w128}
 use Rattle.std.specs.BTreeMap.{is_at}
@@ -12,7 +12,7 @@ use Rattle.ordered_group.proofs.BlockSets.{count_in-most}
 use Rattle.bench_report.specs.declared.bench_row.BenchRow.{BenchRow}
 use Rattle.bench_report.specs.declared.report_fault.ReportFault.{ReportFault}
 use Rattle.bench_report.specs.declared.report_fault.ReportFault.TheVariants.{WrongModel, TooLarge, NoMemory}
-use Rattle.bench_report.specs.Benches.{ReportedBlocks, blocks_at, by_bench, is_shell}
+use Rattle.bench_report.specs.Benches.{ReportedBlocks, blocks_at, by_bench}
 use Rattle.bench_report.specs.FaultStands.{SumsFit, SomeSumLeaves}
 use Rattle.bench_report.specs.Internal.{row_below, no_blocks, with_block, row_at, if_some, TakesBlock, AddFaultStands, IsTallied, TallyFaultStands}
 use Rattle.bench_report.proofs.Sums.{plus-none, worth_of_none}
@@ -91,7 +91,7 @@ fits_more m n p z k f false b h at w = subst FitsRow (sym (row_without m z k n b
 -- sums that fit up to one place fit on the whole way there
 fits_upto : (m : ReportedBlocks) (n : ℕ) (z : ℤ) (k : ℕ) → ((j : ℕ) → j ≤ n → SumsFit m z k j) → SumsFit m z k (suc n) → (j : ℕ) → j ≤ suc n → SumsFit m z k j
 fits_upto m n z k h s j l = elim (cases_lt j (suc n)) [
-    inl i ↦ h j (omega (arith, i))
+  | inl i ↦ h j (omega (arith, i))
   | inr i ↦ (let e : suc n ≡ j = omega (arith, i, l) in subst (SumsFit m z k) e s)
 ]
 

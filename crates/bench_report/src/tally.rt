@@ -44,10 +44,7 @@ fn with_one_more(row: BenchRow, tonnes: i128, worth: i128) -> Result<BenchRow, R
         (λ r. (r ≡ with_block row tonnes worth) × TakesBlock row tonnes worth)
         (λ e. (e ≡ ReportFault.TooLarge) × AddFaultStands row tonnes worth e) }
 {
-    let tonnes = row
-        .tonnes
-        .checked_add(tonnes)
-        .ok_or(ReportFault::TooLarge)?;
+    let tonnes = row.tonnes.checked_add(tonnes).ok_or(ReportFault::TooLarge)?;
     let worth = row.worth.checked_add(worth).ok_or(ReportFault::TooLarge)?;
     Ok(BenchRow {
         z: row.z,

@@ -1,8 +1,8 @@
-use Rattle.std.proofs.Common.{◌≡◌, ◌<◌, ◌≤◌, ◌+◌, ℤ, Some, None, sym, ap, subst, ◌∙◌, to_z, of_z, rules, arith}
+use Rattle.std.proofs.Common.{◌≡◌, ◌<◌, ◌+◌, Some, None, sym, subst, ◌∙◌, to_z, of_z, rules, arith}
 use Rattle.std.specs.Int.{w128}
 use Rattle.std.specs.BTreeMap.{get}
 use Rattle.std.proofs.lemmas.Result.{err_from_is_err_and}
-use Rattle.bench_report.specs.Benches.{ReportedBlocks, reported, by_bench}
+use Rattle.bench_report.specs.Benches.{reported, by_bench}
 use Rattle.bench_report.specs.Internal.{IsTallied, TallyFaultStands}
 use Rattle.bench_report.proofs.Tallies.{none_more, block_added, block_leaves, few_there}
 use Rattle.bench_report.proofs.bench_table.tally.Goals.{in-Some+in_ok-add_block, in_default}
@@ -31,7 +31,7 @@ pub loop-b-preserved : goal.loop-b-preserved
 loop-b-preserved c =
     let m = reported c.args.model.now c.args.series.now c.args.tonnes c.args.worths.now in
     elim c.match-shell_of.branch [
-        in-Some+in_ok-add_block b ↦
+      | in-Some+in_ok-add_block b ↦
           (let shell : m.shell c.loop-b.b ≡ Some b.in-Some.shell = sym c.shell_of.ensures.is ∙ b.in-Some.is in
           let t = to_z w128 (of_z w128 b.tonnes_of-mass.result) in
           let w = to_z w128 (of_z w128 b.worth_of-worth.result) in
