@@ -3,7 +3,6 @@
 ghost use Rattle.std.specs.Prelude.{◌≡◌, ◌<◌, ◌↔◌, [], pos, length, IsTrue, IfOk, OnOk, IfErr, MatchResult, slice_index_or};
 ghost use Rattle.std.specs.BTreeMap.{get, values, IsOrdered};
 ghost use Rattle.blocks_file.specs.Denotes.{origin};
-ghost use Rattle.shells.specs.Prices.{blocks_of};
 ghost use Rattle.bench_report.specs.Benches.{reported, by_bench, IsBenchTable};
 ghost use Rattle.bench_report.specs.FaultStands.{SameLengths, AllSumsFit, ReportFaultStands};
 ghost use Rattle.bench_report.specs.Internal.{IsTallied, TallyFaultStands};

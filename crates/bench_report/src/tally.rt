@@ -1,6 +1,6 @@
 //! Adding blocks to the rows of their benches and shells.
 
-ghost use Rattle.std.specs.Prelude.{◌≡◌, ◌^◌, ◌<◌, ◌+ℤ◌, Some, OnOk, IfErr, MatchResult};
+ghost use Rattle.std.specs.Prelude.{◌≡◌, ◌^◌, ◌<◌, Some, OnOk, IfErr, MatchResult};
 ghost use Rattle.std.specs.BTreeMap.{Updates, get};
 ghost use Rattle.bench_report.specs.Benches.{by_bench};
 ghost use Rattle.bench_report.specs.Internal.{no_blocks, with_block, row_at, TakesBlock, AddFaultStands};
