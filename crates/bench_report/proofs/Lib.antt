@@ -1,0 +1,6 @@
+pub mod Lines
+pub mod Plain
+pub mod Sums
+pub mod Tables
+pub mod Tallies
+pub mod Unique

@@ -1,0 +1,33 @@
+-- When there is no bench table, and why.
+use Rattle.std.specs.Prelude.{◌≡◌, ℕ, ◌≤◌, ℤ, List, length, FitsSigned}
+use Rattle.std.specs.Int.{w128}
+use Rattle.blocks_file.specs.Denotes.{BlocksView}
+use Rattle.ordered_group.specs.Sets.{worth_in}
+use Rattle.shells.specs.Prices.{blocks_of}
+use Rattle.shells.specs.Series.{SeriesView}
+use Rattle.bench_report.specs.declared.report_fault.ReportFault.{ReportFault}
+use Rattle.bench_report.specs.declared.report_fault.ReportFault.TheVariants.{WrongModel, TooLarge, NoMemory}
+use Rattle.bench_report.specs.Benches.{ReportedBlocks, blocks_at}
+
+-- the series and the worths are of as many blocks as the model
+pub record SameLengths (model : BlocksView) (series : SeriesView) (worths : List ℤ) : Type 0 where
+  pub of_shells : blocks_of series.prices ≡ model.blocks
+  pub of_worths : length worths ≡ model.blocks
+
+-- the tonnes and the worths of the first blocks of a bench and a shell, those below j, add up to numbers of 128 bits
+abbrev pub SumsFit : ReportedBlocks → ℤ → ℕ → ℕ → Type 0
+SumsFit m z k j = FitsSigned w128 (worth_in m.tonnes (blocks_at m z k) j) × FitsSigned w128 (worth_in m.worth (blocks_at m z k) j)
+
+-- so do those of each bench and shell on the whole way
+abbrev pub AllSumsFit : ReportedBlocks → Type 0
+AllSumsFit m = (z : ℤ) (k j : ℕ) → j ≤ m.blocks → SumsFit m z k j
+
+-- those of some bench and shell don't, at some place
+abbrev pub SomeSumLeaves : ReportedBlocks → Type 0
+SomeSumLeaves m = (z : ℤ) × (k : ℕ) × (j : ℕ) × (j ≤ m.blocks) × ¬ (SumsFit m z k j)
+
+-- why there are no rows
+abbrev pub ReportFaultStands : BlocksView → SeriesView → List ℤ → ReportedBlocks → ReportFault → Type 0
+ReportFaultStands model series worths m WrongModel = ¬ (SameLengths model series worths)
+ReportFaultStands model series worths m TooLarge = SameLengths model series worths × SomeSumLeaves m
+ReportFaultStands model series worths m NoMemory = SameLengths model series worths

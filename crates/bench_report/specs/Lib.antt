@@ -1,0 +1,5 @@
+pub mod Benches
+pub mod FaultStands
+pub mod FaultText
+pub mod Internal
+pub mod Written

@@ -1,0 +1,16 @@
+//! Rows of the bench table.
+
+/// The blocks of one bench and one shell.
+#[derive(Clone, Copy, Debug, PartialEq, Eq)]
+pub struct BenchRow {
+    /// The bench: the height of its blocks, as their coordinate along the third axis.
+    pub z: i32,
+    /// The shell, in thousandths of the price.
+    pub shell: u32,
+    /// How many blocks there are.
+    pub blocks: u32,
+    /// Their tonnes, in millionths.
+    pub tonnes: i128,
+    /// What they are worth, in billionths.
+    pub worth: i128,
+}

@@ -1,0 +1,31 @@
+//! The bench table: how many blocks, how many tonnes and what worth lie on each bench in each shell.
+//!
+//! A bench is what lies at one height of an open pit, and a shell is a phase in which it is dug; a
+//! planner's schedule begins with what each phase has on each bench. [`rows`] gives that table for a
+//! model of blocks, a series of shells and a worth for each block, and [`write_report`] writes it as
+//! comma-separated values, for spreadsheets.
+//!
+//! Stands on `blocks_file` for heights and tonnes, `shells` for the shells, `ordered_group` for the
+//! words on sets of blocks, `fixed_worth` for numbers and devices, and the kit's `csv`. Promises
+//! upward that the rows are exactly the benches and shells with a block, each once and in ascending
+//! order, with the exact number and sums of their blocks; that a sum which leaves 128 bits on the way
+//! is refused; and that what is written is the one text of the rows. It takes time in proportion to
+//! the blocks, and to the logarithm of the rows for each.
+#![tactic(auto)]
+
+mod bench_row;
+mod bench_table;
+pub mod laws;
+mod report_fault;
+mod tally;
+mod write_fault;
+mod written_table;
+
+pub use bench_row::BenchRow;
+pub use bench_table::rows;
+pub use report_fault::ReportFault;
+pub use write_fault::ReportWriteFault;
+pub use written_table::write_report;
+
+#[cfg(test)]
+mod tests;
