@@ -6,6 +6,7 @@ import shutil
 import subprocess
 import sys
 import tempfile
+import time
 from collections import namedtuple
 from pathlib import Path
 
@@ -27,8 +28,10 @@ GENERATED = {
     "b10k": "10000 30 30 16 five 8 2 box",
 }
 
-Model = namedtuple("Model", "name prec upit blocks")
-Run = namedtuple("Run", "status output cpu peak")
+Model = namedtuple("Model", "name prec upit blocks settings")
+Run = namedtuple("Run", "status output cpu peak wall")
+
+ENDINGS = (".prec", ".upit", ".blocks", ".toml")  # of a model's files, as Model has them; the last one is made last
 
 START = 'exec 3<&0; { read go <&3; exec "$@" </dev/null >&2 3<&-; } & echo $!'
 SUBREAPER = 36  # prctl's PR_SET_CHILD_SUBREAPER
@@ -54,14 +57,14 @@ def peer(name):
 def model(name):
     """The files of a model; one that bench/peers/generator knows is generated once."""
     prefix = MODELS / name if name in GENERATED else Path(name).resolve()
-    if name in GENERATED and not prefix.with_suffix(".prec").exists():
+    if name in GENERATED and not prefix.with_suffix(".toml").exists():
         MODELS.mkdir(exist_ok=True)
         room = Path(tempfile.mkdtemp(dir=MODELS))
         subprocess.run([peer("generator"), str(room / name)] + GENERATED[name].split(), check=True, stdout=subprocess.DEVNULL)
-        for ending in (".blocks", ".upit", ".prec"):
+        for ending in ENDINGS:
             os.replace(room / (name + ending), prefix.with_suffix(ending))
         shutil.rmtree(room)
-    files = [str(prefix) + ending for ending in (".prec", ".upit", ".blocks")]
+    files = [str(prefix) + ending for ending in ENDINGS]
     for file in files[:2]:
         if not os.path.exists(file):
             sys.exit("bench: no file %s" % file)
@@ -70,6 +73,10 @@ def model(name):
 
 def files_of(mine):
     return ["--prec", mine.prec, "--upit", mine.upit]
+
+
+def priced_files_of(mine):
+    return ["--prec", mine.prec, "--blocks", mine.blocks, "--settings", mine.settings]
 
 
 def size_of(prec):
@@ -93,7 +100,8 @@ def adopt_orphans():
 
 
 def run(words, core):
-    """Runs a program on one core, and gives its status, output, CPU seconds and peak memory in MB.
+    """Runs a program on one core, or on several ("0-3"), and gives its status, output, CPU seconds, peak memory in MB and the
+    seconds that passed.
 
     Linux counts the memory of a process that calls exec as memory of the new program too. A small shell starts the
     program, so that this is the shell's memory and not Python's, which would hide a small program's peak. The program
@@ -105,14 +113,16 @@ def run(words, core):
         pid = int(shell.stdout.readline())
         shell.stdout.close()
         shell.wait()
+        begun = time.monotonic()
         shell.stdin.write(b"go\n")
         shell.stdin.close()
         _, status, usage = os.wait4(pid, 0)
+        wall = time.monotonic() - begun
         out.seek(0)
         text = out.read().decode(errors="replace").strip()
     # Linux parts user from system seconds by its clock's ticks; their sum alone is exact.
     cpu = usage.ru_utime + usage.ru_stime
-    return Run(os.waitstatus_to_exitcode(status), text, cpu, usage.ru_maxrss * 1024 / 1e6)
+    return Run(os.waitstatus_to_exitcode(status), text, cpu, usage.ru_maxrss * 1024 / 1e6, wall)
 
 
 def rounds(commands, count, core):

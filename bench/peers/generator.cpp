@@ -1,9 +1,10 @@
-// Makes a synthetic block model: PREFIX.blocks, PREFIX.upit and PREFIX.prec.
+// Makes a synthetic block model: PREFIX.blocks, PREFIX.upit and PREFIX.prec, and PREFIX.toml, the settings of the priced model.
 //
 //     generator PREFIX BLOCKS NX NY NZ PATTERN SEED GRADE cone|box
 //
 // BLOCKS of the NX by NY by NZ cells are kept: below an uneven surface (box), or within an inverted cone (cone). Some ore bodies
-// lie in waste; GRADE scales what they hold. The same words give the same bytes on every machine: only + - * / and sqrt are
+// lie in waste; GRADE scales what they hold. A block's revenue less its cost is its value, so the priced model at factor 1000 is
+// the one of the .upit file. The same words give the same bytes on every machine: only + - * / and sqrt are
 // used, which are exact to the last bit everywhere (with -ffp-contract=off, as the Makefile has it).
 #include <algorithm>
 #include <cmath>
@@ -123,6 +124,12 @@ static Offsets offsets_of(const std::string &pattern) {
     return o;
 }
 
+// Of one block, in cents. No revenue is negative.
+struct Amounts {
+    int64_t revenue, cost;
+    int64_t value() const { return revenue - cost; }
+};
+
 struct Mine {
     Grid grid;
     uint64_t seed;
@@ -141,11 +148,13 @@ struct Mine {
         return scale * sum * growth(0.45 * wide + 0.35 * near + 0.25 * normal(seed * 8 + 4 + (block << 20)) - 0.2);
     }
 
-    // Cents: what the metal brings less processing, where that is worth it, less digging and hauling from the depth.
-    int64_t cents(Cell c, double tonnes, double grade) const {
+    // What the metal brings where that is worth the processing; digging and hauling from the depth, and that processing.
+    Amounts amounts(Cell c, double tonnes, double grade) const {
         int depth = surface[(size_t)c.y * grid.nx + c.x] - c.z;
         double ore = std::max(0.0, tonnes * (grade * 22 - 9.5));
-        return llround((ore - tonnes * (1.3 + 0.02 * depth)) * 100);
+        int64_t value = llround((ore - tonnes * (1.3 + 0.02 * depth)) * 100);
+        int64_t revenue = ore > 0 ? llround(tonnes * grade * 22 * 100) : 0;
+        return {revenue, revenue - value};
     }
 };
 
@@ -174,6 +183,21 @@ static FILE *opened(const std::string &name) {
     return file;
 }
 
+static std::string decimal(int64_t cents) {
+    char text[32];
+    snprintf(text, sizeof text, "%s%lld.%02lld", cents < 0 ? "-" : "", llabs(cents) / 100, llabs(cents) % 100);
+    return text;
+}
+
+// The columns that write_values gives a block, and twenty factors on both sides of 1000.
+static void write_settings(const std::string &prefix) {
+    FILE *settings = opened(prefix + ".toml");
+    fputs("tonnes = 0\n# column 1 is the grade\nrevenue = 2\ncost = 3\nfactors = [300", settings);
+    for (int k = 350; k <= 1250; k += 50) fprintf(settings, ", %d", k);
+    fputs("]\n", settings);
+    fclose(settings);
+}
+
 // Both files of values; gives the share of the blocks that are worth something.
 static double write_values(const Mine &mine, const std::string &prefix) {
     FILE *blocks = opened(prefix + ".blocks"), *upit = opened(prefix + ".upit");
@@ -183,11 +207,11 @@ static double write_values(const Mine &mine, const std::string &prefix) {
         Cell c = mine.place[b];
         int64_t grade = llround(mine.grade(c, b) * 1000);
         int tonnes = 8000 + (int)(200 * uniform(mine.seed * 8 + 6 + ((uint64_t)b << 20)));
-        int64_t value = mine.cents(c, tonnes, grade / 1000.0);
-        positive += value > 0;
-        fprintf(blocks, "%zu %d %d %d %d %lld.%03lld\n", b, c.x, c.y, c.z, tonnes, (long long)grade / 1000,
-                (long long)grade % 1000);
-        fprintf(upit, "%zu %s%lld.%02lld\n", b, value < 0 ? "-" : "", llabs(value) / 100, llabs(value) % 100);
+        Amounts amounts = mine.amounts(c, tonnes, grade / 1000.0);
+        positive += amounts.value() > 0;
+        fprintf(blocks, "%zu %d %d %d %d %lld.%03lld %s %s\n", b, c.x, c.y, c.z, tonnes, (long long)grade / 1000,
+                (long long)grade % 1000, decimal(amounts.revenue).c_str(), decimal(amounts.cost).c_str());
+        fprintf(upit, "%zu %s\n", b, decimal(amounts.value()).c_str());
     }
     fputs("EOF\n", upit);
     fclose(blocks);
@@ -235,6 +259,7 @@ int main(int count, char **words) {
     }
     Mine mine = made(grid, n, !strcmp(words[9], "cone"), strtoull(words[7], nullptr, 10), atof(words[8]));
     double positive = write_values(mine, prefix);
+    write_settings(prefix);
     size_t pairs = write_pairs(mine, offsets_of(words[6]), prefix);
     printf("%s: %zu blocks, %zu pairs (%.1f a block), %.0f%% of the blocks worth more than 0\n", prefix.c_str(), n, pairs,
            (double)pairs / n, 100 * positive);
