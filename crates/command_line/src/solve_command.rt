@@ -64,7 +64,7 @@ fn with_kinds<'a>(alloc: Global, command: Command<'a>) -> Result<Command<'a>, Al
         alloc,
         "group",
         "GROUP",
-        "What amounts count: pair, worth and then the fewer blocks (the default), or worth alone",
+        "What amounts count: pair, worth and then the fewer blocks (the default); scaled, both in one number, where pair is too large; or worth alone",
     ))
 }
 

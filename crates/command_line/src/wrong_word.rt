@@ -95,7 +95,7 @@ fn taken(option: NamedOption) -> &'static str {
         NamedOption::Up => "plus or minus",
         NamedOption::Factor => "a whole number from 0 to 10000",
         NamedOption::Method => "auto, pseudoflow or push-relabel",
-        NamedOption::Group => "pair or worth",
+        NamedOption::Group => "pair, scaled or worth",
         NamedOption::Steps => "a whole number from 1 to 1099511627776",
         NamedOption::Workers => "a whole number from 1 to 64",
     }

@@ -1,7 +1,7 @@
 //! The lock that a board is under.
 
 use boards::{Board, Turn, TurnBoard};
-use ordered_group::{OrderedGroup, Worth, WorthSize};
+use ordered_group::{OrderedGroup, Scaled, Worth, WorthSize};
 use std::sync::{Mutex, Wait};
 
 /// What workers take their turns at.
@@ -66,6 +66,12 @@ impl Shared for Locked<Board<WorthSize>> {
     }
 }
 
+impl Shared for Locked<Board<Scaled>> {
+    fn act<R: Wait>(&self, rt: &R, own: Option<u32>, from: u32, steps: u64) -> Turn {
+        turn_at(rt, &self.inner, own, from, steps)
+    }
+}
+
 impl Shared for Locked<TurnBoard<Worth>> {
     fn act<R: Wait>(&self, rt: &R, own: Option<u32>, from: u32, steps: u64) -> Turn {
         turn_alone_at(rt, &self.inner, own, from, steps)
@@ -73,6 +79,12 @@ impl Shared for Locked<TurnBoard<Worth>> {
 }
 
 impl Shared for Locked<TurnBoard<WorthSize>> {
+    fn act<R: Wait>(&self, rt: &R, own: Option<u32>, from: u32, steps: u64) -> Turn {
+        turn_alone_at(rt, &self.inner, own, from, steps)
+    }
+}
+
+impl Shared for Locked<TurnBoard<Scaled>> {
     fn act<R: Wait>(&self, rt: &R, own: Option<u32>, from: u32, steps: u64) -> Turn {
         turn_alone_at(rt, &self.inner, own, from, steps)
     }
