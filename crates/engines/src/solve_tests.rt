@@ -211,9 +211,10 @@ fn faults_of_the_texts_write_nothing(rt: HostRuntime) {
 
 #[test]
 fn words_of_groups(rt: HostRuntime) {
-    let rows: [(&[u8], Option<Group>); 3] = [
+    let rows: [(&[u8], Option<Group>); 4] = [
         (b"worth", Some(Group::Worth)),
         (b"pair", Some(Group::Pair)),
+        (b"scaled", Some(Group::Scaled)),
         (b"PAIR", None),
     ];
     for (word, group) in rows {

@@ -7,7 +7,7 @@ use crate::solving::serve_all;
 use crate::test_nets::two_on_dear_waste;
 use crate::{Board, End, Gate, Locked, OpenGate, Shared, Turn, TurnBoard, serve};
 use closure_net::Net;
-use ordered_group::{OrderedGroup, Worth, WorthSize};
+use ordered_group::{OrderedGroup, Scaled, Worth, WorthSize};
 use std::alloc::Global;
 use std::process::Abort;
 use std::sync::atomic::Ordering::SeqCst;
@@ -257,5 +257,6 @@ where
 #[test]
 fn turns_under_the_lock_make_steps(rt: HostRuntime) -> Result<(), Fail> {
     makes_steps::<Worth, _>(&rt, rt.alloc())?;
-    makes_steps::<WorthSize, _>(&rt, rt.alloc())
+    makes_steps::<WorthSize, _>(&rt, rt.alloc())?;
+    makes_steps::<Scaled, _>(&rt, rt.alloc())
 }
