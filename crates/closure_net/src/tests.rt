@@ -1,8 +1,12 @@
 ghost use Rattle.std.specs.Prelude.{◌≤◌};
 
 use crate::{Carried, Flow, Net, NetFault, Pit, Port, PortKind, pit_of};
+<<<<<<< ours
 use fixed_worth::MOST_BLOCKS;
 use ordered_group::{Worth, WorthSize};
+=======
+use ordered_group::{Scaled, Worth, WorthSize};
+>>>>>>> theirs
 use prec_file::Rests;
 use std::alloc::Global;
 use std::process::Abort;
@@ -210,6 +214,17 @@ fn refused(rt: HostRuntime) -> Result<(), Fail> {
     ];
     for (worths, fault) in rows {
         assert_eq!(rt; refusal(rt.alloc(), worths)?, fault);
+    }
+    Ok(())
+}
+
+#[test]
+fn worths_whose_units_do_not_fit(rt: HostRuntime) -> Result<(), Fail> {
+    let rows = [(1 << 126, None), ((1 << 126) + 1, Some(NetFault::TooLarge))];
+    for (nanos, fault) in rows {
+        let rests = rests(rt.alloc(), 1, &[])?;
+        let net: Result<Net<Scaled>, NetFault> = Net::of_worths(rt.alloc(), rests, &[nanos]);
+        assert_eq!(rt; net.err(), fault);
     }
     Ok(())
 }
