@@ -1,12 +1,8 @@
 ghost use Rattle.std.specs.Prelude.{◌≤◌};
 
 use crate::{Carried, Flow, Net, NetFault, Pit, Port, PortKind, pit_of};
-<<<<<<< ours
 use fixed_worth::MOST_BLOCKS;
-use ordered_group::{Worth, WorthSize};
-=======
 use ordered_group::{Scaled, Worth, WorthSize};
->>>>>>> theirs
 use prec_file::Rests;
 use std::alloc::Global;
 use std::process::Abort;

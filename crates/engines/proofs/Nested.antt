@@ -44,8 +44,6 @@ accepted_are_nested s t p s' t' p' lower higher j k count count' worth worth' na
     let L : Mine → Type 0 = λ m. IsBest m e in
     let H : Mine → Type 0 = λ m. IsBest m c in
     let W : Mine → Type 0 = λ m. LiesWithin m e c in
-    let P : (g : Group) → Mine → Type 0 = λ g m. IsProvedPit g m e in
-    let Q : (g : Group) → Mine → Type 0 = λ g m. IsProvedPit g m c in
-    let best_low = best_of name _ e tells (subst (λ (g : Group). P g (mine_of low.read.blocks (priced_texts s t p j))) low.group low.proved) in
-    let best_high = best_of name' _ c tells' (subst (λ (g : Group). Q g (mine_of high.read.blocks (priced_texts s' t' p' k))) high.group high.proved) in
+    let best_low = best_of name _ e tells low.proved in
+    let best_high = best_of name' _ c tells' high.proved in
     subst W (sym here) (best_is_nested above table j k e c low.read.mine.worths_read.revenues le (subst L here best_low) (subst H there best_high))
