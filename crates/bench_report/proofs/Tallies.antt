@@ -13,7 +13,7 @@ use Rattle.bench_report.specs.declared.bench_row.BenchRow.{BenchRow}
 use Rattle.bench_report.specs.declared.report_fault.ReportFault.{ReportFault}
 use Rattle.bench_report.specs.declared.report_fault.ReportFault.TheVariants.{WrongModel, TooLarge, NoMemory}
 use Rattle.bench_report.specs.Benches.{ReportedBlocks, blocks_at, by_bench}
-use Rattle.bench_report.specs.FaultStands.{SumsFit, SomeSumLeaves}
+use Rattle.bench_report.specs.FaultStands.{SumsFit, SomeSumOverflows}
 use Rattle.bench_report.specs.Internal.{row_below, no_blocks, with_block, row_at, if_some, TakesBlock, AddFaultStands, IsTallied, TallyFaultStands}
 use Rattle.bench_report.proofs.Sums.{plus-none, worth_of_none}
 
@@ -136,9 +136,9 @@ none_tallied m f h = record {
   fits = λ z k j l. subst (SumsFit m z k) (let e : 0 ≡ j = omega (arith, l) in e) (search rules, search rules);
 }
 
--- the row of the block's place doesn't take it: a sum leaves its type
+-- the row of the block's place doesn't take it: a sum overflows
 leaves_here : (m : ReportedBlocks) (n : ℕ) (x : ℤ) (j : ℕ) (f : ℤ × ℕ → Option BenchRow) → n < m.blocks → m.height n ≡ x → m.shell n ≡ Some j → IsTallied m n f
-    → ¬ (TakesBlock (row_at f (x, j)) (m.tonnes n) (m.worth n)) → SomeSumLeaves m
+    → ¬ (TakesBlock (row_at f (x, j)) (m.tonnes n) (m.worth n)) → SomeSumOverflows m
 leaves_here m n x j f l hx hj h w = (x, j, suc n, omega (arith, l), λ s. w (subst FitsRow (row_with m x j n inside ∙ sym (ap (λ (r : BenchRow). with_block r (m.tonnes n) (m.worth n)) (row_found m n f h x j))) s))
   where
     inside : blocks_at m x j n ≡ true

@@ -23,11 +23,11 @@ abbrev pub AllSumsFit : ReportedBlocks → Type 0
 AllSumsFit m = (z : ℤ) (k j : ℕ) → j ≤ m.blocks → SumsFit m z k j
 
 -- those of some bench and shell don't, at some place
-abbrev pub SomeSumLeaves : ReportedBlocks → Type 0
-SomeSumLeaves m = (z : ℤ) × (k : ℕ) × (j : ℕ) × (j ≤ m.blocks) × ¬ (SumsFit m z k j)
+abbrev pub SomeSumOverflows : ReportedBlocks → Type 0
+SomeSumOverflows m = (z : ℤ) × (k : ℕ) × (j : ℕ) × (j ≤ m.blocks) × ¬ (SumsFit m z k j)
 
 -- why there are no rows
 abbrev pub ReportFaultStands : BlocksView → SeriesView → List ℤ → ReportedBlocks → ReportFault → Type 0
 ReportFaultStands model series worths m WrongModel = ¬ (SameLengths model series worths)
-ReportFaultStands model series worths m TooLarge = SameLengths model series worths × SomeSumLeaves m
+ReportFaultStands model series worths m TooLarge = SameLengths model series worths × SomeSumOverflows m
 ReportFaultStands model series worths m NoMemory = SameLengths model series worths

@@ -6,7 +6,7 @@ use Rattle.bench_report.specs.declared.bench_row.BenchRow.{BenchRow}
 use Rattle.bench_report.specs.declared.report_fault.ReportFault.{ReportFault}
 use Rattle.bench_report.specs.declared.report_fault.ReportFault.TheVariants.{WrongModel, TooLarge, NoMemory}
 use Rattle.bench_report.specs.Benches.{ReportedBlocks, blocks_at}
-use Rattle.bench_report.specs.FaultStands.{SumsFit, SomeSumLeaves}
+use Rattle.bench_report.specs.FaultStands.{SumsFit, SomeSumOverflows}
 
 -- the row of a bench and a shell, of the blocks below n
 abbrev pub row_below : ReportedBlocks → ℤ → ℕ → ℕ → BenchRow
@@ -46,5 +46,5 @@ pub record IsTallied (m : ReportedBlocks) (n : ℕ) (found : ℤ × ℕ → Opti
 -- why the blocks aren't tallied
 abbrev pub TallyFaultStands : ReportedBlocks → ReportFault → Type 0
 TallyFaultStands m WrongModel = ⊥
-TallyFaultStands m TooLarge = SomeSumLeaves m
+TallyFaultStands m TooLarge = SomeSumOverflows m
 TallyFaultStands m NoMemory = Unit {0}

@@ -60,7 +60,7 @@ fn worth_of(worths: &[i128], b: u32) -> i128
 }
 
 // The rows of all blocks that have a shell, by bench and shell. Blocks are added in the order of their numbers, so that
-// a sum leaves 128 bits here where one in that order does.
+// a sum overflows 128 bits here where one in that order does.
 fn tally(
     alloc: Global,
     model: &BlockModel,

@@ -6,7 +6,7 @@ use Rattle.std.specs.Str.{bytes_eq}
 use Rattle.std.specs.Fmt.{decimal}
 use Rattle.std.proofs.lemmas.Slice.Eq.{bytes_eq-Decides}
 use lib.Chars.{codes}
-use Rattle.fixed_worth.specs.declared.limits.TheConstants.{MOST_BLOCKS}
+use Rattle.fixed_worth.specs.declared.limits.TheConstants.{MOST_BLOCKS, MOST_FACTOR}
 use Rattle.ordered_group.specs.declared.groups.Group.{Group}
 use Rattle.ordered_group.specs.Group.{group_name, group_of}
 use Rattle.ordered_group.proofs.Names.{group_spelled}
@@ -67,13 +67,13 @@ blocks_at wanted text (Some w) n e h = keyed (codes "BLOCKS") w text e ∙ ap (�
 blocks_at wanted text None n e h = absurd cc
 
 -- The price.
-factor_at : (w : List ℕ) (o : Option ℕ) (price : Price) → number_below 10001 w ≡ o → or_number (factor_of o) ≡ Ok price → w ≡ price_word price
-factor_at w (Some k) price e h = number_is w 10001 k e ∙ ap (λ (r : Result Price LineFault). price_word (result_unwrap_or r price)) h
+factor_at : (w : List ℕ) (o : Option ℕ) (price : Price) → number_below (MOST_FACTOR + 1) w ≡ o → or_number (factor_of o) ≡ Ok price → w ≡ price_word price
+factor_at w (Some k) price e h = number_is w (MOST_FACTOR + 1) k e ∙ ap (λ (r : Result Price LineFault). price_word (result_unwrap_or r price)) h
 factor_at w None price e h = absurd cc
 
-word_at : (w : List ℕ) (price : Price) (t : Bool) → (t ≡ true → w ≡ codes "OBJECTIVE") → cond t (Ok Objective) (or_number (factor_of (number_below 10001 w))) ≡ Ok price → w ≡ price_word price
+word_at : (w : List ℕ) (price : Price) (t : Bool) → (t ≡ true → w ≡ codes "OBJECTIVE") → cond t (Ok Objective) (or_number (factor_of (number_below (MOST_FACTOR + 1) w))) ≡ Ok price → w ≡ price_word price
 word_at w price true e h = e refl ∙ ap (λ (r : Result Price LineFault). price_word (result_unwrap_or r price)) h
-word_at w price false e h = factor_at w (number_below 10001 w) price refl h
+word_at w price false e h = factor_at w (number_below (MOST_FACTOR + 1) w) price refl h
 
 price_at : (text : List ℕ) (o : Option (List ℕ)) (price : Price) → value_behind (codes "PRICE") (words_of text) ≡ o → price_said o ≡ Ok price → text ≡ spaced (codes "PRICE" ∷ price_word price ∷ [])
 price_at text (Some w) price e h = keyed (codes "PRICE") w text e ∙ ap (λ (x : List ℕ). spaced (codes "PRICE" ∷ x ∷ [])) (word_at w price (bytes_eq w (codes "OBJECTIVE")) (bytes_eq-Decides w (codes "OBJECTIVE")).0 h)

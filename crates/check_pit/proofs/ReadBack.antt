@@ -8,7 +8,7 @@ use Rattle.std.proofs.lemmas.Slice.Eq.{bytes_eq-Decides}
 use Rattle.std.proofs.lemmas.Bool.Decides.{nat_tests}
 use Rattle.std.proofs.lemmas.Fmt.{length-decimal-le_wide}
 use lib.Chars.{codes}
-use Rattle.fixed_worth.specs.declared.limits.TheConstants.{MOST_BLOCKS, LINE_BYTES}
+use Rattle.fixed_worth.specs.declared.limits.TheConstants.{MOST_BLOCKS, LINE_BYTES, MOST_FACTOR}
 use Rattle.ordered_group.specs.declared.groups.Group.{Group}
 use Rattle.ordered_group.specs.Group.{group_name}
 use Rattle.ordered_group.proofs.Names.{group_read, group_name-one_word, group_name-few}
@@ -112,12 +112,12 @@ price_is_word : (price : Price) → IsPrice price → is_word (price_word price)
 price_is_word Objective h = refl
 price_is_word (Factor k) h = decimal_is_word k (omega arith)
 
-factor_read : (k : ℕ) (t : Bool) → k ≤ 10000 → (t ≡ true → decimal k ≡ codes "OBJECTIVE") → cond t (Ok Objective) (or_number (factor_of (number_below 10001 (decimal k)))) ≡ Ok (Factor k)
+factor_read : (k : ℕ) (t : Bool) → k ≤ MOST_FACTOR → (t ≡ true → decimal k ≡ codes "OBJECTIVE") → cond t (Ok Objective) (or_number (factor_of (number_below (MOST_FACTOR + 1) (decimal k)))) ≡ Ok (Factor k)
 factor_read k true h e =
     let few = length-decimal-le_wide 5 k (omega arith) (omega arith) (omega arith) in
     let long = ap length (e refl) in
     absurd (omega (arith, few, long))
-factor_read k false h e = ap (λ (o : Option ℕ). or_number (factor_of o)) (number_read 10001 k (omega arith) (omega arith))
+factor_read k false h e = ap (λ (o : Option ℕ). or_number (factor_of o)) (number_read (MOST_FACTOR + 1) k (omega arith) (omega arith))
 
 price_read : (price : Price) → IsPrice price → price_in (spaced (codes "PRICE" ∷ price_word price ∷ [])) ≡ Ok price
 price_read Objective h = refl

@@ -1,5 +1,6 @@
 -- How faults are printed.
 use Rattle.std.specs.Prelude.{ℕ, List, ◌++◌, codes, decimal}
+pub use Rattle.fixed_worth.specs.FaultText.{at_line}
 use Rattle.check_pit.specs.declared.cert_fault.CertFault.{CertFault}
 use Rattle.check_pit.specs.declared.cert_fault.CertFault.TheVariants.{Text, Number, OutOfOrder, UnknownPair, Truncated, NoMemory}
 use Rattle.check_pit.specs.declared.pit_fault.PitFault.{PitFault}
@@ -7,10 +8,10 @@ use Rattle.check_pit.specs.declared.pit_fault.PitFault.TheVariants.{WrongSize, N
 
 -- of a text that is no certificate: the fault's name, and the line's number in parentheses where there is one
 abbrev pub fault_text : CertFault → List ℕ
-fault_text (Text k) = codes "Text(" ++ decimal k ++ codes ")"
-fault_text (Number k) = codes "Number(" ++ decimal k ++ codes ")"
-fault_text (OutOfOrder k) = codes "OutOfOrder(" ++ decimal k ++ codes ")"
-fault_text (UnknownPair k) = codes "UnknownPair(" ++ decimal k ++ codes ")"
+fault_text (Text k) = at_line (codes "Text") k
+fault_text (Number k) = at_line (codes "Number") k
+fault_text (OutOfOrder k) = at_line (codes "OutOfOrder") k
+fault_text (UnknownPair k) = at_line (codes "UnknownPair") k
 fault_text Truncated = codes "Truncated"
 fault_text NoMemory = codes "NoMemory"
 
@@ -19,7 +20,7 @@ abbrev pub pit_fault_text : PitFault → List ℕ
 pit_fault_text WrongSize = codes "WrongSize"
 pit_fault_text (NotClosed b p) = codes "NotClosed(" ++ (decimal b ++ (codes ", " ++ (decimal p ++ codes ")")))
 pit_fault_text Negative = codes "Negative"
-pit_fault_text (OverCapacity b) = codes "OverCapacity(" ++ (decimal b ++ codes ")")
-pit_fault_text (Unbalanced b) = codes "Unbalanced(" ++ (decimal b ++ codes ")")
+pit_fault_text (OverCapacity b) = at_line (codes "OverCapacity") b
+pit_fault_text (Unbalanced b) = at_line (codes "Unbalanced") b
 pit_fault_text NotTight = codes "NotTight"
 pit_fault_text TooLarge = codes "TooLarge"

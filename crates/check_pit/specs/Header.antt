@@ -2,7 +2,7 @@
 use Rattle.std.specs.Prelude.{ℕ, ◌+◌, ◌==◌, Bool, cond, List, [], ◌∷◌, Option, Some, None, Result, Ok, Err}
 use Rattle.std.specs.Str.{bytes_eq}
 use lib.Chars.{codes}
-use Rattle.fixed_worth.specs.declared.limits.TheConstants.{MOST_BLOCKS}
+use Rattle.fixed_worth.specs.declared.limits.TheConstants.{MOST_BLOCKS, MOST_FACTOR}
 use Rattle.ordered_group.specs.declared.groups.Group.{Group}
 use Rattle.ordered_group.specs.Group.{group_name, group_of}
 use Rattle.check_pit.specs.declared.header.Header.{Header}
@@ -51,7 +51,7 @@ factor_of None = None
 -- the price that a word says
 abbrev pub price_said : Option (List ℕ) → Result Price LineFault
 price_said None = Err Text
-price_said (Some word) = cond (bytes_eq word (codes "OBJECTIVE")) (Ok Objective) (or_number (factor_of (number_below 10001 word)))
+price_said (Some word) = cond (bytes_eq word (codes "OBJECTIVE")) (Ok Objective) (or_number (factor_of (number_below (MOST_FACTOR + 1) word)))
 
 -- PRICE OBJECTIVE, or PRICE k with a factor from 0 to 10,000
 abbrev pub price_in : List ℕ → Result Price LineFault

@@ -1,5 +1,6 @@
 -- What can be written, and that it is read back.
 use Rattle.std.specs.Prelude.{◌≡◌, ℕ, pos, ◌⊎◌, ◌<◌, ◌≤◌, Bool, true, List, length, None}
+use Rattle.fixed_worth.specs.declared.limits.TheConstants.{MOST_FACTOR}
 use Rattle.ordered_group.specs.declared.groups.Group.{Group}
 use Rattle.ordered_group.specs.Amount.{Amount, FitsPair}
 use Rattle.ordered_group.specs.Sums.{amount_at}
@@ -11,7 +12,7 @@ use Rattle.check_pit.specs.Certificate.{IsRead, fault_of}
 -- a factor is at most 10,000
 abbrev pub IsPrice : Price → Type 0
 IsPrice Objective = Unit {0}
-IsPrice (Factor k) = k ≤ 10000
+IsPrice (Factor k) = k ≤ MOST_FACTOR
 
 -- an amount that a text can give: both its numbers fit, and it has no count where the group has none
 pub record Writable (counts : Bool) (x : Amount) : Type 0 where

@@ -9,7 +9,7 @@ ghost use Rattle.check_pit.specs.Header as spec;
 use crate::cert_fault::{CertFault, LineFault};
 use crate::header::{Header, Price, Wanted};
 use crate::piece_reader::{Pieces, Words};
-use fixed_worth::{MOST_BLOCKS, plain_signed};
+use fixed_worth::{MOST_BLOCKS, MOST_FACTOR, plain_signed};
 use ordered_group::Group;
 
 const VERSION: &[u8] = b"PITCERT 1";
@@ -21,9 +21,6 @@ const PRICE: &[u8] = b"PRICE";
 const OBJECTIVE: &[u8] = b"OBJECTIVE";
 
 const GROUP: &[u8] = b"GROUP";
-
-/// The highest price factor, in thousandths.
-const HIGHEST_FACTOR: u32 = 10_000;
 
 /// The number that a word is, where it is at least 0 and below the limit.
 pub fn number_below(limit: u32, word: &[u8]) -> Option<u32>
@@ -100,7 +97,7 @@ fn price_in(text: &[u8]) -> Result<Price, LineFault>
     if word == OBJECTIVE {
         Ok(Price::Objective)
     } else {
-        or_number(factor_of(number_below(HIGHEST_FACTOR + 1, word)))
+        or_number(factor_of(number_below(MOST_FACTOR + 1, word)))
     }
 }
 

@@ -4,6 +4,7 @@ use Rattle.std.specs.List.{range_with_len}
 use Rattle.std.specs.Result.{result_unwrap_or}
 use Rattle.std.specs.Str.{bytes_eq}
 use Rattle.std.proofs.lemmas.List.FromFn.{length-map-range_with_len, get_or-map-range_with_len}
+use Rattle.fixed_worth.specs.declared.limits.TheConstants.{MOST_FACTOR}
 use lib.Chars.{codes}
 use Rattle.blocks_file.specs.Records as blocks
 use Rattle.blocks_file.specs.Denotes.{BlocksView, Denotes}
@@ -71,16 +72,16 @@ table_is revenue cost said text m table e d is =
 
 -- ---- the factor of a header
 
-factor_below : (word : List ℕ) (o : Option ℕ) (price : Price) → number_below 10001 word ≡ o → or_number (factor_of o) ≡ Ok price → IsPrice price
+factor_below : (word : List ℕ) (o : Option ℕ) (price : Price) → number_below (MOST_FACTOR + 1) word ≡ o → or_number (factor_of o) ≡ Ok price → IsPrice price
 factor_below word (Some k) price e h =
     let same : Factor k ≡ price = ap (λ (r : Result Price LineFault). result_unwrap_or r price) h in
-    let k_below = below_limit 10001 k word e in
+    let k_below = below_limit (MOST_FACTOR + 1) k word e in
     subst IsPrice same (omega (arith, k_below))
 factor_below word None price e h = absurd cc
 
-word_price : (word : List ℕ) (t : Bool) (price : Price) → cond t (Ok Objective) (or_number (factor_of (number_below 10001 word))) ≡ Ok price → IsPrice price
+word_price : (word : List ℕ) (t : Bool) (price : Price) → cond t (Ok Objective) (or_number (factor_of (number_below (MOST_FACTOR + 1) word))) ≡ Ok price → IsPrice price
 word_price word true price h = subst IsPrice (ap (λ (r : Result Price LineFault). result_unwrap_or r price) h) tt
-word_price word false price h = factor_below word (number_below 10001 word) price refl h
+word_price word false price h = factor_below word (number_below (MOST_FACTOR + 1) word) price refl h
 
 price_bound : (o : Option (List ℕ)) (price : Price) → price_said o ≡ Ok price → IsPrice price
 price_bound (Some word) price h = word_price word (bytes_eq word (codes "OBJECTIVE")) price h

@@ -6,6 +6,7 @@ use Rattle.fixed_worth.specs.declared.numerals.NumberFault.{NumberFault}
 use Rattle.fixed_worth.specs.Numeral.{whole_of}
 use Rattle.slope.specs.declared.up.Up.{Up}
 use Rattle.slope.specs.declared.up.Up.TheVariants.{PlusZ, MinusZ}
+use Rattle.slope.specs.declared.pattern.TheConstants.{MOST_CONE_NUMBER}
 use Rattle.engines.specs.declared.pattern_choice.PatternChoice.{PatternChoice}
 use Rattle.engines.specs.declared.pattern_choice.PatternChoice.TheVariants.{Five, Nine, Cone}
 
@@ -16,7 +17,7 @@ pieces_of (b ∷ bs) = cond (b == 58) ([] ∷ pieces_of bs) (onto_first b (piece
 
 -- a whole number from 1 to 1,000
 abbrev pub small_number : Result ℕ NumberFault → Option ℕ
-small_number (Ok k) = cond (nat_le 1 k && nat_le k 1000) (Some k) None
+small_number (Ok k) = cond (nat_le 1 k && nat_le k MOST_CONE_NUMBER) (Some k) None
 small_number (Err e) = None
 
 -- the number of a cone that a piece is

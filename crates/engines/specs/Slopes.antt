@@ -7,7 +7,7 @@ use Rattle.blocks_file.specs.Denotes.{BlocksView, Denotes}
 use Rattle.blocks_file.specs.declared.faults.BlocksFault.{BlocksFault}
 use Rattle.prec_file.specs.Rests.{RestsView}
 use Rattle.prec_file.specs.Written.{prec_text}
-use Rattle.slope.specs.declared.pattern.TheConstants.{MOST_OFFSETS}
+use Rattle.slope.specs.declared.pattern.TheConstants.{MOST_CONE_NUMBER, MOST_OFFSETS}
 use Rattle.slope.specs.Lists.{AreMoreThan}
 use Rattle.slope.specs.Offsets.{Offset, AreOffsets}
 use Rattle.slope.specs.Patterns.{five_offsets, nine_offsets, IsInCone}
@@ -31,7 +31,7 @@ use Rattle.engines.specs.Limits.{IsTooLong, IsWithinLimit}
 
 -- a number of a cone is from 1 to 1,000
 abbrev pub IsConeNumber : ℕ → Type 0
-IsConeNumber k = (1 ≤ k) × (k ≤ 1000)
+IsConeNumber k = (1 ≤ k) × (k ≤ MOST_CONE_NUMBER)
 
 -- the numbers of the pattern that is asked for are in their range
 abbrev pub IsChoice : PatternChoice → Type 0

@@ -3,9 +3,11 @@ use Rattle.std.specs.Prelude.{ℕ, ◌&&◌, cond, List, codes, nat_le, Option, 
 use Rattle.std.specs.Str.{bytes_eq}
 use Rattle.fixed_worth.specs.declared.numerals.NumberFault.{NumberFault}
 use Rattle.fixed_worth.specs.Numeral.{whole_of}
+use Rattle.fixed_worth.specs.declared.limits.TheConstants.{MOST_FACTOR}
 use Rattle.async_step.specs.declared.limits.TheConstants.{MOST_STEPS}
 use Rattle.ordered_group.specs.declared.groups.Group.{Group}
 use Rattle.ordered_group.specs.declared.groups.Group.TheVariants.{Worth, Pair, Scaled}
+use Rattle.workers.specs.declared.solving.TheConstants.{MOST_WORKERS}
 
 -- the kind of amount that a word names, if it names one
 abbrev pub group_of : List ℕ → Option Group
@@ -18,7 +20,7 @@ steps_number (Err e) = None
 
 -- a whole number from 1 to 64
 abbrev pub workers_number : Result ℕ NumberFault → Option ℕ
-workers_number (Ok k) = cond (nat_le 1 k && nat_le k 64) (Some k) None
+workers_number (Ok k) = cond (nat_le 1 k && nat_le k MOST_WORKERS) (Some k) None
 workers_number (Err e) = None
 
 -- the number of workers that a word names, if it names one
@@ -31,7 +33,7 @@ steps_of word = steps_number (whole_of word)
 
 -- a whole number from 0 to 10,000
 abbrev pub factor_number : Result ℕ NumberFault → Option ℕ
-factor_number (Ok k) = cond (nat_le k 10000) (Some k) None
+factor_number (Ok k) = cond (nat_le k MOST_FACTOR) (Some k) None
 factor_number (Err e) = None
 
 -- the factor that a word names, if it names one

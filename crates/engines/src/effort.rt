@@ -3,6 +3,7 @@
 ghost use Rattle.std.specs.Prelude.{◌≡◌, ℕ, ◌≤◌, ◌^◌};
 
 use crate::method::Method;
+use workers::MOST_WORKERS;
 
 /// The engine that makes the flow, the threads of the machine's run and the most steps that they make together,
 /// which are the most turns of pseudoflow too.
@@ -15,14 +16,14 @@ pub struct Effort {
     /// The most steps.
     pub steps: u64,
     ghost some: { 1 ≤ workers },
-    ghost few: { workers ≤ 64 },
+    ghost few: { workers ≤ MOST_WORKERS },
 }
 
 impl Effort {
     /// This method, with `workers` threads, from 1 to 64, and at most `steps` steps.
     pub fn new(method: Method, workers: u32, steps: u64) -> Effort
         requires some { 1 ≤ workers }
-        requires few { workers ≤ 64 }
+        requires few { workers ≤ MOST_WORKERS }
         ensures method { result.method ≡ method }
         ensures workers { result.workers ≡ workers }
         ensures steps { result.steps ≡ steps }

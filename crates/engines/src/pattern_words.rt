@@ -6,10 +6,7 @@ ghost use Rattle.engines.specs.Slopes.{IsConeNumber, IsChoice};
 
 use crate::pattern_choice::PatternChoice;
 use fixed_worth::{behind_first, whole};
-use slope::Up;
-
-// The greatest number of a cone.
-const GREATEST: u64 = 1_000;
+use slope::{MOST_CONE_NUMBER, Up};
 
 fn first_colon(word: &[u8]) -> Option<usize>
     ensures { result ≡ position (λ b. b == 58) word.now }
@@ -37,7 +34,7 @@ fn cone_number(piece: &[u8]) -> Option<u32>
 {
     match whole(piece) {
         Ok(number) => {
-            if 1 <= number && number <= GREATEST {
+            if 1 <= number && number <= MOST_CONE_NUMBER as u64 {
                 Some(number as u32)
             } else {
                 None

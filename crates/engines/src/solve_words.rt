@@ -4,15 +4,10 @@ ghost use Rattle.std.specs.Prelude.{◌≡◌, ◌≤◌, IfSome};
 ghost use Rattle.engines.specs.SolveWords.{factor_of, group_of, steps_of, workers_of};
 
 use async_step::MOST_STEPS;
-use fixed_worth::whole;
+use fixed_worth::{MOST_FACTOR, whole};
 use ordered_group::Group;
 use shells::Factor;
-
-// The most thousandths of a factor.
-const MOST_FACTOR: u64 = 10_000;
-
-// The most workers of a run.
-const MOST_WORKERS: u64 = 64;
+use workers::MOST_WORKERS;
 
 /// The kind of amount that a word names: `worth`, `pair` or `scaled`.
 pub fn group_named(word: &[u8]) -> Option<Group>
@@ -35,7 +30,7 @@ pub fn factor_named(word: &[u8]) -> Option<Factor>
 {
     match whole(word) {
         Ok(number) => {
-            if number <= MOST_FACTOR {
+            if number <= MOST_FACTOR as u64 {
                 Factor::new(number as u32)
             } else {
                 None
@@ -64,11 +59,11 @@ pub fn steps_named(word: &[u8]) -> Option<u64>
 /// The number of workers that a word names: a whole number from 1 to 64.
 pub fn workers_named(word: &[u8]) -> Option<u32>
     ensures is { result ≡ workers_of word.now }
-    ensures range { IfSome result (λ workers. (1 ≤ workers) × (workers ≤ 64)) }
+    ensures range { IfSome result (λ workers. (1 ≤ workers) × (workers ≤ MOST_WORKERS)) }
 {
     match whole(word) {
         Ok(number) => {
-            if 1 <= number && number <= MOST_WORKERS {
+            if 1 <= number && number <= MOST_WORKERS as u64 {
                 Some(number as u32)
             } else {
                 None

@@ -32,7 +32,7 @@ mod whole_input;
 
 pub use devices::{Counted, CountedRead, CountedWrite};
 pub use field_reader::{Field, Fields, is_separator};
-pub use limits::{LINE_BYTES, MOST_BLOCKS};
+pub use limits::{LINE_BYTES, MOST_BLOCKS, MOST_FACTOR, MOST_FACTORS};
 pub use line_reader::{Lines, TextFault, behind_first, first_line_feed};
 pub use millionths::Micros;
 pub use numbered::WrittenNumber;

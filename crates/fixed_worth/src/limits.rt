@@ -1,7 +1,13 @@
-//! Limits that the files of a model share.
+//! Limits that the files and the commands of a model share.
 
 /// The most blocks that a model may have.
 pub const MOST_BLOCKS: u32 = 1 << 24;
 
 /// The most bytes that a line may have, its line feed not counted.
 pub const LINE_BYTES: usize = 65_536;
+
+/// The highest price factor, in thousandths.
+pub const MOST_FACTOR: u32 = 10_000;
+
+/// The most price factors of one series of pits.
+pub const MOST_FACTORS: usize = 64;

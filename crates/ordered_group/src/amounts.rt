@@ -77,7 +77,7 @@ pub fn smaller<G: OrderedGroup>(a: G, b: G) -> G
 }
 
 /// The sum of the amounts, taken in their order, which is zero where there are none. `None` exactly
-/// where the sum of the first few leaves its type, though a later one would bring it back.
+/// where the sum of the first few overflows, though a later one would bring it back.
 pub fn try_sum<G: OrderedGroup>(amounts: &[G]) -> Option<G>
     ensures { let xs = map G.parts_of amounts.now in
         MatchOption result (SumOverflows (amount_at xs) (length xs))

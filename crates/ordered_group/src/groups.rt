@@ -90,11 +90,11 @@ pub trait OrderedGroup: Copy + Ord + Send + Sync {
     fn zero() -> Self
         ensures { parts_of result ≡ zero_amount };
 
-    /// The sum, or `None` exactly where a number of it leaves its type.
+    /// The sum, or `None` exactly where a number of it overflows.
     fn try_add(self, other: Self) -> Option<Self>
         ensures { GivesExactly parts_of (plus (parts_of self) (parts_of other)) result };
 
-    /// The difference, or `None` exactly where a number of it leaves its type.
+    /// The difference, or `None` exactly where a number of it overflows.
     fn try_sub(self, other: Self) -> Option<Self>
         ensures { GivesExactly parts_of (minus (parts_of self) (parts_of other)) result };
 
@@ -103,7 +103,7 @@ pub trait OrderedGroup: Copy + Ord + Send + Sync {
         ensures { IsTrue result ↔ ¬ (AtMost (parts_of self) zero_amount) };
 
     /// The amount of one block that is worth so many billionths, in a model of n blocks: `None`
-    /// exactly where a number of it leaves its type.
+    /// exactly where a number of it overflows.
     fn of_block(nanos: i128, n: u32) -> Option<Self>
         ensures { GivesExactly parts_of (block_parts nanos n) result };
 
@@ -123,7 +123,7 @@ pub trait OrderedGroup: Copy + Ord + Send + Sync {
         ensures { TakesParts parts_of counts worth count result };
 
     /// The worth in billionths of a set of `count` blocks whose sum this is, in a model of n
-    /// blocks: `None` exactly where that worth leaves its type.
+    /// blocks: `None` exactly where that worth overflows.
     fn nanos_of_set(self, n: u32, count: u32) -> Option<i128>
         ensures { TellsWorth (set_worth (parts_of self) n count) result };
 

@@ -6,7 +6,7 @@
 //! of each. Every value stands for an `Amount`, a pair of whole numbers of any size, and the
 //! contracts speak of that.
 //!
-//! Stands on nothing. Promises upward: exact sums, or `None` exactly where a number leaves its
+//! Stands on nothing. Promises upward: exact sums, or `None` exactly where a number overflows its
 //! type; the order of the amounts; that the sum of a set of blocks tells its worth; and for a
 //! `SizeGroup` that sums are ordered as the sets are, by worth and then by the fewer blocks. The
 //! functions of `laws` state these for every group. Lemmas on sums of amounts, for the crates

@@ -4,6 +4,7 @@ ghost use Rattle.std.specs.Prelude.{◌≤◌, IfOk};
 
 use command_line::{Commanded, NamedOption, ShellsWords, SolveWords, WrongWord};
 use engines::{Effort, Method, method_named, steps_named, workers_named};
+use workers::MOST_WORKERS;
 
 // The most steps of a run, where no word says.
 const USUAL_STEPS: u64 = 1_000_000_000;
@@ -79,7 +80,7 @@ fn steps_asked<'a>(words: EffortWords<'a>) -> Result<u64, WrongWord<'a>> {
 
 // How many workers there are: one, where no word says.
 fn workers_asked<'a>(words: EffortWords<'a>) -> Result<u32, WrongWord<'a>>
-    ensures { IfOk result (λ workers. (1 ≤ workers) × (workers ≤ 64)) }
+    ensures { IfOk result (λ workers. (1 ≤ workers) × (workers ≤ MOST_WORKERS)) }
 {
     match words.workers {
         Some(word) => workers_named(word.as_bytes()).ok_or(WrongWord {

@@ -4,6 +4,7 @@ use Rattle.std.specs.List.{All}
 use Rattle.std.specs.List.Sorted.{IsStrictlyIncreasing}
 use Rattle.std.proofs.lemmas.Bool.{and_parts, ltb-true}
 use Rattle.std.proofs.lemmas.List.Kept.{AllPairs-from_increasing}
+use Rattle.fixed_worth.specs.declared.limits.TheConstants.{MOST_FACTOR, MOST_FACTORS}
 use Rattle.settings_file.specs.Values.{are_ascending, AreFactors}
 
 increasing : (ns : List ℕ) → are_ascending ns ≡ true → IsStrictlyIncreasing ns
@@ -16,5 +17,5 @@ increasing (a ∷ b ∷ ns) h (suc k) within =
     let e : suc (k + 1) ≡ suc k + 1 = omega arith in
     subst (λ n. get_or (b ∷ ns) k 0 < get_or (a ∷ b ∷ ns) n 0) e rest
 
-pub are_factors : (ns : List ℕ) → 1 ≤ length ns → length ns ≤ 64 → are_ascending ns ≡ true → All (λ n. n ≤ 10000) ns → AreFactors ns
+pub are_factors : (ns : List ℕ) → 1 ≤ length ns → length ns ≤ MOST_FACTORS → are_ascending ns ≡ true → All (λ n. n ≤ MOST_FACTOR) ns → AreFactors ns
 are_factors ns some few up bounded = record { some = some; few = few; ascending = λ i j below within. AllPairs-from_increasing ns (increasing ns up) i j 0 below within; bounded = bounded }

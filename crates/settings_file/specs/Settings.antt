@@ -2,6 +2,7 @@
 use Rattle.std.specs.Prelude.{◌≡◌, ◌≤◌, ℕ, IfSome, Bool, cond, ℤ, List, [], ◌∷◌, Option, Some, None, is_some, Result, Ok, Err, IsUtf8}
 use Rattle.toml.specs.Parse.{parse_document}
 use Rattle.toml.specs.Data.{Data, Members, get_member}
+use Rattle.fixed_worth.specs.declared.limits.TheConstants.{MOST_FACTOR}
 use Rattle.settings_file.specs.declared.keys.Key.{Key}
 use Rattle.settings_file.specs.declared.keys.Key.TheVariants.{Revenue, Cost, Tonnes, Factors, Report, Offsets}
 use Rattle.settings_file.specs.declared.faults.SettingsFault.{SettingsFault}
@@ -24,7 +25,7 @@ pub record IsSettings (s : SettingsView) : Type 0 where
   pub cost : IfSome s.cost (λ column. column ≤ 65535)
   pub tonnes : IfSome s.tonnes (λ column. column ≤ 65535)
   pub factors : IfSome s.factors AreFactors
-  pub report : IfSome s.report (λ factor. factor ≤ 10000)
+  pub report : IfSome s.report (λ factor. factor ≤ MOST_FACTOR)
 
 -- What a table says at a key whose value has to read so: a missing key says nothing, and a value that doesn't read is bad.
 abbrev pub or_bad : {V : Type 0} → Key → Option V → Result (Option V) SettingsFault
@@ -50,7 +51,7 @@ values_in ms =
     then_with (said_at Cost (whole_within 65535) ms) (λ cost.
     then_with (said_at Tonnes (whole_within 65535) ms) (λ tonnes.
     then_with (said_at Factors factors_of ms) (λ factors.
-    then_with (said_at Report (whole_within 10000) ms) (λ report.
+    then_with (said_at Report (whole_within MOST_FACTOR) ms) (λ report.
     then_with (said_at Offsets offsets_of ms) (λ offsets.
     Ok (record { revenue = revenue; cost = cost; tonnes = tonnes; factors = factors; report = report; offsets = offsets })))))))
 

@@ -3,6 +3,7 @@ use Rattle.std.specs.Bool.{nat_le, nat_lt}
 use Rattle.std.specs.Prelude.{ℕ, ◌<◌, ◌≤◌, ◌&&◌, Bool, true, cond, ℤ, pos, negsuc, List, [], ◌∷◌, length, slice_index, Option, Some, None}
 use Rattle.std.specs.List.{All}
 use Rattle.toml.specs.Data.{Data, Items, no_items, item, as_integer, as_array}
+use Rattle.fixed_worth.specs.declared.limits.TheConstants.{MOST_FACTOR, MOST_FACTORS}
 
 -- A whole number from 0 to the most, and nothing else.
 abbrev pub whole_upto : ℕ → Option ℤ → Option ℕ
@@ -43,11 +44,11 @@ are_ascending (n ∷ ns) = is_below_first n ns && are_ascending ns
 
 -- Factors: an array of 1 to 64 whole numbers from 0 to 10,000, each above the one before it.
 abbrev pub if_factors : Option (List ℕ) → Option (List ℕ)
-if_factors (Some ns) = cond ((nat_le 1 (length ns) && nat_le (length ns) 64) && are_ascending ns) (Some ns) None
+if_factors (Some ns) = cond ((nat_le 1 (length ns) && nat_le (length ns) MOST_FACTORS) && are_ascending ns) (Some ns) None
 if_factors None = None
 
 abbrev pub factors_of_items : Option Items → Option (List ℕ)
-factors_of_items (Some ds) = if_factors (all_read (whole_within 10000) ds)
+factors_of_items (Some ds) = if_factors (all_read (whole_within MOST_FACTOR) ds)
 factors_of_items None = None
 
 abbrev pub factors_of : Data → Option (List ℕ)
@@ -76,6 +77,6 @@ offsets_of d = offsets_of_items (as_array d)
 -- What is known of factors that were read.
 pub record AreFactors (ns : List ℕ) : Type 0 where
   pub some : 1 ≤ length ns
-  pub few : length ns ≤ 64
+  pub few : length ns ≤ MOST_FACTORS
   pub ascending : (i j : ℕ) → i < j → j < length ns → slice_index ns i < slice_index ns j
-  pub bounded : All (λ n. n ≤ 10000) ns
+  pub bounded : All (λ n. n ≤ MOST_FACTOR) ns

@@ -5,12 +5,11 @@ ghost use Rattle.std.specs.List.{All};
 ghost use Rattle.toml.specs.View.{view, array_view};
 ghost use Rattle.settings_file.specs.Values.{all_read, whole_within, offset_of, are_ascending, factors_of, offsets_of, AreFactors};
 
-use crate::values::{MOST_FACTOR, number_in_i32, number_within};
+use crate::values::{number_in_i32, number_within};
+use fixed_worth::{MOST_FACTOR, MOST_FACTORS};
 use std::alloc::{AllocError, Global};
 use toml::Value;
 use toml::value::Array;
-
-const MOST_FACTORS: usize = 64;
 
 // The whole numbers from 0 to `most` that the values are, or `None` where one is something else.
 fn numbers_within(alloc: Global, values: &Array, most: u32) -> Result<Option<Vec<u32>>, AllocError>

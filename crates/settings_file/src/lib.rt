@@ -1,7 +1,7 @@
 //! Reads settings: the TOML text that says which columns of a block model hold revenue, cost and tonnes, at which
 //! factors shells are drawn, and which offsets a slope has.
 //!
-//! It stands on the kit's `toml`, which parses the text into a table of values.
+//! It stands on the kit's `toml`, which parses the text into a table of values, and on `fixed_worth` for the limits.
 //!
 //! Upward it promises: [`read_settings`] gives exactly what `specs/Settings` says that the text denotes, or its first
 //! fault. A document is what `toml`'s own grammar says; `specs/Keys` has the keys and `specs/Values` what a value at

@@ -12,7 +12,8 @@ use crate::arrays::{factors_in, offsets_in};
 use crate::faults::SettingsFault;
 use crate::keys::{Key, is_key};
 use crate::settings::Settings;
-use crate::values::{MOST_COLUMN, MOST_FACTOR, number_at};
+use crate::values::{MOST_COLUMN, number_at};
+use fixed_worth::MOST_FACTOR;
 use std::alloc::Global;
 use toml::Table;
 

@@ -4,6 +4,7 @@ ghost use Rattle.std.specs.Prelude.{◌≡◌, ◌≤◌, IfSome, option_map};
 ghost use Rattle.settings_file.specs.Values.{AreFactors};
 ghost use Rattle.settings_file.specs.Settings.{SettingsView, IsSettings};
 
+use fixed_worth::MOST_FACTOR;
 use std::marker::Model;
 
 /// What settings say: the value of each key, where the text has the key.
@@ -41,7 +42,7 @@ impl Settings {
         requires cost { IfSome cost (λ column. column ≤ 65535) }
         requires tonnes { IfSome tonnes (λ column. column ≤ 65535) }
         requires factors { IfSome factors (λ v. AreFactors v.items) }
-        requires report { IfSome report (λ factor. factor ≤ 10000) }
+        requires report { IfSome report (λ factor. factor ≤ MOST_FACTOR) }
         ensures { result ≡ record { revenue = revenue; cost = cost; tonnes = tonnes; factors = option_map (λ v. v.items) factors; report = report; offsets = option_map (λ v. v.items) offsets } }
     {
         Settings {
@@ -92,7 +93,7 @@ impl Settings {
     /// The factor of the report in thousandths, which need not be one of [`Settings::factors`].
     pub fn report(&self) -> Option<u32>
         ensures value { result ≡ self.now.report }
-        ensures bound { IfSome result (λ factor. factor ≤ 10000) }
+        ensures bound { IfSome result (λ factor. factor ≤ MOST_FACTOR) }
     {
         self.report
     }

@@ -11,9 +11,6 @@ use toml::{Table, Value};
 
 pub(crate) const MOST_COLUMN: u32 = 65_535;
 
-// In thousandths.
-pub(crate) const MOST_FACTOR: u32 = 10_000;
-
 // The whole number from 0 to `most` that a value is.
 pub(crate) fn number_within(value: &Value, most: u32) -> Option<u32>
     ensures value { result ≡ whole_within most (view value.now) }

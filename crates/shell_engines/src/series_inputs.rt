@@ -10,7 +10,7 @@ ghost use Rattle.shell_engines.specs.SeriesTexts.{IsSeriesRead, SeriesMineFails}
 use engines::EngineFault;
 use engines::inputs::rests_from;
 use engines::priced_inputs::{missing, price_columns, prices_from, settings_from};
-use fixed_worth::CountedRead;
+use fixed_worth::{CountedRead, MOST_FACTOR};
 use prec_file::Rests;
 use settings_file::{Key, Settings};
 use shells::{Factor, Prices};
@@ -31,7 +31,7 @@ pub struct SeriesMine {
 
 // The factors of so many thousandths each.
 fn factors_from(alloc: Global, thousandths: &[u32]) -> Result<Vec<Factor>, AllocError>
-    requires { All (λ k. k ≤ 10000) thousandths.now }
+    requires { All (λ k. k ≤ MOST_FACTOR) thousandths.now }
     ensures { IfOk result (λ v. v.items ≡ thousandths.now) }
 {
     let mut factors: Vec<Factor> = Vec::new(alloc);

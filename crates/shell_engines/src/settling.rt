@@ -21,6 +21,7 @@ use closure_net::Net;
 use engines::judging::{size_of, worth_of};
 use engines::solving::{Unsolved, solution_of};
 use engines::{Effort, Method};
+use fixed_worth::MOST_FACTORS;
 use ordered_group::SizeGroup;
 use prec_file::Rests;
 use pseudoflow::Progress;
@@ -64,7 +65,7 @@ impl Shells {
     ) -> Result<(), AllocError>
         requires above { IsAbove self.old.series.factors factor }
         requires over { IsOver G.block_parts self.old.series.pairs self.old.series.prices factor accepted.now.net }
-        requires room { length self.old.series.factors < 64 }
+        requires room { length self.old.series.factors < MOST_FACTORS }
         ensures { OnOk result (IsAdded self.old.series self.new.series self.old.rows.items self.new.rows.items factor) }
     {
         match self.series.push(factor, accepted) {
@@ -93,7 +94,7 @@ impl Shells {
         requires above { IsAbove self.old.series.factors factor }
         requires net { IsNetAt G.block_parts self.old.series.pairs self.old.series.prices factor net.now }
         requires found { IfSome found.now (λ a. a.net ≡ net.now) }
-        requires room { length self.old.series.factors < 64 }
+        requires room { length self.old.series.factors < MOST_FACTORS }
         ensures added { OnOk result (IsAdded self.old.series self.new.series self.old.rows.items self.new.rows.items factor) }
         ensures fault { IfErr result (λ e. (rests : RestsView) (factors : List ℕ) → rests.pairs ≡ self.old.series.pairs → Contains factors factor
             → NoSeriesStands G.block_parts rests self.old.series.prices factors effort.method effort.steps e) }

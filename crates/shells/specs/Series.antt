@@ -1,6 +1,7 @@
 -- Nested shells over one table of prices.
 use Rattle.std.specs.Prelude.{◌≡◌, ◌≢◌, ℕ, ℤ, ◌<◌, ◌≤◌, ◌==◌, ◌&&◌, ◌++◌, ◌∷◌, [], nat_le, Bool, false, cond, IsTrue, Option, Some, None, MatchOption, List, length, replicate, slice_index_or}
 use Rattle.std.specs.List.{list_any, Contains}
+use Rattle.fixed_worth.specs.declared.limits.TheConstants.{MOST_FACTORS}
 use Rattle.prec_file.specs.Rests.{IsRests}
 use Rattle.ordered_group.specs.Amount.{Amount}
 use Rattle.ordered_group.specs.Sums.{amount_at}
@@ -48,7 +49,7 @@ pub record IsSeries (s : SeriesView) : Type 0 where
   pub prices : IsTable s.prices
   pub shells : length s.shells ≡ blocks_of s.prices
   pub rising : IsAscending s.factors
-  pub few : length s.factors ≤ 64
+  pub few : length s.factors ≤ MOST_FACTORS
   pub known : (b x : ℕ) → shell_at s.shells b ≡ Some x → Contains s.factors x
   pub best : (k : ℕ) → Contains s.factors k → IsBest (mine_at s.pairs s.prices k) (upto s.shells k)
 

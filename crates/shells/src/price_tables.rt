@@ -5,7 +5,7 @@ ghost use Rattle.shells.specs.Prices.{blocks_of, worth_at, worths_at, IsTable, P
 
 use crate::prices_fault::PricesFault;
 use crate::thousandths::Factor;
-use fixed_worth::{MOST_BLOCKS, Micros};
+use fixed_worth::{MOST_BLOCKS, MOST_FACTOR, Micros};
 use rayon::prelude::*;
 use std::alloc::{AllocError, Global};
 use std::marker::Model;
@@ -30,7 +30,7 @@ impl Model for Prices {
 
 // So many thousandths of an amount in millionths, in billionths.
 fn thousandths_of(thousandths: u32, millionths: i64) -> i128
-    requires factor { thousandths ≤ 10000 }
+    requires factor { thousandths ≤ MOST_FACTOR }
     requires amount { unsigned_abs millionths ≤ 10 ^ 18 }
     ensures is { result ≡ pos thousandths *ℤ millionths }
     ensures bound { unsigned_abs result ≤ 10 ^ 22 }
@@ -40,7 +40,7 @@ fn thousandths_of(thousandths: u32, millionths: i64) -> i128
 
 // So many thousandths of the revenue less all of the cost, in billionths.
 fn priced(thousandths: u32, revenue: i64, cost: i64) -> i128
-    requires factor { thousandths ≤ 10000 }
+    requires factor { thousandths ≤ MOST_FACTOR }
     requires revenue { unsigned_abs revenue ≤ 10 ^ 18 }
     requires cost { unsigned_abs cost ≤ 10 ^ 18 }
     ensures { result ≡ pos thousandths *ℤ revenue -ℤ pos 1000 *ℤ cost }

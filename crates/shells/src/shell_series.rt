@@ -13,6 +13,7 @@ use crate::series_fault::SeriesFault;
 use crate::thousandths::Factor;
 use check_pit::Accepted;
 use closure_net::{Pit, laws};
+use fixed_worth::MOST_FACTORS;
 use ordered_group::{OrderedGroup, SizeGroup};
 use prec_file::Rests;
 use std::alloc::Global;
@@ -56,7 +57,7 @@ impl Series {
         if rests.len() != blocks {
             return Err(SeriesFault::WrongModel);
         }
-        let factors = Vec::with_capacity(alloc, 64)?;
+        let factors = Vec::with_capacity(alloc, MOST_FACTORS)?;
         let shells = vec![in alloc; None; blocks as usize]?;
         Ok(Series {
             rests,
@@ -112,17 +113,17 @@ impl Series {
 
     // Whether no further factor is taken.
     fn is_full(&self) -> bool
-        ensures full { IsTrue result ↔ (length self.now.factors ≡ 64) }
-        ensures most { length self.now.factors ≤ 64 }
+        ensures full { IsTrue result ↔ (length self.now.factors ≡ MOST_FACTORS) }
+        ensures most { length self.now.factors ≤ MOST_FACTORS }
     {
-        self.factors().len() == 64
+        self.factors().len() == MOST_FACTORS
     }
 
     // Adds the best pit at a factor above the others.
     fn put(&mut self, k: u32, pit: &Pit)
         requires above { IsAbove self.old.factors k }
         requires best { IsBest (mine_at self.old.pairs self.old.prices k) (holds_of pit.now) }
-        requires room { length self.old.factors < 64 }
+        requires room { length self.old.factors < MOST_FACTORS }
         ensures { IsPushed self.old self.new k (holds_of pit.now) }
     {
         give_shells(self.shells.as_mut_slice(), pit, k);

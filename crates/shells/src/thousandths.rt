@@ -2,6 +2,7 @@
 
 ghost use Rattle.std.specs.Prelude.{◌≡◌, ◌≤◌, ℕ, SomeIff};
 
+use fixed_worth::MOST_FACTOR;
 use std::marker::Model;
 
 /// The share of the revenue that counts, in thousandths: 0 to 10,000.
@@ -15,7 +16,7 @@ impl Model for Factor {
 
     ghost view = { λ f. f.thousandths };
 
-    ghost invariant = { λ f. f.thousandths ≤ 10000 };
+    ghost invariant = { λ f. f.thousandths ≤ MOST_FACTOR };
 
     ghost inverse = { λ k. record { thousandths = k } };
 }
@@ -23,9 +24,9 @@ impl Model for Factor {
 impl Factor {
     /// The factor of so many thousandths, or `None` where these are more than 10,000.
     pub fn new(thousandths: u32) -> Option<Factor>
-        ensures { SomeIff result (thousandths ≤ 10000) thousandths }
+        ensures { SomeIff result (thousandths ≤ MOST_FACTOR) thousandths }
     {
-        if thousandths <= 10_000 {
+        if thousandths <= MOST_FACTOR {
             Some(Factor { thousandths })
         } else {
             None
@@ -35,7 +36,7 @@ impl Factor {
     /// How many thousandths the factor is.
     pub fn get(self) -> u32
         ensures value { result ≡ self }
-        ensures bound { result ≤ 10000 }
+        ensures bound { result ≤ MOST_FACTOR }
     {
         self.thousandths
     }

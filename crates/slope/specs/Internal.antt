@@ -6,7 +6,7 @@ use Rattle.std.specs.Ordering.{int_cmp, ordering_then}
 use Rattle.std.specs.declared.cmp.Ordering.{Ordering}
 use Rattle.std.specs.BTreeMap.{BTreeMap, get}
 use Rattle.prec_file.specs.declared.limits.TheConstants.{MOST_PAIRS}
-use Rattle.slope.specs.declared.pattern.TheConstants.{MOST_OFFSETS}
+use Rattle.slope.specs.declared.pattern.TheConstants.{MOST_OFFSETS, MOST_CONE_NUMBER}
 use Rattle.blocks_file.specs.declared.coordinates.Place.{Place}
 use Rattle.blocks_file.specs.Denotes.{BlocksView}
 use Rattle.slope.specs.Lists.{AreMoreThan}
@@ -28,10 +28,10 @@ pub record Collects {X : Type 0} (P : X → Type 0) (xs : List X) : Type 0 where
 
 -- The numbers of a level of a cone are small, and reach is the greatest distance there, in whole blocks.
 pub record IsLevel (k reach run rise : ℕ) : Type 0 where
-  pub few_levels : k ≤ 1000
-  pub small_run : run ≤ 1000
+  pub few_levels : k ≤ MOST_CONE_NUMBER
+  pub small_run : run ≤ MOST_CONE_NUMBER
   pub some_rise : 1 ≤ rise
-  pub small_rise : rise ≤ 1000
+  pub small_rise : rise ≤ MOST_CONE_NUMBER
   pub furthest : reach ≡ k * run / rise
 
 -- What the levels of a cone below this one hold.

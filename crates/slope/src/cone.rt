@@ -5,7 +5,7 @@ ghost use Rattle.slope.specs.Patterns.{IsInCone, IsNear, ConeFaultStands};
 ghost use Rattle.slope.specs.Internal.{Collects, IsLevel, IsBelowLevel, IsBelowRow, RefusalStands};
 
 use crate::PatternFault;
-use crate::pattern::MOST_OFFSETS;
+use crate::pattern::{MOST_CONE_NUMBER, MOST_OFFSETS};
 use std::alloc::Global;
 
 // A level of a cone that opens by `run` for each `rise`, and the greatest distance there, in whole blocks.
@@ -97,9 +97,9 @@ pub(crate) fn cone_offsets(
     run: u32,
     rise: u32,
 ) -> Result<Vec<(i32, i32, i32)>, PatternFault>
-    requires levels { levels ≤ 1000 }
-    requires run { run ≤ 1000 }
-    requires rise { (1 ≤ rise) × (rise ≤ 1000) }
+    requires levels { levels ≤ MOST_CONE_NUMBER }
+    requires run { run ≤ MOST_CONE_NUMBER }
+    requires rise { (1 ≤ rise) × (rise ≤ MOST_CONE_NUMBER) }
     ensures { MatchResult result
         (λ offsets. Collects (IsInCone levels run rise) offsets.items × (length offsets.items ≤ MOST_OFFSETS))
         (ConeFaultStands levels run rise) }

@@ -22,7 +22,7 @@ mod resting;
 mod slope_fault;
 mod up;
 
-pub use pattern::{MOST_OFFSETS, Pattern};
+pub use pattern::{MOST_CONE_NUMBER, MOST_OFFSETS, Pattern};
 pub use pattern_fault::PatternFault;
 pub use resting::rests_of;
 pub use slope_fault::SlopeFault;

@@ -27,6 +27,9 @@ impl Model for Pattern {
     ghost invariant = { λ p. IsPattern p.offsets.items };
 }
 
+/// The greatest number of a cone: its levels, its run and its rise.
+pub const MOST_CONE_NUMBER: u32 = 1_000;
+
 /// The most offsets that a pattern may have.
 pub const MOST_OFFSETS: usize = 4_096;
 
@@ -91,9 +94,9 @@ impl Pattern {
     /// # Errors
     /// `TooMany` for more than 4,096 offsets, and `NoMemory`.
     pub fn cone(alloc: Global, levels: u32, run: u32, rise: u32) -> Result<Pattern, PatternFault>
-        requires levels { (1 ≤ levels) × (levels ≤ 1000) }
-        requires run { (1 ≤ run) × (run ≤ 1000) }
-        requires rise { (1 ≤ rise) × (rise ≤ 1000) }
+        requires levels { (1 ≤ levels) × (levels ≤ MOST_CONE_NUMBER) }
+        requires run { (1 ≤ run) × (run ≤ MOST_CONE_NUMBER) }
+        requires rise { (1 ≤ rise) × (rise ≤ MOST_CONE_NUMBER) }
         ensures { MatchResult result (AreOffsets (IsInCone levels run rise)) (ConeFaultStands levels run rise) }
     {
         let listed = cone_offsets(alloc, levels, run, rise)?;

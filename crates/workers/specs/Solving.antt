@@ -5,10 +5,11 @@ use Rattle.boards.specs.Boards.{BoardView, shown}
 use Rattle.workers.specs.Runs.{most_steps, IsCutOff, SomeStepOverflows}
 use Rattle.workers.specs.declared.solving.SolveFault.{SolveFault}
 use Rattle.workers.specs.declared.solving.SolveFault.TheVariants.{BadWorkers, Unsettled, TooLarge, StrangerNet, NoMemory, NoThread}
+use Rattle.workers.specs.declared.solving.TheConstants.{MOST_WORKERS}
 
 -- the number of workers is wrong
 abbrev pub AreBadWorkers : ℕ → Type 0
-AreBadWorkers workers = (workers < 1) ⊎ (64 < workers)
+AreBadWorkers workers = (workers < 1) ⊎ (MOST_WORKERS < workers)
 
 -- a board over the net, with at most the steps of the limit
 pub record IsLeft (net : NetView) (limit : ℕ) (board : BoardView) : Type 0 where

@@ -31,5 +31,5 @@ mod worker_tests;
 pub use boards::{Board, End, Turn, TurnBoard};
 pub use gate::{Gate, OpenGate};
 pub use locked::{Locked, Shared};
-pub use solving::{SolveFault, Solved, solve};
+pub use solving::{MOST_WORKERS, SolveFault, Solved, solve};
 pub use worker::serve;

@@ -17,8 +17,8 @@ use std::sync::Wait;
 use std::thread;
 use std::thread::Threads;
 
-// The most workers.
-const MOST_WORKERS: u32 = 64;
+/// The most workers of one run.
+pub const MOST_WORKERS: u32 = 64;
 
 /// A run that has settled.
 #[derive(Drop)]

@@ -1,5 +1,6 @@
 use Rattle.std.proofs.Common.{◌≡◌, ◌≤◌, ℕ, ◌≢◌, List, subst, ap, sym, ◌∙◌, refl, arith}
 use Rattle.std.proofs.lemmas.Result.{err_from_is_err_and}
+use Rattle.fixed_worth.specs.declared.limits.TheConstants.{MOST_FACTOR}
 use Rattle.check_pit.specs.declared.header.Price.{Price}
 use Rattle.check_pit.specs.declared.header.Price.TheVariants.{Objective, Factor}
 use Rattle.check_pit.specs.ReadBack.{IsPrice}
@@ -26,7 +27,7 @@ returns-in-Objective-clause-judged g c = λ settings text precedence read.
 
 pub unreachable-requires : goal.unreachable-requires
 unreachable-requires g c =
-    let low : c.in-Factor.thousandths ≤ 10000 = subst IsPrice c.in-Factor.is (header_price (pieces_of c.args.certificate.now) c.in_ok-header.header c.in_ok-header.ensures.read.0) in
+    let low : c.in-Factor.thousandths ≤ MOST_FACTOR = subst IsPrice c.in-Factor.is (header_price (pieces_of c.args.certificate.now) c.in_ok-header.header c.in_ok-header.ensures.read.0) in
     c.in_default.ensures low
 
 pub returns-clause-judged : goal.returns-clause-judged
