@@ -103,5 +103,5 @@ pub record IsOver (block : ℤ → ℕ → Amount) (ps : List (ℕ × ℕ)) (tab
 abbrev pub PushFaultStands : (ℤ → ℕ → Amount) → SeriesView → ℕ → NetView → SeriesFault → Type 0
 PushFaultStands block s k net NotHigher = ¬ (IsAbove s.factors k)
 PushFaultStands block s k net WrongModel = IsAbove s.factors k × ¬ (IsOver block s.pairs s.prices k net)
-PushFaultStands block s k net Full = IsAbove s.factors k × IsOver block s.pairs s.prices k net × (length s.factors ≡ 64)
+PushFaultStands block s k net Full = IsAbove s.factors k × IsOver block s.pairs s.prices k net × (length s.factors ≡ MOST_FACTORS)
 PushFaultStands block s k net NoMemory = ⊥
