@@ -12,6 +12,8 @@ pub struct Factor {
 }
 
 impl Model for Factor {
+    ghost use Rattle.fixed_worth.specs.declared.limits.TheConstants.{MOST_FACTOR};
+
     ghost Value = { ℕ };
 
     ghost view = { λ f. f.thousandths };
