@@ -8,9 +8,9 @@ use Rattle.std.proofs.lemmas.Slice.Eq.{bytes_eq-Decides}
 use Rattle.machine_law.specs.declared.events.Event.{Event}
 use Rattle.trace_file.specs.declared.limits.TheConstants.{MOST_EVENTS}
 use Rattle.trace_file.specs.declared.trace_fault.TraceFault.{TraceFault}
-use Rattle.trace_file.specs.declared.trace_fault.TraceFault.TheVariants.{Text, TooMany}
+use Rattle.trace_file.specs.declared.trace_fault.TraceFault.TheVariants.{Text, Truncated, TooMany, NoMemory}
 use Rattle.trace_file.specs.Lines.{parts, event_of}
-use Rattle.trace_file.specs.Faults.{events_of, rest_fault, end_fault, event_fault, line_fault, fault_behind, fault_in, fault_of}
+use Rattle.trace_file.specs.Faults.{UnlessMemory, events_of, rest_fault, end_fault, event_fault, line_fault, fault_behind, fault_in, fault_of}
 use Rattle.trace_file.specs.ReadBack.{IsWritten}
 use Rattle.trace_file.proofs.Parts.{some_part}
 use Rattle.trace_file.proofs.RoundTrip.{behind_line, read_is_written}
@@ -104,3 +104,10 @@ goes_on text left line behind es e g p f o l =
       said = g.said ∙ ap (λ (xs : List Event). es ++ xs) said ∙ sym (append_assoc es (e ∷ []) (events_of behind));
       few = omega (arith, more);
     }
+
+-- A fault of the text, whatever it is.
+pub unless : {P : Type 0} (e : TraceFault) → P → UnlessMemory e P
+unless (Text k) h = h
+unless Truncated h = h
+unless TooMany h = h
+unless NoMemory h = tt
