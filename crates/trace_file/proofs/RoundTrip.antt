@@ -100,10 +100,10 @@ one_more k line e ps some said w =
     let es = filter_map event_of ps in
     let events : filter_map event_of (line ∷ ps) ≡ e ∷ es = ap (λ (o : Option Event). cons_option o es) said in
     subst (AreWritten k (line ∷ ps)) (sym events) (record {
-          spelled = join_more line ps some ∙ ap (λ (t : List ℕ). t ++ (10 ∷ join_with_byte 10 ps)) s.written ∙ ap (λ (t : List ℕ). event_line e ++ (10 ∷ t)) w.spelled;
-          few = omega (arith, w.few);
-          fit = All-cons Fits e es s.fits w.fit;
-        })
+      spelled = join_more line ps some ∙ ap (λ (t : List ℕ). t ++ (10 ∷ join_with_byte 10 ps)) s.written ∙ ap (λ (t : List ℕ). event_line e ++ (10 ∷ t)) w.spelled;
+      few = omega (arith, w.few);
+      fit = All-cons Fits e es s.fits w.fit;
+    })
 
 said_by : (k : ℕ) (line : List ℕ) (ps : List (List ℕ)) (o : Option Event) (t : Bool) → 0 < length ps → event_of line ≡ o → ltb MOST_EVENTS k ≡ t
     → (fault_behind (k + 1) ps ≡ None → k + 1 ≤ MOST_EVENTS + 1 → AreWritten (k + 1) ps (filter_map event_of ps)) → event_fault k o (fault_behind (k + 1) ps) ≡ None → AreWritten k (line ∷ ps) (filter_map event_of (line ∷ ps))
@@ -128,10 +128,10 @@ head_by : (line : List ℕ) (ps : List (List ℕ)) (t : Bool) → (t ≡ true �
 head_by line ps true is some h =
     let w = behind_written 1 ps (omega arith) h in
     subst (λ (l : List ℕ). IsWritten (join_with_byte 10 (l ∷ ps)) (filter_map event_of (l ∷ ps))) (sym (is refl)) (record {
-          spelled = join_more (codes "PITTRACE 1") ps some ∙ ap (λ (t : List ℕ). codes "PITTRACE 1" ++ (10 ∷ t)) w.spelled;
-          few = omega (arith, w.few);
-          fit = w.fit;
-        })
+      spelled = join_more (codes "PITTRACE 1") ps some ∙ ap (λ (t : List ℕ). codes "PITTRACE 1" ++ (10 ∷ t)) w.spelled;
+      few = omega (arith, w.few);
+      fit = w.fit;
+    })
 head_by line ps false is some h = absurd cc
 
 all_written : (ps : List (List ℕ)) → fault_in ps ≡ None → IsWritten (join_with_byte 10 ps) (filter_map event_of ps)
