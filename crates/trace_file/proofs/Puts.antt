@@ -1,5 +1,5 @@
 -- The text of a trace, put line by line.
-use Rattle.std.proofs.Common.{◌≡◌, ℕ, suc, ◌+◌, ◌<◌, ◌≤◌, ◌^◌, List, [], ◌∷◌, ◌++◌, length, get_or, take, drop, Option, Result, Ok, Err, refl, sym, ap, ◌∙◌, subst, arith, append_assoc, add-one}
+use Rattle.std.proofs.Common.{◌≡◌, ℕ, ◌+◌, ◌<◌, ◌≤◌, List, [], ◌∷◌, ◌++◌, length, get_or, take, drop, Option, Result, Ok, Err, sym, ap, ◌∙◌, subst, append_assoc, add-one}
 use Rattle.std.specs.Prelude.{All, map, codes}
 use Rattle.std.specs.Result.{OnOk, OnErr}
 use Rattle.std.proofs.Math.Seq.{take-suc}
@@ -8,7 +8,7 @@ use Rattle.std.proofs.lemmas.List.{map-append, take-append-drop, take_all}
 use Rattle.fixed_worth.specs.Laws.{with_line_feeds}
 use Rattle.fixed_worth.specs.Device.{SentOrHeld, ReceivedPrefix}
 use Rattle.fixed_worth.proofs.Joined.{with_line_feeds-append}
-use Rattle.fixed_worth.proofs.Pieces.{held_more, held_more_prefix, held_sent, held_prefix, prefix_of_part}
+use Rattle.fixed_worth.proofs.Pieces.{held_more, held_more_prefix, prefix_of_part}
 use Rattle.machine_law.specs.declared.events.Event.{Event}
 use Rattle.trace_file.specs.Written.{event_line, trace_text}
 use Rattle.trace_file.proofs.RoundTrip.{Fits}

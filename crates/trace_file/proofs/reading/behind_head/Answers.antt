@@ -1,5 +1,5 @@
 use Rattle.std.proofs.Common.{sym, ◌∙◌}
-use Rattle.trace_file.proofs.Steps.{no_head, head_passed}
+use Rattle.trace_file.proofs.Steps.{no_head}
 use Rattle.trace_file.proofs.reading.behind_head.Goals as goal
 
 pub returns-else-eq : goal.returns-else-eq

@@ -1,4 +1,4 @@
-use Rattle.std.proofs.Common.{◌≡◌, rules, ◌+◌, length, ◌++◌, ◌∷◌, [], Some, sym, ap, ◌∙◌, subst, arith}
+use Rattle.std.proofs.Common.{◌≡◌, rules, ◌+◌, ◌++◌, ◌∷◌, [], sym, ◌∙◌, subst, arith}
 use Rattle.trace_file.proofs.Steps.{Going, at_end, all_read, no_event, too_many, goes_on, unless}
 use Rattle.trace_file.proofs.reading.read_trace.Goals as goal
 
