@@ -1,0 +1,5 @@
+pub mod EventLines
+pub mod Parts
+pub mod Puts
+pub mod RoundTrip
+pub mod Steps

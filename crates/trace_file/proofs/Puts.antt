@@ -1,0 +1,72 @@
+-- The text of a trace, put line by line.
+use Rattle.std.proofs.Common.{◌≡◌, ℕ, ◌+◌, ◌<◌, ◌≤◌, List, [], ◌∷◌, ◌++◌, length, get_or, take, drop, Option, Result, Ok, Err, sym, ap, ◌∙◌, subst, append_assoc, add-one}
+use Rattle.std.specs.Prelude.{All, map, codes}
+use Rattle.std.specs.Result.{OnOk, OnErr}
+use Rattle.std.proofs.Math.Seq.{take-suc}
+use Rattle.std.proofs.lemmas.List.Elements.{All-push}
+use Rattle.std.proofs.lemmas.List.{map-append, take-append-drop, take_all}
+use Rattle.fixed_worth.specs.Laws.{with_line_feeds}
+use Rattle.fixed_worth.specs.Device.{SentOrHeld, ReceivedPrefix}
+use Rattle.fixed_worth.proofs.Joined.{with_line_feeds-append}
+use Rattle.fixed_worth.proofs.Pieces.{held_more, held_more_prefix, prefix_of_part}
+use Rattle.machine_law.specs.declared.events.Event.{Event}
+use Rattle.trace_file.specs.Written.{event_line, trace_text}
+use Rattle.trace_file.proofs.RoundTrip.{Fits}
+
+-- The text of the first line and of these events.
+abbrev pub begun : List Event → List ℕ
+begun es = with_line_feeds (codes "PITTRACE 1" ∷ map event_line es)
+
+begun_more : (es fs : List Event) → begun (es ++ fs) ≡ begun es ++ with_line_feeds (map event_line fs)
+begun_more es fs =
+    ap (λ (ls : List (List ℕ)). with_line_feeds (codes "PITTRACE 1" ∷ ls)) (map-append event_line es fs) ∙ with_line_feeds-append (codes "PITTRACE 1" ∷ map event_line es) (map event_line fs)
+
+-- One event more.
+taken_next : (es : List Event) (i : ℕ) (d : Event) → i < length es → take (i + 1) es ≡ take i es ++ (get_or es i d ∷ [])
+taken_next es i d h = rw add-one (take-suc es i d h)
+
+pub fit_next : (es : List Event) (i : ℕ) (d : Event) → i < length es → All Fits (take i es) → Fits (get_or es i d) → All Fits (take (i + 1) es)
+fit_next es i d h all one = subst (All Fits) (sym (taken_next es i d h)) (All-push Fits (take i es) (get_or es i d) all one)
+
+begun_next : (es : List Event) (i : ℕ) (d : Event) (line : List ℕ) → i < length es → line ≡ event_line (get_or es i d) ++ (10 ∷ []) → begun (take i es) ++ line ≡ begun (take (i + 1) es)
+begun_next es i d line h l =
+    ap (λ (x : List ℕ). begun (take i es) ++ x) l ∙ sym (ap begun (taken_next es i d h) ∙ begun_more (take i es) (get_or es i d ∷ []))
+
+pub put_more : (a b c : Option (List ℕ)) (p q line : List ℕ) (es : List Event) (i : ℕ) (d : Event) → i < length es → line ≡ event_line (get_or es i d) ++ (10 ∷ []) → SentOrHeld a b p (begun (take i es)) → SentOrHeld b c q (p ++ line) → SentOrHeld a c q (begun (take (i + 1) es))
+put_more a b c p q line es i d h l held more = subst (SentOrHeld a c q) (begun_next es i d line h l) (held_more a b c p q (begun (take i es)) line held more)
+
+-- The whole text, of which the first events are put.
+text_parts : (es : List Event) (i : ℕ) → begun (take i es) ++ (with_line_feeds (map event_line (drop i es)) ++ codes "END\n") ≡ trace_text es
+text_parts es i =
+    sym (append_assoc (begun (take i es)) (with_line_feeds (map event_line (drop i es))) (codes "END\n"))
+    ∙ ap (λ (t : List ℕ). t ++ codes "END\n") (sym (begun_more (take i es) (drop i es)) ∙ ap begun (take-append-drop i es))
+    ∙ sym (with_line_feeds-append (codes "PITTRACE 1" ∷ map event_line es) (codes "END" ∷ []))
+
+pub front_failed : (a b : Option (List ℕ)) (es : List Event) (i : ℕ) → ReceivedPrefix a b (begun (take i es)) → ReceivedPrefix a b (trace_text es)
+front_failed a b es i h = prefix_of_part a b (begun (take i es)) (with_line_feeds (map event_line (drop i es)) ++ codes "END\n") (trace_text es) (text_parts es i) h
+
+pub head_failed : (a b : Option (List ℕ)) (p : List ℕ) (es : List Event) → p ≡ [] → ReceivedPrefix a b (p ++ codes "PITTRACE 1\n") → ReceivedPrefix a b (trace_text es)
+head_failed a b p es e h = front_failed a b es 0 (subst (λ (t : List ℕ). ReceivedPrefix a b (t ++ codes "PITTRACE 1\n")) e h)
+
+pub line_failed : (a b c : Option (List ℕ)) (p line : List ℕ) (es : List Event) (i : ℕ) (d : Event) → i < length es → line ≡ event_line (get_or es i d) ++ (10 ∷ []) → SentOrHeld a b p (begun (take i es)) → ReceivedPrefix b c (p ++ line) → ReceivedPrefix a c (trace_text es)
+line_failed a b c p line es i d h l held more =
+    front_failed a c es (i + 1) (subst (ReceivedPrefix a c) (begun_next es i d line h l) (held_more_prefix a b c p (begun (take i es)) line held more))
+
+ended : (es : List Event) (i : ℕ) → length es ≤ i → begun (take i es) ++ codes "END\n" ≡ trace_text es
+ended es i h =
+    ap (λ (xs : List Event). begun xs ++ codes "END\n") (take_all i es h) ∙ sym (with_line_feeds-append (codes "PITTRACE 1" ∷ map event_line es) (codes "END" ∷ []))
+
+pub end_failed : (a b c : Option (List ℕ)) (p : List ℕ) (es : List Event) (i : ℕ) → length es ≤ i → SentOrHeld a b p (begun (take i es)) → ReceivedPrefix b c (p ++ codes "END\n") → ReceivedPrefix a c (trace_text es)
+end_failed a b c p es i h held more = subst (ReceivedPrefix a c) (ended es i h) (held_more_prefix a b c p (begun (take i es)) (codes "END\n") held more)
+
+pub all_held : (a b c : Option (List ℕ)) (p q : List ℕ) (es : List Event) (i : ℕ) → length es ≤ i → SentOrHeld a b p (begun (take i es)) → SentOrHeld b c q (p ++ codes "END\n") → SentOrHeld a c q (trace_text es)
+all_held a b c p q es i h held more = subst (SentOrHeld a c q) (ended es i h) (held_more a b c p q (begun (take i es)) (codes "END\n") held more)
+
+-- What holds, holds where there is an error.
+pub on_err : {X Y P : Type 0} (r : Result X Y) → P → OnErr r P
+on_err (Ok x) h = tt
+on_err (Err e) h = h
+
+pub on_ok : {X Y P : Type 0} (r : Result X Y) → P → OnOk r P
+on_ok (Ok x) h = h
+on_ok (Err e) h = tt

@@ -1,0 +1,143 @@
+-- What is written is read back, and what is read was written so.
+use Rattle.std.proofs.Common.{◌≡◌, ℕ, ◌+◌, ◌<◌, ◌≤◌, ◌^◌, Bool, true, false, cond, ltb, List, [], ◌∷◌, ◌++◌, length, Option, Some, None, refl, sym, ap, ◌∙◌, subst, arith, append_assoc, length-append}
+use Rattle.std.specs.Prelude.{All, map, codes}
+use Rattle.std.specs.List.{list_all, filter_map, join_with_byte, cons_option}
+use Rattle.std.specs.Str.{bytes_eq}
+use Rattle.std.proofs.lemmas.Bool.{and_from}
+use Rattle.std.proofs.lemmas.Bool.Decides.{nat_tests}
+use Rattle.std.proofs.lemmas.Slice.Eq.{bytes_eq-Decides}
+use Rattle.std.proofs.lemmas.List.Elements.{All-head, All-tail, All-nil, All-cons}
+use Rattle.std.proofs.lemmas.List.Splits.{join_with_byte-slice_split}
+use Rattle.fixed_worth.specs.Laws.{with_line_feeds}
+use Rattle.fixed_worth.proofs.Joined.{is_one_line}
+use Rattle.machine_law.specs.declared.events.Event.{Event}
+use Rattle.trace_file.specs.declared.limits.TheConstants.{MOST_EVENTS}
+use Rattle.trace_file.specs.declared.trace_fault.TraceFault.{TraceFault}
+use Rattle.trace_file.specs.declared.trace_fault.TraceFault.TheVariants.{Text, TooMany}
+use Rattle.trace_file.specs.Lines.{parts, event_of}
+use Rattle.trace_file.specs.Written.{event_line, trace_lines, trace_text}
+use Rattle.trace_file.specs.Faults.{events_of, end_fault, event_fault, line_fault, fault_behind, fault_in, fault_of}
+use Rattle.trace_file.specs.ReadBack.{IsReadBack, IsWritten}
+use Rattle.trace_file.proofs.Parts.{lines_cut}
+use Rattle.trace_file.proofs.EventLines.{event_read, event_is_one_line, event_is_no_end, event_spelled}
+
+abbrev pub Fits : Event → Type 0
+Fits e = e.block < 2 ^ 32
+
+-- What stands behind the events of a trace.
+abbrev last_parts : List (List ℕ)
+last_parts = codes "END" ∷ [] ∷ []
+
+-- ---- what is written is read
+
+pub behind_line : (k : ℕ) (line : List ℕ) (ps : List (List ℕ)) → 0 < length ps → fault_behind k (line ∷ ps) ≡ line_fault k line ps (fault_behind (k + 1) ps)
+behind_line k line [] h = absurd (omega arith)
+behind_line k line (next ∷ more) h = refl
+
+event_sound : (k : ℕ) (e : Event) (ps : List (List ℕ)) (behind : Option TraceFault) → k ≤ MOST_EVENTS → Fits e → behind ≡ None → line_fault k (event_line e) ps behind ≡ None
+event_sound k e ps behind few fits none =
+    let t : ltb MOST_EVENTS k ≡ false = grind (arith, nat_tests) in
+    ap (λ (t : Bool). cond t (end_fault (k + 2) ps) (event_fault k (event_of (event_line e)) behind)) (event_is_no_end e)
+    ∙ ap (λ (o : Option Event). event_fault k o behind) (event_read e fits)
+    ∙ ap (λ (t : Bool). cond t (Some TooMany) behind) t ∙ none
+
+events_sound : (k : ℕ) (es : List Event) → k + length es ≤ MOST_EVENTS + 1 → All Fits es → fault_behind k (map event_line es ++ last_parts) ≡ None
+events_sound k [] few fit = refl
+events_sound k (e ∷ es) few fit =
+    let ps = map event_line es ++ last_parts in
+    behind_line k (event_line e) ps (omega (arith, length-append (map event_line es) last_parts))
+    ∙ event_sound k e ps (fault_behind (k + 1) ps) (omega arith) (All-head Fits e es fit) (events_sound (k + 1) es (omega arith) (All-tail Fits e es fit))
+
+events_said : (es : List Event) → All Fits es → filter_map event_of (map event_line es ++ last_parts) ≡ es
+events_said [] fit = refl
+events_said (e ∷ es) fit =
+    ap (λ (o : Option Event). cons_option o (filter_map event_of (map event_line es ++ last_parts))) (event_read e (All-head Fits e es fit))
+    ∙ ap (λ (xs : List Event). e ∷ xs) (events_said es (All-tail Fits e es fit))
+
+lines_whole : (es : List Event) → All Fits es → list_all is_one_line (map event_line es ++ (codes "END" ∷ [])) ≡ true
+lines_whole [] fit = refl
+lines_whole (e ∷ es) fit =
+    and_from (is_one_line (event_line e)) (list_all is_one_line (map event_line es ++ (codes "END" ∷ []))) (event_is_one_line e (All-head Fits e es fit)) (lines_whole es (All-tail Fits e es fit))
+
+parts_are : (es : List Event) → All Fits es → parts 10 (trace_text es) ≡ codes "PITTRACE 1" ∷ (map event_line es ++ last_parts)
+parts_are es fit =
+    lines_cut (trace_lines es) (lines_whole es fit)
+    ∙ ap (λ (ls : List (List ℕ)). codes "PITTRACE 1" ∷ ls) (append_assoc (map event_line es) (codes "END" ∷ []) ([] ∷ []))
+
+head_sound : (ps : List (List ℕ)) → 0 < length ps → fault_in (codes "PITTRACE 1" ∷ ps) ≡ fault_behind 1 ps
+head_sound [] h = absurd (omega arith)
+head_sound (next ∷ more) h = refl
+
+pub written_is_read : (es : List Event) → length es ≤ MOST_EVENTS → All Fits es → IsReadBack (trace_text es) es
+written_is_read es few fit =
+    let ps = map event_line es ++ last_parts in
+    record {
+      sound = ap fault_in (parts_are es fit) ∙ head_sound ps (omega (arith, length-append (map event_line es) last_parts)) ∙ events_sound 1 es (omega arith) fit;
+      same = ap (filter_map event_of) (parts_are es fit) ∙ events_said es fit;
+    }
+
+-- ---- what is read was written so
+
+-- Of parts behind k lines, and of the events that they say.
+record AreWritten (k : ℕ) (ps : List (List ℕ)) (es : List Event) : Type 0 where
+  spelled : join_with_byte 10 ps ≡ with_line_feeds (map event_line es ++ (codes "END" ∷ []))
+  few : k + length es ≤ MOST_EVENTS + 1
+  fit : All Fits es
+
+ended : (k j : ℕ) (ps : List (List ℕ)) → k ≤ MOST_EVENTS + 1 → end_fault j ps ≡ None → AreWritten k (codes "END" ∷ ps) (filter_map event_of (codes "END" ∷ ps))
+ended k j [] few h = absurd cc
+ended k j ([] ∷ []) few h = record { spelled = refl; few = omega arith; fit = All-nil Fits }
+ended k j ([] ∷ p ∷ ps) few h = absurd cc
+ended k j ((b ∷ bs) ∷ ps) few h = absurd cc
+
+join_more : (line : List ℕ) (ps : List (List ℕ)) → 0 < length ps → join_with_byte 10 (line ∷ ps) ≡ line ++ (10 ∷ join_with_byte 10 ps)
+join_more line [] h = absurd (omega arith)
+join_more line (p ∷ ps) h = refl
+
+one_more : (k : ℕ) (line : List ℕ) (e : Event) (ps : List (List ℕ)) → 0 < length ps → event_of line ≡ Some e → AreWritten (k + 1) ps (filter_map event_of ps) → AreWritten k (line ∷ ps) (filter_map event_of (line ∷ ps))
+one_more k line e ps some said w =
+    let s = event_spelled line e said in
+    let es = filter_map event_of ps in
+    let events : filter_map event_of (line ∷ ps) ≡ e ∷ es = ap (λ (o : Option Event). cons_option o es) said in
+    subst (AreWritten k (line ∷ ps)) (sym events) (record {
+      spelled = join_more line ps some ∙ ap (λ (t : List ℕ). t ++ (10 ∷ join_with_byte 10 ps)) s.written ∙ ap (λ (t : List ℕ). event_line e ++ (10 ∷ t)) w.spelled;
+      few = omega (arith, w.few);
+      fit = All-cons Fits e es s.fits w.fit;
+    })
+
+said_by : (k : ℕ) (line : List ℕ) (ps : List (List ℕ)) (o : Option Event) (t : Bool) → 0 < length ps → event_of line ≡ o → ltb MOST_EVENTS k ≡ t
+    → (fault_behind (k + 1) ps ≡ None → k + 1 ≤ MOST_EVENTS + 1 → AreWritten (k + 1) ps (filter_map event_of ps)) → event_fault k o (fault_behind (k + 1) ps) ≡ None → AreWritten k (line ∷ ps) (filter_map event_of (line ∷ ps))
+said_by k line ps None t some said few ih h = absurd cc
+said_by k line ps (Some e) true some said few ih h = absurd (let z : Some TooMany ≡ None = rw few at h in cc)
+said_by k line ps (Some e) false some said few ih h = one_more k line e ps some said (ih (rw few at h) (grind (arith, nat_tests)))
+
+line_by : (k : ℕ) (line : List ℕ) (ps : List (List ℕ)) (t : Bool) → (t ≡ true → line ≡ codes "END") → k ≤ MOST_EVENTS + 1 → 0 < length ps
+    → (fault_behind (k + 1) ps ≡ None → k + 1 ≤ MOST_EVENTS + 1 → AreWritten (k + 1) ps (filter_map event_of ps))
+    → cond t (end_fault (k + 2) ps) (event_fault k (event_of line) (fault_behind (k + 1) ps)) ≡ None → AreWritten k (line ∷ ps) (filter_map event_of (line ∷ ps))
+line_by k line ps true is few some ih h = subst (λ (l : List ℕ). AreWritten k (l ∷ ps) (filter_map event_of (l ∷ ps))) (sym (is refl)) (ended k (k + 2) ps few h)
+line_by k line ps false is few some ih h = said_by k line ps (event_of line) (ltb MOST_EVENTS k) some refl refl ih h
+
+behind_written : (k : ℕ) (ps : List (List ℕ)) → k ≤ MOST_EVENTS + 1 → fault_behind k ps ≡ None → AreWritten k ps (filter_map event_of ps)
+behind_written k [] few h = absurd cc
+behind_written k (rest ∷ []) few h = absurd cc
+behind_written k (line ∷ next ∷ more) few h =
+    line_by k line (next ∷ more) (bytes_eq line (codes "END")) (bytes_eq-Decides line (codes "END")).0 few (omega arith) (λ none l. behind_written (k + 1) (next ∷ more) l none) h
+
+head_by : (line : List ℕ) (ps : List (List ℕ)) (t : Bool) → (t ≡ true → line ≡ codes "PITTRACE 1") → 0 < length ps
+    → cond t (fault_behind 1 ps) (Some (Text 1)) ≡ None → IsWritten (join_with_byte 10 (line ∷ ps)) (filter_map event_of (line ∷ ps))
+head_by line ps true is some h =
+    let w = behind_written 1 ps (omega arith) h in
+    subst (λ (l : List ℕ). IsWritten (join_with_byte 10 (l ∷ ps)) (filter_map event_of (l ∷ ps))) (sym (is refl)) (record {
+      spelled = join_more (codes "PITTRACE 1") ps some ∙ ap (λ (t : List ℕ). codes "PITTRACE 1" ++ (10 ∷ t)) w.spelled;
+      few = omega (arith, w.few);
+      fit = w.fit;
+    })
+head_by line ps false is some h = absurd cc
+
+all_written : (ps : List (List ℕ)) → fault_in ps ≡ None → IsWritten (join_with_byte 10 ps) (filter_map event_of ps)
+all_written [] h = absurd cc
+all_written (rest ∷ []) h = absurd cc
+all_written (line ∷ next ∷ more) h = head_by line (next ∷ more) (bytes_eq line (codes "PITTRACE 1")) (bytes_eq-Decides line (codes "PITTRACE 1")).0 (omega arith) h
+
+pub read_is_written : (text : List ℕ) → fault_of text ≡ None → IsWritten text (events_of text)
+read_is_written text h = subst (λ (t : List ℕ). IsWritten t (events_of text)) (join_with_byte-slice_split 10 text) (all_written (parts 10 text) h)

@@ -1,0 +1,113 @@
+-- The steps of reading a trace, line by line.
+use Rattle.std.proofs.Common.{◌≡◌, ℕ, ◌+◌, ◌<◌, ◌≤◌, Bool, true, false, cond, ltb, List, [], ◌∷◌, ◌++◌, length, Option, Some, None, refl, sym, ap, ◌∙◌, subst, arith, append_assoc, append-nil, length-append}
+use Rattle.std.specs.Prelude.{codes}
+use Rattle.std.specs.List.{filter_map, cons_option}
+use Rattle.std.specs.Str.{bytes_eq}
+use Rattle.std.proofs.lemmas.Bool.Decides.{nat_tests}
+use Rattle.std.proofs.lemmas.Slice.Eq.{bytes_eq-Decides}
+use Rattle.machine_law.specs.declared.events.Event.{Event}
+use Rattle.trace_file.specs.declared.limits.TheConstants.{MOST_EVENTS}
+use Rattle.trace_file.specs.declared.trace_fault.TraceFault.{TraceFault}
+use Rattle.trace_file.specs.declared.trace_fault.TraceFault.TheVariants.{Text, Truncated, TooMany, NoMemory}
+use Rattle.trace_file.specs.Lines.{parts, event_of}
+use Rattle.trace_file.specs.Faults.{UnlessMemory, events_of, rest_fault, end_fault, event_fault, line_fault, fault_behind, fault_in, fault_of}
+use Rattle.trace_file.specs.ReadBack.{IsWritten}
+use Rattle.trace_file.proofs.Parts.{some_part}
+use Rattle.trace_file.proofs.RoundTrip.{behind_line, read_is_written}
+
+-- ---- the first line
+
+head_line : (line : List ℕ) (ps : List (List ℕ)) → 0 < length ps → fault_in (line ∷ ps) ≡ cond (bytes_eq line (codes "PITTRACE 1")) (fault_behind 1 ps) (Some (Text 1))
+head_line line [] h = absurd (omega arith)
+head_line line (p ∷ ps) h = refl
+
+head_by : (text line behind : List ℕ) (t : Bool) → parts 10 text ≡ line ∷ parts 10 behind → bytes_eq line (codes "PITTRACE 1") ≡ t → fault_of text ≡ cond t (fault_behind 1 (parts 10 behind)) (Some (Text 1))
+head_by text line behind t e f = ap fault_in e ∙ head_line line (parts 10 behind) (some_part 10 behind) ∙ ap (λ (t : Bool). cond t (fault_behind 1 (parts 10 behind)) (Some (Text 1))) f
+
+pub no_head : (text line behind : List ℕ) → parts 10 text ≡ line ∷ parts 10 behind → bytes_eq line (codes "PITTRACE 1") ≡ false → fault_of text ≡ Some (Text 1)
+no_head text line behind e f = head_by text line behind false e f
+
+pub head_passed : (text line behind : List ℕ) → parts 10 text ≡ line ∷ parts 10 behind → bytes_eq line (codes "PITTRACE 1") ≡ true → (fault_of text ≡ fault_behind 1 (parts 10 behind)) × (events_of text ≡ events_of behind)
+head_passed text line behind e f =
+    let is : line ≡ codes "PITTRACE 1" = (bytes_eq-Decides line (codes "PITTRACE 1")).0 f in
+    (head_by text line behind true e f, ap (filter_map event_of) (e ∙ ap (λ (l : List ℕ). l ∷ parts 10 behind) is))
+
+-- ---- the lines behind it
+
+-- The events so far, and what is left of the text.
+pub record Going (text left : List ℕ) (es : List Event) : Type 0 where
+  pub fault : fault_of text ≡ fault_behind (length es + 1) (parts 10 left)
+  pub said : events_of text ≡ es ++ events_of left
+  pub few : length es ≤ MOST_EVENTS
+
+pub going_begins : (text left : List ℕ) → fault_of text ≡ fault_behind 1 (parts 10 left) → events_of text ≡ events_of left → Going text left []
+going_begins text left f e = record { fault = f; said = e; few = omega arith }
+
+pub unended : (text left : List ℕ) (es : List Event) (k : ℕ) → Going text left es → k ≡ length es + 2 → parts 10 left ≡ left ∷ [] → fault_of text ≡ Some (rest_fault k left)
+unended text left es k g e p =
+    let n : length es + 1 + 1 ≡ k = omega (arith, e) in
+    g.fault ∙ ap (fault_behind (length es + 1)) p ∙ ap (λ (n : ℕ). Some (rest_fault n left)) n
+
+next_line : (text left line behind : List ℕ) (es : List Event) → Going text left es → parts 10 left ≡ line ∷ parts 10 behind
+    → fault_of text ≡ line_fault (length es + 1) line (parts 10 behind) (fault_behind (length es + 1 + 1) (parts 10 behind))
+next_line text left line behind es g p = g.fault ∙ ap (fault_behind (length es + 1)) p ∙ behind_line (length es + 1) line (parts 10 behind) (some_part 10 behind)
+
+pub at_end : (text left line behind : List ℕ) (es : List Event) (k : ℕ) → Going text left es → k ≡ length es + 2 → parts 10 left ≡ line ∷ parts 10 behind → bytes_eq line (codes "END") ≡ true → fault_of text ≡ end_fault (k + 1) (parts 10 behind)
+at_end text left line behind es k g e p f =
+    let n : length es + 1 + 2 ≡ k + 1 = omega (arith, e) in
+    next_line text left line behind es g p
+    ∙ ap (λ (t : Bool). cond t (end_fault (length es + 1 + 2) (parts 10 behind)) (event_fault (length es + 1) (event_of line) (fault_behind (length es + 1 + 1) (parts 10 behind)))) f
+    ∙ ap (λ (n : ℕ). end_fault n (parts 10 behind)) n
+
+nothing_said : (k : ℕ) (ps : List (List ℕ)) → end_fault k ps ≡ None → filter_map event_of ps ≡ []
+nothing_said k [] h = refl
+nothing_said k ([] ∷ []) h = refl
+nothing_said k ([] ∷ p ∷ ps) h = absurd cc
+nothing_said k ((b ∷ bs) ∷ ps) h = absurd cc
+
+-- All of the text is read.
+pub all_read : (text left line behind : List ℕ) (es : List Event) (k : ℕ) → Going text left es → k ≡ length es + 2 → parts 10 left ≡ line ∷ parts 10 behind → bytes_eq line (codes "END") ≡ true → end_fault (k + 1) (parts 10 behind) ≡ None
+    → (fault_of text ≡ None) × (es ≡ events_of text) × IsWritten text es
+all_read text left line behind es k g e p f none =
+    let sound : fault_of text ≡ None = at_end text left line behind es k g e p f ∙ none in
+    let is : line ≡ codes "END" = (bytes_eq-Decides line (codes "END")).0 f in
+    let nothing : events_of left ≡ [] = ap (filter_map event_of) (p ∙ ap (λ (l : List ℕ). l ∷ parts 10 behind) is) ∙ nothing_said (k + 1) (parts 10 behind) none in
+    let same : es ≡ events_of text = sym (g.said ∙ ap (λ (xs : List Event). es ++ xs) nothing ∙ append-nil es) in
+    (sound, same, subst (IsWritten text) (sym same) (read_is_written text sound))
+
+at_event : (text left line behind : List ℕ) (es : List Event) → Going text left es → parts 10 left ≡ line ∷ parts 10 behind → bytes_eq line (codes "END") ≡ false
+    → fault_of text ≡ event_fault (length es + 1) (event_of line) (fault_behind (length es + 1 + 1) (parts 10 behind))
+at_event text left line behind es g p f =
+    next_line text left line behind es g p
+    ∙ ap (λ (t : Bool). cond t (end_fault (length es + 1 + 2) (parts 10 behind)) (event_fault (length es + 1) (event_of line) (fault_behind (length es + 1 + 1) (parts 10 behind)))) f
+
+pub no_event : (text left line behind : List ℕ) (es : List Event) (k : ℕ) → Going text left es → k ≡ length es + 2 → parts 10 left ≡ line ∷ parts 10 behind → bytes_eq line (codes "END") ≡ false → event_of line ≡ None → fault_of text ≡ Some (Text k)
+no_event text left line behind es k g e p f o =
+    let n : length es + 1 + 1 ≡ k = omega (arith, e) in
+    at_event text left line behind es g p f ∙ ap (λ (o : Option Event). event_fault (length es + 1) o (fault_behind (length es + 1 + 1) (parts 10 behind))) o ∙ ap (λ (n : ℕ). Some (Text n)) n
+
+event_by : (text left line behind : List ℕ) (es : List Event) (e : Event) (t : Bool) → Going text left es → parts 10 left ≡ line ∷ parts 10 behind → bytes_eq line (codes "END") ≡ false → event_of line ≡ Some e → ltb MOST_EVENTS (length es + 1) ≡ t
+    → fault_of text ≡ cond t (Some TooMany) (fault_behind (length es + 1 + 1) (parts 10 behind))
+event_by text left line behind es e t g p f o l =
+    at_event text left line behind es g p f ∙ ap (λ (o : Option Event). event_fault (length es + 1) o (fault_behind (length es + 1 + 1) (parts 10 behind))) o
+    ∙ ap (λ (t : Bool). cond t (Some TooMany) (fault_behind (length es + 1 + 1) (parts 10 behind))) l
+
+pub too_many : (text left line behind : List ℕ) (es : List Event) (e : Event) → Going text left es → parts 10 left ≡ line ∷ parts 10 behind → bytes_eq line (codes "END") ≡ false → event_of line ≡ Some e → length es ≡ MOST_EVENTS → fault_of text ≡ Some TooMany
+too_many text left line behind es e g p f o l = event_by text left line behind es e true g p f o (grind (arith, nat_tests))
+
+pub goes_on : (text left line behind : List ℕ) (es : List Event) (e : Event) → Going text left es → parts 10 left ≡ line ∷ parts 10 behind → bytes_eq line (codes "END") ≡ false → event_of line ≡ Some e → length es < MOST_EVENTS → Going text behind (es ++ (e ∷ []))
+goes_on text left line behind es e g p f o l =
+    let more : length (es ++ (e ∷ [])) ≡ length es + 1 = length-append es (e ∷ []) in
+    let said : events_of left ≡ e ∷ events_of behind = ap (filter_map event_of) p ∙ ap (λ (o : Option Event). cons_option o (events_of behind)) o in
+    record {
+      fault = event_by text left line behind es e false g p f o (grind (arith, nat_tests)) ∙ ap (λ (n : ℕ). fault_behind (n + 1) (parts 10 behind)) (sym more);
+      said = g.said ∙ ap (λ (xs : List Event). es ++ xs) said ∙ sym (append_assoc es (e ∷ []) (events_of behind));
+      few = omega (arith, more);
+    }
+
+-- A fault of the text, whatever it is.
+pub unless : {P : Type 0} (e : TraceFault) → P → UnlessMemory e P
+unless (Text k) h = h
+unless Truncated h = h
+unless TooMany h = h
+unless NoMemory h = tt

@@ -1,0 +1,125 @@
+//! The line of an event, as it is read and as it is written.
+
+ghost use Rattle.std.specs.Prelude.{◌≡◌, ◌<◌, ◌^◌, ◌∷◌, [], ◌++◌, length, None, MatchOption};
+ghost use Rattle.trace_file.specs.Lines as spec;
+ghost use Rattle.trace_file.specs.Lines.{parts, event_of_words};
+ghost use Rattle.trace_file.specs.Written as written;
+
+use crate::parting::cut_at;
+use fixed_worth::{ShortLine, plain_signed};
+use machine_law::{Event, Kind};
+
+const READ_EXCESS: &[u8] = b"RE";
+
+const READ_CAPACITY: &[u8] = b"RC";
+
+const READ_LABEL: &[u8] = b"RL";
+
+const TAKE_CAPACITY: &[u8] = b"TC";
+
+const GIVE_CAPACITY: &[u8] = b"GC";
+
+const TAKE_EXCESS: &[u8] = b"TE";
+
+const GIVE_EXCESS: &[u8] = b"GE";
+
+const RAISE_LABEL: &[u8] = b"RA";
+
+fn kind_of(word: &[u8]) -> Option<Kind>
+    ensures { result ≡ spec.kind_of word.now }
+{
+    if word == READ_EXCESS {
+        Some(Kind::ReadExcess)
+    } else if word == READ_CAPACITY {
+        Some(Kind::ReadCapacity)
+    } else if word == READ_LABEL {
+        Some(Kind::ReadLabel)
+    } else if word == TAKE_CAPACITY {
+        Some(Kind::TakeCapacity)
+    } else if word == GIVE_CAPACITY {
+        Some(Kind::GiveCapacity)
+    } else if word == TAKE_EXCESS {
+        Some(Kind::TakeExcess)
+    } else if word == GIVE_EXCESS {
+        Some(Kind::GiveExcess)
+    } else if word == RAISE_LABEL {
+        Some(Kind::RaiseLabel)
+    } else {
+        None
+    }
+}
+
+fn kind_word(kind: Kind) -> &'static [u8]
+    ensures word { result.now ≡ written.kind_word kind }
+    ensures length { length result.now ≡ 2 }
+{
+    match kind {
+        Kind::ReadExcess => READ_EXCESS,
+        Kind::ReadCapacity => READ_CAPACITY,
+        Kind::ReadLabel => READ_LABEL,
+        Kind::TakeCapacity => TAKE_CAPACITY,
+        Kind::GiveCapacity => GIVE_CAPACITY,
+        Kind::TakeExcess => TAKE_EXCESS,
+        Kind::GiveExcess => GIVE_EXCESS,
+        Kind::RaiseLabel => RAISE_LABEL,
+    }
+}
+
+fn block_of(word: &[u8]) -> Option<u32>
+    ensures { result ≡ spec.block_of word.now }
+{
+    let number = plain_signed(word).ok()?;
+    if number >= 0 && number < 1 << 32 {
+        Some(number as u32)
+    } else {
+        None
+    }
+}
+
+// The words of a line that has two, between which stands a single space.
+fn two_words<'a>(line: &'a [u8]) -> Option<(&'a [u8], &'a [u8])>
+    ensures { MatchOption result
+        (event_of_words (parts 32 line.now) ≡ None)
+        (λ words. parts 32 line.now ≡ words.0.now ∷ words.1.now ∷ []) }
+{
+    match cut_at(b' ', line) {
+        Some((first, second)) => match cut_at(b' ', second) {
+            Some(_) => None,
+            None => Some((first, second)),
+        },
+        None => None,
+    }
+}
+
+fn event_with(kind: Option<Kind>, block: Option<u32>) -> Option<Event>
+    ensures { result ≡ spec.event_with kind block }
+{
+    match (kind, block) {
+        (Some(kind), Some(block)) => Some(Event { block, kind }),
+        (Some(_), None) => None,
+        (None, _) => None,
+    }
+}
+
+/// The event that a line says, if it says one.
+pub fn event_in(line: &[u8]) -> Option<Event>
+    ensures { result ≡ spec.event_of line.now }
+{
+    match two_words(line) {
+        Some((kind, block)) => event_with(kind_of(kind), block_of(block)),
+        None => None,
+    }
+}
+
+/// The line of an event with its line feed.
+pub fn written(event: Event) -> ShortLine
+    ensures text { result ≡ written.event_line event ++ (10 ∷ []) }
+    ensures fits { event.block < 2 ^ 32 }
+{
+    let mut line = ShortLine::new();
+    line.push(kind_word(event.kind));
+    line.push(b" ");
+    line.push_number(event.block as u128);
+    line.push(b"\n");
+    line
+}

@@ -1,0 +1,101 @@
+//! Reading a trace.
+
+ghost use Rattle.std.specs.Prelude.{◌≡◌, ◌+◌, ◌<◌, ◌≤◌, ◌^◌, length, Some, None, MatchOption, MatchResult};
+ghost use Rattle.trace_file.specs.Lines.{parts};
+ghost use Rattle.trace_file.specs.Faults as spec;
+ghost use Rattle.trace_file.specs.Faults.{UnlessMemory, events_of, fault_behind, fault_of};
+ghost use Rattle.trace_file.specs.ReadBack.{IsWritten};
+
+use crate::event_line::event_in;
+use crate::limits::MOST_EVENTS;
+use crate::parting::cut_at;
+use crate::trace_fault::TraceFault;
+use fixed_worth::LINE_BYTES;
+use machine_law::Event;
+use std::alloc::Global;
+
+const HEAD: &[u8] = b"PITTRACE 1";
+
+const END: &[u8] = b"END";
+
+const LINE_FEED: u8 = b'\n';
+
+// The fault of a text that ends in this line, which no line feed ends.
+fn rest_fault(number: u64, rest: &[u8]) -> TraceFault
+    ensures { result ≡ spec.rest_fault number rest.now }
+{
+    if rest.len() > LINE_BYTES {
+        TraceFault::Text(number)
+    } else {
+        TraceFault::Truncated
+    }
+}
+
+// Nothing may stand behind the last line: what does is the line of this number.
+fn end_fault(number: u64, behind: &[u8]) -> Option<TraceFault>
+    ensures { result ≡ spec.end_fault number (parts 10 behind.now) }
+{
+    if behind.is_empty() {
+        None
+    } else {
+        Some(TraceFault::Text(number))
+    }
+}
+
+// What stands behind the first line.
+fn behind_head<'a>(text: &'a [u8]) -> Result<&'a [u8], TraceFault>
+    ensures { MatchResult result
+        (λ behind. (fault_of text.now ≡ fault_behind 1 (parts 10 behind.now)) × (events_of text.now ≡ events_of behind.now))
+        (λ e. fault_of text.now ≡ Some e) }
+{
+    match cut_at(LINE_FEED, text) {
+        Some((line, behind)) => if line == HEAD {
+            Ok(behind)
+        } else {
+            Err(TraceFault::Text(1))
+        },
+        None => Err(rest_fault(1, text)),
+    }
+}
+
+/// The events of a trace.
+///
+/// The text that is read is the only one of its events: what [`crate::write_trace`] writes.
+///
+/// # Errors
+/// The fault of the first faulty line: `Text` where it is none of the format, stands behind the last
+/// line or has more than 65,536 bytes; `TooMany` where it is an event and 2^24 stand before it;
+/// `Truncated` where all lines are right and END is not among them. `NoMemory` only where memory was
+/// refused.
+pub fn read_trace(alloc: Global, text: &[u8]) -> Result<Vec<Event>, TraceFault>
+    ensures { MatchResult result
+        (λ events. (fault_of text.now ≡ None) × (events.items ≡ events_of text.now) × IsWritten text.now events.items)
+        (λ e. UnlessMemory e (fault_of text.now ≡ Some e)) }
+{
+    let mut left = behind_head(text)?;
+    let mut events = Vec::new(alloc);
+    loop {
+        let number = events.len() as u64 + 2;
+        let (line, behind) = match cut_at(LINE_FEED, left) {
+            Some(cut) => cut,
+            None => return Err(rest_fault(number, left)),
+        };
+        if line == END {
+            return match end_fault(number + 1, behind) {
+                Some(fault) => Err(fault),
+                None => Ok(events),
+            };
+        }
+        let event = match event_in(line) {
+            Some(event) => event,
+            None => return Err(TraceFault::Text(number)),
+        };
+        if events.len() == MOST_EVENTS as usize {
+            return Err(TraceFault::TooMany);
+        }
+        if events.push(event).is_err() {
+            return Err(TraceFault::NoMemory);
+        }
+        left = behind;
+    }
+}
