@@ -1,16 +1,19 @@
 -- What turns leave of a board, and how they end its run.
-use Rattle.std.proofs.Common.{◌≡◌, ◌↔◌, ℕ, ◌≤◌, IsTrue, Bool, refl, sym, ap, subst, ◌∙◌, arith, inl, inr, true, false, Option, ◌∷◌, [], ◌++◌}
+use Rattle.std.proofs.Common.{◌≡◌, ◌↔◌, ℕ, ◌≤◌, IsTrue, Bool, refl, sym, ap, subst, ◌∙◌, arith, inl, inr, true, false, Option, List, length, ◌∷◌, [], ◌++◌}
 use Rattle.ordered_group.specs.Amount.{zero_amount}
 use Rattle.ordered_group.proofs.Order.{AtMost-same, Below-not}
 use Rattle.closure_net.specs.Network.{NetView, FlowView, IsNet}
-use Rattle.machine_law.specs.States.{opening, IsQuiet}
+use Rattle.machine_law.specs.declared.events.Event.{Event}
+use Rattle.machine_law.specs.States.{State, opening, IsQuiet}
 use Rattle.machine_law.specs.Steps.{next_event, ReadsNoZero}
 use Rattle.machine_law.specs.Quiet.{IsFlowOf}
 use Rattle.machine_law.proofs.Quiet.{quiet_solves}
-use Rattle.machine_law.proofs.ActiveRuns.{active_more, excess_read_idle}
+use Rattle.machine_law.proofs.Runs.{run_counts}
+use Rattle.machine_law.proofs.ActiveRuns.{active_is_run, active_more, excess_read_idle}
 use Rattle.async_step.specs.declared.limits.TheConstants.{MOST_STEPS}
 use Rattle.async_step.specs.Answers.{Fits}
-use Rattle.boards.specs.Runs.{SomeNextOverflows, IsMadeByTurns}
+use Rattle.async_step.specs.Views.{StateView, state_of}
+use Rattle.boards.specs.Runs.{SomeNextOverflows, IsMadeByTurns, AreTurnsTo}
 use Rattle.boards.specs.Boards.{BoardView, shown, IsBoard, IsTurnBoard, IsOpened, HasSettled}
 use Rattle.boards.specs.Turns.{IsPicked, IsDue, HasNoneDue, HasServed, Sticks, IsStepOf, IsEnd, IsTurn}
 use Rattle.boards.specs.Ends.{HasEnded, GoesOn}
@@ -58,6 +61,31 @@ due_reads : (board : BoardView) (own : Option ℕ) (from b : ℕ) → IsPicked b
 due_reads board own from b (inl own_one) kind zero = own_one.at_work (excess_read_idle board.net b ((shown board).operation b) kind)
 due_reads board own from b (inr waits) kind zero = Below-not zero_amount ((shown board).excess b) waits.1.here.excess (AtMost-same ((shown board).excess b) zero_amount zero)
 
+-- the same turns lead to a board with the same net and state
+pub same_turns : (old new : BoardView) (events : List Event) → new.net ≡ old.net → new.state ≡ old.state → AreTurnsTo old.net events (shown old) → AreTurnsTo new.net events (shown new)
+same_turns old new events net_is state_is run = subst (λ (n : NetView). AreTurnsTo n events (shown new)) (sym net_is) (subst (λ (v : StateView). AreTurnsTo old.net events (state_of v)) (sym state_is) run)
+
+-- and one turn more, where it makes a step
+pub more_turns : (old new : BoardView) (events : List Event) (own : Option ℕ) (from steps b : ℕ) (more : Bool) → IsBoard new → IsDue old own from steps b → HasServed old b new more → AreTurnsTo old.net events (shown old)
+    → AreTurnsTo new.net (events ++ next_event old.net (shown old) b ∷ []) (shown new)
+more_turns old new events own from steps b more is due h run =
+    let net_is : new.net ≡ old.net = ap (λ (x : BoardView). x.net) h.rest in
+    let fits : Fits old.net (shown new) = subst (λ (n : NetView). Fits n (shown new)) net_is is.over.fits in
+    subst (λ (n : NetView). AreTurnsTo n (events ++ next_event old.net (shown old) b ∷ []) (shown new)) (sym net_is)
+    (active_more (Fits old.net) old.net (opening old.net) events (next_event old.net (shown old) b) (shown old) (shown new) run h.step (due_reads old own from b due.picked) fits)
+
+-- turns are as many as the steps that they lead to
+pub turns_counted : (net : NetView) (events : List Event) (s : State) → AreTurnsTo net events s → s.steps ≡ length events
+turns_counted net events s run = let k = run_counts net (opening net) events s (active_is_run (Fits net) net (opening net) events s run) in omega (arith, k)
+
+-- a turn that makes no step leaves the net and the state
+pub end_same : (old new : BoardView) (own : Option ℕ) (from steps : ℕ) (end : End) → IsEnd old own from steps new end → (new.net ≡ old.net) × (new.state ≡ old.state)
+end_same old new own from steps Quiet h = (ap (λ (x : BoardView). x.net) h.1, ap (λ (x : BoardView). x.state) h.1)
+end_same old new own from steps Stuck (inl h) = (ap (λ (x : BoardView). x.net) h.1, ap (λ (x : BoardView). x.state) h.1)
+end_same old new own from steps Stuck (inr h) = (ap (λ (x : BoardView). x.net) h.2.marked, ap (λ (x : BoardView). x.state) h.2.marked)
+end_same old new own from steps Limit h = (ap (λ (x : BoardView). x.net) h.1, ap (λ (x : BoardView). x.state) h.1)
+end_same old new own from steps Full h = absurd h
+
 module _ (old new : BoardView) (was : IsTurnBoard old) (is : IsBoard new) where
   still : new ≡ old → IsTurnBoard new
   still e = subst IsTurnBoard (sym e) was
@@ -65,14 +93,12 @@ module _ (old new : BoardView) (was : IsTurnBoard old) (is : IsBoard new) where
   -- one more step was made
   served : (own : Option ℕ) (from steps b : ℕ) (more : Bool) → IsDue old own from steps b → HasServed old b new more → IsTurnBoard new
   served own from steps b more due h =
-      let net_is : new.net ≡ old.net = ap (λ (x : BoardView). x.net) h.rest in
-      let fits : Fits old.net (shown new) = subst (λ (n : NetView). Fits n (shown new)) net_is is.over.fits in
       record {
         is_board = is;
-        made = subst (λ (n : NetView). IsMadeByTurns n (shown new)) (sym net_is) (record {
+        made = record {
           events = was.made.events ++ next_event old.net (shown old) b ∷ [];
-          run = active_more (Fits old.net) old.net (opening old.net) was.made.events (next_event old.net (shown old) b) (shown old) (shown new) was.made.run h.step (due_reads old own from b due.picked) fits;
-        });
+          run = more_turns old new was.made.events own from steps b more is due h was.made.run;
+        };
         why = λ t. (let z : true ≡ false = sym t ∙ (ap (λ (x : BoardView). x.stuck) h.rest ∙ due.going.free) in absurd cc);
       }
 
@@ -103,15 +129,8 @@ opened net board is o = record {
 
 -- ---- how turns end a run
 module _ (first old new : BoardView) (own : Option ℕ) (from steps : ℕ) (small : steps ≤ MOST_STEPS) (goes : GoesOn first old steps) (is : IsTurnBoard new) where
-  same_state : (end : End) → IsEnd old own from steps new end → (new.net ≡ old.net) × (new.state ≡ old.state)
-  same_state Quiet h = (ap (λ (x : BoardView). x.net) h.1, ap (λ (x : BoardView). x.state) h.1)
-  same_state Stuck (inl h) = (ap (λ (x : BoardView). x.net) h.1, ap (λ (x : BoardView). x.state) h.1)
-  same_state Stuck (inr h) = (ap (λ (x : BoardView). x.net) h.2.marked, ap (λ (x : BoardView). x.state) h.2.marked)
-  same_state Limit h = (ap (λ (x : BoardView). x.net) h.1, ap (λ (x : BoardView). x.state) h.1)
-  same_state Full h = absurd h
-
   pub end_goes_on : (end : End) → IsEnd old own from steps new end → GoesOn first new steps
-  end_goes_on end h = let same = same_state end h in record {
+  end_goes_on end h = let same = end_same old new own from steps end h in record {
     net_is = same.0 ∙ goes.net_is;
     within = subst (λ (k : ℕ). k ≤ steps) (sym (ap (λ v. v.steps) same.1)) goes.within;
   }

@@ -1,2 +1,4 @@
 pub mod Alone
 pub mod Ends
+pub mod Records
+pub mod Audits

@@ -1,8 +1,10 @@
 -- Runs as turns at a board make them.
-use Rattle.std.specs.Prelude.{ℕ, ◌<◌, length}
-use Rattle.closure_net.specs.Network.{NetView}
-use Rattle.machine_law.specs.States.{State}
-use Rattle.machine_law.specs.Steps.{IsStateOfRun, IsStateOfActiveRun, advance}
+use Rattle.std.specs.Prelude.{ℕ, ◌<◌, List, length}
+use Rattle.closure_net.specs.Network.{NetView, FlowView}
+use Rattle.machine_law.specs.declared.events.Event.{Event}
+use Rattle.machine_law.specs.States.{State, opening, IsQuiet}
+use Rattle.machine_law.specs.Steps.{IsStateOfRun, ActiveRun, IsStateOfActiveRun, Run, advance}
+use Rattle.machine_law.specs.Quiet.{IsFlowOf, IsSolved}
 use Rattle.async_step.specs.Answers.{Fits}
 
 -- the step that is next for some block overflows: a number of the state after it doesn't fit its type
@@ -20,3 +22,15 @@ pub record SomeRunOverflows (net : NetView) : Type 0 where
 -- Turns lead to the state from the opening one: no ReadExcess sees zero, and after each step all numbers fit.
 abbrev pub IsMadeByTurns : NetView → State → Type 0
 IsMadeByTurns net s = IsStateOfActiveRun (Fits net) net s
+
+-- these events, in this order, are such turns
+abbrev pub AreTurnsTo : NetView → List Event → State → Type 0
+AreTurnsTo net events s = ActiveRun (Fits net) net (opening net) events s
+
+-- The events are a run over the net. The state that they lead to, which is the only one, is quiet; the flow is that of the state, and
+-- so a greatest one, in which what the source reaches is closed and tight.
+pub record IsReplayedTo (net : NetView) (events : List Event) (flow : FlowView) : Type 0 where
+  pub state : State
+  pub run : Run net (opening net) events state
+  pub only : (s : State) → Run net (opening net) events s → IsQuiet net s × IsFlowOf net s flow
+  pub solved : IsSolved net flow

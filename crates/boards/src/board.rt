@@ -3,6 +3,7 @@
 ghost use Rattle.std.specs.Prelude.{◌≡◌, ◌↔◌, ◌<◌, IsTrue, length, IfOk, MatchOption, MatchResult};
 ghost use Rattle.machine_law.specs.declared.operations.Operation.TheVariants.{Idle};
 ghost use Rattle.machine_law.specs.States.{IsQuiet};
+ghost use Rattle.machine_law.specs.Steps.{next_event};
 ghost use Rattle.async_step.specs.Answers.{saw_as};
 ghost use Rattle.boards.specs.Boards.{shown, blocks_of, IsBoard, IsOpened, HasStepped, HasRefused, HasSettled};
 ghost use Rattle.boards.specs.Turns.{IsPicked, IsUnserved, IsDue, HasNoneDue, IsStepOf, IsTurn};
@@ -125,6 +126,17 @@ impl<G: OrderedGroup> Board<G> {
             return Err(Turn::Ended(End::Limit));
         }
         self.picked(own, from).ok_or(Turn::Idle)
+    }
+
+    // The event of the step that is next for a block.
+    pub(crate) fn next_event(&self, block: u32) -> Event
+        requires { block < blocks_of self.now }
+        ensures { result ≡ next_event self.now.net (shown self.now) block }
+    {
+        Event {
+            block,
+            kind: self.state.next_kind(&self.net, block),
+        }
     }
 
     // The step that is next for a block, if it can be made.

@@ -1,24 +1,28 @@
 //! All the turns that are left of a run.
 
-ghost use Rattle.std.specs.Prelude.{◌≡◌, ◌+◌, ◌<◌, ◌≤◌, MatchOption};
+ghost use Rattle.std.specs.Prelude.{◌≡◌, ◌+◌, ◌<◌, ◌≤◌, true, MatchOption};
 ghost use Rattle.boards.specs.Boards.{shown, blocks_of, IsTurnBoard};
+ghost use Rattle.boards.specs.Runs.{AreTurnsTo};
+ghost use Rattle.boards.specs.Records.{RecordGoesOn};
 ghost use Rattle.boards.specs.Ends.{AreIdleBelow, HasEnded, GoesOn};
 
+use crate::recorded_board::Recorded;
 use crate::turn::{End, Turn};
 use crate::turn_board::TurnBoard;
 use async_step::MOST_STEPS;
 use ordered_group::OrderedGroup;
 
 // Ends the operation of a block, if it has one. Answers why the run ends, where it ends before.
-fn end_operation<G: OrderedGroup>(board: &mut TurnBoard<G>, block: u32, steps: u64) -> Option<End>
-    requires inside { block < blocks_of board.old }
+fn end_operation<G: OrderedGroup>(board: &mut Recorded<G>, block: u32, steps: u64) -> Option<End>
+    requires inside { block < blocks_of board.old.board }
     requires counted { steps ≤ MOST_STEPS }
-    requires within { (shown board.old).steps ≤ steps }
-    requires idle { AreIdleBelow board.old block }
-    ensures goes_on { GoesOn board.old board.new steps }
-    ensures end { MatchOption result (AreIdleBelow board.new (block + 1)) (λ end. HasEnded board.new steps end) }
+    requires room { board.old.records ≡ true → steps ≤ board.old.room }
+    requires within { (shown board.old.board).steps ≤ steps }
+    requires idle { AreIdleBelow board.old.board block }
+    ensures goes_on { RecordGoesOn board.old board.new steps }
+    ensures end { MatchOption result (AreIdleBelow board.new.board (block + 1)) (λ end. HasEnded board.new.board steps end) }
 {
-    // proof: a `TurnBoard` is made by turns alone
+    // proof: a `Recorded` is made by turns alone
     let _blocks = board.len();
     while board.has_operation(block) {
         match board.turn(Some(block), block, steps) {
@@ -31,11 +35,12 @@ fn end_operation<G: OrderedGroup>(board: &mut TurnBoard<G>, block: u32, steps: u
 }
 
 // Ends the operations that there are. Answers why the run ends, where it ends before.
-fn end_operations<G: OrderedGroup>(board: &mut TurnBoard<G>, steps: u64) -> Option<End>
+fn end_operations<G: OrderedGroup>(board: &mut Recorded<G>, steps: u64) -> Option<End>
     requires counted { steps ≤ MOST_STEPS }
-    requires within { (shown board.old).steps ≤ steps }
-    ensures goes_on { GoesOn board.old board.new steps }
-    ensures end { MatchOption result (AreIdleBelow board.new (blocks_of board.new)) (λ end. HasEnded board.new steps end) }
+    requires room { board.old.records ≡ true → steps ≤ board.old.room }
+    requires within { (shown board.old.board).steps ≤ steps }
+    ensures goes_on { RecordGoesOn board.old board.new steps }
+    ensures end { MatchOption result (AreIdleBelow board.new.board (blocks_of board.new.board)) (λ end. HasEnded board.new.board steps end) }
 {
     for block in 0..board.len() {
         if let Some(end) = end_operation(board, block, steps) {
@@ -46,14 +51,15 @@ fn end_operations<G: OrderedGroup>(board: &mut TurnBoard<G>, steps: u64) -> Opti
 }
 
 // Makes one operation after the other until the run ends, and answers why.
-fn take_turns<G: OrderedGroup>(board: &mut TurnBoard<G>, steps: u64) -> End
+fn take_turns<G: OrderedGroup>(board: &mut Recorded<G>, steps: u64) -> End
     requires counted { steps ≤ MOST_STEPS }
-    requires within { (shown board.old).steps ≤ steps }
-    requires idle { AreIdleBelow board.old (blocks_of board.old) }
-    ensures goes_on { GoesOn board.old board.new steps }
-    ensures end { HasEnded board.new steps result }
+    requires room { board.old.records ≡ true → steps ≤ board.old.room }
+    requires within { (shown board.old.board).steps ≤ steps }
+    requires idle { AreIdleBelow board.old.board (blocks_of board.old.board) }
+    ensures goes_on { RecordGoesOn board.old board.new steps }
+    ensures end { HasEnded board.new.board steps result }
 {
-    // proof: a `TurnBoard` is made by turns alone
+    // proof: a `Recorded` is made by turns alone
     let _blocks = board.len();
     let mut own = None;
     let mut from = 0;
@@ -70,6 +76,25 @@ fn take_turns<G: OrderedGroup>(board: &mut TurnBoard<G>, steps: u64) -> End
     unreachable!("a turn at the limit ends the run")
 }
 
+// Makes the turns that are left, as `finish`. Where steps are written down there has to be room for all.
+pub(crate) fn finish_recorded<G: OrderedGroup>(board: &mut Recorded<G>, steps: u64) -> End
+    requires counted { steps ≤ MOST_STEPS }
+    requires room { board.old.records ≡ true → steps ≤ board.old.room }
+    requires within { (shown board.old.board).steps ≤ steps }
+    ensures goes_on { RecordGoesOn board.old board.new steps }
+    ensures end { HasEnded board.new.board steps result }
+    ensures made { IsTurnBoard board.new.board }
+    ensures events { board.new.records ≡ true → AreTurnsTo board.new.board.net board.new.events (shown board.new.board) }
+{
+    let end = match end_operations(board, steps) {
+        Some(end) => end,
+        None => take_turns(board, steps),
+    };
+    // proof: a `Recorded` is made by turns alone
+    let _blocks = board.len();
+    end
+}
+
 /// Makes the turns that are left, on this thread, until the run ends, and answers why it does. Each is
 /// a turn of the first block that has an operation, or where none has of the next one that waits.
 pub fn finish<G: OrderedGroup>(board: &mut TurnBoard<G>, steps: u64) -> End
@@ -79,11 +104,5 @@ pub fn finish<G: OrderedGroup>(board: &mut TurnBoard<G>, steps: u64) -> End
     ensures end { HasEnded board.new steps result }
     ensures board { IsTurnBoard board.new }
 {
-    let end = match end_operations(board, steps) {
-        Some(end) => end,
-        None => take_turns(board, steps),
-    };
-    // proof: a `TurnBoard` is made by turns alone
-    let _blocks = board.len();
-    end
+    board.finish(steps)
 }

@@ -10,10 +10,14 @@
 //! run ends.
 #![tactic(auto)]
 
+mod audited_board;
+#[cfg(test)]
+mod audited_tests;
 mod board;
 #[cfg(test)]
 mod board_tests;
 mod finishing;
+mod recorded_board;
 #[cfg(test)]
 mod test_nets;
 mod turn;
@@ -21,6 +25,7 @@ mod turn_board;
 #[cfg(test)]
 mod turn_board_tests;
 
+pub use audited_board::{Audited, MOST_ROOM};
 pub use board::Board;
 pub use finishing::finish;
 pub use turn::{End, Turn};

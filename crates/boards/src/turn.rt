@@ -25,6 +25,6 @@ pub enum End {
     Stuck,
     /// As many steps were made as the run may make.
     Limit,
-    /// There is no room to write down another step. No board of this crate answers it.
+    /// There is no room to write down another step. Boards that write none down don't answer it.
     Full,
 }

@@ -1,12 +1,16 @@
 //! A board on which nothing but turns makes steps.
 
-ghost use Rattle.std.specs.Prelude.{◌≡◌, ◌↔◌, ◌<◌, IsTrue, IfOk};
+ghost use Rattle.std.specs.Prelude.{◌≡◌, ◌↔◌, ◌<◌, ◌≤◌, IsTrue, IfOk};
 ghost use Rattle.machine_law.specs.declared.operations.Operation.TheVariants.{Idle};
+ghost use Rattle.async_step.specs.declared.limits.TheConstants.{MOST_STEPS};
 ghost use Rattle.boards.specs.Boards.{shown, blocks_of, IsTurnBoard, IsOpened};
 ghost use Rattle.boards.specs.Turns.{IsTurn};
+ghost use Rattle.boards.specs.Ends.{HasEnded, GoesOn};
 
 use crate::board::Board;
-use crate::turn::Turn;
+use crate::finishing::finish_recorded;
+use crate::recorded_board::Recorded;
+use crate::turn::{End, Turn};
 use closure_net::Net;
 use ordered_group::OrderedGroup;
 use std::alloc::{AllocError, Global};
@@ -17,17 +21,18 @@ use std::marker::Model;
 /// the state after its next step of some block would overflow its type.
 #[derive(Drop)]
 pub struct TurnBoard<G: OrderedGroup> {
-    board: Board<G>,
+    board: Recorded<G>,
 }
 
 impl<G: OrderedGroup> Model for TurnBoard<G> {
+    ghost use Rattle.std.specs.Prelude.{◌≡◌, false};
     ghost use Rattle.boards.specs.Boards.{BoardView, IsTurnBoard};
 
     ghost Value = { BoardView };
 
-    ghost view = { λ b. b.board };
+    ghost view = { λ b. b.board.board };
 
-    ghost invariant = { λ b. IsTurnBoard b.board };
+    ghost invariant = { λ b. (b.board.records ≡ false) × IsTurnBoard b.board.board };
 }
 
 impl<G: OrderedGroup> TurnBoard<G> {
@@ -38,8 +43,8 @@ impl<G: OrderedGroup> TurnBoard<G> {
     pub fn open(alloc: Global, net: &Net<G>) -> Result<TurnBoard<G>, AllocError>
         ensures { IfOk result (λ board. IsOpened net.now board) }
     {
-        let board = Board::open(alloc, net)?;
-        // proof: a `Board`'s state is one of a run over its net
+        let board = Recorded::open(alloc, net, false, 0)?;
+        // proof: a `Recorded` is made by turns alone
         let _blocks = board.len();
         Ok(TurnBoard { board })
     }
@@ -82,12 +87,24 @@ impl<G: OrderedGroup> TurnBoard<G> {
         self.board.turn(own, from, steps)
     }
 
+    // The turns that are left, as `finish`.
+    pub(crate) fn finish(&mut self, steps: u64) -> End
+        requires counted { steps ≤ MOST_STEPS }
+        requires within { (shown self.old).steps ≤ steps }
+        ensures goes_on { GoesOn self.old self.new steps }
+        ensures end { HasEnded self.new steps result }
+        ensures made { IsTurnBoard self.new }
+    {
+        finish_recorded(&mut self.board, steps)
+    }
+
     /// The board, for steps of any block.
     pub fn into_board(self) -> Board<G>
         ensures is { result ≡ self }
         ensures made { IsTurnBoard result }
     {
         let TurnBoard { board } = self;
+        let (board, _) = board.into_parts();
         board
     }
 }

@@ -1,0 +1,32 @@
+use Rattle.std.proofs.Common.{◌≡◌, ◌≤◌, ℕ, ◌∙◌, min, true, ap, sym, subst, arith}
+use Rattle.std.proofs.Math.Nat.{min-le_right}
+use Rattle.boards.specs.Boards.{shown}
+use Rattle.boards.specs.Ends.{HasEnded}
+use Rattle.boards.specs.Audits.{AuditView, IsToldAs}
+use Rattle.boards.specs.declared.audited_board.TheConstants.{MOST_ROOM}
+use Rattle.boards.proofs.Audits.{audited, run_ended}
+use Rattle.boards.proofs.audited_board.Audited.finish.Goals as goal
+
+pub invariant_of-self : goal.invariant_of-self
+invariant_of-self g c =
+    let old = c.self.inside.board in
+    let new = c.finish_recorded-end.new.board in
+    let is = c.self.invariant.1 in
+    let goes = c.finish_recorded-end.ensures.goes_on in
+    let most : c.most-most.result ≡ min c.args.steps old.room = c.most-most.ensures.is ∙ ap (λ (v : AuditView). min c.args.steps v.room) (sym c.self.view_is) in
+    let records : new.records ≡ true = goes.records ∙ c.self.invariant.0 in
+    let below : c.most-most.result ≤ old.room = subst (λ k. k ≤ old.room) (sym most) (min-le_right c.args.steps old.room) in
+    let within : (shown new.board).steps ≤ old.room = omega (arith, goes.board.within, below) in
+    (records, audited new c.finish_recorded-end.ensures.made (c.finish_recorded-end.ensures.events records) (subst (λ k. (shown new.board).steps ≤ k) (sym goes.room) within) (subst (λ k. k ≤ MOST_ROOM) (sym goes.room) is.few))
+
+pub returns-clause-end : goal.returns-clause-end
+returns-clause-end g c =
+    let new = c.finish_recorded-end.new.board in
+    let most : c.most-most.result ≡ min c.args.steps new.room =
+    c.most-most.ensures.is ∙ ap (λ (v : AuditView). min c.args.steps v.room) (sym c.self.view_is) ∙ ap (λ (k : ℕ). min c.args.steps k) (sym c.finish_recorded-end.ensures.goes_on.room) in
+    run_ended new c.args.steps c.finish_recorded-end.result c.told_as.result (invariant_of-self g c).1
+    (subst (λ k. HasEnded new.board k c.finish_recorded-end.result) most c.finish_recorded-end.ensures.end)
+    (subst (λ k. IsToldAs k c.args.steps c.finish_recorded-end.result c.told_as.result) c.count.ensures c.told_as.ensures)
+
+pub returns-clause-audited : goal.returns-clause-audited
+returns-clause-audited g c = (invariant_of-self g c).1
