@@ -1,97 +1,60 @@
-//! Three blocks at two prices, as the engine of `report` answers them.
+//! Three blocks in two shells, as the engine of `report` answers them.
 
-use crate::{SeriesProgress, shells_engine};
-use engines::{Effort, EngineFault, Method, Problem, Verdict};
+use crate::report_engine;
+use engines::{Effort, EngineFault, Method, Problem, Unwatched, Verdict};
 use fixed_worth::Counted;
-use pseudoflow::Progress;
 use settings_file::{Key, SettingsFault};
 use std::sync::Wait;
-use std::sync::atomic::{AtomicU64, Ordering};
 use std::thread::Threads;
-use workers::Gate;
 
 const BLOCKS: &[u8] = b"0 0 0 0 10 4 100\n1 0 0 1 0 5 80.5\n2 1 0 1 4 1 60\n";
 
+// The first block rests on the second.
 const PREC: &[u8] = b"0 1 1\n1 0\n2 0\n";
 
-// Adds up the factors that it is told of, each times its place.
-#[derive(Drop)]
-struct Told {
-    sum: AtomicU64,
-}
-
-impl Gate for Told {
-    fn turn(&self, _worker: u32, _turn: u64) {}
-}
-
-impl Progress for Told {
-    fn report(&self, _settled: u32, _blocks: u32) {}
-}
-
-impl SeriesProgress for Told {
-    fn settled(&self, factor: u32, place: u32, _count: u32) {
-        let told = u64::from(factor) * u64::from(place);
-        let _ = self.sum.fetch_add(told, Ordering::SeqCst);
-    }
-}
-
-// What the engine answers for these settings, what it writes, and what was told.
-fn drawn<R: AllocGlobal + Threads + Wait + Sync>(
+// What the engine answers for these settings, and what it writes.
+fn reported<R: AllocGlobal + Threads + Wait + Sync>(
     rt: &R,
     settings: &[u8],
-    effort: Effort,
-) -> (Result<Verdict, EngineFault>, Vec<u8>, u64) {
+) -> (Result<Verdict, EngineFault>, Vec<u8>) {
     let alloc = rt.alloc();
     let mut out = Counted::new(Vec::new(alloc));
-    let told = Told {
-        sum: AtomicU64::new(0),
-    };
-    let answer = shells_engine(
+    let answer = report_engine(
         rt,
         alloc,
         &mut Counted::new(settings),
         &mut Counted::new(BLOCKS),
         &mut Counted::new(PREC),
-        effort,
-        &told,
+        Effort::new(Method::Auto, 1, 1_000),
+        &Unwatched,
         &mut out,
     );
-    (answer, out.into_inner(), told.sum.load(Ordering::SeqCst))
+    (answer, out.into_inner())
 }
 
+// At 500 thousandths the third block is worth 1, and at 1,000 the first two together too.
 #[test]
-fn two_shells_by_every_engine(rt: HostRuntime) {
+fn shells_by_bench_at_the_last_factor(rt: HostRuntime) {
     let settings = b"revenue = 0\ncost = 1\ntonnes = 2\nfactors = [500, 1000]\n";
-    let efforts = [
-        Effort::new(Method::PushRelabel, 1, 1_000),
-        Effort::new(Method::PushRelabel, 2, 1_000_000),
-        Effort::new(Method::Pseudoflow, 1, 1_000),
-        Effort::new(Method::Pseudoflow, 3, 1_000),
-        Effort::new(Method::Auto, 2, 1_000),
-    ];
-    for effort in efforts {
-        let (answer, text, told) = drawn(&rt, settings, effort);
-        assert!(rt; answer == Ok(Verdict::Done));
-        assert!(rt; text.as_slice() == b"SHELL 500 1 1\nSHELL 1000 3 4\n".as_slice());
-        assert_eq!(rt; told, 2_500);
-    }
-}
-
-// At factor 0 nothing is worth digging, which takes no step.
-#[test]
-fn a_factor_that_is_not_settled_leaves_nothing_written(rt: HostRuntime) {
-    let settings = b"revenue = 0\ncost = 1\nfactors = [0, 1000]\n";
-    let few = Effort::new(Method::PushRelabel, 1, 1);
-    let (answer, text, _told) = drawn(&rt, settings, few);
-    assert!(rt; answer == Ok(Verdict::No));
-    assert!(rt; text.as_slice() == b"UNSETTLED 1000\n".as_slice());
+    let table = b"z,shell,blocks,tonnes,worth\n0,1000,1,100,6\n1,500,1,60,3\n1,1000,1,80.5,-5\n";
+    let (answer, text) = reported(&rt, settings);
+    assert!(rt; answer == Ok(Verdict::Done));
+    assert!(rt; text.as_slice() == table.as_slice());
 }
 
 #[test]
-fn factors_are_needed(rt: HostRuntime) {
-    let settings = b"revenue = 0\ncost = 1\n";
-    let (answer, text, _told) = drawn(&rt, settings, Effort::new(Method::Auto, 1, 1_000));
-    let missing = EngineFault::Settings(Problem::Fault(SettingsFault::Missing(Key::Factors)));
+fn worths_at_the_factor_of_the_report(rt: HostRuntime) {
+    let settings = b"revenue = 0\ncost = 1\ntonnes = 2\nfactors = [500, 1000]\nreport = 500\n";
+    let table = b"z,shell,blocks,tonnes,worth\n0,1000,1,100,1\n1,500,1,60,1\n1,1000,1,80.5,-5\n";
+    let (answer, text) = reported(&rt, settings);
+    assert!(rt; answer == Ok(Verdict::Done));
+    assert!(rt; text.as_slice() == table.as_slice());
+}
+
+#[test]
+fn tonnes_are_missing_before_factors(rt: HostRuntime) {
+    let (answer, text) = reported(&rt, b"revenue = 0\ncost = 1\n");
+    let missing = EngineFault::Settings(Problem::Fault(SettingsFault::Missing(Key::Tonnes)));
     assert!(rt; answer == Err(missing));
     assert!(rt; text.is_empty());
 }
