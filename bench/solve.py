@@ -1,6 +1,6 @@
 #!/usr/bin/env python3
 """Measures the push-relabel machine of `pit solve`: a model of 1,060 blocks to its end, steps per second on one of 9,400
-blocks, and by several workers.
+blocks by each kind of amount, and by several workers.
 
     bench/solve.py [--unlocked PROGRAM]
 
@@ -19,12 +19,13 @@ from pathlib import Path
 from common import PIT, adopt_orphans, files_of, model, peer, run, table
 
 LIMIT = 20_000_000
+GROUPS = ("pair", "scaled", "worth")
 PART = 10_000_000  # of the smaller model's steps, so that a run of any number of workers makes just so many
 
 
-def solve_words(mine, steps, program=PIT):
-    """A limit of steps asks for the machine."""
-    return [str(program), "solve"] + files_of(mine) + ["--steps", str(steps)]
+def solve_words(mine, steps, program=PIT, group=None):
+    """A limit of steps asks for the machine; the kind of amount is the program's own choice where none is given."""
+    return [str(program), "solve"] + files_of(mine) + ["--steps", str(steps)] + (["--group", group] if group else [])
 
 
 def least(words, count, core, status):
@@ -50,12 +51,17 @@ def whole_run(count, core):
 
 
 def steps_a_second(count, core):
+    """By each kind of amount, in turns: how long the steps took, without the reading of the files."""
     mine = model("zuck")
-    reading = least(solve_words(mine, 1), count, core, 1)
-    running = least(solve_words(mine, LIMIT), count, core, 1)
-    seconds = running.cpu - reading.cpu
-    table(["model", "blocks", "steps", "s", "steps a second"],
-          [["zuck", "9,400", f"{LIMIT:,}", f"{seconds:.2f}", f"{LIMIT / seconds:,.0f}"]])
+    seconds = {group: [] for group in GROUPS}
+    for _ in range(count):
+        for group in GROUPS:
+            reading, running = (least(solve_words(mine, steps, group=group), 1, core, 1) for steps in (1, LIMIT))
+            seconds[group].append(running.cpu - reading.cpu)
+    pair = min(seconds["pair"])
+    table(["model", "blocks", "group", "steps", "s", "steps a second", "times pair"],
+          [["zuck", "9,400", group, f"{LIMIT:,}", f"{min(s):.2f}", f"{LIMIT / min(s):,.0f}", f"{min(s) / pair:.2f}"]
+           for group, s in seconds.items()])
 
 
 def elapsed(words):

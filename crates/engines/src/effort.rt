@@ -1,9 +1,9 @@
 //! How a mine is solved, and how much that may use.
 
 ghost use Rattle.std.specs.Prelude.{◌≡◌, ℕ, ◌≤◌, ◌^◌};
+ghost use Rattle.workers.specs.declared.solving.TheConstants.{MOST_WORKERS};
 
 use crate::method::Method;
-use workers::MOST_WORKERS;
 
 /// The engine that makes the flow, the threads of the machine's run and the most steps that they make together,
 /// which are the most turns of pseudoflow too.

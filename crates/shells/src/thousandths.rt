@@ -1,6 +1,7 @@
 //! Factors.
 
 ghost use Rattle.std.specs.Prelude.{◌≡◌, ◌≤◌, ℕ, SomeIff};
+ghost use Rattle.fixed_worth.specs.declared.limits.TheConstants.{MOST_FACTOR};
 
 use fixed_worth::MOST_FACTOR;
 use std::marker::Model;
