@@ -1,5 +1,5 @@
 -- From prices that were read to the worths of the mine at a factor.
-use Rattle.std.proofs.Common.{◌≡◌, ℕ, ◌<◌, ◌≤◌, ℤ, pos, List, [], ◌∷◌, length, map, get_or, refl, sym, ap, ◌∙◌, subst, arith, cond, ltb, Bool, true, false, Option, Some, None, unwrap_or, Result, Ok, Err, IfSome, MatchResult}
+use Rattle.std.proofs.Common.{◌+◌, ◌≡◌, ℕ, ◌<◌, ◌≤◌, ℤ, pos, List, [], ◌∷◌, length, map, get_or, refl, sym, ap, ◌∙◌, subst, arith, cond, ltb, Bool, true, false, Option, Some, None, unwrap_or, Result, Ok, Err, IfSome, MatchResult}
 use Rattle.std.specs.List.{range_with_len}
 use Rattle.std.specs.Result.{result_unwrap_or}
 use Rattle.std.specs.Str.{bytes_eq}
