@@ -1,5 +1,6 @@
 -- From the parts of the engine of reports to its answer, where the readers tell their bytes.
-use Rattle.std.proofs.Common.{◌≡◌, ◌⊎◌, ℕ, List, Option, Some, None, Result, Ok, Err, inl, inr, IfSome, subst, sym, ap}
+use Rattle.std.proofs.Common.{◌≡◌, ◌⊎◌, ℕ, List, Option, Some, None, Result, Ok, Err, inl, inr, IfSome, IfOk, IfErr, subst, sym}
+use Rattle.std.specs.Prelude.{OnOk}
 use Rattle.std.specs.Io.KnownBytes.{Appends, Keeps}
 use Rattle.fixed_worth.specs.Device.{ReceivedPrefix}
 use Rattle.blocks_file.specs.Denotes.{BlocksView}
@@ -56,7 +57,7 @@ module _ (o q r : Option (List ℕ)) (prices : PricesView) (rests : RestsView) (
 
   module _ (verdict : Verdict) (text : List ℕ) (answers : (s b p : List ℕ) → IsReportRead s b p prices rests factors m factor → AnswersReport s b p method limit verdict text) where
     -- the answer was written
-    pub answered : (old new : Option (List ℕ)) → Appends old new text → IfSome o (λ s. IfSome q (λ b. IfSome r (λ p. Reports s b p method limit old new (Ok verdict))))
+    answered : (old new : Option (List ℕ)) → Appends old new text → IfSome o (λ s. IfSome q (λ b. IfSome r (λ p. Reports s b p method limit old new (Ok verdict))))
     answered old new sent = under3 o q r (λ s b p. IsReportRead s b p prices rests factors m factor) (λ s b p. Reports s b p method limit old new (Ok verdict)) h (λ s b p read. (text, answers s b p read, sent))
 
     -- the device failed in writing it
@@ -67,6 +68,12 @@ module _ (o q r : Option (List ℕ)) (prices : PricesView) (rests : RestsView) (
     no_memory old new same = under3 o q r (λ s b p. IsReportRead s b p prices rests factors m factor) (λ s b p. Reports s b p method limit old new (Err engine.Memory)) h (λ s b p read. (tt, subst (λ (w : Option (List ℕ)). Keeps old w) (sym same) (keeps_self old)))
 
     -- it was not written whole: memory was refused before anything was, or the device failed
-    pub unsent : (old new : Option (List ℕ)) (e : EngineFault) → ((e ≡ engine.Memory) × (new ≡ old)) ⊎ ((e ≡ engine.Device) × ReceivedPrefix old new text) → IfSome o (λ s. IfSome q (λ b. IfSome r (λ p. Reports s b p method limit old new (Err e))))
+    unsent : (old new : Option (List ℕ)) (e : EngineFault) → ((e ≡ engine.Memory) × (new ≡ old)) ⊎ ((e ≡ engine.Device) × ReceivedPrefix old new text) → IfSome o (λ s. IfSome q (λ b. IfSome r (λ p. Reports s b p method limit old new (Err e))))
     unsent old new e (inl k) = subst (λ (f : EngineFault). IfSome o (λ s. IfSome q (λ b. IfSome r (λ p. Reports s b p method limit old new (Err f))))) (sym k.0) (no_memory old new k.1)
     unsent old new e (inr k) = subst (λ (f : EngineFault). IfSome o (λ s. IfSome q (λ b. IfSome r (λ p. Reports s b p method limit old new (Err f))))) (sym k.0) (cut_short old new k.1)
+
+    -- how writing it ends
+    pub sent : (old new : Option (List ℕ)) (answer : Result Verdict EngineFault) → IfOk answer (λ v. v ≡ verdict) → OnOk answer (Appends old new text) → IfErr answer (λ e. ((e ≡ engine.Memory) × (new ≡ old)) ⊎ ((e ≡ engine.Device) × ReceivedPrefix old new text))
+        → IfSome o (λ s. IfSome q (λ b. IfSome r (λ p. Reports s b p method limit old new answer)))
+    sent old new (Ok v) is all none = subst (λ (v : Verdict). IfSome o (λ s. IfSome q (λ b. IfSome r (λ p. Reports s b p method limit old new (Ok v))))) (sym is) (answered old new all)
+    sent old new (Err e) none all why = unsent old new e why

@@ -123,7 +123,7 @@ fn send<W: CountedWrite>(
     requires room { W.failed out.old < 2 ^ 64 - 1 }
     ensures verdict { IfOk result (λ v. v ≡ verdict_of outcome) }
     ensures written { OnOk result (Appends (W.contents out.old) (W.contents out.new) (text_of outcome)) }
-    ensures fault { IfErr result (λ e. ((e ≡ EngineFault.Memory) × (out.new ≡ out.old)) ⊎ ((e ≡ EngineFault.Device) × ReceivedPrefix (W.contents out.old) (W.contents out.new) (text_of outcome))) }
+    ensures fault { IfErr result (λ e. ((e ≡ EngineFault.Memory) × (W.contents out.new ≡ W.contents out.old)) ⊎ ((e ≡ EngineFault.Device) × ReceivedPrefix (W.contents out.old) (W.contents out.new) (text_of outcome))) }
     ensures device { IsErrOf result EngineFault.Device → W.failed out.new ≡ W.failed out.old + 1 }
     ensures kept { ¬ IsErrOf result EngineFault.Device → W.failed out.new ≡ W.failed out.old }
 {
