@@ -192,7 +192,7 @@ module _ (s t : List ℕ) (columns factors : List ℕ) (factor : ℕ) (said : Is
         factors_are = said.factors_are;
       };
       keys = said.keys;
-      model = model_read m r;
+      blocks_are = model_read m r;
       factor_is = said.factor_is;
     }
 

@@ -41,12 +41,12 @@ use Rattle.report_engines.proofs.FirstShell.{first_is}
 
 module _ (s t p : List ℕ) (prices : PricesView) (rests : RestsView) (factors : List ℕ) (m : BlocksView) (factor : ℕ) (read : IsReportRead s t p prices rests factors m factor) where
   blocks_read : ReportBlocksRead s t
-  blocks_read = record { keys = read.keys; within = read.model.0; read = read.model.1 }
+  blocks_read = record { keys = read.keys; within = read.blocks_are.0; read = read.blocks_are.1 }
 
   size_is : rests.blocks ≡ m.blocks
   size_is =
       sym read.series.mine.size ∙ ap blocks_of read.series.mine.table
-      ∙ length-map-range_with_len (cell t (unwrap_or (settings_of s).revenue 0)) 0 (blocks.count_of t) ∙ sym read.model.2.count
+      ∙ length-map-range_with_len (cell t (unwrap_or (settings_of s).revenue 0)) 0 (blocks.count_of t) ∙ sym read.blocks_are.2.count
 
   module _ (series : SeriesView) (shell_rows : List ShellRow) (settled : IsSettled rests.pairs prices factors series shell_rows) (is : IsSeries series) where
     first_shell : (b : ℕ) → find (λ k. upto series.shells k b) (factors_said s) ≡ shell_at series.shells b
@@ -61,9 +61,9 @@ module _ (s t p : List ℕ) (prices : PricesView) (rests : RestsView) (factors :
     alike : AreAlike (reported m series 2 (worths_at series.prices factor)) (report_blocks rests.blocks s t p (upto series.shells))
     alike = record {
       blocks = size_is;
-      height = λ b l. sym (ap (λ (q : Place). q.z) (read.model.2.place b l));
+      height = λ b l. sym (ap (λ (q : Place). q.z) (read.blocks_are.2.place b l));
       shell = λ b l. first_shell b;
-      tonnes = λ b l. sym (read.model.2.value 2 b (omega arith) l);
+      tonnes = λ b l. sym (read.blocks_are.2.value 2 b (omega arith) l);
       worth = worth_is;
     }
 

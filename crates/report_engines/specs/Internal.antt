@@ -23,7 +23,7 @@ use Rattle.report_engines.specs.ReportTexts.{report_keys, ReportKeysKnown, repor
 pub record IsReportRead (settings blocks precedence : List ℕ) (prices : PricesView) (rests : RestsView) (factors : List ℕ) (model : BlocksView) (factor : ℕ) : Type 0 where
   pub series : IsSeriesRead settings blocks precedence prices rests factors
   pub keys : ReportKeysKnown settings
-  pub model : ReadsBlocks (report_columns (settings_of settings)) blocks model
+  pub blocks_are : ReadsBlocks (report_columns (settings_of settings)) blocks model
   pub factor_is : factor ≡ report_factor settings
 
 -- no value of the column of a model that was chosen as the i-th is above 10^18 millionths either way

@@ -7,8 +7,8 @@ use Rattle.report_engines.specs.Reports.{ReportFails}
 use Rattle.report_engines.proofs.Tables.{is_report, is_none, wanted, no_net}
 use Rattle.report_engines.proofs.reporting.outcome_of.Goals as goal
 
-pub returns-in_ok-rows_at-in-Ok-clause-answer : goal.returns-in_ok-rows_at-in-Ok-clause-answer
-returns-in_ok-rows_at-in-Ok-clause-answer g c = λ s b p read.
+pub returns-in-Ok-clause-answer : goal.returns-in-Ok-clause-answer
+returns-in-Ok-clause-answer g c = λ s b p read.
     let mine = c.args.mine in
     is_report s b p mine.series.prices mine.series.rests mine.series.factors.items mine.model mine.factor read c.in-Ok.shells.series c.in-Ok.shells.rows.items c.in-Ok.ensures c.in_ok-rows_at-in-Ok.ensures.series c.best_pits_at_factors_are_nested.ensures c.in_ok-rows_at-in-Ok.field-0.items c.in_ok-rows_at-in-Ok.ensures.rows
 
