@@ -1,5 +1,5 @@
 -- The bench table of a series is that of the texts.
-use Rattle.std.proofs.Common.{◌≡◌, ◌⊎◌, ℕ, ℤ, pos, ◌<◌, List, get_or, length, refl, sym, ap, ◌∙◌, subst, arith, Some, None, inl, inr, unwrap_or}
+use Rattle.std.proofs.Common.{◌≡◌, ◌⊎◌, ℕ, ℤ, pos, ◌<◌, List, get_or, length, refl, sym, ap, ◌∙◌, subst, arith, Some, None, Result, Ok, Err, inl, inr, unwrap_or, MatchResult}
 use Rattle.std.specs.List.{find, Contains}
 use Rattle.std.proofs.lemmas.List.FromFn.{length-map-range_with_len, get_or-map-range_with_len}
 use Rattle.ordered_group.specs.Block.{scaled_block}
@@ -35,7 +35,9 @@ use Rattle.shell_engines.specs.Shells.{mine_at_factor, ShellsFail}
 use Rattle.shell_engines.proofs.Lifted.{mine_is, nested, is_no_table, no_net_answer}
 use Rattle.report_engines.specs.ReportTexts.{ReportBlocksRead, report_factor, report_blocks}
 use Rattle.report_engines.specs.Reports.{IsReport, AnswersReport, ReportFails}
-use Rattle.report_engines.specs.Internal.{IsReportRead}
+use Rattle.report_engines.specs.Internal.{IsReportRead, verdict_of, text_of}
+use Rattle.report_engines.specs.declared.reporting.Outcome.{Outcome}
+use Rattle.engines.specs.declared.judgement.Verdict.{Verdict}
 use Rattle.report_engines.proofs.SameBlocks.{AreAlike, table_same}
 use Rattle.report_engines.proofs.FirstShell.{first_is}
 
@@ -89,13 +91,19 @@ module _ (s t p : List ℕ) (prices : PricesView) (rests : RestsView) (factors :
     }
 
   -- no pit is proved at a factor, and this line says so
-  pub is_none : (method : Method) (limit k : ℕ) (why : Unsolved) (line : List ℕ) → NoSeriesStands scaled_block rests prices factors method limit (none.Unsolved k why) → IsLineOf k why line → AnswersReport s t p method limit No line
+  is_none : (method : Method) (limit k : ℕ) (why : Unsolved) (line : List ℕ) → NoSeriesStands scaled_block rests prices factors method limit (none.Unsolved k why) → IsLineOf k why line → AnswersReport s t p method limit No line
   is_none method limit k why line h spelled = (blocks_read, is_no_table s t p prices rests factors read.series method limit k why h.1.0 line h.0 h.1.1 h.1.2 spelled)
 
-  pub wanted : (e : EngineFault) → IsWant e → ReportFails s t p e
+  wanted : (e : EngineFault) → IsWant e → ReportFails s t p e
   wanted e (inl is) = subst (ReportFails s t p) (sym is) tt
   wanted e (inr (inl is)) = subst (ReportFails s t p) (sym is) tt
   wanted e (inr (inr is)) = subst (ReportFails s t p) (sym is) tt
+
+  -- the answer where no pit is proved at a factor
+  pub none_answer : (method : Method) (limit k : ℕ) (why : Unsolved) (answer : Result Outcome EngineFault) → NoSeriesStands scaled_block rests prices factors method limit (none.Unsolved k why) → MatchResult answer (λ o. (verdict_of o ≡ No) × IsLineOf k why (text_of o)) IsWant
+      → MatchResult answer (λ o. AnswersReport s t p method limit (verdict_of o) (text_of o)) (ReportFails s t p)
+  none_answer method limit k why (Ok o) h line = subst (λ (v : Verdict). AnswersReport s t p method limit v (text_of o)) (sym line.0) (is_none method limit k why (text_of o) h line.1)
+  none_answer method limit k why (Err e) h want = wanted e want
 
   net_fails : (fault : NetFault) → ShellsFail s t p (of_model fault) → ReportFails s t p (of_model fault)
   net_fails net_fault.WrongLength h = (blocks_read, h)

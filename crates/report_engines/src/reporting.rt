@@ -3,12 +3,15 @@
 ghost use Rattle.std.specs.Prelude.{◌≡◌, ℕ, List, ◌+◌, ◌-◌, ◌^◌, ◌<◌, ◌⊎◌, IfSome, IfOk, IfErr, OnOk, MatchResult, IsErrOf};
 ghost use Rattle.std.specs.Io.KnownBytes.{Appends};
 ghost use Rattle.fixed_worth.specs.Device.{ReceivedPrefix};
+ghost use Rattle.shell_engines.specs.ShellTable.{IsLineOf};
+ghost use Rattle.shell_engines.specs.Internal.{IsWant};
 ghost use Rattle.report_engines.specs.Reports.{AnswersReport, ReportFails, Reports};
 ghost use Rattle.report_engines.specs.Internal.{IsReportRead, verdict_of, text_of};
 
 use crate::bench_rows::rows_at;
 use crate::report_inputs::{ReportMine, report_mine_from};
 use bench_report::{BenchRow, ReportWriteFault, write_report};
+use engines::solving::Unsolved;
 use engines::{Effort, EngineFault, Verdict};
 use fixed_worth::{CountedRead, CountedWrite, write_text};
 use ordered_group::Scaled;
@@ -105,12 +108,19 @@ fn outcome_of<R: Threads + Wait + Sync, T: Gate + Progress + SeriesProgress>(
     } = mine;
     match settle::<Scaled, R, T>(rt, alloc, series, effort, gate) {
         Ok(shells) => Ok(Outcome::Table(rows_at(rt, alloc, &model, &shells.series, factor)?)),
-        Err(NoSeries::Unsolved(factor, why)) => {
-            let answer = answer_at(alloc, factor, why)?;
-            Ok(Outcome::NoTable(answer.text))
-        }
+        Err(NoSeries::Unsolved(factor, why)) => no_table(alloc, factor, why),
         Err(NoSeries::Model(_, fault)) => Err(EngineFault::from(fault)),
         Err(NoSeries::Memory) => Err(EngineFault::Memory),
+    }
+}
+
+// What comes of a mine where no pit is proved at a factor.
+fn no_table(alloc: Global, factor: u32, why: Unsolved) -> Result<Outcome, EngineFault>
+    ensures { MatchResult result (λ outcome. (verdict_of outcome ≡ Verdict.No) × IsLineOf factor why (text_of outcome)) IsWant }
+{
+    match answer_at(alloc, factor, why) {
+        Ok(answer) => Ok(Outcome::NoTable(answer.text)),
+        Err(fault) => Err(fault),
     }
 }
 
