@@ -1,5 +1,5 @@
 -- From prices that were read to the worths of the mine at a factor.
-use Rattle.std.proofs.Common.{◌+◌, ◌≡◌, ℕ, ◌<◌, ◌≤◌, ℤ, pos, List, [], ◌∷◌, length, map, get_or, refl, sym, ap, ◌∙◌, subst, arith, cond, ltb, Bool, true, false, Option, Some, None, unwrap_or, Result, Ok, Err, IfSome}
+use Rattle.std.proofs.Common.{◌+◌, ◌≡◌, ℕ, ◌<◌, ◌≤◌, ℤ, pos, List, [], ◌∷◌, length, map, get_or, refl, sym, ap, ◌∙◌, subst, arith, cond, ltb, Bool, true, false, Option, Some, None, unwrap_or, Result, Ok, Err, IfSome, MatchResult}
 use Rattle.std.specs.List.{range_with_len}
 use Rattle.std.specs.Result.{result_unwrap_or}
 use Rattle.std.specs.Str.{bytes_eq}
@@ -30,7 +30,7 @@ use Rattle.engines.specs.Mines.{priced_texts}
 use Rattle.engines.specs.declared.engine_fault.EngineFault.{EngineFault}
 use Rattle.engines.specs.declared.engine_fault.EngineFault.TheVariants as engine
 use Rattle.engines.specs.Slopes.{ReadsBlocks, BlocksFails, BlocksReadFails}
-use Rattle.engines.specs.Inputs.{ReadsSettingsText, SettingsReadFails, ReadsPrices, ReadsPrec, PricesReadFail}
+use Rattle.engines.specs.Inputs.{ReadsSettingsText, SettingsReadFails, ReadsPrices, ReadsPrec, PricesReadFail, ModelPricesFail}
 use Rattle.engines.specs.PricedTexts.{cell, cells, values_of, table_by, table_of, price_keys, price_columns, ColumnsKnown, SettingsFaultStands}
 use Rattle.engines.specs.Limits.{IsWithinLimit}
 use Rattle.engines.specs.ReadMines.{AreRead, ArePricesRead, of_settings}
@@ -104,7 +104,7 @@ settings_told text (settings_fault.Missing key) within h = absurd h
 settings_told text settings_fault.NoMemory within h = tt
 
 -- the prices were made of the columns of the text
-pub prices_made : (o : Option (List ℕ)) (revenue cost : ℕ) (said : SettingsView) (m : BlocksView) (table : PricesView) → revenue ∷ cost ∷ [] ≡ price_columns said → IfSome o (λ text. ReadsBlocks (revenue ∷ cost ∷ []) text m)
+prices_made : (o : Option (List ℕ)) (revenue cost : ℕ) (said : SettingsView) (m : BlocksView) (table : PricesView) → revenue ∷ cost ∷ [] ≡ price_columns said → IfSome o (λ text. ReadsBlocks (revenue ∷ cost ∷ []) text m)
     → table ≡ record { revenue = values_of m 0; cost = values_of m 1 } → IfSome o (λ text. ReadsPrices said text table)
 prices_made None revenue cost said m table e h is = tt
 prices_made (Some text) revenue cost said m table e h is =
@@ -112,15 +112,30 @@ prices_made (Some text) revenue cost said m table e h is =
     record { within = h.0; read = subst F e h.1; is = table_is revenue cost said text m table e h.2 is }
 
 -- no prices are made of them
-pub prices_fail : (o : Option (List ℕ)) (revenue cost : ℕ) (said : SettingsView) (m : BlocksView) (rs cs : List ℤ) (fault : PricesFault) → revenue ∷ cost ∷ [] ≡ price_columns said → IfSome o (λ text. ReadsBlocks (revenue ∷ cost ∷ []) text m)
-    → rs ≡ values_of m 0 → cs ≡ values_of m 1 → PricesFaultStands rs cs fault → IfSome o (λ text. PricesReadFail said text (engine.Prices fault))
-prices_fail None revenue cost said m rs cs fault e h p q f = tt
-prices_fail (Some text) revenue cost said m rs cs fault e h p q f =
+prices_fail : (text : List ℕ) (revenue cost : ℕ) (said : SettingsView) (m : BlocksView) (fault : EngineFault) → revenue ∷ cost ∷ [] ≡ price_columns said → ReadsBlocks (revenue ∷ cost ∷ []) text m → ModelPricesFail m fault → PricesReadFail said text fault
+prices_fail text revenue cost said m (engine.Prices fault) e h f =
     let F : List ℕ → Type 0 = λ chosen. blocks.fault_of chosen text ≡ None in
     let table = table_is revenue cost said text m (record { revenue = values_of m 0; cost = values_of m 1 }) e h.2 refl in
     let S : PricesView → Type 0 = λ t. PricesFaultStands t.revenue t.cost fault in
-    let stands : PricesFaultStands (values_of m 0) (values_of m 1) fault = subst (λ (xs : List ℤ). PricesFaultStands (values_of m 0) xs fault) q (subst (λ (xs : List ℤ). PricesFaultStands xs cs fault) p f) in
-    (h.0, subst F e h.1, subst S table stands)
+    (h.0, subst F e h.1, subst S table f)
+prices_fail text revenue cost said m engine.Memory e h f = tt
+prices_fail text revenue cost said m engine.Device e h f = tt
+prices_fail text revenue cost said m (engine.Settings p) e h f = absurd f
+prices_fail text revenue cost said m (engine.Blocks p) e h f = absurd f
+prices_fail text revenue cost said m (engine.Upit p) e h f = absurd f
+prices_fail text revenue cost said m (engine.Prec p) e h f = absurd f
+prices_fail text revenue cost said m (engine.Slope p) e h f = absurd f
+prices_fail text revenue cost said m (engine.Model p) e h f = absurd f
+prices_fail text revenue cost said m (engine.Certificate p) e h f = absurd f
+prices_fail text revenue cost said m engine.Thread e h f = absurd f
+prices_fail text revenue cost said m engine.Stranger e h f = absurd f
+
+-- what is made of the columns of the text is told of it
+pub prices_told : (o : Option (List ℕ)) (revenue cost : ℕ) (said : SettingsView) (m : BlocksView) (made : Result PricesView EngineFault) → revenue ∷ cost ∷ [] ≡ price_columns said → IfSome o (λ text. ReadsBlocks (revenue ∷ cost ∷ []) text m)
+    → MatchResult made (λ table. table ≡ record { revenue = values_of m 0; cost = values_of m 1 }) (ModelPricesFail m) → IfSome o (λ text. MatchResult made (ReadsPrices said text) (PricesReadFail said text))
+prices_told None revenue cost said m made e h is = tt
+prices_told (Some text) revenue cost said m (Ok table) e h is = prices_made (Some text) revenue cost said m table e h is
+prices_told (Some text) revenue cost said m (Err fault) e h f = prices_fail text revenue cost said m fault e h f
 
 -- the blocks were not read
 pub blocks_fail : (o : Option (List ℕ)) (revenue cost : ℕ) (said : SettingsView) (fault : EngineFault) → revenue ∷ cost ∷ [] ≡ price_columns said → IfSome o (λ text. BlocksReadFails (revenue ∷ cost ∷ []) text fault) → IfSome o (λ text. PricesReadFail said text fault)

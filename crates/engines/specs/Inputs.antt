@@ -7,13 +7,14 @@ use Rattle.engines.specs.declared.engine_fault.EngineFault.{EngineFault}
 use Rattle.engines.specs.declared.engine_fault.EngineFault.TheVariants as engine
 use Rattle.engines.specs.declared.engine_fault.CertificateProblem.TheVariants as certificate
 use Rattle.blocks_file.specs.Records as blocks
+use Rattle.blocks_file.specs.Denotes.{BlocksView}
 use Rattle.settings_file.specs.Settings.{SettingsView, ReadsSettings, first_missing}
 use Rattle.settings_file.specs.declared.keys.Key.{Key}
 use Rattle.settings_file.specs.declared.faults.SettingsFault.TheVariants as settings_fault
 use Rattle.shells.specs.Prices.{PricesView, PricesFaultStands}
 use Rattle.engines.specs.declared.engine_fault.Problem.TheVariants as problem
 use Rattle.engines.specs.Limits.{IsTooLong, IsWithinLimit}
-use Rattle.engines.specs.PricedTexts.{price_keys, price_columns, table_by, PricesRead, SettingsFaultStands, SettingsFails, PricedBlocksFail, PricesFail}
+use Rattle.engines.specs.PricedTexts.{price_keys, price_columns, values_of, table_by, PricesRead, SettingsFaultStands, SettingsFails, PricedBlocksFail, PricesFail}
 use Rattle.engines.specs.Slopes.{BlocksFails}
 use Rattle.engines.specs.Mines.{ValuesRead}
 use Rattle.engines.specs.FaultStands.{UpitFails, PrecFails}
@@ -81,6 +82,12 @@ PricesReadFail said text (engine.Prices fault) = IsWithinLimit text × (blocks.f
 PricesReadFail said text engine.Memory = Unit {0}
 PricesReadFail said text engine.Device = Unit {0}
 PricesReadFail said text _ = ⊥
+
+-- why the first two columns of a model are no prices: want of memory, or they are no table
+abbrev pub ModelPricesFail : BlocksView → EngineFault → Type 0
+ModelPricesFail m (engine.Prices fault) = PricesFaultStands (values_of m 0) (values_of m 1) fault
+ModelPricesFail m engine.Memory = Unit {0}
+ModelPricesFail m _ = ⊥
 
 -- why the texts of a mine of prices aren't read
 abbrev pub PricedMineFails : List ℕ → List ℕ → List ℕ → EngineFault → Type 0

@@ -1,11 +1,11 @@
 //! Reading what prices blocks: settings, and the columns of blocks that they name.
 
-ghost use Rattle.std.specs.Prelude.{◌≡◌, ◌+◌, ◌-◌, ◌^◌, ◌<◌, ◌↔◌, [], ◌∷◌, length, None, IfOk, IfSome, MatchResult, IsErrOf};
+ghost use Rattle.std.specs.Prelude.{◌≡◌, ◌+◌, ◌-◌, ◌^◌, ◌<◌, ◌≤◌, ◌↔◌, [], ◌∷◌, length, None, IfOk, IfSome, MatchResult, IsErrOf};
 ghost use Rattle.settings_file.specs.Settings.{SettingsView, first_missing};
 ghost use Rattle.engines.specs.Limits.{IsWithinLimit};
 ghost use Rattle.engines.specs.PricedTexts.{price_keys, price_columns, values_of};
 ghost use Rattle.engines.specs.ReadMines.{ArePricesRead};
-ghost use Rattle.engines.specs.Inputs.{ReadsSettingsText, SettingsReadFails, IsMissing, ReadsPrices, PricesReadFail, PricedMineFails};
+ghost use Rattle.engines.specs.Inputs.{ReadsSettingsText, SettingsReadFails, IsMissing, ReadsPrices, PricesReadFail, ModelPricesFail, PricedMineFails};
 
 use crate::engine_fault::{EngineFault, Problem};
 use crate::inputs::{blocks_from, rests_from, text_from};
@@ -81,8 +81,22 @@ pub fn prices_from<R: CountedRead>(
     ensures kept { ¬ IsErrOf result EngineFault.Device → R.failed from.new ≡ R.failed from.old }
 {
     let model = blocks_from(alloc, from, &[columns.revenue, columns.cost])?;
-    let revenue = column_of(alloc, &model, 0)?;
-    let cost = column_of(alloc, &model, 1)?;
+    prices_of(alloc, &model)
+}
+
+/// The prices of the blocks of a model: its first chosen column has the revenues, its second one the costs.
+///
+/// # Errors
+/// `Prices` for a negative revenue. `Memory` where memory is refused.
+pub fn prices_of(alloc: Global, model: &BlockModel) -> Result<Prices, EngineFault>
+    requires { 2 ≤ length model.now.columns }
+    ensures prices { MatchResult result
+        (λ prices. prices ≡ record { revenue = values_of model.now 0; cost = values_of model.now 1 })
+        (ModelPricesFail model.now) }
+    ensures no_device { ¬ IsErrOf result EngineFault.Device }
+{
+    let revenue = column_of(alloc, model, 0)?;
+    let cost = column_of(alloc, model, 1)?;
     match Prices::new(revenue, cost) {
         Ok(prices) => Ok(prices),
         Err(fault) => Err(EngineFault::Prices(fault)),

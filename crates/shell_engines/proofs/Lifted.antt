@@ -50,7 +50,7 @@ module _ (s t p : List ℕ) (table : PricesView) (rests : RestsView) (r : ArePri
   pub mine_is : (k : ℕ) → mine_at rests.pairs table k ≡ mine_at_factor rests.blocks s t p k
   mine_is k = λ i. record { blocks = r.size i; rests = λ b q. rests_same (prec.listed p) rests.pairs r.pairs b q i; worth = worth_at (r.table i) k }
 
-  nested : BestPitsAreNested → AreNested (mine_at_factor rests.blocks s t p)
+  pub nested : BestPitsAreNested → AreNested (mine_at_factor rests.blocks s t p)
   nested law j k e c le low high =
       let B : (ℕ → Bool) → Mine → Type 0 = λ d m. IsBest m d in
       let W : Mine → Type 0 = λ m. LiesWithin m e c in

@@ -8,10 +8,10 @@
 
 mod announcing;
 mod candidates;
-mod no_series;
-mod series_engine;
-mod series_inputs;
-mod settling;
+pub mod no_series;
+pub mod series_engine;
+pub mod series_inputs;
+pub mod settling;
 mod shell_rows;
 
 pub use announcing::SeriesProgress;

@@ -74,11 +74,13 @@ pub fn shells_engine<
     Ok(answer.verdict)
 }
 
-// How the engine ends, and the text that it writes.
+/// How the engine ends, and the text that it writes.
 #[derive(Drop)]
-struct Answer {
-    verdict: Verdict,
-    text: Vec<u8>,
+pub struct Answer {
+    /// How it ends.
+    pub verdict: Verdict,
+    /// What it writes.
+    pub text: Vec<u8>,
 }
 
 // The answer for a mine that was read.
@@ -107,8 +109,12 @@ fn answer_of<R: Threads + Wait + Sync, T: Gate + Progress + SeriesProgress>(
     }
 }
 
-// The answer where no pit is proved at a factor.
-fn answer_at(alloc: Global, factor: u32, why: Unsolved) -> Result<Answer, EngineFault>
+/// The answer where no pit is proved at a factor, in thousandths: `No`, with the line `UNSETTLED factor` where the run needs
+/// more steps, `REFUSED TooLarge` where a number of it doesn't fit.
+///
+/// # Errors
+/// `Memory`, `Thread` and `Stranger`, where that is the reason; `Memory` too where it is refused here.
+pub fn answer_at(alloc: Global, factor: u32, why: Unsolved) -> Result<Answer, EngineFault>
     ensures { MatchResult result (λ a. (a.verdict ≡ Verdict.No) × IsLineOf factor why a.text.items) IsWant }
 {
     match why {

@@ -44,8 +44,11 @@ fn factors_from(alloc: Global, thousandths: &[u32]) -> Result<Vec<Factor>, Alloc
     Ok(factors)
 }
 
-// The factors of settings.
-fn factors_of(alloc: Global, settings: &Settings) -> Result<Vec<Factor>, EngineFault>
+/// The factors of settings, ascending.
+///
+/// # Errors
+/// `Settings` where the settings name none. `Memory` where memory is refused.
+pub fn factors_of(alloc: Global, settings: &Settings) -> Result<Vec<Factor>, EngineFault>
     ensures factors { IfOk result (λ v. (v.items ≡ unwrap_or settings.now.factors []) × (first_missing (Key.Factors ∷ []) settings.now ≡ None)) }
     ensures form { IfOk result (λ v. AreFactors v.items) }
     ensures fault { IfErr result (λ e. (e ≡ EngineFault.Memory) ⊎ IsMissing (Key.Factors ∷ []) settings.now e) }

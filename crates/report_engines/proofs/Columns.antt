@@ -1,0 +1,71 @@
+-- A text of blocks without a fault has none where fewer of the columns are chosen.
+use Rattle.std.proofs.Common.{◌≡◌, ℕ, Bool, true, false, cond, not, ◌||◌, ◌&&◌, nat_lt, List, [], ◌∷◌, ◌++◌, length, refl, Option, Some, None}
+use Rattle.std.specs.Option.{option_or}
+use Rattle.std.specs.List.{list_any}
+use Rattle.fixed_worth.specs.Text.{fields_of}
+use Rattle.fixed_worth.specs.Record.{Line, is_skipped}
+use Rattle.blocks_file.specs.declared.faults.BlocksFault.{BlocksFault}
+use Rattle.blocks_file.specs.declared.faults.BlocksFault.TheVariants.{Number, NoColumn}
+use Rattle.blocks_file.specs.Records.{head_reads, is_bad, are_there, shape_fault, block_fault, block_of, record_fault, has_record, first_fault, early_fault, lines_in, count_of, fault_of}
+
+-- columns are as good as others, of which they are some: none of them is bad, and all are there, where so it is of the others
+pub record AreSomeOf (fewer chosen : List ℕ) : Type 0 where
+  pub good : (columns : List (List ℕ)) → list_any (is_bad columns) chosen ≡ false → list_any (is_bad columns) fewer ≡ false
+  pub there : (count : ℕ) → are_there chosen count ≡ true → are_there fewer count ≡ true
+
+none_parts : {X : Type 0} → (a b : Option X) → option_or a b ≡ None → (a ≡ None) × (b ≡ None)
+none_parts None b h = (refl, h)
+none_parts (Some x) b h = absurd cc
+
+none_of : {X : Type 0} → (a b : Option X) → a ≡ None → b ≡ None → option_or a b ≡ None
+none_of None b h k = k
+none_of (Some x) b h k = absurd cc
+
+shape_step : (line : ℕ) (heads bad there bad' there' : Bool) → (bad ≡ false → bad' ≡ false) → (there ≡ true → there' ≡ true) → cond (not heads || bad) (Some (Number line)) (cond (not there) (Some (NoColumn line)) None) ≡ None → cond (not heads || bad') (Some (Number line)) (cond (not there') (Some (NoColumn line)) None) ≡ None
+shape_step line true false true bad' there' f g h = rw (f refl, g refl) refl
+shape_step line true false false bad' there' f g h = absurd cc
+shape_step line true true there bad' there' f g h = absurd cc
+shape_step line false bad there bad' there' f g h = absurd cc
+
+record_step : (skipped : Bool) (a b c : Option BlocksFault) → (a ≡ None → b ≡ None) → cond skipped None (option_or a c) ≡ None → cond skipped None (option_or b c) ≡ None
+record_step true a b c f h = refl
+record_step false a b c f h = let p = none_parts a c h in none_of b c (f p.0) p.1
+
+module _ (fewer chosen : List ℕ) (some : AreSomeOf fewer chosen) where
+  shape_unfaulted : (line : ℕ) (fields : List (List ℕ)) → shape_fault line chosen fields ≡ None → shape_fault line fewer fields ≡ None
+  shape_unfaulted line [] h = h
+  shape_unfaulted line (block ∷ []) h = h
+  shape_unfaulted line (block ∷ x ∷ []) h = h
+  shape_unfaulted line (block ∷ x ∷ y ∷ []) h = h
+  shape_unfaulted line (block ∷ x ∷ y ∷ z ∷ columns) h = shape_step line (head_reads block x y z) (list_any (is_bad columns) chosen) (are_there chosen (length columns)) (list_any (is_bad columns) fewer) (are_there fewer (length columns)) (some.good columns) (some.there (length columns)) h
+
+  record_unfaulted : (n : ℕ) (had : ℕ → Bool) (line : ℕ) (fields : List (List ℕ)) → record_fault n chosen had line fields ≡ None → record_fault n fewer had line fields ≡ None
+  record_unfaulted n had line fields h = record_step (is_skipped fields) (shape_fault line chosen fields) (shape_fault line fewer fields) (block_fault n had line (block_of fields)) (shape_unfaulted line fields) h
+
+  lines_unfaulted : (n : ℕ) (before lines : List Line) → first_fault n chosen before lines ≡ None → first_fault n fewer before lines ≡ None
+  lines_unfaulted n before [] h = refl
+  lines_unfaulted n before (l ∷ lines) h =
+      let p = none_parts (record_fault n chosen (has_record before) l.number (fields_of l.text)) (first_fault n chosen (before ++ l ∷ []) lines) h in
+      none_of _ _ (record_unfaulted n (has_record before) l.number (fields_of l.text) p.0) (lines_unfaulted n (before ++ l ∷ []) lines p.1)
+
+  pub unfaulted : (text : List ℕ) → fault_of chosen text ≡ None → fault_of fewer text ≡ None
+  unfaulted text h =
+      let p = none_parts (early_fault (lines_in text)) (first_fault (count_of text) chosen [] (lines_in text)) h in
+      none_of _ _ p.0 (lines_unfaulted (count_of text) [] (lines_in text) p.1)
+
+none_bad : (s t u : Bool) → (s || (t || (u || false))) ≡ false → (s || (t || false)) ≡ false
+none_bad true t u h = h
+none_bad false true u h = h
+none_bad false false u h = refl
+
+all_there : (s t u : Bool) → (s && (t && (u && true))) ≡ true → (s && (t && true)) ≡ true
+all_there false t u h = h
+all_there true false u h = h
+all_there true true u h = refl
+
+-- the first two columns of three
+pub two_of_three : (a b c : ℕ) → AreSomeOf (a ∷ b ∷ []) (a ∷ b ∷ c ∷ [])
+two_of_three a b c = record {
+  good = λ columns h. none_bad (is_bad columns a) (is_bad columns b) (is_bad columns c) h;
+  there = λ count h. all_there (nat_lt a count) (nat_lt b count) (nat_lt c count) h;
+}

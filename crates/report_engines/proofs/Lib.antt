@@ -1,0 +1,8 @@
+pub mod Keys
+pub mod Columns
+pub mod SameBlocks
+pub mod FirstShell
+pub mod SmallSums
+pub mod Readings
+pub mod Tables
+pub mod Answers

@@ -1,0 +1,239 @@
+-- From the parts of the reading of a mine that is reported to what was read, where the readers tell their bytes.
+use Rattle.std.proofs.Common.{◌≡◌, ◌⊎◌, ℕ, ℤ, List, [], ◌∷◌, refl, sym, ap, ◌∙◌, subst, Option, Some, None, Result, Ok, Err, inl, inr, IfSome, MatchResult, unwrap_or, arith}
+use Rattle.blocks_file.specs.Records as blocks
+use Rattle.blocks_file.specs.Denotes.{BlocksView}
+use Rattle.prec_file.specs.Rests.{RestsView}
+use Rattle.settings_file.specs.declared.keys.Key.{Key}
+use Rattle.settings_file.specs.declared.keys.Key.TheVariants.{Tonnes, Factors}
+use Rattle.settings_file.specs.declared.faults.SettingsFault.{SettingsFault}
+use Rattle.settings_file.specs.declared.faults.SettingsFault.TheVariants as settings_fault
+use Rattle.settings_file.specs.Settings.{SettingsView, settings_of, first_missing}
+use Rattle.settings_file.proofs.Known.{settings_are, settings_read}
+use Rattle.shells.specs.Prices.{PricesView, PricesFaultStands, NoneNegative, blocks_of}
+use Rattle.engines.specs.declared.engine_fault.EngineFault.{EngineFault}
+use Rattle.engines.specs.declared.engine_fault.EngineFault.TheVariants as engine
+use Rattle.engines.specs.declared.engine_fault.Problem.{Problem}
+use Rattle.engines.specs.declared.engine_fault.Problem.TheVariants as problem
+use Rattle.engines.specs.PricedTexts.{price_keys, price_columns, values_of, table_by, table_of, SettingsFails}
+use Rattle.engines.specs.Slopes.{ReadsBlocks, BlocksFails, BlocksReadFails}
+use Rattle.engines.specs.Inputs.{ReadsSettingsText, SettingsReadFails, IsMissing, ReadsPrices, ReadsPrec, PrecReadFails, ModelPricesFail}
+use Rattle.engines.specs.ReadMines.{ArePricesRead}
+use Rattle.engines.proofs.Priced.{column_is, all_read}
+use Rattle.engines.proofs.PricedAnswers.{prec_answer}
+use Rattle.shell_engines.proofs.Keys.{first_missing-append, first_missing-front}
+use Rattle.report_engines.specs.ReportTexts.{report_keys, ReportKeysKnown, report_columns, ReportBlocksRead, factor_by, report_factor, ReportMineFails}
+use Rattle.report_engines.specs.Internal.{column_keys, IsSaid, SaidFails, PricedModelFails, IsPricedModel, IsReportRead}
+use Rattle.report_engines.proofs.Keys.{none_missing}
+use Rattle.report_engines.proofs.Columns.{unfaulted, two_of_three}
+
+-- ---- settings
+
+settings_fail_at : (s : List ℕ) (e : EngineFault) → SettingsReadFails s e → SaidFails s e
+settings_fail_at s (engine.Settings problem.InputTooLong) h = h
+settings_fail_at s (engine.Settings (problem.Fault settings_fault.NotToml)) h = h
+settings_fail_at s (engine.Settings (problem.Fault settings_fault.UnknownKey)) h = h
+settings_fail_at s (engine.Settings (problem.Fault (settings_fault.BadValue key))) h = h
+settings_fail_at s (engine.Settings (problem.Fault (settings_fault.Missing key))) h = absurd (let z : None ≡ Some key = h.1.1 in cc)
+settings_fail_at s (engine.Settings (problem.Fault settings_fault.NoMemory)) h = h
+settings_fail_at s engine.Memory h = tt
+settings_fail_at s engine.Device h = tt
+settings_fail_at s (engine.Blocks q) h = absurd h
+settings_fail_at s (engine.Prices q) h = absurd h
+settings_fail_at s (engine.Upit q) h = absurd h
+settings_fail_at s (engine.Prec q) h = absurd h
+settings_fail_at s (engine.Slope q) h = absurd h
+settings_fail_at s (engine.Model q) h = absurd h
+settings_fail_at s (engine.Certificate q) h = absurd h
+settings_fail_at s engine.Thread h = absurd h
+settings_fail_at s engine.Stranger h = absurd h
+
+pub settings_fail : (o : Option (List ℕ)) (e : EngineFault) → IfSome o (λ s. SettingsReadFails s e) → IfSome o (λ s. SaidFails s e)
+settings_fail None e h = tt
+settings_fail (Some s) e h = settings_fail_at s e h
+
+missing_is : (s : List ℕ) (said : SettingsView) (e : EngineFault) (key : Key) → ReadsSettingsText s said → e ≡ engine.Settings (problem.Fault (settings_fault.Missing key)) → first_missing report_keys said ≡ Some key → SaidFails s e
+missing_is s said e key a is m =
+    let M : SettingsView → Type 0 = λ v. first_missing report_keys v ≡ Some key in
+    subst (SaidFails s) (sym is) (a.0, (settings_read s said a.1, subst M (sym (settings_are s said a.1)) m))
+
+-- a column is missing
+pub column_missing : (o : Option (List ℕ)) (said : SettingsView) (e : EngineFault) → IfSome o (λ s. ReadsSettingsText s said) → IsMissing column_keys said e → IfSome o (λ s. SaidFails s e)
+column_missing None said e a m = tt
+column_missing (Some s) said e a m = missing_is s said e m.0 a m.1 (first_missing-front said column_keys (Factors ∷ []) m.0 m.2)
+
+-- the factors are missing, or memory is refused
+pub factors_missing : (o : Option (List ℕ)) (said : SettingsView) (e : EngineFault) → IfSome o (λ s. ReadsSettingsText s said) → first_missing column_keys said ≡ None → (e ≡ engine.Memory) ⊎ IsMissing (Factors ∷ []) said e → IfSome o (λ s. SaidFails s e)
+factors_missing None said e a whole m = tt
+factors_missing (Some s) said e a whole (inl is) = subst (SaidFails s) (sym is) tt
+factors_missing (Some s) said e a whole (inr m) = missing_is s said e m.0 a m.1 (first_missing-append said column_keys (Factors ∷ []) whole ∙ m.2)
+
+pub said_is : (o : Option (List ℕ)) (said : SettingsView) (columns factors : List ℕ) (factor : ℕ) → IfSome o (λ s. ReadsSettingsText s said) → first_missing column_keys said ≡ None → first_missing (Factors ∷ []) said ≡ None
+    → columns ≡ report_columns said → factors ≡ unwrap_or said.factors [] → factor ≡ factor_by said → IfSome o (λ s. IsSaid s columns factors factor)
+said_is None said columns factors factor a whole there c f k = tt
+said_is (Some s) said columns factors factor a whole there c f k =
+    let same = sym (settings_are s said a.1) in
+    let M : SettingsView → Type 0 = λ v. first_missing report_keys v ≡ None in
+    record {
+      keys = record { within = a.0; read = settings_read s said a.1; said = subst M same (first_missing-append said column_keys (Factors ∷ []) whole ∙ there) };
+      columns_are = c ∙ ap report_columns same;
+      factors_are = f ∙ ap (λ (v : SettingsView). unwrap_or v.factors []) same;
+      factor_is = k ∙ ap factor_by same;
+    }
+
+-- a column is missing where one of prices is, or where tonnes are
+pub price_missing : (said : SettingsView) (e : EngineFault) → IsMissing price_keys said e → IsMissing column_keys said e
+price_missing said e m = (m.0, m.1, first_missing-front said price_keys (Tonnes ∷ []) m.0 m.2)
+
+pub tonnes_missing : (said : SettingsView) (o : Option Key) → first_missing price_keys said ≡ None → first_missing (Tonnes ∷ []) said ≡ o → first_missing column_keys said ≡ o
+tonnes_missing said o whole h = first_missing-append said price_keys (Tonnes ∷ []) whole ∙ h
+
+-- ---- blocks
+
+blocks_fail_at : (columns text : List ℕ) (e : EngineFault) → BlocksReadFails columns text e → PricedModelFails columns text e
+blocks_fail_at columns text (engine.Blocks q) h = h
+blocks_fail_at columns text engine.Memory h = tt
+blocks_fail_at columns text engine.Device h = tt
+blocks_fail_at columns text (engine.Settings q) h = absurd h
+blocks_fail_at columns text (engine.Prices q) h = absurd h
+blocks_fail_at columns text (engine.Upit q) h = absurd h
+blocks_fail_at columns text (engine.Prec q) h = absurd h
+blocks_fail_at columns text (engine.Slope q) h = absurd h
+blocks_fail_at columns text (engine.Model q) h = absurd h
+blocks_fail_at columns text (engine.Certificate q) h = absurd h
+blocks_fail_at columns text engine.Thread h = absurd h
+blocks_fail_at columns text engine.Stranger h = absurd h
+
+pub blocks_fail : (o : Option (List ℕ)) (columns : List ℕ) (e : EngineFault) → IfSome o (λ text. BlocksReadFails columns text e) → IfSome o (λ text. PricedModelFails columns text e)
+blocks_fail None columns e h = tt
+blocks_fail (Some text) columns e h = blocks_fail_at columns text e h
+
+prices_fail_at : (columns text : List ℕ) (m : BlocksView) (e : EngineFault) → ReadsBlocks columns text m → ModelPricesFail m e → PricedModelFails columns text e
+prices_fail_at columns text m (engine.Prices fault) r h = (m, r, h)
+prices_fail_at columns text m engine.Memory r h = tt
+prices_fail_at columns text m engine.Device r h = tt
+prices_fail_at columns text m (engine.Blocks q) r h = absurd h
+prices_fail_at columns text m (engine.Settings q) r h = absurd h
+prices_fail_at columns text m (engine.Upit q) r h = absurd h
+prices_fail_at columns text m (engine.Prec q) r h = absurd h
+prices_fail_at columns text m (engine.Slope q) r h = absurd h
+prices_fail_at columns text m (engine.Model q) r h = absurd h
+prices_fail_at columns text m (engine.Certificate q) r h = absurd h
+prices_fail_at columns text m engine.Thread r h = absurd h
+prices_fail_at columns text m engine.Stranger r h = absurd h
+
+pub prices_fail : (o : Option (List ℕ)) (columns : List ℕ) (m : BlocksView) (e : EngineFault) → IfSome o (λ text. ReadsBlocks columns text m) → ModelPricesFail m e → IfSome o (λ text. PricedModelFails columns text e)
+prices_fail None columns m e r h = tt
+prices_fail (Some text) columns m e r h = prices_fail_at columns text m e r h
+
+-- ---- the mine
+
+module _ (s t : List ℕ) (columns factors : List ℕ) (factor : ℕ) (said : IsSaid s columns factors factor) where
+  blocks_read : (m : BlocksView) → ReadsBlocks columns t m → ReportBlocksRead s t
+  blocks_read m r = record { keys = said.keys; within = r.0; read = subst (λ (chosen : List ℕ). blocks.fault_of chosen t ≡ None) said.columns_are r.1 }
+
+  model_read : (m : BlocksView) → ReadsBlocks columns t m → ReadsBlocks (report_columns (settings_of s)) t m
+  model_read m r = subst (λ (chosen : List ℕ). ReadsBlocks chosen t m) said.columns_are r
+
+  -- the first two columns are those of prices
+  first_columns : (m : BlocksView) → ReadsBlocks columns t m → record { revenue = values_of m 0; cost = values_of m 1 } ≡ table_of s t
+  first_columns m r =
+      let d = (model_read m r).2 in
+      let v = column_is (report_columns (settings_of s)) t m 0 d (omega arith) in
+      let c = column_is (report_columns (settings_of s)) t m 1 d (omega arith) in
+      λ i. record { revenue = v i; cost = c i }
+
+  model_fails : (p : List ℕ) (e : EngineFault) → PricedModelFails columns t e → ReportMineFails s t p e
+  model_fails p (engine.Blocks q) h = (said.keys, subst (λ (chosen : List ℕ). BlocksFails chosen t q) said.columns_are h)
+  model_fails p (engine.Prices fault) h = (blocks_read h.0 h.1, subst (λ (table : PricesView). PricesFaultStands table.revenue table.cost fault) (first_columns h.0 h.1) h.2)
+  model_fails p engine.Memory h = tt
+  model_fails p engine.Device h = tt
+  model_fails p (engine.Settings q) h = absurd h
+  model_fails p (engine.Upit q) h = absurd h
+  model_fails p (engine.Prec q) h = absurd h
+  model_fails p (engine.Slope q) h = absurd h
+  model_fails p (engine.Model q) h = absurd h
+  model_fails p (engine.Certificate q) h = absurd h
+  model_fails p engine.Thread h = absurd h
+  model_fails p engine.Stranger h = absurd h
+
+  settings_told : ReadsSettingsText s (settings_of s)
+  settings_told = (said.keys.within, said.keys.read)
+
+  columns_known : first_missing price_keys (settings_of s) ≡ None
+  columns_known = (none_missing (settings_of s) price_keys (Tonnes ∷ Factors ∷ []) said.keys.said).0
+
+  module _ (m : BlocksView) (prices : PricesView) (r : ReadsBlocks columns t m) (priced : IsPricedModel m prices) where
+    prices_read : ReadsPrices (settings_of s) t prices
+    prices_read = record {
+      within = r.0;
+      read = unfaulted _ _ (two_of_three _ _ _) t (model_read m r).1;
+      is = priced.prices_are ∙ first_columns m r;
+    }
+
+    prec_fails : (p : List ℕ) (n : ℕ) (e : EngineFault) → n ≡ blocks_of prices → NoneNegative prices → PrecReadFails n p e → ReportMineFails s t p e
+    prec_fails p n (engine.Prec q) size positive h = (blocks_read m r, prec_answer (Some s) (Some t) (Some p) (settings_of s) prices n (engine.Prec q) size positive columns_known settings_told prices_read h)
+    prec_fails p n engine.Memory size positive h = tt
+    prec_fails p n engine.Device size positive h = tt
+    prec_fails p n (engine.Blocks q) size positive h = absurd h
+    prec_fails p n (engine.Settings q) size positive h = absurd h
+    prec_fails p n (engine.Prices q) size positive h = absurd h
+    prec_fails p n (engine.Upit q) size positive h = absurd h
+    prec_fails p n (engine.Slope q) size positive h = absurd h
+    prec_fails p n (engine.Model q) size positive h = absurd h
+    prec_fails p n (engine.Certificate q) size positive h = absurd h
+    prec_fails p n engine.Thread size positive h = absurd h
+    prec_fails p n engine.Stranger size positive h = absurd h
+
+    mine_read : (p : List ℕ) (n : ℕ) (rests : RestsView) → n ≡ blocks_of prices → NoneNegative prices → ReadsPrec n p rests → IsReportRead s t p prices rests factors m factor
+    mine_read p n rests size positive h = record {
+      series = record {
+        mine = all_read s t p (settings_of s) prices rests n size positive columns_known settings_told prices_read h;
+        keys = first_missing-append (settings_of s) price_keys (Factors ∷ []) columns_known ∙ (none_missing (settings_of s) column_keys (Factors ∷ []) said.keys.said).1;
+        factors_are = said.factors_are;
+      };
+      keys = said.keys;
+      blocks_are = model_read m r;
+      factor_is = said.factor_is;
+    }
+
+-- ---- readers that tell their bytes
+
+said_fails_at : (s t p : List ℕ) (e : EngineFault) → SaidFails s e → ReportMineFails s t p e
+said_fails_at s t p (engine.Settings q) h = h
+said_fails_at s t p engine.Memory h = tt
+said_fails_at s t p engine.Device h = tt
+said_fails_at s t p (engine.Blocks q) h = absurd h
+said_fails_at s t p (engine.Prices q) h = absurd h
+said_fails_at s t p (engine.Upit q) h = absurd h
+said_fails_at s t p (engine.Prec q) h = absurd h
+said_fails_at s t p (engine.Slope q) h = absurd h
+said_fails_at s t p (engine.Model q) h = absurd h
+said_fails_at s t p (engine.Certificate q) h = absurd h
+said_fails_at s t p engine.Thread h = absurd h
+said_fails_at s t p engine.Stranger h = absurd h
+
+pub said_fails : (o q r : Option (List ℕ)) (e : EngineFault) → IfSome o (λ s. SaidFails s e) → IfSome o (λ s. IfSome q (λ b. IfSome r (λ p. ReportMineFails s b p e)))
+said_fails None q r e h = tt
+said_fails (Some s) None r e h = tt
+said_fails (Some s) (Some b) None e h = tt
+said_fails (Some s) (Some b) (Some p) e h = said_fails_at s b p e h
+
+pub model_unread : (o q r : Option (List ℕ)) (columns factors : List ℕ) (factor : ℕ) (e : EngineFault) → IfSome o (λ s. IsSaid s columns factors factor) → IfSome q (λ b. PricedModelFails columns b e) → IfSome o (λ s. IfSome q (λ b. IfSome r (λ p. ReportMineFails s b p e)))
+model_unread None q r columns factors factor e a h = tt
+model_unread (Some s) None r columns factors factor e a h = tt
+model_unread (Some s) (Some b) None columns factors factor e a h = tt
+model_unread (Some s) (Some b) (Some p) columns factors factor e a h = model_fails s b columns factors factor a p e h
+
+pub prec_unread : (o q r : Option (List ℕ)) (columns factors : List ℕ) (factor : ℕ) (m : BlocksView) (prices : PricesView) (n : ℕ) (e : EngineFault) → n ≡ blocks_of prices → NoneNegative prices → IsPricedModel m prices
+    → IfSome o (λ s. IsSaid s columns factors factor) → IfSome q (λ b. ReadsBlocks columns b m) → IfSome r (λ p. PrecReadFails n p e) → IfSome o (λ s. IfSome q (λ b. IfSome r (λ p. ReportMineFails s b p e)))
+prec_unread None q r columns factors factor m prices n e size positive priced a b h = tt
+prec_unread (Some s) None r columns factors factor m prices n e size positive priced a b h = tt
+prec_unread (Some s) (Some t) None columns factors factor m prices n e size positive priced a b h = tt
+prec_unread (Some s) (Some t) (Some p) columns factors factor m prices n e size positive priced a b h = prec_fails s t columns factors factor a m prices b priced p n e size positive h
+
+pub all_are_read : (o q r : Option (List ℕ)) (columns factors : List ℕ) (factor : ℕ) (m : BlocksView) (prices : PricesView) (n : ℕ) (rests : RestsView) → n ≡ blocks_of prices → NoneNegative prices → IsPricedModel m prices
+    → IfSome o (λ s. IsSaid s columns factors factor) → IfSome q (λ b. ReadsBlocks columns b m) → IfSome r (λ p. ReadsPrec n p rests) → IfSome o (λ s. IfSome q (λ b. IfSome r (λ p. IsReportRead s b p prices rests factors m factor)))
+all_are_read None q r columns factors factor m prices n rests size positive priced a b h = tt
+all_are_read (Some s) None r columns factors factor m prices n rests size positive priced a b h = tt
+all_are_read (Some s) (Some t) None columns factors factor m prices n rests size positive priced a b h = tt
+all_are_read (Some s) (Some t) (Some p) columns factors factor m prices n rests size positive priced a b h = mine_read s t columns factors factor a m prices b priced p n rests size positive h

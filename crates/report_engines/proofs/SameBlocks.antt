@@ -1,0 +1,46 @@
+-- The bench table says nothing of numbers that are no blocks.
+use Rattle.std.proofs.Common.{◌≡◌, ℕ, zero, suc, ◌<◌, ℤ, Bool, ◌&&◌, List, map, Some, refl, sym, ap, ◌∙◌, subst, arith}
+use Rattle.std.specs.List.{Contains}
+use Rattle.std.proofs.lemmas.List.Elements.{All-weaker}
+use Rattle.ordered_group.specs.Sets.{worth_in, count_in}
+use Rattle.ordered_group.proofs.BlockSets.{count_in-same}
+use Rattle.bench_report.specs.declared.bench_row.BenchRow.{BenchRow}
+use Rattle.bench_report.specs.Benches.{ReportedBlocks, blocks_at, place_of, IsRow, IsBenchTable}
+
+-- equal sets of blocks that are worth the same are worth the same together
+pub worth_in-agrees : (v w : ℕ → ℤ) (e c : ℕ → Bool) (n : ℕ) → ((b : ℕ) → b < n → v b ≡ w b) → ((b : ℕ) → b < n → e b ≡ c b) → worth_in v e n ≡ worth_in w c n
+worth_in-agrees v w e c zero f h = refl
+worth_in-agrees v w e c (suc n) f h = rw (worth_in-agrees v w e c n (λ b l. f b (omega (arith, l))) (λ b l. h b (omega (arith, l))), f n (omega arith), h n (omega arith)) refl
+
+-- the second has the blocks of the first, and says the same of each
+pub record AreAlike (m other : ReportedBlocks) : Type 0 where
+  pub blocks : other.blocks ≡ m.blocks
+  pub height : (b : ℕ) → b < m.blocks → other.height b ≡ m.height b
+  pub shell : (b : ℕ) → b < m.blocks → other.shell b ≡ m.shell b
+  pub tonnes : (b : ℕ) → b < m.blocks → other.tonnes b ≡ m.tonnes b
+  pub worth : (b : ℕ) → b < m.blocks → other.worth b ≡ m.worth b
+
+module _ (m other : ReportedBlocks) (a : AreAlike m other) where
+  at_same : (z : ℤ) (k b : ℕ) → b < m.blocks → blocks_at m z k b ≡ blocks_at other z k b
+  at_same z k b l = rw (a.height b l, a.shell b l) refl
+
+  row_same : (r : BenchRow) → IsRow m r → IsRow other r
+  row_same r h =
+      let e = blocks_at m r.z r.shell in
+      let c = blocks_at other r.z r.shell in
+      let same = at_same r.z r.shell in
+      record {
+        some = h.some;
+        number = h.number ∙ count_in-same e c m.blocks same ∙ ap (count_in c) (sym a.blocks);
+        tonnage = h.tonnage ∙ worth_in-agrees m.tonnes other.tonnes e c m.blocks (λ b l. sym (a.tonnes b l)) same ∙ ap (worth_in other.tonnes c) (sym a.blocks);
+        value = h.value ∙ worth_in-agrees m.worth other.worth e c m.blocks (λ b l. sym (a.worth b l)) same ∙ ap (worth_in other.worth c) (sym a.blocks);
+      }
+
+  pub table_same : (rows : List BenchRow) → IsBenchTable m rows → IsBenchTable other rows
+  table_same rows h = record {
+    each = All-weaker (IsRow m) (IsRow other) row_same rows h.each;
+    rising = h.rising;
+    every = λ b k l s.
+        let here : b < m.blocks = omega (arith, l, a.blocks) in
+        subst (λ z. Contains (map place_of rows) (z, k)) (sym (a.height b here)) (h.every b k here (sym (a.shell b here) ∙ s));
+  }

@@ -1,0 +1,79 @@
+-- Sums of tonnes and of worths don't overflow 128 bits.
+use Rattle.std.proofs.Common.{◌≡◌, ℕ, zero, suc, ◌+◌, ◌*◌, ◌^◌, ◌<◌, ◌≤◌, ℤ, pos, ◌+ℤ◌, ◌-ℤ◌, ◌*ℤ◌, Bool, true, false, cond, List, [], length, get_or, refl, sym, ap, ◌∙◌, subst, arith, unsigned_abs, FitsSigned}
+use Rattle.std.specs.Int.{w128}
+use Rattle.std.proofs.lemmas.Int.{ints, fits_signed_from_abs, unsigned_abs-mul}
+use Rattle.std.proofs.lemmas.Nat.{mul-le}
+use Rattle.std.proofs.lemmas.List.FromFn.{get_or-map-range_with_len, length-map-range_with_len}
+use Rattle.blocks_file.specs.Denotes.{BlocksView}
+use Rattle.fixed_worth.specs.declared.limits.TheConstants.{MOST_BLOCKS, MOST_FACTOR}
+use Rattle.ordered_group.specs.Sets.{worth_in}
+use Rattle.shells.specs.Prices.{PricesView, blocks_of, number_at, worth_at, worths_at}
+use Rattle.shells.specs.Series.{SeriesView}
+use Rattle.engines.specs.PricedTexts.{values_of}
+use Rattle.bench_report.specs.Benches.{ReportedBlocks, reported, blocks_at}
+use Rattle.bench_report.specs.FaultStands.{SameLengths, AllSumsFit, SomeSumOverflows}
+use Rattle.report_engines.specs.Internal.{IsSmall, IsPricedModel}
+
+-- the most that an amount of a block can be, either way
+abbrev most : ℕ
+most = 20000000000000000000000
+
+sum_step : (t : Bool) (x y : ℤ) (m : ℕ) → unsigned_abs x ≤ m → unsigned_abs y ≤ most → unsigned_abs (x +ℤ cond t y (pos 0)) ≤ m + most
+sum_step true x y m p q = omega (arith, ints, p, q)
+sum_step false x y m p q = omega (arith, ints, p)
+
+-- so many amounts, each at most that, sum to at most so many times that
+pub sum_bound : (v : ℕ → ℤ) (e : ℕ → Bool) (n : ℕ) → ((b : ℕ) → b < n → unsigned_abs (v b) ≤ most) → unsigned_abs (worth_in v e n) ≤ n * most
+sum_bound v e zero h = omega arith
+sum_bound v e (suc n) h =
+    let s = sum_step (e n) (worth_in v e n) (v n) (n * most) (sum_bound v e n (λ b l. h b (omega (arith, l)))) (h n (omega arith)) in
+    omega (arith, s)
+
+sum_fits : (v : ℕ → ℤ) (e : ℕ → Bool) (n j : ℕ) → n ≤ MOST_BLOCKS → j ≤ n → ((b : ℕ) → b < n → unsigned_abs (v b) ≤ most) → FitsSigned w128 (worth_in v e j)
+sum_fits v e n j few l h =
+    let s = sum_bound v e j (λ b k. h b (omega (arith, k, l))) in
+    fits_signed_from_abs w128 (worth_in v e j) (omega (arith, s, few, l))
+
+product_bound : (k m : ℕ) (z : ℤ) → k ≤ m → unsigned_abs z ≤ 10 ^ 18 → unsigned_abs (pos k *ℤ z) ≤ m * 10 ^ 18
+product_bound k m z l h = rw (unsigned_abs-mul (pos k) z) (mul-le k (unsigned_abs z) m (10 ^ 18) l h)
+
+difference_bound : (x y : ℤ) → unsigned_abs x ≤ 10000 * 10 ^ 18 → unsigned_abs y ≤ 1000 * 10 ^ 18 → unsigned_abs (x -ℤ y) ≤ most
+difference_bound x y p q = omega (arith, ints, p, q)
+
+value_bound : (m : BlocksView) (i b : ℕ) → IsSmall m i → b < m.blocks → unsigned_abs (number_at (values_of m i) b) ≤ 10 ^ 18
+value_bound m i b h l =
+    let column = get_or m.columns i [] in
+    let at : number_at (values_of m i) b ≡ get_or column b (pos 0) = get_or-map-range_with_len (λ c. get_or column c (pos 0)) 0 m.blocks b b (pos 0) l (omega arith) in
+    subst (λ z. unsigned_abs z ≤ 10 ^ 18) (sym at) (h b l)
+
+module _ (m : BlocksView) (prices : PricesView) (p : IsPricedModel m prices) where
+  pub priced_size : blocks_of prices ≡ m.blocks
+  priced_size = ap blocks_of p.prices_are ∙ length-map-range_with_len (λ b. get_or (get_or m.columns 0 []) b (pos 0)) 0 m.blocks
+
+  worth_bound : (k b : ℕ) → k ≤ MOST_FACTOR → b < m.blocks → unsigned_abs (worth_at prices k b) ≤ most
+  worth_bound k b few l =
+      let r : unsigned_abs (number_at prices.revenue b) ≤ 10 ^ 18 = subst (λ (t : PricesView). unsigned_abs (number_at t.revenue b) ≤ 10 ^ 18) (sym p.prices_are) (value_bound m 0 b p.revenue l) in
+      let c : unsigned_abs (number_at prices.cost b) ≤ 10 ^ 18 = subst (λ (t : PricesView). unsigned_abs (number_at t.cost b) ≤ 10 ^ 18) (sym p.prices_are) (value_bound m 1 b p.cost l) in
+      difference_bound (pos k *ℤ number_at prices.revenue b) (pos 1000 *ℤ number_at prices.cost b) (product_bound k 10000 (number_at prices.revenue b) few r) (product_bound 1000 1000 (number_at prices.cost b) (omega arith) c)
+
+  worths_bound : (k b : ℕ) → k ≤ MOST_FACTOR → b < m.blocks → unsigned_abs (get_or (worths_at prices k) b (pos 0)) ≤ most
+  worths_bound k b few l =
+      let at = get_or-map-range_with_len (worth_at prices k) 0 (blocks_of prices) b b (pos 0) (omega (arith, l, priced_size)) (omega arith) in
+      subst (λ z. unsigned_abs z ≤ most) (sym at) (worth_bound k b few l)
+
+  -- the model, the series and the worths are of as many blocks
+  pub same_lengths : (series : SeriesView) (k : ℕ) → series.prices ≡ prices → SameLengths m series (worths_at prices k)
+  same_lengths series k is = record {
+    of_shells = ap blocks_of is ∙ priced_size;
+    of_worths = length-map-range_with_len (worth_at prices k) 0 (blocks_of prices) ∙ priced_size;
+  }
+
+  pub sums_fit : (series : SeriesView) (k : ℕ) → m.blocks ≤ MOST_BLOCKS → k ≤ MOST_FACTOR → AllSumsFit (reported m series 2 (worths_at prices k))
+  sums_fit series k few low z shell j l =
+      let r = reported m series 2 (worths_at prices k) in (
+        sum_fits r.tonnes (blocks_at r z shell) m.blocks j few l (λ b k. let small = p.tonnes b k in omega (arith, small)),
+        sum_fits r.worth (blocks_at r z shell) m.blocks j few l (λ b h. worths_bound k b low h),
+      )
+
+  pub none_overflows : (series : SeriesView) (k : ℕ) → m.blocks ≤ MOST_BLOCKS → k ≤ MOST_FACTOR → SomeSumOverflows (reported m series 2 (worths_at prices k)) → ⊥
+  none_overflows series k few low o = o.4 (sums_fit series k few low o.0 o.1 o.2 o.3)

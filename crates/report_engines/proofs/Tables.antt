@@ -1,0 +1,115 @@
+-- The bench table of a series is that of the texts.
+use Rattle.std.proofs.Common.{◌≡◌, ◌⊎◌, ℕ, ℤ, pos, ◌<◌, List, get_or, length, refl, sym, ap, ◌∙◌, subst, arith, Some, None, Result, Ok, Err, inl, inr, unwrap_or, MatchResult}
+use Rattle.std.specs.List.{find, Contains}
+use Rattle.std.proofs.lemmas.List.FromFn.{length-map-range_with_len, get_or-map-range_with_len}
+use Rattle.ordered_group.specs.Block.{scaled_block}
+use Rattle.blocks_file.specs.Records as blocks
+use Rattle.blocks_file.specs.declared.coordinates.Place.{Place}
+use Rattle.blocks_file.specs.Denotes.{BlocksView}
+use Rattle.prec_file.specs.Rests.{RestsView}
+use Rattle.settings_file.specs.Settings.{settings_of}
+use Rattle.closure_net.specs.Mine.{Mine, IsBest}
+use Rattle.closure_net.specs.FaultStands.{WorthsFaultStands}
+use Rattle.closure_net.specs.declared.net.NetFault.{NetFault}
+use Rattle.closure_net.specs.declared.net.NetFault.TheVariants as net_fault
+use Rattle.shells.specs.Prices.{PricesView, blocks_of, worth_at, worths_at}
+use Rattle.shells.specs.Series.{SeriesView, mine_at, shell_at, upto, IsSeries}
+use Rattle.shells.specs.Nesting.{BestPitsAreNested}
+use Rattle.bench_report.specs.declared.bench_row.BenchRow.{BenchRow}
+use Rattle.bench_report.specs.Benches.{reported, IsBenchTable}
+use Rattle.bench_report.specs.Written.{table_text}
+use Rattle.engines.specs.declared.judgement.Verdict.TheVariants.{No}
+use Rattle.engines.specs.declared.method.Method.{Method}
+use Rattle.engines.specs.declared.solving.Unsolved.{Unsolved}
+use Rattle.engines.specs.declared.engine_fault.EngineFault.{EngineFault}
+use Rattle.engines.specs.declared.engine_fault.EngineFault.TheVariants as engine
+use Rattle.engines.specs.PricedTexts.{cell, table_of}
+use Rattle.engines.specs.ReadMines.{of_model}
+use Rattle.shell_engines.specs.declared.shell_rows.ShellRow.{ShellRow}
+use Rattle.shell_engines.specs.declared.no_series.NoSeries.TheVariants as none
+use Rattle.shell_engines.specs.ShellTable.{IsLineOf}
+use Rattle.shell_engines.specs.SeriesTexts.{factors_said}
+use Rattle.shell_engines.specs.Settling.{IsSettled, NoSeriesStands}
+use Rattle.shell_engines.specs.Internal.{IsWant}
+use Rattle.shell_engines.specs.Shells.{mine_at_factor, ShellsFail}
+use Rattle.shell_engines.proofs.Lifted.{mine_is, nested, is_no_table, no_net_answer}
+use Rattle.report_engines.specs.ReportTexts.{ReportBlocksRead, report_factor, report_blocks}
+use Rattle.report_engines.specs.Reports.{IsReport, AnswersReport, ReportFails}
+use Rattle.report_engines.specs.Internal.{IsReportRead, verdict_of, text_of}
+use Rattle.report_engines.specs.declared.reporting.Outcome.{Outcome}
+use Rattle.engines.specs.declared.judgement.Verdict.{Verdict}
+use Rattle.report_engines.proofs.SameBlocks.{AreAlike, table_same}
+use Rattle.report_engines.proofs.FirstShell.{first_is}
+
+module _ (s t p : List ℕ) (prices : PricesView) (rests : RestsView) (factors : List ℕ) (m : BlocksView) (factor : ℕ) (read : IsReportRead s t p prices rests factors m factor) where
+  blocks_read : ReportBlocksRead s t
+  blocks_read = record { keys = read.keys; within = read.blocks_are.0; read = read.blocks_are.1 }
+
+  size_is : rests.blocks ≡ m.blocks
+  size_is =
+      sym read.series.mine.size ∙ ap blocks_of read.series.mine.table
+      ∙ length-map-range_with_len (cell t (unwrap_or (settings_of s).revenue 0)) 0 (blocks.count_of t) ∙ sym read.blocks_are.2.count
+
+  module _ (series : SeriesView) (shell_rows : List ShellRow) (settled : IsSettled rests.pairs prices factors series shell_rows) (is : IsSeries series) where
+    first_shell : (b : ℕ) → find (λ k. upto series.shells k b) (factors_said s) ≡ shell_at series.shells b
+    first_shell b = subst (λ (fs : List ℕ). find (λ k. upto series.shells k b) fs ≡ shell_at series.shells b) (settled.same_factors ∙ read.series.factors_are) (first_is (shell_at series.shells b) series.factors is.rising (is.known b))
+
+    worth_is : (b : ℕ) → b < m.blocks → worth_at (table_of s t) (report_factor s) b ≡ get_or (worths_at series.prices factor) b (pos 0)
+    worth_is b l =
+        let inside : b < blocks_of prices = omega (arith, l, size_is, read.series.mine.size) in
+        let at = get_or-map-range_with_len (worth_at prices factor) 0 (blocks_of prices) b b (pos 0) inside (omega arith) in
+        sym (ap (λ (v : PricesView). get_or (worths_at v factor) b (pos 0)) settled.same_prices ∙ at ∙ ap (λ (v : PricesView). worth_at v factor b) read.series.mine.table ∙ ap (λ k. worth_at (table_of s t) k b) read.factor_is)
+
+    alike : AreAlike (reported m series 2 (worths_at series.prices factor)) (report_blocks rests.blocks s t p (upto series.shells))
+    alike = record {
+      blocks = size_is;
+      height = λ b l. sym (ap (λ (q : Place). q.z) (read.blocks_are.2.place b l));
+      shell = λ b l. first_shell b;
+      tonnes = λ b l. sym (read.blocks_are.2.value 2 b (omega arith) l);
+      worth = worth_is;
+    }
+
+    best_is : (k : ℕ) → Contains (factors_said s) k → IsBest (mine_at_factor rests.blocks s t p k) (upto series.shells k)
+    best_is k c =
+        let held : Contains series.factors k = subst (λ (fs : List ℕ). Contains fs k) (sym (settled.same_factors ∙ read.series.factors_are)) c in
+        let B : Mine → Type 0 = λ mine. IsBest mine (upto series.shells k) in
+        let Q : List (ℕ × ℕ) → Type 0 = λ ps. B (mine_at ps prices k) in
+        let V : PricesView → Type 0 = λ v. B (mine_at series.pairs v k) in
+        subst B (mine_is s t p prices rests read.series.mine k) (subst Q settled.same_pairs (subst V settled.same_prices (is.best k held)))
+
+    pub is_report : BestPitsAreNested → (rows : List BenchRow) → IsBenchTable (reported m series 2 (worths_at series.prices factor)) rows → IsReport s t p (table_text rows)
+    is_report law rows table = record {
+      size = rests.blocks;
+      mine = read.series.mine.mine;
+      read = blocks_read;
+      pit = upto series.shells;
+      best = best_is;
+      nested = nested s t p prices rests read.series.mine law;
+      rows = rows;
+      table = table_same _ _ alike rows table;
+      spelled = refl;
+    }
+
+  -- no pit is proved at a factor, and this line says so
+  is_none : (method : Method) (limit k : ℕ) (why : Unsolved) (line : List ℕ) → NoSeriesStands scaled_block rests prices factors method limit (none.Unsolved k why) → IsLineOf k why line → AnswersReport s t p method limit No line
+  is_none method limit k why line h spelled = (blocks_read, is_no_table s t p prices rests factors read.series method limit k why h.1.0 line h.0 h.1.1 h.1.2 spelled)
+
+  wanted : (e : EngineFault) → IsWant e → ReportFails s t p e
+  wanted e (inl is) = subst (ReportFails s t p) (sym is) tt
+  wanted e (inr (inl is)) = subst (ReportFails s t p) (sym is) tt
+  wanted e (inr (inr is)) = subst (ReportFails s t p) (sym is) tt
+
+  -- the answer where no pit is proved at a factor
+  pub none_answer : (method : Method) (limit k : ℕ) (why : Unsolved) (answer : Result Outcome EngineFault) → NoSeriesStands scaled_block rests prices factors method limit (none.Unsolved k why) → MatchResult answer (λ o. (verdict_of o ≡ No) × IsLineOf k why (text_of o)) IsWant
+      → MatchResult answer (λ o. AnswersReport s t p method limit (verdict_of o) (text_of o)) (ReportFails s t p)
+  none_answer method limit k why (Ok o) h line = subst (λ (v : Verdict). AnswersReport s t p method limit v (text_of o)) (sym line.0) (is_none method limit k why (text_of o) h line.1)
+  none_answer method limit k why (Err e) h want = wanted e want
+
+  net_fails : (fault : NetFault) → ShellsFail s t p (of_model fault) → ReportFails s t p (of_model fault)
+  net_fails net_fault.WrongLength h = (blocks_read, h)
+  net_fails net_fault.TooLarge h = (blocks_read, h)
+  net_fails net_fault.NoMemory h = tt
+
+  -- an amount of the mine doesn't fit at a factor
+  pub no_net : (k : ℕ) (fault : NetFault) → Contains factors k × WorthsFaultStands scaled_block rests.blocks (worths_at prices k) fault → ReportFails s t p (of_model fault)
+  no_net k fault h = net_fails fault (no_net_answer s t p prices rests factors read.series k fault h)

@@ -1,0 +1,74 @@
+-- What only the functions of this crate say to one another.
+use Rattle.std.specs.Prelude.{◌≡◌, ℕ, ℤ, pos, ◌^◌, ◌<◌, ◌≤◌, unsigned_abs, List, [], ◌∷◌, length, slice_index_or}
+use Rattle.blocks_file.specs.Denotes.{BlocksView}
+use Rattle.prec_file.specs.Rests.{RestsView}
+use Rattle.settings_file.specs.declared.keys.Key.{Key}
+use Rattle.settings_file.specs.declared.keys.Key.TheVariants.{Revenue, Cost, Tonnes}
+use Rattle.settings_file.specs.Settings.{settings_of}
+use Rattle.shells.specs.Prices.{PricesView, PricesFaultStands}
+use Rattle.bench_report.specs.Written.{table_text}
+use Rattle.engines.specs.declared.judgement.Verdict.{Verdict}
+use Rattle.engines.specs.declared.judgement.Verdict.TheVariants.{Done, No}
+use Rattle.engines.specs.declared.engine_fault.EngineFault.{EngineFault}
+use Rattle.engines.specs.declared.engine_fault.EngineFault.TheVariants as engine
+use Rattle.engines.specs.PricedTexts.{values_of, SettingsFails}
+use Rattle.engines.specs.Slopes.{ReadsBlocks, BlocksFails}
+use Rattle.shell_engines.specs.SeriesTexts.{factors_said, IsSeriesRead}
+use Rattle.report_engines.specs.declared.reporting.Outcome.{Outcome}
+use Rattle.report_engines.specs.declared.reporting.Outcome.TheVariants.{Table, NoTable}
+use Rattle.report_engines.specs.ReportTexts.{report_keys, ReportKeysKnown, report_columns, report_factor}
+
+-- The prices, the pairs and the factors that were read, the blocks with their places and columns, and the factor of the
+-- report are those of the texts.
+pub record IsReportRead (settings blocks precedence : List ℕ) (prices : PricesView) (rests : RestsView) (factors : List ℕ) (model : BlocksView) (factor : ℕ) : Type 0 where
+  pub series : IsSeriesRead settings blocks precedence prices rests factors
+  pub keys : ReportKeysKnown settings
+  pub blocks_are : ReadsBlocks (report_columns (settings_of settings)) blocks model
+  pub factor_is : factor ≡ report_factor settings
+
+-- no value of the column of a model that was chosen as the i-th is above 10^18 millionths either way
+abbrev pub IsSmall : BlocksView → ℕ → Type 0
+IsSmall m i = (b : ℕ) → b < m.blocks → unsigned_abs (slice_index_or (slice_index_or m.columns i []) b (pos 0)) ≤ 10 ^ 18
+
+-- The prices are the first two of three columns of a model, and no value of these is large.
+pub record IsPricedModel (m : BlocksView) (prices : PricesView) : Type 0 where
+  pub columns : length m.columns ≡ 3
+  pub prices_are : prices ≡ record { revenue = values_of m 0; cost = values_of m 1 }
+  pub revenue : IsSmall m 0
+  pub cost : IsSmall m 1
+  pub tonnes : IsSmall m 2
+
+-- the keys of settings that name the columns of a report
+abbrev pub column_keys : List Key
+column_keys = Revenue ∷ Cost ∷ Tonnes ∷ []
+
+-- The columns, the factors and the factor of the report are those of the text of settings.
+pub record IsSaid (settings : List ℕ) (columns factors : List ℕ) (factor : ℕ) : Type 0 where
+  pub keys : ReportKeysKnown settings
+  pub columns_are : columns ≡ report_columns (settings_of settings)
+  pub factors_are : factors ≡ factors_said settings
+  pub factor_is : factor ≡ report_factor settings
+
+-- why they aren't said
+abbrev pub SaidFails : List ℕ → EngineFault → Type 0
+SaidFails settings (engine.Settings p) = SettingsFails report_keys settings p
+SaidFails settings engine.Memory = Unit {0}
+SaidFails settings engine.Device = Unit {0}
+SaidFails settings _ = ⊥
+
+-- why blocks with these columns, and their prices, aren't read
+abbrev pub PricedModelFails : List ℕ → List ℕ → EngineFault → Type 0
+PricedModelFails columns text (engine.Blocks p) = BlocksFails columns text p
+PricedModelFails columns text (engine.Prices fault) = (m : BlocksView) × ReadsBlocks columns text m × PricesFaultStands (values_of m 0) (values_of m 1) fault
+PricedModelFails columns text engine.Memory = Unit {0}
+PricedModelFails columns text engine.Device = Unit {0}
+PricedModelFails columns text _ = ⊥
+
+-- how the engine ends, and the text that it writes
+abbrev pub verdict_of : Outcome → Verdict
+verdict_of (Table rows) = Done
+verdict_of (NoTable line) = No
+
+abbrev pub text_of : Outcome → List ℕ
+text_of (Table rows) = table_text rows.items
+text_of (NoTable line) = line.items

@@ -1,0 +1,69 @@
+-- The texts of a mine that is reported: settings that name its prices, its tonnes and the factors, blocks and precedence.
+use Rattle.std.specs.Prelude.{◌≡◌, ℕ, ℤ, ◌-◌, Bool, List, [], ◌∷◌, length, slice_index_or, None, unwrap_or}
+use Rattle.std.specs.List.{find}
+use Rattle.blocks_file.specs.Records as blocks
+use Rattle.settings_file.specs.declared.keys.Key.{Key}
+use Rattle.settings_file.specs.declared.keys.Key.TheVariants.{Revenue, Cost, Tonnes, Factors}
+use Rattle.settings_file.specs.Settings.{SettingsView, AreSettings, settings_of, first_missing}
+use Rattle.shells.specs.Prices.{PricesFaultStands}
+use Rattle.bench_report.specs.Benches.{ReportedBlocks}
+use Rattle.engines.specs.declared.engine_fault.EngineFault.{EngineFault}
+use Rattle.engines.specs.declared.engine_fault.EngineFault.TheVariants as engine
+use Rattle.engines.specs.Limits.{IsWithinLimit}
+use Rattle.engines.specs.Slopes.{BlocksFails}
+use Rattle.engines.specs.PricedTexts.{cell, table_of, PricesRead, SettingsFails}
+use Rattle.engines.specs.Mines.{priced_texts, worth_by}
+use Rattle.engines.specs.FaultStands.{PrecFails}
+use Rattle.shell_engines.specs.SeriesTexts.{factors_said}
+
+-- the keys that a report needs
+abbrev pub report_keys : List Key
+report_keys = Revenue ∷ Cost ∷ Tonnes ∷ Factors ∷ []
+
+-- The text of settings has no fault, and says something at each of these keys.
+pub record ReportKeysKnown (settings : List ℕ) : Type 0 where
+  pub within : IsWithinLimit settings
+  pub read : AreSettings settings
+  pub said : first_missing report_keys (settings_of settings) ≡ None
+
+-- the columns of the blocks that settings name: revenues, then costs, then tonnes
+abbrev pub report_columns : SettingsView → List ℕ
+report_columns s = unwrap_or s.revenue 0 ∷ unwrap_or s.cost 0 ∷ unwrap_or s.tonnes 0 ∷ []
+
+-- The settings name these columns, and the text of blocks has no fault where they are chosen.
+pub record ReportBlocksRead (settings text : List ℕ) : Type 0 where
+  pub keys : ReportKeysKnown settings
+  pub within : IsWithinLimit text
+  pub read : blocks.fault_of (report_columns (settings_of settings)) text ≡ None
+
+-- the last of some factors
+abbrev pub last_of : List ℕ → ℕ
+last_of factors = slice_index_or factors (length factors - 1) 0
+
+-- the factor of the report, in thousandths: the one that the settings name, or else the last of the factors
+abbrev pub factor_by : SettingsView → ℕ
+factor_by s = unwrap_or s.report (last_of (unwrap_or s.factors []))
+
+abbrev pub report_factor : List ℕ → ℕ
+report_factor settings = factor_by (settings_of settings)
+
+-- What is reported of n blocks, where these are the pits at the factors: the height of a block and its tonnes as its
+-- record says; as its shell the first factor whose pit holds it; and its worth at the factor of the report.
+abbrev pub report_blocks : ℕ → List ℕ → List ℕ → List ℕ → (ℕ → ℕ → Bool) → ReportedBlocks
+report_blocks n settings text precedence pit = record {
+  blocks = n;
+  height = λ b. (blocks.place_of (blocks.record_among (blocks.lines_in text) b)).z;
+  shell = λ b. find (λ k. pit k b) (factors_said settings);
+  tonnes = λ b. cell text (unwrap_or (settings_of settings).tonnes 0) b;
+  worth = λ b. worth_by (priced_texts settings text precedence (report_factor settings)) b;
+}
+
+-- why the texts aren't read: each fault stands, and none before it does
+abbrev pub ReportMineFails : List ℕ → List ℕ → List ℕ → EngineFault → Type 0
+ReportMineFails settings text precedence (engine.Settings p) = SettingsFails report_keys settings p
+ReportMineFails settings text precedence (engine.Blocks p) = ReportKeysKnown settings × BlocksFails (report_columns (settings_of settings)) text p
+ReportMineFails settings text precedence (engine.Prices fault) = ReportBlocksRead settings text × PricesFaultStands (table_of settings text).revenue (table_of settings text).cost fault
+ReportMineFails settings text precedence (engine.Prec p) = ReportBlocksRead settings text × ((n : ℕ) × PricesRead settings text n × PrecFails n precedence p)
+ReportMineFails settings text precedence engine.Memory = Unit {0}
+ReportMineFails settings text precedence engine.Device = Unit {0}
+ReportMineFails settings text precedence _ = ⊥
