@@ -20,6 +20,6 @@ pub use declined::Declined;
 pub use options::ModelWords;
 pub use request::{Request, request_of};
 pub use shells_command::ShellsWords;
-pub use slopes_command::SlopesWords;
+pub use slopes_command::{OffsetsWords, SlopesWords};
 pub use solve_command::SolveWords;
 pub use wrong_word::{Commanded, NamedOption, WrongWord, declined_for};

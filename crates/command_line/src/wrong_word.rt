@@ -91,7 +91,8 @@ fn shown(option: NamedOption) -> &'static str {
 // What the option takes.
 fn taken(option: NamedOption) -> &'static str {
     match option {
-        NamedOption::Pattern => "five, nine or cone:LEVELS:RUN:RISE, each number from 1 to 1000",
+        NamedOption::Pattern =>
+            "five, nine, cone:LEVELS:RUN:RISE with each number from 1 to 1000, or settings",
         NamedOption::Up => "plus or minus",
         NamedOption::Factor => "a whole number from 0 to 10000",
         NamedOption::Method => "auto, pseudoflow or push-relabel",

@@ -7,7 +7,7 @@ use crate::told::{Told, opened, output};
 use command_line::{CheckWords, ModelWords, ShellsWords, SlopesWords, SolveWords};
 use engines::{
     Effort, EngineFault, PatternChoice, Verdict, check_engine, check_priced_engine, slopes_engine,
-    solve_engine, solve_priced_engine,
+    slopes_from_settings_engine, solve_engine, solve_priced_engine,
 };
 use fixed_worth::Counted;
 use ordered_group::Group;
@@ -137,6 +137,19 @@ pub fn slopes_file<R: Files + Print + Eprint + AllocGlobal>(
     let mut blocks = file(rt, words.verbose, words.blocks)?;
     let mut out = Counted::new(output(rt, words.verbose));
     slopes_engine(rt.alloc(), &mut blocks, pattern, up, &mut out)
+}
+
+/// Writes the predecessors of each block of a file, by the offsets that a file of settings lists.
+pub fn listed_slopes_files<R: Files + Print + Eprint + AllocGlobal>(
+    rt: &R,
+    words: SlopesWords<'_>,
+    settings: &str,
+    up: Up,
+) -> Result<Verdict, EngineFault> {
+    let mut settings = file(rt, words.verbose, settings)?;
+    let mut blocks = file(rt, words.verbose, words.blocks)?;
+    let mut out = Counted::new(output(rt, words.verbose));
+    slopes_from_settings_engine(rt.alloc(), &mut settings, &mut blocks, up, &mut out)
 }
 
 // A file whose failures are counted.

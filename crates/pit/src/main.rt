@@ -12,12 +12,14 @@ mod solve_words;
 mod told;
 
 use command_line::{
-    Declined, ModelWords, Request, ShellsWords, SlopesWords, SolveWords, WrongWord, declined_for,
-    request_of,
+    Declined, ModelWords, OffsetsWords, Request, ShellsWords, SlopesWords, SolveWords, WrongWord,
+    declined_for, request_of,
 };
 use effort_words::{effort_for_shells, effort_to_solve};
 use engines::{EngineFault, Unwatched, Verdict, status, stored_check, write_fault};
-use files::{check_files, shells_files, slopes_file, solve_files, solve_priced_files};
+use files::{
+    check_files, listed_slopes_files, shells_files, slopes_file, solve_files, solve_priced_files,
+};
 use fixed_worth::Counted;
 use progress::Meter;
 use slopes_words::{pattern_asked, up_asked};
@@ -150,20 +152,23 @@ fn shells<R: Files + Print + Eprint + Clock + Threads + Wait + Sync + AllocGloba
     Ok(Ending::Answered(verdict))
 }
 
-// Writes the predecessors of the blocks of a file, by a pattern.
+// Writes the predecessors of the blocks of a file, by a pattern or by the offsets of settings.
 fn slopes<R: Files + Print + Eprint + AllocGlobal>(
     rt: &R,
     words: SlopesWords<'_>,
 ) -> Result<Ending, EngineFault> {
-    let pattern = match pattern_asked(words) {
-        Ok(pattern) => pattern,
-        Err(wrong) => return refused(rt, wrong),
-    };
     let up = match up_asked(words) {
         Ok(up) => up,
         Err(wrong) => return refused(rt, wrong),
     };
-    Ok(Ending::Answered(slopes_file(rt, words, pattern, up)?))
+    let verdict = match words.offsets {
+        OffsetsWords::Pattern(word) => match pattern_asked(word) {
+            Ok(pattern) => slopes_file(rt, words, pattern, up)?,
+            Err(wrong) => return refused(rt, wrong),
+        },
+        OffsetsWords::Settings(settings) => listed_slopes_files(rt, words, settings, up)?,
+    };
+    Ok(Ending::Answered(verdict))
 }
 
 // A word names nothing that its option takes.
