@@ -8,7 +8,9 @@
 mod check_command;
 mod declined;
 mod options;
+mod report_command;
 mod request;
+mod series_options;
 mod shells_command;
 mod slopes_command;
 mod solve_command;
@@ -19,7 +21,7 @@ pub use check_command::CheckWords;
 pub use declined::Declined;
 pub use options::ModelWords;
 pub use request::{Request, request_of};
-pub use shells_command::ShellsWords;
+pub use series_options::{SeriesCommand, SeriesWords};
 pub use slopes_command::{OffsetsWords, SlopesWords};
 pub use solve_command::SolveWords;
 pub use wrong_word::{Commanded, NamedOption, WrongWord, declined_for};

@@ -1,6 +1,8 @@
 //! A word that names nothing for its option, told in the library's form of error.
 
 use crate::declined::Declined;
+use crate::report_command::report_command;
+use crate::series_options::SeriesCommand;
 use crate::shells_command::shells_command;
 use crate::slopes_command::slopes_command;
 use crate::solve_command::solve_command;
@@ -15,8 +17,8 @@ pub enum Commanded {
     Slopes,
     /// `solve`.
     Solve,
-    /// `shells`.
-    Shells,
+    /// `shells` or `report`.
+    Series(SeriesCommand),
 }
 
 /// An option that names one of a few things, or a number.
@@ -71,7 +73,8 @@ fn command_of<'a>(alloc: Global, command: Commanded) -> Result<Command<'a>, Allo
     match command {
         Commanded::Slopes => slopes_command(alloc)?.bin_name("pit slopes"),
         Commanded::Solve => solve_command(alloc)?.bin_name("pit solve"),
-        Commanded::Shells => shells_command(alloc)?.bin_name("pit shells"),
+        Commanded::Series(SeriesCommand::Shells) => shells_command(alloc)?.bin_name("pit shells"),
+        Commanded::Series(SeriesCommand::Report) => report_command(alloc)?.bin_name("pit report"),
     }
 }
 

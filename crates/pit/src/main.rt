@@ -12,13 +12,13 @@ mod solve_words;
 mod told;
 
 use command_line::{
-    Declined, ModelWords, OffsetsWords, Request, ShellsWords, SlopesWords, SolveWords, WrongWord,
+    Declined, ModelWords, OffsetsWords, Request, SeriesWords, SlopesWords, SolveWords, WrongWord,
     declined_for, request_of,
 };
-use effort_words::{effort_for_shells, effort_to_solve};
+use effort_words::{effort_for_series, effort_to_solve};
 use engines::{EngineFault, Unwatched, Verdict, status, stored_check, write_fault};
 use files::{
-    check_files, listed_slopes_files, shells_files, slopes_file, solve_files, solve_priced_files,
+    check_files, listed_slopes_files, series_files, slopes_file, solve_files, solve_priced_files,
 };
 use fixed_worth::Counted;
 use progress::Meter;
@@ -83,7 +83,7 @@ fn answer<R: Files + Print + Eprint + Clock + Threads + Wait + Sync + AllocGloba
     match request {
         Request::Check(words) => Ok(Ending::Answered(check_files(rt, words)?)),
         Request::Solve(words) => solve(rt, words),
-        Request::Shells(words) => shells(rt, words),
+        Request::Series(words) => series(rt, words),
         Request::Slopes(words) => slopes(rt, words),
     }
 }
@@ -135,19 +135,19 @@ fn solve<R: Files + Print + Eprint + Clock + Threads + Wait + Sync + AllocGlobal
     }
 }
 
-// Draws the shells of the mine of three files, and tells how far it is where that is asked for.
-fn shells<R: Files + Print + Eprint + Clock + Threads + Wait + Sync + AllocGlobal>(
+// Draws the shells of the mine of three files or makes its bench table, and tells how far it is where that is asked for.
+fn series<R: Files + Print + Eprint + Clock + Threads + Wait + Sync + AllocGlobal>(
     rt: &R,
-    words: ShellsWords<'_>,
+    words: SeriesWords<'_>,
 ) -> Result<Ending, EngineFault> {
-    let effort = match effort_for_shells(words) {
+    let effort = match effort_for_series(words) {
         Ok(effort) => effort,
         Err(wrong) => return refused(rt, wrong),
     };
     let verdict = if words.progress {
-        shells_files(rt, words, effort, &Meter::new(rt, effort.steps))?
+        series_files(rt, words, effort, &Meter::new(rt, effort.steps))?
     } else {
-        shells_files(rt, words, effort, &Unwatched)?
+        series_files(rt, words, effort, &Unwatched)?
     };
     Ok(Ending::Answered(verdict))
 }
