@@ -4,7 +4,7 @@
     python3 examples/make_copper.py [FOLDER]
 
 writes copper.blocks, copper.prec, copper.upit and copper.cert (a pit with a flow that proves it), and the same blocks
-with a revenue and a cost each: priced.blocks and settings.toml.
+with a revenue, a cost and tonnes each: priced.blocks and settings.toml.
 Standard library alone, no random numbers: the files are the same on every machine.
 The certificate's flow comes from a plain maximum-flow search made here, not from `pit`.
 """
@@ -38,6 +38,11 @@ def revenue(x, y, z):
 def cost(x, y, z):
     """Whole dollars; benches are numbered from the lowest, which costs most to haul from."""
     return COST + 150 * (BENCHES - 1 - z)
+
+
+def tonnes(x, y, z):
+    """Whole tonnes of a block of 1,000 cubic metres: rock is the heavier the richer it is."""
+    return 2_600 + 10 * grade(x, y, z)
 
 
 def value(x, y, z):
@@ -141,9 +146,11 @@ def main():
         (folder / name).write_text("".join(line + "\n" for line in lines))
 
     write("copper.blocks", ["%d %d %d %d %d %d" % (b, *place, grade(*place), values[b]) for b, place in enumerate(places)])
-    write("priced.blocks", ["%d %d %d %d %d %d" % (b, *place, revenue(*place), cost(*place)) for b, place in enumerate(places)])
+    write("priced.blocks", ["%d %d %d %d %d %d %d" % (b, *place, revenue(*place), cost(*place), tonnes(*place)) for b, place in enumerate(places)])
     write("settings.toml", ["revenue = 0    # the first column behind z in priced.blocks", "cost = 1       # the second",
-                            "factors = [500, 650, 800, 1000, 1200]    # of the price of the revenues, in thousandths"])
+                            "tonnes = 2     # the third",
+                            "factors = [500, 650, 800, 1000, 1200]    # of the price of the revenues, in thousandths",
+                            "report = 1000  # the factor at which `pit report` counts worths"])
     write("copper.prec", ["%d %d%s" % (b, len(ps), "".join(" %d" % p for p in ps)) for b, ps in enumerate(above)])
     write("copper.upit", ["NAME: copper", "TYPE: UPIT", "NBLOCKS: %d" % len(values), "OBJECTIVE_FUNCTION:"]
           + ["%d %d" % pair for pair in enumerate(values)] + ["EOF"])

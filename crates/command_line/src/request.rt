@@ -3,7 +3,9 @@
 use crate::check_command::{CheckWords, check_command, check_words};
 use crate::declined::Declined;
 use crate::options::STATUSES;
-use crate::shells_command::{ShellsWords, shells_command, shells_words};
+use crate::report_command::report_command;
+use crate::series_options::{SeriesCommand, SeriesWords, series_words};
+use crate::shells_command::shells_command;
 use crate::slopes_command::{SlopesWords, slopes_command, slopes_words};
 use crate::solve_command::{SolveWords, solve_command, solve_words};
 use crate::version::VERSION;
@@ -19,8 +21,8 @@ const ABOUT: &str =
 pub enum Request<'a> {
     /// A certificate is to be checked.
     Check(CheckWords<'a>),
-    /// Shells are to be drawn.
-    Shells(ShellsWords<'a>),
+    /// Shells are to be drawn, or reported by benches.
+    Series(SeriesWords<'a>),
     /// Predecessors are to be written by a slope pattern.
     Slopes(SlopesWords<'a>),
     /// A mine is to be solved.
@@ -42,7 +44,12 @@ fn parsed<'a>(alloc: Global, words: &'a [String]) -> Result<Request<'a>, Error> 
     let matches = pit_command(alloc)?.try_get_matches_from(words)?;
     match matches.subcommand() {
         Some(("check", words)) => Ok(Request::Check(check_words(words))),
-        Some(("shells", words)) => Ok(Request::Shells(shells_words(words))),
+        Some(("report", words)) => {
+            Ok(Request::Series(series_words(SeriesCommand::Report, words)))
+        }
+        Some(("shells", words)) => {
+            Ok(Request::Series(series_words(SeriesCommand::Shells, words)))
+        }
         Some(("slopes", words)) => Ok(Request::Slopes(slopes_words(words))),
         Some(("solve", words)) => Ok(Request::Solve(solve_words(words))),
         _ => Err(pit_command(alloc)?.error(ErrorKind::MissingSubcommand, "a command is missing")?),
@@ -51,6 +58,7 @@ fn parsed<'a>(alloc: Global, words: &'a [String]) -> Result<Request<'a>, Error> 
 
 fn pit_command<'a>(alloc: Global) -> Result<Command<'a>, AllocError> {
     let check = check_command(alloc)?;
+    let report = report_command(alloc)?;
     let shells = shells_command(alloc)?;
     let slopes = slopes_command(alloc)?;
     let solve = solve_command(alloc)?;
@@ -62,5 +70,6 @@ fn pit_command<'a>(alloc: Global) -> Result<Command<'a>, AllocError> {
         .subcommand(check)?
         .subcommand(slopes)?
         .subcommand(solve)?
-        .subcommand(shells)
+        .subcommand(shells)?
+        .subcommand(report)
 }

@@ -13,14 +13,30 @@ Prints a .prec file: for each block a line with its number, the number of its pr
 Patterns:
   five                  the block above and the four that share a side with it (1:5)
   nine                  the square of nine blocks above (1:9)
-  cone:LEVELS:RUN:RISE  on each of LEVELS levels above, the blocks within level * RUN / RISE blocks of the axis; each number is from 1 to 1000";
+  cone:LEVELS:RUN:RISE  on each of LEVELS levels above, the blocks within level * RUN / RISE blocks of the axis; each number is from 1 to 1000
+  settings              the offsets that the key `offsets` of the file of --settings lists: [dx, dy, dz] each, from a block to a predecessor, dz counting levels upward and at least 1";
 
-/// The words of a slope request: the file of blocks, the pattern's name and, where it was given, the direction's, and
-/// whether it is told why the file failed.
+// The word for the offsets of settings.
+const OF_SETTINGS: &str = "settings";
+
+const SETTINGS_HELP: &str =
+    "The offsets of the pattern settings, which needs them: a TOML text; not opened with other patterns";
+
+/// What says which blocks above a block are its predecessors.
+#[derive(Clone, Copy)]
+pub enum OffsetsWords<'a> {
+    /// A word that names a pattern.
+    Pattern(&'a str),
+    /// A file of settings that list offsets.
+    Settings(&'a str),
+}
+
+/// The words of a slope request: the file of blocks, what says the offsets and, where it was given, the direction's
+/// name, and whether it is told why a file failed.
 #[derive(Clone, Copy)]
 pub struct SlopesWords<'a> {
     pub blocks: &'a str,
-    pub pattern: &'a str,
+    pub offsets: OffsetsWords<'a>,
     pub up: Option<&'a str>,
     pub verbose: bool,
 }
@@ -36,7 +52,7 @@ pub fn slopes_command<'a>(alloc: Global) -> Result<Command<'a>, AllocError> {
             alloc,
             "pattern",
             "PATTERN",
-            "Which blocks above a block are its predecessors: five, nine or cone:LEVELS:RUN:RISE",
+            "Which blocks above a block are its predecessors: five, nine, cone:LEVELS:RUN:RISE or settings",
         )
         .required(true))?
         .arg(named_option(
@@ -45,6 +61,10 @@ pub fn slopes_command<'a>(alloc: Global) -> Result<Command<'a>, AllocError> {
             "WAY",
             "Which way is up: plus, where a greater z is higher (the default), or minus",
         ))?
+        .arg(named_option(alloc, "settings", "FILE", SETTINGS_HELP).required_if_eq(
+            "pattern",
+            OF_SETTINGS,
+        )?)?
         .arg(verbose_option(alloc))
 }
 
@@ -52,8 +72,17 @@ pub fn slopes_command<'a>(alloc: Global) -> Result<Command<'a>, AllocError> {
 pub fn slopes_words<'a>(words: &ArgMatches<'a>) -> SlopesWords<'a> {
     SlopesWords {
         blocks: text_of(words, "blocks"),
-        pattern: text_of(words, "pattern"),
+        offsets: offsets_words(words),
         up: words.get_str("up"),
         verbose: words.get_flag("verbose"),
+    }
+}
+
+// The file of settings, where the pattern is theirs; with another pattern they are of no use.
+fn offsets_words<'a>(words: &ArgMatches<'a>) -> OffsetsWords<'a> {
+    let pattern = text_of(words, "pattern");
+    match words.get_str("settings") {
+        Some(settings) if pattern == OF_SETTINGS => OffsetsWords::Settings(settings),
+        _ => OffsetsWords::Pattern(pattern),
     }
 }

@@ -1,6 +1,8 @@
 //! A word that names nothing for its option, told in the library's form of error.
 
 use crate::declined::Declined;
+use crate::report_command::report_command;
+use crate::series_options::SeriesCommand;
 use crate::shells_command::shells_command;
 use crate::slopes_command::slopes_command;
 use crate::solve_command::solve_command;
@@ -15,8 +17,8 @@ pub enum Commanded {
     Slopes,
     /// `solve`.
     Solve,
-    /// `shells`.
-    Shells,
+    /// `shells` or `report`.
+    Series(SeriesCommand),
 }
 
 /// An option that names one of a few things, or a number.
@@ -71,7 +73,8 @@ fn command_of<'a>(alloc: Global, command: Commanded) -> Result<Command<'a>, Allo
     match command {
         Commanded::Slopes => slopes_command(alloc)?.bin_name("pit slopes"),
         Commanded::Solve => solve_command(alloc)?.bin_name("pit solve"),
-        Commanded::Shells => shells_command(alloc)?.bin_name("pit shells"),
+        Commanded::Series(SeriesCommand::Shells) => shells_command(alloc)?.bin_name("pit shells"),
+        Commanded::Series(SeriesCommand::Report) => report_command(alloc)?.bin_name("pit report"),
     }
 }
 
@@ -91,7 +94,8 @@ fn shown(option: NamedOption) -> &'static str {
 // What the option takes.
 fn taken(option: NamedOption) -> &'static str {
     match option {
-        NamedOption::Pattern => "five, nine or cone:LEVELS:RUN:RISE, each number from 1 to 1000",
+        NamedOption::Pattern =>
+            "five, nine, cone:LEVELS:RUN:RISE with each number from 1 to 1000, or settings",
         NamedOption::Up => "plus or minus",
         NamedOption::Factor => "a whole number from 0 to 10000",
         NamedOption::Method => "auto, pseudoflow or push-relabel",

@@ -10,5 +10,6 @@ pub mod Fitting
 pub mod Unread
 pub mod Complete
 pub mod Pieces
+pub mod SlopeAnswers
 pub mod Lone
 pub mod Solutions

@@ -29,7 +29,7 @@ use Rattle.check_pit.proofs.Wants.{joined}
 use Rattle.engines.specs.Mines.{priced_texts}
 use Rattle.engines.specs.declared.engine_fault.EngineFault.{EngineFault}
 use Rattle.engines.specs.declared.engine_fault.EngineFault.TheVariants as engine
-use Rattle.engines.specs.Slopes.{ReadsBlocks, BlocksFails, BlocksReadFails}
+use Rattle.engines.specs.BlockTexts.{ReadsBlocks, BlocksFails, BlocksReadFails}
 use Rattle.engines.specs.Inputs.{ReadsSettingsText, SettingsReadFails, ReadsPrices, ReadsPrec, PricesReadFail, ModelPricesFail}
 use Rattle.engines.specs.PricedTexts.{cell, cells, values_of, table_by, table_of, price_keys, price_columns, ColumnsKnown, SettingsFaultStands}
 use Rattle.engines.specs.Limits.{IsWithinLimit}

@@ -17,8 +17,8 @@ use Rattle.engines.specs.declared.engine_fault.EngineFault.TheVariants as engine
 use Rattle.engines.specs.declared.engine_fault.Problem.TheVariants as problem
 use Rattle.engines.specs.declared.method.Method.{Method}
 use Rattle.ordered_group.specs.declared.groups.Group.{Group}
-use Rattle.engines.specs.Slopes.{BlocksFails}
-use Rattle.engines.specs.PricedTexts.{price_keys, price_columns, cell, table_by, table_of, ColumnsKnown, PricesRead, SettingsFaultStands, SettingsFails}
+use Rattle.engines.specs.BlockTexts.{BlocksFails}
+use Rattle.engines.specs.PricedTexts.{price_keys, price_columns, cell, table_by, table_of, KeysSaid, ColumnsKnown, PricesRead, SettingsFaultStands, SettingsFails}
 use Rattle.engines.specs.Inputs.{ReadsSettingsText, SettingsReadFails, IsMissing, ReadsPrices, PricesReadFail, ReadsPrec, PrecReadFails, TextReadFails, PricedMineFails}
 use Rattle.engines.specs.Mines.{MineTexts, priced_texts, price_wanted}
 use Rattle.engines.specs.ReadMines.{AreRead, ArePricesRead}
@@ -88,12 +88,14 @@ settings_answer (Some s) None r e h = tt
 settings_answer (Some s) (Some b) None e h = tt
 settings_answer (Some s) (Some b) (Some p) e h = settings_fail s b p e h
 
+-- of the keys that are needed this is the first that is missing
+pub key_missing : (needed : List Key) (s : List ℕ) (said : SettingsView) (key : Key) → ReadsSettingsText s said → first_missing needed said ≡ Some key → SettingsFails needed s (problem.Fault (settings_fault.Missing key))
+key_missing needed s said key a m =
+    let M : SettingsView → Type 0 = λ v. first_missing needed v ≡ Some key in
+    (a.0, (settings_read s said a.1, subst M (sym (settings_are s said a.1)) m))
+
 missing_at : (s b p : List ℕ) (said : SettingsView) (e : EngineFault) → ReadsSettingsText s said → IsMissing price_keys said e → PricedMineFails s b p e
-missing_at s b p said e a m =
-    let known = settings_are s said a.1 in
-    let M : SettingsView → Type 0 = λ v. first_missing price_keys v ≡ Some m.0 in
-    let P : EngineFault → Type 0 = λ f. PricedMineFails s b p f in
-    subst P (sym m.1) (a.0, (settings_read s said a.1, subst M (sym known) m.2))
+missing_at s b p said e a m = subst (λ (f : EngineFault). PricedMineFails s b p f) (sym m.1) (key_missing price_keys s said m.0 a m.2)
 
 pub missing_answer : (o q r : Option (List ℕ)) (said : SettingsView) (e : EngineFault) → IfSome o (λ s. ReadsSettingsText s said) → IsMissing price_keys said e → IfSome o (λ s. IfSome q (λ b. IfSome r (λ p. PricedMineFails s b p e)))
 missing_answer None q r said e h m = tt
@@ -101,10 +103,14 @@ missing_answer (Some s) None r said e h m = tt
 missing_answer (Some s) (Some b) None said e h m = tt
 missing_answer (Some s) (Some b) (Some p) said e h m = missing_at s b p said e h m
 
-columns_known : (s : List ℕ) (said : SettingsView) → ReadsSettingsText s said → first_missing price_keys said ≡ None → ColumnsKnown s
-columns_known s said a whole =
-    let M : SettingsView → Type 0 = λ v. first_missing price_keys v ≡ None in
+-- none of the keys that are needed is missing
+pub keys_said : (needed : List Key) (s : List ℕ) (said : SettingsView) → ReadsSettingsText s said → first_missing needed said ≡ None → KeysSaid needed s
+keys_said needed s said a whole =
+    let M : SettingsView → Type 0 = λ v. first_missing needed v ≡ None in
     record { within = a.0; read = settings_read s said a.1; said = subst M (sym (settings_are s said a.1)) whole }
+
+columns_known : (s : List ℕ) (said : SettingsView) → ReadsSettingsText s said → first_missing price_keys said ≡ None → ColumnsKnown s
+columns_known s said a whole = keys_said price_keys s said a whole
 
 prices_fail_at : (s b p : List ℕ) (said : SettingsView) (e : EngineFault) → ReadsSettingsText s said → first_missing price_keys said ≡ None → PricesReadFail said b e → PricedMineFails s b p e
 prices_fail_at s b p said (engine.Blocks q) a whole h =

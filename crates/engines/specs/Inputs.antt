@@ -15,7 +15,7 @@ use Rattle.shells.specs.Prices.{PricesView, PricesFaultStands}
 use Rattle.engines.specs.declared.engine_fault.Problem.TheVariants as problem
 use Rattle.engines.specs.Limits.{IsTooLong, IsWithinLimit}
 use Rattle.engines.specs.PricedTexts.{price_keys, price_columns, values_of, table_by, PricesRead, SettingsFaultStands, SettingsFails, PricedBlocksFail, PricesFail}
-use Rattle.engines.specs.Slopes.{BlocksFails}
+use Rattle.engines.specs.BlockTexts.{BlocksFails}
 use Rattle.engines.specs.Mines.{ValuesRead}
 use Rattle.engines.specs.FaultStands.{UpitFails, PrecFails}
 

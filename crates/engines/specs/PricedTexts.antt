@@ -14,7 +14,7 @@ use Rattle.shells.specs.declared.prices_fault.PricesFault.{PricesFault}
 use Rattle.engines.specs.declared.engine_fault.Problem.{Problem}
 use Rattle.engines.specs.declared.engine_fault.Problem.TheVariants as problem
 use Rattle.engines.specs.Limits.{IsTooLong, IsWithinLimit}
-use Rattle.engines.specs.Slopes.{BlocksFails}
+use Rattle.engines.specs.BlockTexts.{BlocksFails}
 
 -- the keys that every priced model needs
 abbrev pub price_keys : List Key
@@ -44,11 +44,15 @@ table_by s text = record { revenue = cells text (unwrap_or s.revenue 0); cost = 
 abbrev pub table_of : List ℕ → List ℕ → PricesView
 table_of settings text = table_by (settings_of settings) text
 
--- The settings name the columns of prices.
-pub record ColumnsKnown (settings : List ℕ) : Type 0 where
+-- The text of settings is read, and says something at each of these keys.
+pub record KeysSaid (needed : List Key) (settings : List ℕ) : Type 0 where
   pub within : IsWithinLimit settings
   pub read : AreSettings settings
-  pub said : first_missing price_keys (settings_of settings) ≡ None
+  pub said : first_missing needed (settings_of settings) ≡ None
+
+-- the settings name the columns of prices
+abbrev pub ColumnsKnown : List ℕ → Type 0
+ColumnsKnown settings = KeysSaid price_keys settings
 
 -- The settings name the columns of prices, and the text of blocks has them, of n blocks; no revenue is negative.
 pub record PricesRead (settings text : List ℕ) (n : ℕ) : Type 0 where

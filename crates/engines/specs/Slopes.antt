@@ -1,16 +1,18 @@
--- The precedence that a pattern gives of the blocks of a text, and how the engine of `slopes` ends.
-use Rattle.std.specs.Prelude.{◌≡◌, ℕ, ◌≤◌, ◌⊎◌, List, [], Option, Some, None, Result, Ok, Err, Contains}
+-- The precedence that offsets give of the blocks of a text, and how the engines of `slopes` end.
+use Rattle.std.specs.Prelude.{◌≡◌, ℕ, ◌≤◌, ◌⊎◌, List, [], ◌∷◌, Option, unwrap_or, Result, Ok, Err, Contains}
 use Rattle.std.specs.Io.KnownBytes.{Appends, Keeps}
 use Rattle.fixed_worth.specs.Device.{ReceivedPrefix}
-use Rattle.blocks_file.specs.Records as blocks
-use Rattle.blocks_file.specs.Denotes.{BlocksView, Denotes}
-use Rattle.blocks_file.specs.declared.faults.BlocksFault.{BlocksFault}
+use Rattle.blocks_file.specs.Denotes.{BlocksView}
 use Rattle.prec_file.specs.Rests.{RestsView}
 use Rattle.prec_file.specs.Written.{prec_text}
+use Rattle.settings_file.specs.declared.keys.Key.{Key}
+use Rattle.settings_file.specs.declared.keys.Key.TheVariants.{Offsets}
+use Rattle.settings_file.specs.declared.faults.SettingsFault.{SettingsFault}
+use Rattle.settings_file.specs.Settings.{SettingsView, settings_of}
 use Rattle.slope.specs.declared.pattern.TheConstants.{MOST_CONE_NUMBER, MOST_OFFSETS}
 use Rattle.slope.specs.Lists.{AreMoreThan}
 use Rattle.slope.specs.Offsets.{Offset, AreOffsets}
-use Rattle.slope.specs.Patterns.{five_offsets, nine_offsets, IsInCone}
+use Rattle.slope.specs.Patterns.{five_offsets, nine_offsets, IsInCone, ListFaultStands}
 use Rattle.slope.specs.Slopes.{AreSlopes, SlopeFaultStands}
 use Rattle.slope.specs.declared.up.Up.{Up}
 use Rattle.slope.specs.declared.pattern_fault.PatternFault.{PatternFault}
@@ -22,12 +24,14 @@ use Rattle.engines.specs.declared.judgement.Verdict.TheVariants.{Done, No}
 use Rattle.engines.specs.declared.pattern_choice.PatternChoice.{PatternChoice}
 use Rattle.engines.specs.declared.pattern_choice.PatternChoice.TheVariants.{Five, Nine, Cone}
 use Rattle.engines.specs.declared.engine_fault.Problem.{Problem}
-use Rattle.engines.specs.declared.engine_fault.Problem.TheVariants as problem
 use Rattle.engines.specs.declared.engine_fault.SlopeProblem.{SlopeProblem}
 use Rattle.engines.specs.declared.engine_fault.SlopeProblem.TheVariants as of
 use Rattle.engines.specs.declared.engine_fault.EngineFault.{EngineFault}
 use Rattle.engines.specs.declared.engine_fault.EngineFault.TheVariants as engine
-use Rattle.engines.specs.Limits.{IsTooLong, IsWithinLimit}
+use Rattle.engines.specs.BlockTexts.{ReadsBlocks, BlocksFails}
+use Rattle.engines.specs.PricedTexts.{KeysSaid, SettingsFails}
+
+-- ---- which offsets are asked for
 
 -- a number of a cone is from 1 to 1,000
 abbrev pub IsConeNumber : ℕ → Type 0
@@ -45,86 +49,117 @@ IsChosen Five offsets = AreOffsets (Contains five_offsets) offsets
 IsChosen Nine offsets = AreOffsets (Contains nine_offsets) offsets
 IsChosen (Cone levels run rise) offsets = AreOffsets (IsInCone levels run rise) offsets
 
--- the text isn't too long and has no fault, and these are its blocks with the chosen columns
-abbrev pub ReadsBlocks : List ℕ → List ℕ → BlocksView → Type 0
-ReadsBlocks chosen text m = IsWithinLimit text × (blocks.fault_of chosen text ≡ None) × Denotes chosen text m
+-- there is no such pattern: a cone has too many offsets, and nothing else can be wrong
+abbrev pub ChoiceFails : PatternChoice → PatternFault → Type 0
+ChoiceFails (Cone levels run rise) pattern.TooMany = AreMoreThan MOST_OFFSETS (IsInCone levels run rise)
+ChoiceFails _ _ = ⊥
 
--- The pairs are those that a pattern gives of a model.
-pub record AreSlopesBy (m : BlocksView) (choice : PatternChoice) (up : Up) (rests : RestsView) : Type 0 where
-  pub offsets : List Offset
-  pub chosen : IsChosen choice offsets
-  pub slopes : AreSlopes m offsets up rests
+-- there is no pattern of these offsets; want of memory isn't a fault of theirs
+abbrev pub ListFails : List Offset → PatternFault → Type 0
+ListFails listed pattern.NoMemory = ⊥
+ListFails listed fault = ListFaultStands listed fault
 
--- The pairs are those that a pattern gives of the blocks of a text.
-pub record AreSlopesOf (text : List ℕ) (choice : PatternChoice) (up : Up) (rests : RestsView) : Type 0 where
+-- the keys that settings need to list offsets
+abbrev pub offset_keys : List Key
+offset_keys = Offsets ∷ []
+
+-- the offsets that settings list
+abbrev pub listed_offsets : SettingsView → List Offset
+listed_offsets said = unwrap_or said.offsets []
+
+-- What says which offsets a slope has: a pattern that a word names, or the text of settings that list them.
+pub data OffsetsSource : Type 0 where
+  named : (choice : PatternChoice) → OffsetsSource
+  listed : (settings : List ℕ) → OffsetsSource
+
+-- the source is read
+abbrev pub IsSourceRead : OffsetsSource → Type 0
+IsSourceRead (named choice) = Unit {0}
+IsSourceRead (listed settings) = KeysSaid offset_keys settings
+
+-- the source isn't read: settings have this fault, and a word has none
+abbrev pub SourceFails : OffsetsSource → Problem SettingsFault → Type 0
+SourceFails (named choice) p = ⊥
+SourceFails (listed settings) p = SettingsFails offset_keys settings p
+
+-- the offsets of the source, each once and in order
+abbrev pub AreOffsetsOf : OffsetsSource → List Offset → Type 0
+AreOffsetsOf (named choice) offsets = IsChosen choice offsets
+AreOffsetsOf (listed settings) offsets = AreOffsets (Contains (listed_offsets (settings_of settings))) offsets
+
+-- the source gives no pattern
+abbrev pub PatternFails : OffsetsSource → PatternFault → Type 0
+PatternFails (named choice) fault = ChoiceFails choice fault
+PatternFails (listed settings) fault = ListFails (listed_offsets (settings_of settings)) fault
+
+-- ---- the pairs
+
+-- The source is read, and the pairs are those that its offsets give of the blocks of a text.
+pub record AreSlopesBy (source : OffsetsSource) (text : List ℕ) (up : Up) (rests : RestsView) : Type 0 where
+  pub source_read : IsSourceRead source
   pub model : BlocksView
   pub read : ReadsBlocks [] text model
-  pub slopes : AreSlopesBy model choice up rests
-
--- the text is no text of blocks: it is too long, or has this fault
-abbrev pub BlocksFails : List ℕ → List ℕ → Problem BlocksFault → Type 0
-BlocksFails chosen text problem.InputTooLong = IsTooLong text
-BlocksFails chosen text (problem.Fault fault) = IsWithinLimit text × (blocks.fault_of chosen text ≡ Some fault)
-
--- there is no such pattern: a cone has too many offsets, and nothing else can be wrong
-abbrev pub PatternFails : PatternChoice → PatternFault → Type 0
-PatternFails (Cone levels run rise) pattern.TooMany = AreMoreThan MOST_OFFSETS (IsInCone levels run rise)
-PatternFails _ _ = ⊥
+  pub offsets : List Offset
+  pub are : AreOffsetsOf source offsets
+  pub slopes : AreSlopes model offsets up rests
 
 -- the offsets give no pairs; want of memory isn't a fault of theirs
 abbrev pub PairsFail : BlocksView → List Offset → Up → SlopeFault → Type 0
 PairsFail m offsets up slope.NoMemory = ⊥
 PairsFail m offsets up fault = SlopeFaultStands m offsets up fault
 
--- a pattern gives no pairs of a model: there is no such pattern, or its offsets give none
-abbrev pub SlopeFails : BlocksView → PatternChoice → Up → SlopeProblem → Type 0
-SlopeFails m choice up (of.Pattern fault) = PatternFails choice fault
-SlopeFails m choice up (of.Pairs fault) = (offsets : List Offset) × IsChosen choice offsets × PairsFail m offsets up fault
+-- a source gives no pairs of a model: it gives no pattern, or its offsets give none
+abbrev pub SlopeFails : OffsetsSource → BlocksView → Up → SlopeProblem → Type 0
+SlopeFails source m up (of.Pattern fault) = PatternFails source fault
+SlopeFails source m up (of.Pairs fault) = (offsets : List Offset) × AreOffsetsOf source offsets × PairsFail m offsets up fault
 
--- Why the engine answers a fault: it stands, and none before it does. Want of memory and a failing device say nothing of the text.
-abbrev pub SlopesFail : List ℕ → PatternChoice → Up → EngineFault → Type 0
-SlopesFail text choice up (engine.Blocks p) = BlocksFails [] text p
-SlopesFail text choice up (engine.Slope p) = (m : BlocksView) × ReadsBlocks [] text m × SlopeFails m choice up p
-SlopesFail text choice up engine.Memory = Unit {0}
-SlopesFail text choice up engine.Device = Unit {0}
-SlopesFail text choice up _ = ⊥
+-- ---- the engines
+
+-- Why an engine answers a fault: it stands, and none before it does. Want of memory and a failing device say nothing of the texts.
+abbrev pub SlopesFail : OffsetsSource → List ℕ → Up → EngineFault → Type 0
+SlopesFail source text up (engine.Settings p) = SourceFails source p
+SlopesFail source text up (engine.Blocks p) = IsSourceRead source × BlocksFails [] text p
+SlopesFail source text up (engine.Slope p) = IsSourceRead source × ((m : BlocksView) × ReadsBlocks [] text m × SlopeFails source m up p)
+SlopesFail source text up engine.Memory = Unit {0}
+SlopesFail source text up engine.Device = Unit {0}
+SlopesFail source text up _ = ⊥
 
 -- It wrote the precedence file of the pairs.
-pub record WritesSlopes (text : List ℕ) (choice : PatternChoice) (up : Up) (old new : Option (List ℕ)) : Type 0 where
+pub record WritesSlopes (source : OffsetsSource) (text : List ℕ) (up : Up) (old new : Option (List ℕ)) : Type 0 where
   pub rests : RestsView
-  pub slopes : AreSlopesOf text choice up rests
+  pub slopes : AreSlopesBy source text up rests
   pub written : Appends old new (prec_text rests)
 
 -- nothing was written, or a front of that file
-abbrev pub WritesSlopesFront : List ℕ → PatternChoice → Up → Option (List ℕ) → Option (List ℕ) → Type 0
-WritesSlopesFront text choice up old new = Keeps old new ⊎ ((rests : RestsView) × AreSlopesOf text choice up rests × ReceivedPrefix old new (prec_text rests))
+abbrev pub WritesSlopesFront : OffsetsSource → List ℕ → Up → Option (List ℕ) → Option (List ℕ) → Type 0
+WritesSlopesFront source text up old new = Keeps old new ⊎ ((rests : RestsView) × AreSlopesBy source text up rests × ReceivedPrefix old new (prec_text rests))
 
 -- what is in the writer at a fault: what was there before, unless a device failed
-abbrev pub SlopesAtFault : List ℕ → PatternChoice → Up → Option (List ℕ) → Option (List ℕ) → EngineFault → Type 0
-SlopesAtFault text choice up old new engine.Device = WritesSlopesFront text choice up old new
-SlopesAtFault text choice up old new _ = Keeps old new
+abbrev pub SlopesAtFault : OffsetsSource → List ℕ → Up → Option (List ℕ) → Option (List ℕ) → EngineFault → Type 0
+SlopesAtFault source text up old new engine.Device = WritesSlopesFront source text up old new
+SlopesAtFault source text up old new _ = Keeps old new
 
 -- the answer, and what was written with it
-abbrev pub GivesSlopes : List ℕ → PatternChoice → Up → Option (List ℕ) → Option (List ℕ) → Result Verdict EngineFault → Type 0
-GivesSlopes text choice up old new (Ok Done) = WritesSlopes text choice up old new
-GivesSlopes text choice up old new (Ok No) = ⊥
-GivesSlopes text choice up old new (Err fault) = SlopesFail text choice up fault × SlopesAtFault text choice up old new fault
+abbrev pub GivesSlopes : OffsetsSource → List ℕ → Up → Option (List ℕ) → Option (List ℕ) → Result Verdict EngineFault → Type 0
+GivesSlopes source text up old new (Ok Done) = WritesSlopes source text up old new
+GivesSlopes source text up old new (Ok No) = ⊥
+GivesSlopes source text up old new (Err fault) = SlopesFail source text up fault × SlopesAtFault source text up old new fault
 
--- how reading the blocks fails
-abbrev pub BlocksReadFails : List ℕ → List ℕ → EngineFault → Type 0
-BlocksReadFails chosen text (engine.Blocks p) = BlocksFails chosen text p
-BlocksReadFails chosen text engine.Memory = Unit {0}
-BlocksReadFails chosen text engine.Device = Unit {0}
-BlocksReadFails chosen text _ = ⊥
+-- ---- their parts
 
--- how making the pattern fails
-abbrev pub PatternMakingFails : PatternChoice → EngineFault → Type 0
-PatternMakingFails choice (engine.Slope (of.Pattern fault)) = PatternFails choice fault
-PatternMakingFails choice engine.Memory = Unit {0}
-PatternMakingFails choice _ = ⊥
+-- the fault of a pattern, as an engine answers it
+abbrev pub of_pattern : PatternFault → EngineFault
+of_pattern pattern.NoMemory = engine.Memory
+of_pattern fault = engine.Slope (of.Pattern fault)
 
--- how making the pairs fails
-abbrev pub PairsMakingFail : BlocksView → PatternChoice → Up → EngineFault → Type 0
-PairsMakingFail m choice up (engine.Slope p) = SlopeFails m choice up p
-PairsMakingFail m choice up engine.Memory = Unit {0}
-PairsMakingFail m choice up _ = ⊥
+-- how making a pattern fails, where it may fail so
+abbrev pub PatternMakingFails : (PatternFault → Type 0) → EngineFault → Type 0
+PatternMakingFails Refused (engine.Slope (of.Pattern fault)) = Refused fault
+PatternMakingFails Refused engine.Memory = Unit {0}
+PatternMakingFails Refused _ = ⊥
+
+-- how making the pairs of offsets fails
+abbrev pub PairsMakingFail : BlocksView → List Offset → Up → EngineFault → Type 0
+PairsMakingFail m offsets up (engine.Slope (of.Pairs fault)) = PairsFail m offsets up fault
+PairsMakingFail m offsets up engine.Memory = Unit {0}
+PairsMakingFail m offsets up _ = ⊥

@@ -190,3 +190,17 @@ impl From<SettingsFault> for EngineFault {
         }
     }
 }
+
+impl From<PatternFault> for EngineFault {
+    ghost use Rattle.std.specs.Prelude.{◌≡◌};
+    ghost use Rattle.engines.specs.Slopes.{of_pattern};
+
+    ghost from_gives = { λ fault e. e ≡ of_pattern fault };
+
+    fn from(fault: PatternFault) -> EngineFault {
+        match fault {
+            PatternFault::NoMemory => EngineFault::Memory,
+            fault => EngineFault::Slope(SlopeProblem::Pattern(fault)),
+        }
+    }
+}

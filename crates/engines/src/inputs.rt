@@ -2,7 +2,7 @@
 
 ghost use Rattle.std.specs.Prelude.{◌≡◌, ◌+◌, ◌-◌, ◌^◌, ◌<◌, ◌≤◌, ◌↔◌, ℕ, ◌⊎◌, length, IfOk, IfSome, MatchResult, IsErrOf};
 ghost use Rattle.engines.specs.Limits.{IsWithinLimit};
-ghost use Rattle.engines.specs.Slopes.{ReadsBlocks, BlocksReadFails};
+ghost use Rattle.engines.specs.BlockTexts.{ReadsBlocks, BlocksReadFails};
 ghost use Rattle.engines.specs.Inputs.{ReadsUpit, ListsPrec, ReadsPrec, UpitReadFails, PrecReadFails, TextFails, TextReadFails};
 
 use crate::engine_fault::{CertificateProblem, EngineFault, Problem};

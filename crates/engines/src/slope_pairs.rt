@@ -1,52 +1,57 @@
-//! The pairs that a chosen pattern gives of a model, and their text.
+//! The pattern that is asked for, the pairs that a pattern gives of a model, and their text.
 
-ghost use Rattle.std.specs.Prelude.{◌≡◌, ◌+◌, ◌-◌, ◌^◌, ◌<◌, ◌↔◌, OnOk, IfOk, IfErr, MatchResult, IsErrOf};
+ghost use Rattle.std.specs.Prelude.{◌≡◌, ◌+◌, ◌-◌, ◌^◌, ◌<◌, Contains, OnOk, IfOk, IfErr, MatchResult, IsErrOf};
 ghost use Rattle.std.specs.Io.KnownBytes.{Appends};
 ghost use Rattle.fixed_worth.specs.Device.{ReceivedPrefix};
 ghost use Rattle.prec_file.specs.Written.{prec_text, AreNarrow};
-ghost use Rattle.engines.specs.Slopes.{IsChoice, IsChosen, AreSlopesBy, PatternMakingFails, PairsMakingFail};
+ghost use Rattle.slope.specs.Offsets.{AreOffsets};
+ghost use Rattle.slope.specs.Slopes.{AreSlopes};
+ghost use Rattle.engines.specs.Slopes.{IsChoice, IsChosen, ChoiceFails, ListFails, PatternMakingFails, PairsMakingFail};
 
 use crate::engine_fault::{EngineFault, SlopeProblem};
 use crate::pattern_choice::PatternChoice;
 use blocks_file::BlockModel;
 use fixed_worth::CountedWrite;
 use prec_file::{PrecWriteFault, Rests, write_prec};
-use slope::{Pattern, PatternFault, SlopeFault, Up, laws, rests_of};
+use slope::{Pattern, SlopeFault, Up, laws, rests_of};
 use std::alloc::Global;
 
-// The pattern that is asked for.
-fn pattern_for(alloc: Global, choice: PatternChoice) -> Result<Pattern, EngineFault>
+/// The pattern that a word names.
+pub fn pattern_for(alloc: Global, choice: PatternChoice) -> Result<Pattern, EngineFault>
     requires { IsChoice choice }
-    ensures made { MatchResult result (IsChosen choice) (PatternMakingFails choice) }
+    ensures made { MatchResult result (IsChosen choice) (PatternMakingFails (ChoiceFails choice)) }
+    ensures no_device { ¬ IsErrOf result EngineFault.Device }
 {
     let made = match choice {
         PatternChoice::Five => Pattern::five(alloc),
         PatternChoice::Nine => Pattern::nine(alloc),
         PatternChoice::Cone { levels, run, rise } => Pattern::cone(alloc, levels, run, rise),
     };
-    match made {
-        Ok(pattern) => Ok(pattern),
-        Err(PatternFault::NoMemory) => Err(EngineFault::Memory),
-        Err(fault) => Err(EngineFault::Slope(SlopeProblem::Pattern(fault))),
-    }
+    Ok(made?)
 }
 
-/// Who rests on whom among the blocks of a model, by the pattern that is asked for.
+/// The pattern of listed offsets.
+pub fn pattern_listed(alloc: Global, listed: &[(i32, i32, i32)]) -> Result<Pattern, EngineFault>
+    ensures made { MatchResult result (AreOffsets (Contains listed.now)) (PatternMakingFails (ListFails listed.now)) }
+    ensures no_device { ¬ IsErrOf result EngineFault.Device }
+{
+    Ok(Pattern::custom(alloc, listed)?)
+}
+
+/// Who rests on whom among the blocks of a model, by a pattern.
 pub fn slopes_of(
     alloc: Global,
     model: &BlockModel,
-    choice: PatternChoice,
+    pattern: &Pattern,
     up: Up,
 ) -> Result<Rests, EngineFault>
-    requires { IsChoice choice }
-    ensures made { MatchResult result (AreSlopesBy model.now choice up) (PairsMakingFail model.now choice up) }
+    ensures made { MatchResult result (AreSlopes model.now pattern.now up) (PairsMakingFail model.now pattern.now up) }
     ensures narrow { IfOk result AreNarrow }
     ensures no_device { ¬ IsErrOf result EngineFault.Device }
 {
-    let pattern = pattern_for(alloc, choice)?;
     // proof: a block has no more predecessors than a pattern has offsets
-    laws::slopes_are_narrow(&pattern);
-    match rests_of(alloc, model, &pattern, up) {
+    laws::slopes_are_narrow(pattern);
+    match rests_of(alloc, model, pattern, up) {
         Ok(rests) => Ok(rests),
         Err(SlopeFault::NoMemory) => Err(EngineFault::Memory),
         Err(fault) => Err(EngineFault::Slope(SlopeProblem::Pairs(fault))),

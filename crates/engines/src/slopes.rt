@@ -1,13 +1,13 @@
-//! The engine of `slopes`: the bytes of blocks in, the bytes of a precedence out.
+//! The engine of `slopes` for a pattern that a word names: the bytes of blocks in, the bytes of a precedence out.
 
 ghost use Rattle.std.specs.Prelude.{◌≡◌, ◌+◌, ◌-◌, ◌^◌, ◌<◌, IfSome, IsErrOf};
-ghost use Rattle.engines.specs.Slopes.{IsChoice, GivesSlopes};
+ghost use Rattle.engines.specs.Slopes.{IsChoice, named, GivesSlopes};
 
 use crate::engine_fault::EngineFault;
 use crate::inputs::blocks_from;
 use crate::judgement::Verdict;
 use crate::pattern_choice::PatternChoice;
-use crate::slope_pairs::{slopes_of, write_slopes};
+use crate::slope_pairs::{pattern_for, slopes_of, write_slopes};
 use fixed_worth::{CountedRead, CountedWrite};
 use slope::Up;
 use std::alloc::Global;
@@ -35,14 +35,15 @@ pub fn slopes_engine<B: CountedRead, W: CountedWrite>(
     requires out_room { W.failed out.old < 2 ^ 64 - 1 }
 
     // What it answers and writes, where the reader tells its bytes.
-    ensures answer { IfSome (B.remaining blocks.old) (λ text. GivesSlopes text pattern up (W.contents out.old) (W.contents out.new) result) }
+    ensures answer { IfSome (B.remaining blocks.old) (λ text. GivesSlopes (named pattern) text up (W.contents out.old) (W.contents out.new) result) }
 
     // A device is named exactly where one failed.
     ensures device { IsErrOf result EngineFault.Device → B.failed blocks.new + W.failed out.new ≡ B.failed blocks.old + W.failed out.old + 1 }
     ensures kept { ¬ IsErrOf result EngineFault.Device → (B.failed blocks.new ≡ B.failed blocks.old) × (W.failed out.new ≡ W.failed out.old) }
 {
     let model = blocks_from(alloc, blocks, &[])?;
-    let rests = slopes_of(alloc, &model, pattern, up)?;
+    let pattern = pattern_for(alloc, pattern)?;
+    let rests = slopes_of(alloc, &model, &pattern, up)?;
     write_slopes(&rests, out)?;
     Ok(Verdict::Done)
 }

@@ -4,6 +4,7 @@ ghost use Rattle.engines.specs.Slopes.{IsChoice};
 
 use crate::engine_fault::{EngineFault, Problem, SlopeProblem};
 use crate::judgement::Verdict;
+use crate::listed_slopes::slopes_from_settings_engine;
 use crate::pattern_choice::PatternChoice;
 use crate::pattern_words::{pattern_named, up_named};
 use crate::slopes::slopes_engine;
@@ -131,6 +132,22 @@ fn a_cube_by_five_where_a_smaller_z_is_higher(rt: HostRuntime) {
         rise: 1,
     };
     assert!(rt; writes(rt.alloc(), CUBE, cone, Up::MinusZ, FIVE_MINUS));
+}
+
+#[test]
+fn a_cube_by_listed_offsets(rt: HostRuntime) {
+    let settings: &[u8] =
+        b"offsets = [[1, 0, 1], [0, 0, 1], [0, 0, 1], [-1, 0, 1], [0, -1, 1], [0, 1, 1]]";
+    let mut out = Counted::new(Vec::new(rt.alloc()));
+    let given = slopes_from_settings_engine(
+        rt.alloc(),
+        &mut Counted::new(settings),
+        &mut Counted::new(CUBE),
+        Up::MinusZ,
+        &mut out,
+    );
+    assert!(rt; given == Ok(Verdict::Done));
+    assert!(rt; out.into_inner().as_slice() == FIVE_MINUS);
 }
 
 #[test]

@@ -1,8 +1,8 @@
-//! How a mine is to be solved, by the words of `solve` or of `shells`, or the word that names nothing that there is.
+//! How a mine is to be solved, by the words of a command, or the word that names nothing that there is.
 
 ghost use Rattle.std.specs.Prelude.{◌≤◌, IfOk};
 
-use command_line::{Commanded, NamedOption, ShellsWords, SolveWords, WrongWord};
+use command_line::{Commanded, NamedOption, SeriesWords, SolveWords, WrongWord};
 use engines::{Effort, Method, method_named, steps_named, workers_named};
 use workers::MOST_WORKERS;
 
@@ -31,12 +31,12 @@ pub fn effort_to_solve<'a>(words: SolveWords<'a>) -> Result<Effort, WrongWord<'a
     effort_asked(words, limits_are_given)
 }
 
-/// How `shells` solves the mine at each factor. Workers are of use to both engines here, so that steps alone leave the
-/// choice to the push-relabel machine.
-pub fn effort_for_shells<'a>(words: ShellsWords<'a>) -> Result<Effort, WrongWord<'a>> {
+/// How `shells` and `report` solve the mine at each factor. Workers are of use to both engines here, so that steps alone
+/// leave the choice to the push-relabel machine.
+pub fn effort_for_series<'a>(words: SeriesWords<'a>) -> Result<Effort, WrongWord<'a>> {
     let limits_are_given = words.steps.is_some();
     let words = EffortWords {
-        command: Commanded::Shells,
+        command: Commanded::Series(words.command),
         method: words.method,
         steps: words.steps,
         workers: words.workers,

@@ -4,14 +4,15 @@ ghost use Rattle.std.specs.Prelude.{◌≡◌, IfOk};
 ghost use Rattle.engines.specs.Slopes.{IsChoice};
 
 use crate::told::{Told, opened, output};
-use command_line::{CheckWords, ModelWords, ShellsWords, SlopesWords, SolveWords};
+use command_line::{CheckWords, ModelWords, SeriesCommand, SeriesWords, SlopesWords, SolveWords};
 use engines::{
     Effort, EngineFault, PatternChoice, Verdict, check_engine, check_priced_engine, slopes_engine,
-    solve_engine, solve_priced_engine,
+    slopes_from_settings_engine, solve_engine, solve_priced_engine,
 };
 use fixed_worth::Counted;
 use ordered_group::Group;
 use pseudoflow::Progress;
+use report_engines::report_engine;
 use shell_engines::{SeriesProgress, shells_engine};
 use shells::Factor;
 use slope::Up;
@@ -104,25 +105,38 @@ pub fn solve_priced_files<
     )
 }
 
-/// Draws the shells of the mine of files of settings, blocks and precedence.
-pub fn shells_files<
+/// Draws the shells of the mine of files of settings, blocks and precedence, or makes its bench table.
+pub fn series_files<
     R: Files + Print + Eprint + Threads + Wait + Sync + AllocGlobal,
     T: Gate + Progress + SeriesProgress,
->(rt: &R, words: ShellsWords<'_>, effort: Effort, watch: &T) -> Result<Verdict, EngineFault> {
+>(rt: &R, words: SeriesWords<'_>, effort: Effort, watch: &T) -> Result<Verdict, EngineFault> {
     let mut prec = file(rt, words.verbose, words.prec)?;
     let mut settings = file(rt, words.verbose, words.settings)?;
     let mut blocks = file(rt, words.verbose, words.blocks)?;
     let mut out = Counted::new(output(rt, words.verbose));
-    shells_engine(
-        rt,
-        rt.alloc(),
-        &mut settings,
-        &mut blocks,
-        &mut prec,
-        effort,
-        watch,
-        &mut out,
-    )
+    let alloc = rt.alloc();
+    match words.command {
+        SeriesCommand::Shells => shells_engine(
+            rt,
+            alloc,
+            &mut settings,
+            &mut blocks,
+            &mut prec,
+            effort,
+            watch,
+            &mut out,
+        ),
+        SeriesCommand::Report => report_engine(
+            rt,
+            alloc,
+            &mut settings,
+            &mut blocks,
+            &mut prec,
+            effort,
+            watch,
+            &mut out,
+        ),
+    }
 }
 
 /// Writes the predecessors of each block of a file, by a pattern.
@@ -137,6 +151,19 @@ pub fn slopes_file<R: Files + Print + Eprint + AllocGlobal>(
     let mut blocks = file(rt, words.verbose, words.blocks)?;
     let mut out = Counted::new(output(rt, words.verbose));
     slopes_engine(rt.alloc(), &mut blocks, pattern, up, &mut out)
+}
+
+/// Writes the predecessors of each block of a file, by the offsets that a file of settings lists.
+pub fn listed_slopes_files<R: Files + Print + Eprint + AllocGlobal>(
+    rt: &R,
+    words: SlopesWords<'_>,
+    settings: &str,
+    up: Up,
+) -> Result<Verdict, EngineFault> {
+    let mut settings = file(rt, words.verbose, settings)?;
+    let mut blocks = file(rt, words.verbose, words.blocks)?;
+    let mut out = Counted::new(output(rt, words.verbose));
+    slopes_from_settings_engine(rt.alloc(), &mut settings, &mut blocks, up, &mut out)
 }
 
 // A file whose failures are counted.

@@ -12,12 +12,14 @@ mod solve_words;
 mod told;
 
 use command_line::{
-    Declined, ModelWords, Request, ShellsWords, SlopesWords, SolveWords, WrongWord, declined_for,
-    request_of,
+    Declined, ModelWords, OffsetsWords, Request, SeriesWords, SlopesWords, SolveWords, WrongWord,
+    declined_for, request_of,
 };
-use effort_words::{effort_for_shells, effort_to_solve};
+use effort_words::{effort_for_series, effort_to_solve};
 use engines::{EngineFault, Unwatched, Verdict, status, stored_check, write_fault};
-use files::{check_files, shells_files, slopes_file, solve_files, solve_priced_files};
+use files::{
+    check_files, listed_slopes_files, series_files, slopes_file, solve_files, solve_priced_files,
+};
 use fixed_worth::Counted;
 use progress::Meter;
 use slopes_words::{pattern_asked, up_asked};
@@ -81,7 +83,7 @@ fn answer<R: Files + Print + Eprint + Clock + Threads + Wait + Sync + AllocGloba
     match request {
         Request::Check(words) => Ok(Ending::Answered(check_files(rt, words)?)),
         Request::Solve(words) => solve(rt, words),
-        Request::Shells(words) => shells(rt, words),
+        Request::Series(words) => series(rt, words),
         Request::Slopes(words) => slopes(rt, words),
     }
 }
@@ -133,37 +135,40 @@ fn solve<R: Files + Print + Eprint + Clock + Threads + Wait + Sync + AllocGlobal
     }
 }
 
-// Draws the shells of the mine of three files, and tells how far it is where that is asked for.
-fn shells<R: Files + Print + Eprint + Clock + Threads + Wait + Sync + AllocGlobal>(
+// Draws the shells of the mine of three files or makes its bench table, and tells how far it is where that is asked for.
+fn series<R: Files + Print + Eprint + Clock + Threads + Wait + Sync + AllocGlobal>(
     rt: &R,
-    words: ShellsWords<'_>,
+    words: SeriesWords<'_>,
 ) -> Result<Ending, EngineFault> {
-    let effort = match effort_for_shells(words) {
+    let effort = match effort_for_series(words) {
         Ok(effort) => effort,
         Err(wrong) => return refused(rt, wrong),
     };
     let verdict = if words.progress {
-        shells_files(rt, words, effort, &Meter::new(rt, effort.steps))?
+        series_files(rt, words, effort, &Meter::new(rt, effort.steps))?
     } else {
-        shells_files(rt, words, effort, &Unwatched)?
+        series_files(rt, words, effort, &Unwatched)?
     };
     Ok(Ending::Answered(verdict))
 }
 
-// Writes the predecessors of the blocks of a file, by a pattern.
+// Writes the predecessors of the blocks of a file, by a pattern or by the offsets of settings.
 fn slopes<R: Files + Print + Eprint + AllocGlobal>(
     rt: &R,
     words: SlopesWords<'_>,
 ) -> Result<Ending, EngineFault> {
-    let pattern = match pattern_asked(words) {
-        Ok(pattern) => pattern,
-        Err(wrong) => return refused(rt, wrong),
-    };
     let up = match up_asked(words) {
         Ok(up) => up,
         Err(wrong) => return refused(rt, wrong),
     };
-    Ok(Ending::Answered(slopes_file(rt, words, pattern, up)?))
+    let verdict = match words.offsets {
+        OffsetsWords::Pattern(word) => match pattern_asked(word) {
+            Ok(pattern) => slopes_file(rt, words, pattern, up)?,
+            Err(wrong) => return refused(rt, wrong),
+        },
+        OffsetsWords::Settings(settings) => listed_slopes_files(rt, words, settings, up)?,
+    };
+    Ok(Ending::Answered(verdict))
 }
 
 // A word names nothing that its option takes.

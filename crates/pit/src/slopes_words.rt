@@ -7,14 +7,14 @@ use command_line::{Commanded, NamedOption, SlopesWords, WrongWord};
 use engines::{PatternChoice, pattern_named, up_named};
 use slope::Up;
 
-/// Which blocks above a block are its predecessors.
-pub fn pattern_asked<'a>(words: SlopesWords<'a>) -> Result<PatternChoice, WrongWord<'a>>
+/// Which blocks above a block are its predecessors, by a word that names a pattern.
+pub fn pattern_asked<'a>(word: &'a str) -> Result<PatternChoice, WrongWord<'a>>
     ensures { IfOk result IsChoice }
 {
-    pattern_named(words.pattern.as_bytes()).ok_or(WrongWord {
+    pattern_named(word.as_bytes()).ok_or(WrongWord {
         command: Commanded::Slopes,
         option: NamedOption::Pattern,
-        word: words.pattern,
+        word,
     })
 }
 

@@ -15,7 +15,7 @@ use Rattle.engines.specs.declared.engine_fault.EngineFault.TheVariants as engine
 use Rattle.engines.specs.declared.engine_fault.Problem.{Problem}
 use Rattle.engines.specs.declared.engine_fault.Problem.TheVariants as problem
 use Rattle.engines.specs.PricedTexts.{price_keys, price_columns, values_of, table_by, table_of, SettingsFails}
-use Rattle.engines.specs.Slopes.{ReadsBlocks, BlocksFails, BlocksReadFails}
+use Rattle.engines.specs.BlockTexts.{ReadsBlocks, BlocksFails, BlocksReadFails}
 use Rattle.engines.specs.Inputs.{ReadsSettingsText, SettingsReadFails, IsMissing, ReadsPrices, ReadsPrec, PrecReadFails, ModelPricesFail}
 use Rattle.engines.specs.ReadMines.{ArePricesRead}
 use Rattle.engines.proofs.Priced.{column_is, all_read}

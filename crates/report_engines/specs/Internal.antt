@@ -12,7 +12,7 @@ use Rattle.engines.specs.declared.judgement.Verdict.TheVariants.{Done, No}
 use Rattle.engines.specs.declared.engine_fault.EngineFault.{EngineFault}
 use Rattle.engines.specs.declared.engine_fault.EngineFault.TheVariants as engine
 use Rattle.engines.specs.PricedTexts.{values_of, SettingsFails}
-use Rattle.engines.specs.Slopes.{ReadsBlocks, BlocksFails}
+use Rattle.engines.specs.BlockTexts.{ReadsBlocks, BlocksFails}
 use Rattle.shell_engines.specs.SeriesTexts.{factors_said, IsSeriesRead}
 use Rattle.report_engines.specs.declared.reporting.Outcome.{Outcome}
 use Rattle.report_engines.specs.declared.reporting.Outcome.TheVariants.{Table, NoTable}

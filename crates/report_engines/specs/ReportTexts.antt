@@ -4,14 +4,14 @@ use Rattle.std.specs.List.{find}
 use Rattle.blocks_file.specs.Records as blocks
 use Rattle.settings_file.specs.declared.keys.Key.{Key}
 use Rattle.settings_file.specs.declared.keys.Key.TheVariants.{Revenue, Cost, Tonnes, Factors}
-use Rattle.settings_file.specs.Settings.{SettingsView, AreSettings, settings_of, first_missing}
+use Rattle.settings_file.specs.Settings.{SettingsView, settings_of}
 use Rattle.shells.specs.Prices.{PricesFaultStands}
 use Rattle.bench_report.specs.Benches.{ReportedBlocks}
 use Rattle.engines.specs.declared.engine_fault.EngineFault.{EngineFault}
 use Rattle.engines.specs.declared.engine_fault.EngineFault.TheVariants as engine
 use Rattle.engines.specs.Limits.{IsWithinLimit}
-use Rattle.engines.specs.Slopes.{BlocksFails}
-use Rattle.engines.specs.PricedTexts.{cell, table_of, PricesRead, SettingsFails}
+use Rattle.engines.specs.BlockTexts.{BlocksFails}
+use Rattle.engines.specs.PricedTexts.{cell, table_of, KeysSaid, PricesRead, SettingsFails}
 use Rattle.engines.specs.Mines.{priced_texts, worth_by}
 use Rattle.engines.specs.FaultStands.{PrecFails}
 use Rattle.shell_engines.specs.SeriesTexts.{factors_said}
@@ -20,11 +20,9 @@ use Rattle.shell_engines.specs.SeriesTexts.{factors_said}
 abbrev pub report_keys : List Key
 report_keys = Revenue ∷ Cost ∷ Tonnes ∷ Factors ∷ []
 
--- The text of settings has no fault, and says something at each of these keys.
-pub record ReportKeysKnown (settings : List ℕ) : Type 0 where
-  pub within : IsWithinLimit settings
-  pub read : AreSettings settings
-  pub said : first_missing report_keys (settings_of settings) ≡ None
+-- the text of settings has no fault, and says something at each of these keys
+abbrev pub ReportKeysKnown : List ℕ → Type 0
+ReportKeysKnown settings = KeysSaid report_keys settings
 
 -- the columns of the blocks that settings name: revenues, then costs, then tonnes
 abbrev pub report_columns : SettingsView → List ℕ

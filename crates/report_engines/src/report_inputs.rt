@@ -5,7 +5,7 @@ ghost use Rattle.settings_file.specs.Settings.{first_missing};
 ghost use Rattle.settings_file.specs.Values.{AreFactors};
 ghost use Rattle.shells.specs.Prices.{blocks_of};
 ghost use Rattle.engines.specs.Inputs.{IsMissing};
-ghost use Rattle.engines.specs.Slopes.{ReadsBlocks};
+ghost use Rattle.engines.specs.BlockTexts.{ReadsBlocks};
 ghost use Rattle.report_engines.specs.ReportTexts.{report_columns, factor_by, ReportMineFails};
 ghost use Rattle.report_engines.specs.Internal.{column_keys, IsSaid, SaidFails, PricedModelFails, IsReportRead, IsSmall, IsPricedModel};
 

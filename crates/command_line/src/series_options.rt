@@ -1,0 +1,77 @@
+//! What the commands share that go over a series of factors: the files of a mine with prices, and how each of its pits is
+//! found.
+
+use crate::options::{
+    PREC_HELP, PRICED_BLOCKS_HELP, file_option, method_option, progress_option, steps_option,
+    text_of, verbose_option, workers_option,
+};
+use clap::{ArgMatches, Command};
+use std::alloc::{AllocError, Global};
+
+/// A command that goes over a series of factors.
+#[derive(Clone, Copy)]
+pub enum SeriesCommand {
+    /// `shells`.
+    Shells,
+    /// `report`.
+    Report,
+}
+
+/// The words of such a command: the files, and where they were given the method, the steps and the workers, and whether
+/// progress is shown and it is told why a file failed.
+#[derive(Clone, Copy)]
+pub struct SeriesWords<'a> {
+    pub command: SeriesCommand,
+    pub prec: &'a str,
+    pub blocks: &'a str,
+    pub settings: &'a str,
+    pub method: Option<&'a str>,
+    pub steps: Option<&'a str>,
+    pub workers: Option<&'a str>,
+    pub progress: bool,
+    pub verbose: bool,
+}
+
+const METHODS: &str = "Which engine makes the flow: auto (the default), pseudoflow or push-relabel
+
+  auto          the push-relabel machine for a mine of at most 1000 blocks, and pseudoflow where a number of its run doesn't fit; for more blocks pseudoflow, and the machine where that gives no flow that proves a pit; the machine alone where --steps is given
+  pseudoflow    highest-label pseudoflow alone, for as many factors at a time as there are workers; UNSETTLED where it gives up
+  push-relabel  the push-relabel machine alone, with as many threads as there are workers";
+
+/// The options of such a command; the help says what its settings have.
+pub fn with_series<'a>(
+    alloc: Global,
+    command: Command<'a>,
+    settings_help: &'a str,
+) -> Result<Command<'a>, AllocError> {
+    command
+        .arg(file_option(alloc, "prec", PREC_HELP))?
+        .arg(file_option(alloc, "blocks", PRICED_BLOCKS_HELP))?
+        .arg(file_option(alloc, "settings", settings_help))?
+        .arg(method_option(alloc).long_help(METHODS))?
+        .arg(steps_option(alloc))?
+        .arg(workers_option(
+            alloc,
+            "How many factors pseudoflow solves at a time, or the threads of the push-relabel machine, from 1 to 64 (1 by default)",
+        ))?
+        .arg(progress_option(
+            alloc,
+            "Tells on standard error at which factor a pit is proved, and how far a run of the machine is",
+        ))?
+        .arg(verbose_option(alloc))
+}
+
+/// The words that were given to this command.
+pub fn series_words<'a>(command: SeriesCommand, words: &ArgMatches<'a>) -> SeriesWords<'a> {
+    SeriesWords {
+        command,
+        prec: text_of(words, "prec"),
+        blocks: text_of(words, "blocks"),
+        settings: text_of(words, "settings"),
+        method: words.get_str("method"),
+        steps: words.get_str("steps"),
+        workers: words.get_str("workers"),
+        progress: words.get_flag("progress"),
+        verbose: words.get_flag("verbose"),
+    }
+}
