@@ -12,7 +12,7 @@ returns-in-Ok-clause-answer g c = λ s b p read.
     let mine = c.args.mine in
     is_report s b p mine.series.prices mine.series.rests mine.series.factors.items mine.model mine.factor read c.in-Ok.shells.series c.in-Ok.shells.rows.items c.in-Ok.ensures c.in_ok-rows_at-in-Ok.ensures.series c.best_pits_at_factors_are_nested.ensures c.in_ok-rows_at-in-Ok.field-0.items c.in_ok-rows_at-in-Ok.ensures.rows
 
-pub returns-in-Err-clause-answer : goal.returns-in-Err-clause-answer
-returns-in-Err-clause-answer g c = λ s b p read.
+pub returns-clause-answer : goal.returns-clause-answer
+returns-clause-answer g c = λ s b p read.
     let mine = c.args.mine in
     no_series_answer s b p mine.series.prices mine.series.rests mine.series.factors.items mine.model mine.factor read c.args.effort.method c.args.effort.steps c.in-Err.none c.no_series.result c.in-Err.ensures c.no_series.ensures
