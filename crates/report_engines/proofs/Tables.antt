@@ -26,6 +26,7 @@ use Rattle.engines.specs.declared.engine_fault.EngineFault.TheVariants as engine
 use Rattle.engines.specs.PricedTexts.{cell, table_of}
 use Rattle.engines.specs.ReadMines.{of_model}
 use Rattle.shell_engines.specs.declared.shell_rows.ShellRow.{ShellRow}
+use Rattle.shell_engines.specs.declared.no_series.NoSeries.{NoSeries}
 use Rattle.shell_engines.specs.declared.no_series.NoSeries.TheVariants as none
 use Rattle.shell_engines.specs.ShellTable.{IsLineOf}
 use Rattle.shell_engines.specs.SeriesTexts.{factors_said}
@@ -35,7 +36,7 @@ use Rattle.shell_engines.specs.Shells.{mine_at_factor, ShellsFail}
 use Rattle.shell_engines.proofs.Lifted.{mine_is, nested, is_no_table, no_net_answer}
 use Rattle.report_engines.specs.ReportTexts.{ReportBlocksRead, report_factor, report_blocks}
 use Rattle.report_engines.specs.Reports.{IsReport, AnswersReport, ReportFails}
-use Rattle.report_engines.specs.Internal.{IsReportRead, verdict_of, text_of}
+use Rattle.report_engines.specs.Internal.{IsReportRead, TellsWhy, IsFaultOf, verdict_of, text_of}
 use Rattle.report_engines.specs.declared.reporting.Outcome.{Outcome}
 use Rattle.engines.specs.declared.judgement.Verdict.{Verdict}
 use Rattle.report_engines.proofs.SameBlocks.{AreAlike, table_same}
@@ -100,7 +101,7 @@ module _ (s t p : List ℕ) (prices : PricesView) (rests : RestsView) (factors :
   wanted e (inr (inr is)) = subst (ReportFails s t p) (sym is) tt
 
   -- the answer where no pit is proved at a factor
-  pub none_answer : (method : Method) (limit k : ℕ) (why : Unsolved) (answer : Result Outcome EngineFault) → NoSeriesStands scaled_block rests prices factors method limit (none.Unsolved k why) → MatchResult answer (λ o. (verdict_of o ≡ No) × IsLineOf k why (text_of o)) IsWant
+  none_answer : (method : Method) (limit k : ℕ) (why : Unsolved) (answer : Result Outcome EngineFault) → NoSeriesStands scaled_block rests prices factors method limit (none.Unsolved k why) → MatchResult answer (λ o. (verdict_of o ≡ No) × IsLineOf k why (text_of o)) IsWant
       → MatchResult answer (λ o. AnswersReport s t p method limit (verdict_of o) (text_of o)) (ReportFails s t p)
   none_answer method limit k why (Ok o) h line = subst (λ (v : Verdict). AnswersReport s t p method limit v (text_of o)) (sym line.0) (is_none method limit k why (text_of o) h line.1)
   none_answer method limit k why (Err e) h want = wanted e want
@@ -111,5 +112,14 @@ module _ (s t p : List ℕ) (prices : PricesView) (rests : RestsView) (factors :
   net_fails net_fault.NoMemory h = tt
 
   -- an amount of the mine doesn't fit at a factor
-  pub no_net : (k : ℕ) (fault : NetFault) → Contains factors k × WorthsFaultStands scaled_block rests.blocks (worths_at prices k) fault → ReportFails s t p (of_model fault)
+  no_net : (k : ℕ) (fault : NetFault) → Contains factors k × WorthsFaultStands scaled_block rests.blocks (worths_at prices k) fault → ReportFails s t p (of_model fault)
   no_net k fault h = net_fails fault (no_net_answer s t p prices rests factors read.series k fault h)
+
+  -- what comes of a mine that has no series
+  pub no_series_answer : (method : Method) (limit : ℕ) (x : NoSeries) (answer : Result Outcome EngineFault) → NoSeriesStands scaled_block rests prices factors method limit x → MatchResult answer (λ o. (verdict_of o ≡ No) × TellsWhy x (text_of o)) (IsFaultOf x)
+      → MatchResult answer (λ o. AnswersReport s t p method limit (verdict_of o) (text_of o)) (ReportFails s t p)
+  no_series_answer method limit (none.Unsolved k why) answer h m = none_answer method limit k why answer h m
+  no_series_answer method limit (none.Model k fault) (Ok o) h m = absurd m.1
+  no_series_answer method limit (none.Model k fault) (Err e) h m = subst (ReportFails s t p) (sym m) (no_net k fault h)
+  no_series_answer method limit none.Memory (Ok o) h m = absurd m.1
+  no_series_answer method limit none.Memory (Err e) h m = subst (ReportFails s t p) (sym m) tt

@@ -13,6 +13,11 @@ use Rattle.engines.specs.declared.engine_fault.EngineFault.{EngineFault}
 use Rattle.engines.specs.declared.engine_fault.EngineFault.TheVariants as engine
 use Rattle.engines.specs.PricedTexts.{values_of, SettingsFails}
 use Rattle.engines.specs.BlockTexts.{ReadsBlocks, BlocksFails}
+use Rattle.engines.specs.ReadMines.{of_model}
+use Rattle.shell_engines.specs.declared.no_series.NoSeries.{NoSeries}
+use Rattle.shell_engines.specs.declared.no_series.NoSeries.TheVariants as none
+use Rattle.shell_engines.specs.ShellTable.{IsLineOf}
+use Rattle.shell_engines.specs.Internal.{IsWant}
 use Rattle.shell_engines.specs.SeriesTexts.{factors_said, IsSeriesRead}
 use Rattle.report_engines.specs.declared.reporting.Outcome.{Outcome}
 use Rattle.report_engines.specs.declared.reporting.Outcome.TheVariants.{Table, NoTable}
@@ -72,3 +77,14 @@ verdict_of (NoTable line) = No
 abbrev pub text_of : Outcome → List ℕ
 text_of (Table rows) = table_text rows.items
 text_of (NoTable line) = line.items
+
+-- the line that says why there is no series
+abbrev pub TellsWhy : NoSeries → List ℕ → Type 0
+TellsWhy (none.Unsolved factor why) text = IsLineOf factor why text
+TellsWhy _ text = ⊥
+
+-- the fault that says so
+abbrev pub IsFaultOf : NoSeries → EngineFault → Type 0
+IsFaultOf (none.Unsolved factor why) e = IsWant e
+IsFaultOf (none.Model factor fault) e = e ≡ of_model fault
+IsFaultOf none.Memory e = e ≡ engine.Memory

@@ -6,7 +6,7 @@ ghost use Rattle.fixed_worth.specs.Device.{ReceivedPrefix};
 ghost use Rattle.shell_engines.specs.ShellTable.{IsLineOf};
 ghost use Rattle.shell_engines.specs.Internal.{IsWant};
 ghost use Rattle.report_engines.specs.Reports.{AnswersReport, ReportFails, Reports};
-ghost use Rattle.report_engines.specs.Internal.{IsReportRead, verdict_of, text_of};
+ghost use Rattle.report_engines.specs.Internal.{IsReportRead, TellsWhy, IsFaultOf, verdict_of, text_of};
 
 use crate::bench_rows::rows_at;
 use crate::report_inputs::{ReportMine, report_mine_from};
@@ -108,9 +108,18 @@ fn outcome_of<R: Threads + Wait + Sync, T: Gate + Progress + SeriesProgress>(
     } = mine;
     match settle::<Scaled, R, T>(rt, alloc, series, effort, gate) {
         Ok(shells) => Ok(Outcome::Table(rows_at(rt, alloc, &model, &shells.series, factor)?)),
-        Err(NoSeries::Unsolved(factor, why)) => no_table(alloc, factor, why),
-        Err(NoSeries::Model(_, fault)) => Err(EngineFault::from(fault)),
-        Err(NoSeries::Memory) => Err(EngineFault::Memory),
+        Err(none) => no_series(alloc, none),
+    }
+}
+
+// What comes of a mine that has no series.
+fn no_series(alloc: Global, none: NoSeries) -> Result<Outcome, EngineFault>
+    ensures { MatchResult result (λ outcome. (verdict_of outcome ≡ Verdict.No) × TellsWhy none (text_of outcome)) (IsFaultOf none) }
+{
+    match none {
+        NoSeries::Unsolved(factor, why) => no_table(alloc, factor, why),
+        NoSeries::Model(_, fault) => Err(EngineFault::from(fault)),
+        NoSeries::Memory => Err(EngineFault::Memory),
     }
 }
 
