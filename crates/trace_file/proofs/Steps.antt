@@ -105,9 +105,15 @@ goes_on text left line behind es e g p f o l =
       few = omega (arith, more);
     }
 
--- A fault of the text, whatever it is.
-pub unless : {P : Type 0} (e : TraceFault) → P → UnlessMemory e P
-unless (Text k) h = h
-unless Truncated h = h
-unless TooMany h = h
-unless NoMemory h = tt
+-- A fault of the text is answered for any reason.
+unless_memory : {P : Type 0} (e : TraceFault) → P → UnlessMemory e P
+unless_memory (Text k) h = h
+unless_memory Truncated h = h
+unless_memory TooMany h = h
+unless_memory NoMemory h = tt
+
+pub stands : {P Q : Type 0} (e : TraceFault) → P → UnlessMemory e P × (Q → P)
+stands e h = (unless_memory e h, λ q. h)
+
+pub anyway : {P Q : Type 0} → P → P × (Q → P)
+anyway h = (h, λ q. h)

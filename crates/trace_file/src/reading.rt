@@ -1,6 +1,6 @@
 //! Reading a trace.
 
-ghost use Rattle.std.specs.Prelude.{◌≡◌, ◌+◌, ◌<◌, ◌≤◌, ◌^◌, length, Some, None, MatchOption, MatchResult};
+ghost use Rattle.std.specs.Prelude.{◌≡◌, [], Some, None, MatchResult};
 ghost use Rattle.trace_file.specs.Lines.{parts};
 ghost use Rattle.trace_file.specs.Faults as spec;
 ghost use Rattle.trace_file.specs.Faults.{UnlessMemory, events_of, fault_behind, fault_of};
@@ -66,11 +66,11 @@ fn behind_head<'a>(text: &'a [u8]) -> Result<&'a [u8], TraceFault>
 /// The fault of the first faulty line: `Text` where it is none of the format, stands behind the last
 /// line or has more than 65,536 bytes; `TooMany` where it is an event and 2^24 stand before it;
 /// `Truncated` where all lines are right and END is not among them. `NoMemory` only where memory was
-/// refused.
+/// refused, and not where no line says an event.
 pub fn read_trace(alloc: Global, text: &[u8]) -> Result<Vec<Event>, TraceFault>
     ensures { MatchResult result
         (λ events. (fault_of text.now ≡ None) × (events.items ≡ events_of text.now) × IsWritten text.now events.items)
-        (λ e. UnlessMemory e (fault_of text.now ≡ Some e)) }
+        (λ e. UnlessMemory e (fault_of text.now ≡ Some e) × (events_of text.now ≡ [] → fault_of text.now ≡ Some e)) }
 {
     let mut left = behind_head(text)?;
     let mut events = Vec::new(alloc);

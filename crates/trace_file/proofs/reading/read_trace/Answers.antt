@@ -1,10 +1,10 @@
 use Rattle.std.proofs.Common.{◌≡◌, rules, ◌+◌, ◌++◌, ◌∷◌, [], sym, ◌∙◌, subst, arith}
-use Rattle.trace_file.proofs.Steps.{Going, at_end, all_read, no_event, too_many, goes_on, unless}
+use Rattle.trace_file.proofs.Steps.{Going, at_end, all_read, no_event, too_many, goes_on, stands, anyway}
 use Rattle.trace_file.proofs.reading.read_trace.Goals as goal
 
 pub returns-in-Some-end_fault : goal.returns-in-Some-end_fault
 returns-in-Some-end_fault c =
-    unless c.in-Some-end_fault.fault (at_end c.args.text.now c.loop-cut.left.now c.in-Some.cut.0.now c.in-Some.cut.1.now c.loop-cut.events.items (c.len.result + 2) c.loop-cut.invariant (omega (arith, c.len.ensures, c.loop-cut.events.ok.0)) c.in-Some.ensures (sym c.eq.ensures ∙ c.if-eq.true)
+    stands c.in-Some-end_fault.fault (at_end c.args.text.now c.loop-cut.left.now c.in-Some.cut.0.now c.in-Some.cut.1.now c.loop-cut.events.items (c.len.result + 2) c.loop-cut.invariant (omega (arith, c.len.ensures, c.loop-cut.events.ok.0)) c.in-Some.ensures (sym c.eq.ensures ∙ c.if-eq.true)
     ∙ sym c.end_fault.ensures ∙ c.in-Some-end_fault.is)
 
 pub returns-in-None-end_fault : goal.returns-in-None-end_fault
@@ -14,12 +14,12 @@ returns-in-None-end_fault c =
 
 pub returns-in-None-event_in : goal.returns-in-None-event_in
 returns-in-None-event_in c =
-    no_event c.args.text.now c.loop-cut.left.now c.in-Some.cut.0.now c.in-Some.cut.1.now c.loop-cut.events.items (c.len.result + 2) c.loop-cut.invariant (omega (arith, c.len.ensures, c.loop-cut.events.ok.0)) c.in-Some.ensures (sym c.eq.ensures ∙ c.if-eq.false) (sym c.event_in.ensures ∙ c.in-None-event_in.is)
+    anyway (no_event c.args.text.now c.loop-cut.left.now c.in-Some.cut.0.now c.in-Some.cut.1.now c.loop-cut.events.items (c.len.result + 2) c.loop-cut.invariant (omega (arith, c.len.ensures, c.loop-cut.events.ok.0)) c.in-Some.ensures (sym c.eq.ensures ∙ c.if-eq.false) (sym c.event_in.ensures ∙ c.in-None-event_in.is))
 
 pub returns-then-len : goal.returns-then-len
 returns-then-len c =
-    too_many c.args.text.now c.loop-cut.left.now c.in-Some.cut.0.now c.in-Some.cut.1.now c.loop-cut.events.items c.in-Some-event_in.event c.loop-cut.invariant c.in-Some.ensures (sym c.eq.ensures ∙ c.if-eq.false) (sym c.event_in.ensures ∙ c.in-Some-event_in.is)
-    (omega (arith, c.len-in-loop-cut.ensures, c.if-len.true, c.loop-cut.events.ok.0))
+    anyway (too_many c.args.text.now c.loop-cut.left.now c.in-Some.cut.0.now c.in-Some.cut.1.now c.loop-cut.events.items c.in-Some-event_in.event c.loop-cut.invariant c.in-Some.ensures (sym c.eq.ensures ∙ c.if-eq.false) (sym c.event_in.ensures ∙ c.in-Some-event_in.is)
+    (omega (arith, c.len-in-loop-cut.ensures, c.if-len.true, c.loop-cut.events.ok.0)))
 
 pub loop-cut-preserved : goal.loop-cut-preserved
 loop-cut-preserved c =
