@@ -6,8 +6,8 @@
 //! that `machine_law` says of every run holds of it; a turn makes exactly one step, of the block that
 //! it is said to pick, or leaves the state as it was; a board gives a flow only where it is quiet, and
 //! then a greatest one; a `TurnBoard`, on which nothing but turns makes steps, keeps in its type that no
-//! step of its run read an excess of zero and why it is stuck; and `finish` says of the board how its
-//! run ends.
+//! step of its run read an excess of zero and why it is stuck; `finish` says of the board how its run
+//! ends; and an `Audited` board keeps the history of its steps, whose replay leads to its state.
 #![tactic(auto)]
 
 mod audited_board;
