@@ -1,5 +1,5 @@
 -- From the parts of the engine of reports to its answer, where the readers tell their bytes.
-use Rattle.std.proofs.Common.{◌≡◌, ◌⊎◌, ℕ, List, Option, Some, None, Result, Ok, Err, inl, inr, IfSome, IfOk, IfErr, subst, sym}
+use Rattle.std.proofs.Common.{◌≡◌, ◌⊎◌, ℕ, List, Option, Result, Ok, Err, inl, inr, IfSome, IfOk, IfErr, subst, sym}
 use Rattle.std.specs.Prelude.{OnOk}
 use Rattle.std.specs.Io.KnownBytes.{Appends, Keeps}
 use Rattle.fixed_worth.specs.Device.{ReceivedPrefix}

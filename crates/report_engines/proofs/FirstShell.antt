@@ -1,5 +1,5 @@
 -- The first of ascending factors whose pit holds a block is the block's shell.
-use Rattle.std.proofs.Common.{◌≡◌, ℕ, zero, suc, ◌<◌, ◌≤◌, Bool, true, false, cond, nat_le, List, [], ◌∷◌, length, get_or, refl, sym, ap, ◌∙◌, arith, Option, Some, None, inl, inr}
+use Rattle.std.proofs.Common.{◌≡◌, ℕ, zero, suc, ◌<◌, nat_le, List, [], ◌∷◌, length, get_or, refl, ap, arith, Option, Some, None, inl, inr}
 use Rattle.std.specs.List.{find, Contains}
 use Rattle.std.proofs.lemmas.Bool.{cases_eq, le-leb, lt-leb}
 use Rattle.std.proofs.lemmas.List.{get_or_default}

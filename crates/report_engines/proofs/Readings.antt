@@ -1,27 +1,24 @@
 -- From the parts of the reading of a mine that is reported to what was read, where the readers tell their bytes.
-use Rattle.std.proofs.Common.{◌≡◌, ◌⊎◌, ℕ, ℤ, List, [], ◌∷◌, refl, sym, ap, ◌∙◌, subst, Option, Some, None, Result, Ok, Err, inl, inr, IfSome, MatchResult, unwrap_or, arith}
+use Rattle.std.proofs.Common.{◌≡◌, ◌⊎◌, ℕ, List, [], ◌∷◌, sym, ap, ◌∙◌, subst, Option, Some, None, inl, inr, IfSome, unwrap_or, arith}
 use Rattle.blocks_file.specs.Records as blocks
 use Rattle.blocks_file.specs.Denotes.{BlocksView}
 use Rattle.prec_file.specs.Rests.{RestsView}
 use Rattle.settings_file.specs.declared.keys.Key.{Key}
 use Rattle.settings_file.specs.declared.keys.Key.TheVariants.{Tonnes, Factors}
-use Rattle.settings_file.specs.declared.faults.SettingsFault.{SettingsFault}
 use Rattle.settings_file.specs.declared.faults.SettingsFault.TheVariants as settings_fault
 use Rattle.settings_file.specs.Settings.{SettingsView, settings_of, first_missing}
 use Rattle.settings_file.proofs.Known.{settings_are, settings_read}
 use Rattle.shells.specs.Prices.{PricesView, PricesFaultStands, NoneNegative, blocks_of}
 use Rattle.engines.specs.declared.engine_fault.EngineFault.{EngineFault}
 use Rattle.engines.specs.declared.engine_fault.EngineFault.TheVariants as engine
-use Rattle.engines.specs.declared.engine_fault.Problem.{Problem}
 use Rattle.engines.specs.declared.engine_fault.Problem.TheVariants as problem
-use Rattle.engines.specs.PricedTexts.{price_keys, price_columns, values_of, table_by, table_of, SettingsFails}
+use Rattle.engines.specs.PricedTexts.{price_keys, values_of, table_of}
 use Rattle.engines.specs.BlockTexts.{ReadsBlocks, BlocksFails, BlocksReadFails}
 use Rattle.engines.specs.Inputs.{ReadsSettingsText, SettingsReadFails, IsMissing, ReadsPrices, ReadsPrec, PrecReadFails, ModelPricesFail}
-use Rattle.engines.specs.ReadMines.{ArePricesRead}
 use Rattle.engines.proofs.Priced.{column_is, all_read}
 use Rattle.engines.proofs.PricedAnswers.{prec_answer}
 use Rattle.shell_engines.proofs.Keys.{first_missing-append, first_missing-front}
-use Rattle.report_engines.specs.ReportTexts.{report_keys, ReportKeysKnown, report_columns, ReportBlocksRead, factor_by, report_factor, ReportMineFails}
+use Rattle.report_engines.specs.ReportTexts.{report_keys, report_columns, ReportBlocksRead, factor_by, ReportMineFails}
 use Rattle.report_engines.specs.Internal.{column_keys, IsSaid, SaidFails, PricedModelFails, IsPricedModel, IsReportRead}
 use Rattle.report_engines.proofs.Keys.{none_missing}
 use Rattle.report_engines.proofs.Columns.{unfaulted, two_of_three}

@@ -1,5 +1,5 @@
 -- Sums of tonnes and of worths don't overflow 128 bits.
-use Rattle.std.proofs.Common.{◌≡◌, ℕ, zero, suc, ◌+◌, ◌*◌, ◌^◌, ◌<◌, ◌≤◌, ℤ, pos, ◌+ℤ◌, ◌-ℤ◌, ◌*ℤ◌, Bool, true, false, cond, List, [], length, get_or, refl, sym, ap, ◌∙◌, subst, arith, unsigned_abs, FitsSigned}
+use Rattle.std.proofs.Common.{◌≡◌, ℕ, zero, suc, ◌+◌, ◌*◌, ◌^◌, ◌<◌, ◌≤◌, ℤ, pos, ◌+ℤ◌, ◌-ℤ◌, ◌*ℤ◌, Bool, true, false, cond, [], get_or, sym, ap, ◌∙◌, subst, arith, unsigned_abs, FitsSigned}
 use Rattle.std.specs.Int.{w128}
 use Rattle.std.proofs.lemmas.Int.{ints, fits_signed_from_abs, unsigned_abs-mul}
 use Rattle.std.proofs.lemmas.Nat.{mul-le}
@@ -10,7 +10,7 @@ use Rattle.ordered_group.specs.Sets.{worth_in}
 use Rattle.shells.specs.Prices.{PricesView, blocks_of, number_at, worth_at, worths_at}
 use Rattle.shells.specs.Series.{SeriesView}
 use Rattle.engines.specs.PricedTexts.{values_of}
-use Rattle.bench_report.specs.Benches.{ReportedBlocks, reported, blocks_at}
+use Rattle.bench_report.specs.Benches.{reported, blocks_at}
 use Rattle.bench_report.specs.FaultStands.{SameLengths, AllSumsFit, SomeSumOverflows}
 use Rattle.report_engines.specs.Internal.{IsSmall, IsPricedModel}
 

@@ -1,5 +1,5 @@
 -- The bench table of a series is that of the texts.
-use Rattle.std.proofs.Common.{◌≡◌, ◌⊎◌, ℕ, ℤ, pos, ◌<◌, List, get_or, length, refl, sym, ap, ◌∙◌, subst, arith, Some, None, Result, Ok, Err, inl, inr, unwrap_or, MatchResult}
+use Rattle.std.proofs.Common.{◌≡◌, ℕ, pos, ◌<◌, List, get_or, refl, sym, ap, ◌∙◌, subst, arith, Result, Ok, Err, inl, inr, unwrap_or, MatchResult}
 use Rattle.std.specs.List.{find, Contains}
 use Rattle.std.proofs.lemmas.List.FromFn.{length-map-range_with_len, get_or-map-range_with_len}
 use Rattle.ordered_group.specs.Block.{scaled_block}
@@ -22,7 +22,6 @@ use Rattle.engines.specs.declared.judgement.Verdict.TheVariants.{No}
 use Rattle.engines.specs.declared.method.Method.{Method}
 use Rattle.engines.specs.declared.solving.Unsolved.{Unsolved}
 use Rattle.engines.specs.declared.engine_fault.EngineFault.{EngineFault}
-use Rattle.engines.specs.declared.engine_fault.EngineFault.TheVariants as engine
 use Rattle.engines.specs.PricedTexts.{cell, table_of}
 use Rattle.engines.specs.ReadMines.{of_model}
 use Rattle.shell_engines.specs.declared.shell_rows.ShellRow.{ShellRow}

@@ -1,4 +1,4 @@
-use Rattle.std.proofs.Common.{[], ◌∷◌, ◌∙◌, ap}
+use Rattle.std.proofs.Common.{[], ◌∷◌}
 use Rattle.std.proofs.lemmas.Result.{err_from_is_err_and}
 use Rattle.report_engines.proofs.Readings.{settings_fail, column_missing, factors_missing, said_is}
 use Rattle.report_engines.proofs.report_inputs.said_from.Goals as goal
