@@ -3,9 +3,9 @@
 
     python3 bench/gate_cost.py python3 tests/run
 
-Prints what the command prints, and then a row per crate: proof, the same once more with its tests, edits. The
-processes are looked at every half second, so what a process does in its last moments isn't counted: the sum is
-some percent below the whole, which the last line gives.
+Prints what the command prints, and then a row per crate: its lines and edits, and the seconds of its proof, of the same
+once more with its tests, and of its edits. The processes are looked at every half second, so what a process does in its
+last moments isn't counted: the sum is some percent below the whole, which the last line gives.
 """
 import os
 import resource
@@ -13,7 +13,9 @@ import subprocess
 import sys
 import threading
 import time
+from pathlib import Path
 
+TOP = Path(__file__).resolve().parent.parent
 TICK = os.sysconf("SC_CLK_TCK")
 KINDS = ("proof", "tests", "edits")
 
@@ -80,17 +82,42 @@ class Watcher(threading.Thread):
         return rows
 
 
+def lines_in(folder, pattern, is_wanted=lambda file: True):
+    return sum(file.read_bytes().count(b"\n") for file in folder.rglob(pattern) if is_wanted(file))
+
+
+def is_test(file):
+    return file.stem in ("tests", "test_nets") or file.stem.endswith("_tests")
+
+
+def sizes(crate):
+    """Lines of code, of tests, of definitions and of proofs, and how many edits the gate tries and how many are planted."""
+    folder = TOP / "crates" / crate
+    return (lines_in(folder / "src", "*.rt", lambda file: not is_test(file)), lines_in(folder / "src", "*.rt", is_test),
+            lines_in(folder / "specs", "*.antt"), lines_in(folder / "proofs", "*.antt"),
+            len(list((folder / "must-fail").glob("*.edit"))), len(list((folder / "planted").glob("*.edit"))))
+
+
+def row(name, counts, seconds):
+    return "| %s | %s | %s |" % (name, " | ".join("{:,}".format(count) for count in counts), " | ".join("%.0f s" % it for it in seconds))
+
+
+def print_table(seconds):
+    crates = [line.split(":")[0].strip() for line in (TOP / "crates.txt").read_text().splitlines() if line.split("#")[0].strip()]
+    rows = [(sizes(crate), [seconds.get(crate, {}).get(kind, 0.0) for kind in KINDS]) for crate in crates]
+    print("\n| Crate | Code | Tests | Definitions | Proofs | Edits of the gate | planted | Proof | With tests | Trying the edits |\n|" + "---|" * 10)
+    for crate, (counts, used) in zip(crates, rows):
+        print(row("`%s`" % crate, counts, used))
+    print(row("all", map(sum, zip(*(counts for counts, _ in rows))), map(sum, zip(*(used for _, used in rows)))))
+
+
 def main():
     began, watcher = time.monotonic(), Watcher()
     watcher.start()
     status = subprocess.run(sys.argv[1:]).returncode
     watcher.is_over = True
     watcher.join()
-    rows = watcher.table()
-    print("\n| Crate | Proof | With tests | Edits |\n|---|---|---|---|")
-    for crate in sorted(rows):
-        print("| `%s` | %s |" % (crate, " | ".join("%.0f s" % rows[crate][kind] for kind in KINDS)))
-    print("| all | %s |" % " | ".join("%.0f s" % sum(row[kind] for row in rows.values()) for kind in KINDS))
+    print_table(watcher.table())
     used = resource.getrusage(resource.RUSAGE_CHILDREN)
     print("%.0f processor seconds in all, %.0f s by the clock" % (used.ru_utime + used.ru_stime, time.monotonic() - began))
     return status

@@ -39,7 +39,7 @@ fn main(rt: HostRuntime) -> std::process::ExitCode {
 def repository(top, room):
     """A repository with this one's scripts, a library `small` and a program `pit`."""
     tree = Path(room) / "repository"
-    for file in ("build", "run-example", "tests/run", "tests/planted.py", "tests/scripts.py"):
+    for file in ("build", "run-example", "tests/run", *("tests/" + module.name for module in (top / "tests").glob("*.py"))):
         (tree / file).parent.mkdir(parents=True, exist_ok=True)
         shutil.copy(top / file, tree / file)
     (tree / "crates.txt").write_text("small:\npit: small\n")

@@ -6,4 +6,3 @@ pub mod Marks
 pub mod LineAfterLine
 pub mod Lent
 pub mod Denoted
-mod Results

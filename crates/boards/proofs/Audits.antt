@@ -15,7 +15,7 @@ use Rattle.boards.specs.Turns.{IsGoing, IsDue, IsAtLimit, IsTurn, IsEnd}
 use Rattle.boards.specs.Ends.{HasEnded}
 use Rattle.boards.specs.Records.{RecordView, written, Writes}
 use Rattle.boards.specs.Audits.{AuditView, audit_of, IsAudited, IsAuditEnd, IsAuditTurn, IsToldAs, HasAuditEnded, HasAuditSettled}
-use Rattle.boards.specs.declared.audited_board.TheConstants.{MOST_ROOM}
+use Rattle.machine_law.specs.declared.events.TheConstants.{MOST_EVENTS}
 use Rattle.boards.specs.declared.turn.Turn.{Turn}
 use Rattle.boards.specs.declared.turn.Turn.TheVariants.{Stepped, Idle as Unserved, Ended}
 use Rattle.boards.specs.declared.turn.End.{End}
@@ -24,7 +24,7 @@ use Rattle.boards.proofs.Alone.{served_counts}
 use Rattle.boards.proofs.Ends.{turns_counted, end_same}
 
 -- ---- the type
-pub audited : (r : RecordView) → IsTurnBoard r.board → AreTurnsTo r.board.net r.events (shown r.board) → (shown r.board).steps ≤ r.room → r.room ≤ MOST_ROOM → IsAudited (audit_of r)
+pub audited : (r : RecordView) → IsTurnBoard r.board → AreTurnsTo r.board.net r.events (shown r.board) → (shown r.board).steps ≤ r.room → r.room ≤ MOST_EVENTS → IsAudited (audit_of r)
 audited r turns made within few =
     let k = turns_counted r.board.net r.events (shown r.board) made in
     record { turns = turns; made = made; counted = k; within = omega (arith, k, within); few = few }

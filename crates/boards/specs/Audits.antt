@@ -13,7 +13,7 @@ use Rattle.boards.specs.declared.turn.Turn.{Turn}
 use Rattle.boards.specs.declared.turn.Turn.TheVariants.{Stepped, Idle as Unserved, Ended}
 use Rattle.boards.specs.declared.turn.End.{End}
 use Rattle.boards.specs.declared.turn.End.TheVariants.{Quiet, Stuck, Limit, Full}
-use Rattle.boards.specs.declared.audited_board.TheConstants.{MOST_ROOM}
+use Rattle.machine_law.specs.declared.events.TheConstants.{MOST_EVENTS}
 
 -- a board, the events of all its steps, and for how many there is room
 pub record AuditView : Type 0 where
@@ -33,7 +33,7 @@ pub record IsAudited (audit : AuditView) : Type 0 where
   pub made : AreTurnsTo audit.board.net audit.history (shown audit.board)
   pub counted : (shown audit.board).steps ≡ length audit.history
   pub within : length audit.history ≤ audit.room
-  pub few : audit.room ≤ MOST_ROOM
+  pub few : audit.room ≤ MOST_EVENTS
 
 -- as it opens over a net
 pub record IsAuditOpened (net : NetView) (most : ℕ) (audit : AuditView) : Type 0 where

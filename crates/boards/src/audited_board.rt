@@ -1,6 +1,7 @@
 //! A board beside the history of its steps.
 
 ghost use Rattle.std.specs.Prelude.{◌≡◌, ◌↔◌, ◌<◌, ◌≤◌, min, IsTrue, IfOk, MatchResult};
+ghost use Rattle.machine_law.specs.declared.events.TheConstants.{MOST_EVENTS};
 ghost use Rattle.machine_law.specs.declared.operations.Operation.TheVariants.{Idle};
 ghost use Rattle.machine_law.specs.States.{IsQuiet};
 ghost use Rattle.async_step.specs.declared.limits.TheConstants.{MOST_STEPS};
@@ -15,9 +16,6 @@ use closure_net::{Flow, Net};
 use ordered_group::OrderedGroup;
 use std::alloc::{AllocError, Global};
 use std::marker::Model;
-
-/// The most events that a history may have room for.
-pub const MOST_ROOM: u32 = 1 << 24;
 
 /// A board on which nothing but turns makes steps, beside the history of them all: a list of events
 /// whose replay from the opening state of the board's net leads to the board's state. No ReadExcess of
@@ -46,7 +44,7 @@ impl<G: OrderedGroup> Audited<G> {
     /// # Errors
     /// Want of memory.
     pub fn open(alloc: Global, net: &Net<G>, room: u32) -> Result<Audited<G>, AllocError>
-        requires { room ≤ MOST_ROOM }
+        requires { room ≤ MOST_EVENTS }
         ensures { IfOk result (λ audit. IsAuditOpened net.now room audit) }
     {
         let board = Recorded::open(alloc, net, true, room)?;

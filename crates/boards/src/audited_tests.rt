@@ -3,9 +3,10 @@
 ghost use Rattle.std.specs.Prelude.{◌≤◌};
 
 use crate::test_nets::{sizes_too_large, two_on_dear_waste};
-use crate::{Audited, End, MOST_ROOM, Turn};
+use crate::{Audited, End, Turn};
 use async_step::{Event, Kind, MOST_STEPS, replay};
 use closure_net::{Net, pit_of};
+use machine_law::MOST_EVENTS;
 use ordered_group::WorthSize;
 use std::alloc::Global;
 use std::process::Abort;
@@ -35,7 +36,7 @@ fn ends(
     steps: u64,
     end: End,
 ) -> Result<Audited<WorthSize>, Fail>
-    requires room { room ≤ MOST_ROOM }
+    requires room { room ≤ MOST_EVENTS }
     requires steps { steps ≤ MOST_STEPS }
 {
     let net: Net<WorthSize> = two_on_dear_waste(alloc)?;

@@ -25,7 +25,7 @@ mod turn_board;
 #[cfg(test)]
 mod turn_board_tests;
 
-pub use audited_board::{Audited, MOST_ROOM};
+pub use audited_board::Audited;
 pub use board::Board;
 pub use finishing::finish;
 pub use turn::{End, Turn};

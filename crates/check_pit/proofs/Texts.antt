@@ -35,7 +35,7 @@ onto_spaced b (w ∷ []) = refl
 onto_spaced b (w ∷ v ∷ ws) = refl
 
 -- There is always a word.
-onto_some : (b : ℕ) (ws : List (List ℕ)) → 0 < length (onto_first b ws)
+pub onto_some : (b : ℕ) (ws : List (List ℕ)) → 0 < length (onto_first b ws)
 onto_some b [] = omega arith
 onto_some b (w ∷ ws) = omega arith
 

@@ -8,6 +8,7 @@
 mod check_command;
 mod declined;
 mod options;
+mod replay_command;
 mod report_command;
 mod request;
 mod series_options;
@@ -20,6 +21,7 @@ mod wrong_word;
 pub use check_command::CheckWords;
 pub use declined::Declined;
 pub use options::ModelWords;
+pub use replay_command::ReplayWords;
 pub use request::{Request, request_of};
 pub use series_options::{SeriesCommand, SeriesWords};
 pub use slopes_command::{OffsetsWords, SlopesWords};

@@ -85,6 +85,29 @@ pub fn model_words<'a>(words: &ArgMatches<'a>) -> ModelWords<'a> {
     }
 }
 
+/// The option that names the factor of a priced model, which needs one.
+pub fn factor_option<'a>(alloc: Global) -> Result<Arg<'a>, AllocError> {
+    named_option(
+        alloc,
+        "factor",
+        "FACTOR",
+        "The share of the revenues that counts, in thousandths, from 0 to 10000; needed with --blocks",
+    )
+    .requires_arg("blocks")?
+    .conflicts_with("upit")?
+    .required_unless_present("upit")
+}
+
+/// The option that names what amounts count.
+pub fn group_option<'a>(alloc: Global) -> Arg<'a> {
+    named_option(
+        alloc,
+        "group",
+        "GROUP",
+        "What amounts count: pair, worth and then the fewer blocks (the default); scaled, both in one number, where pair is too large; or worth alone",
+    )
+}
+
 /// The option that names the engine which makes the flow.
 pub fn method_option<'a>(alloc: Global) -> Arg<'a> {
     named_option(

@@ -3,6 +3,7 @@
 use crate::check_command::{CheckWords, check_command, check_words};
 use crate::declined::Declined;
 use crate::options::STATUSES;
+use crate::replay_command::{ReplayWords, replay_command, replay_words};
 use crate::report_command::report_command;
 use crate::series_options::{SeriesCommand, SeriesWords, series_words};
 use crate::shells_command::shells_command;
@@ -21,6 +22,8 @@ const ABOUT: &str =
 pub enum Request<'a> {
     /// A certificate is to be checked.
     Check(CheckWords<'a>),
+    /// A run is to be repeated from its trace.
+    Replay(ReplayWords<'a>),
     /// Shells are to be drawn, or reported by benches.
     Series(SeriesWords<'a>),
     /// Predecessors are to be written by a slope pattern.
@@ -44,6 +47,7 @@ fn parsed<'a>(alloc: Global, words: &'a [String]) -> Result<Request<'a>, Error> 
     let matches = pit_command(alloc)?.try_get_matches_from(words)?;
     match matches.subcommand() {
         Some(("check", words)) => Ok(Request::Check(check_words(words))),
+        Some(("replay", words)) => Ok(Request::Replay(replay_words(words))),
         Some(("report", words)) => {
             Ok(Request::Series(series_words(SeriesCommand::Report, words)))
         }
@@ -58,6 +62,7 @@ fn parsed<'a>(alloc: Global, words: &'a [String]) -> Result<Request<'a>, Error> 
 
 fn pit_command<'a>(alloc: Global) -> Result<Command<'a>, AllocError> {
     let check = check_command(alloc)?;
+    let replay = replay_command(alloc)?;
     let report = report_command(alloc)?;
     let shells = shells_command(alloc)?;
     let slopes = slopes_command(alloc)?;
@@ -71,5 +76,6 @@ fn pit_command<'a>(alloc: Global) -> Result<Command<'a>, AllocError> {
         .subcommand(slopes)?
         .subcommand(solve)?
         .subcommand(shells)?
-        .subcommand(report)
+        .subcommand(report)?
+        .subcommand(replay)
 }

@@ -1,8 +1,8 @@
 //! The command `solve`.
 
 use crate::options::{
-    ModelWords, STATUSES, method_option, model_words, named_option, progress_option, steps_option,
-    text_of, verbose_option, with_model, workers_option,
+    ModelWords, STATUSES, factor_option, group_option, method_option, model_words, named_option,
+    progress_option, steps_option, text_of, verbose_option, with_model, workers_option,
 };
 use clap::{ArgMatches, Command};
 use std::alloc::{AllocError, Global};
@@ -13,13 +13,15 @@ const DETAILS: &str = "Finds the best pit and writes its certificate.
 
 Prints a PITCERT text, which `pit check` accepts: the pit, and a flow that proves it. Whatever engine made the flow, it is checked before anything is written. Prints UNSETTLED where the run needs more steps than --steps allows, and REFUSED TooLarge where a sum of the run or of its check doesn't fit the machine's numbers; both have the status 1.
 
+With --trace the push-relabel machine makes the flow, and each of its steps is written to the trace, with which `pit replay` repeats the run. Prints HISTORYFULL, with the status 1, where the run needs more steps than --room has room for.
+
 Methods:
   auto          the push-relabel machine for a mine of at most 1000 blocks, and pseudoflow where a number of its run doesn't fit; for more blocks pseudoflow, and the machine where that gives no flow that proves a pit; the machine alone where --workers or --steps is given
   pseudoflow    highest-label pseudoflow alone: quick on mines of millions of blocks; UNSETTLED where it gives up
   push-relabel  the push-relabel machine alone: each step is proved, and it is slow beyond some thousand blocks";
 
-/// The words of a request to solve: the files, and where they were given the factor, the method, the kind of amount, the steps and
-/// the workers, and whether progress is shown and it is told why a file failed.
+/// The words of a request to solve: the files, and where they were given the factor, the method, the kind of amount, the steps, the
+/// workers, the trace and its room, and whether progress is shown and it is told why a file failed.
 #[derive(Clone, Copy)]
 pub struct SolveWords<'a> {
     pub prec: &'a str,
@@ -29,6 +31,8 @@ pub struct SolveWords<'a> {
     pub group: Option<&'a str>,
     pub steps: Option<&'a str>,
     pub workers: Option<&'a str>,
+    pub trace: Option<&'a str>,
+    pub room: Option<&'a str>,
     pub progress: bool,
     pub verbose: bool,
 }
@@ -39,33 +43,13 @@ pub fn solve_command<'a>(alloc: Global) -> Result<Command<'a>, AllocError> {
         .about(ABOUT)
         .long_about(DETAILS)
         .after_help(STATUSES);
-    let command = with_factor(alloc, with_model(alloc, command)?)?;
-    with_limits(alloc, with_kinds(alloc, command)?)
-}
-
-// The factor of a priced model, which needs one.
-fn with_factor<'a>(alloc: Global, command: Command<'a>) -> Result<Command<'a>, AllocError> {
-    command.arg(
-        named_option(
-            alloc,
-            "factor",
-            "FACTOR",
-            "The share of the revenues that counts, in thousandths, from 0 to 10000; needed with --blocks",
-        )
-        .requires_arg("blocks")?
-        .conflicts_with("upit")?
-        .required_unless_present("upit")?,
-    )
+    let command = with_model(alloc, command)?.arg(factor_option(alloc)?)?;
+    with_trace(alloc, with_limits(alloc, with_kinds(alloc, command)?)?)
 }
 
 // The options that say how it is solved.
 fn with_kinds<'a>(alloc: Global, command: Command<'a>) -> Result<Command<'a>, AllocError> {
-    command.arg(method_option(alloc))?.arg(named_option(
-        alloc,
-        "group",
-        "GROUP",
-        "What amounts count: pair, worth and then the fewer blocks (the default); scaled, both in one number, where pair is too large; or worth alone",
-    ))
+    command.arg(method_option(alloc))?.arg(group_option(alloc))
 }
 
 // The options that bound the run or show it.
@@ -83,6 +67,23 @@ fn with_limits<'a>(alloc: Global, command: Command<'a>) -> Result<Command<'a>, A
         .arg(verbose_option(alloc))
 }
 
+// The options of the trace.
+fn with_trace<'a>(alloc: Global, command: Command<'a>) -> Result<Command<'a>, AllocError> {
+    command
+        .arg(named_option(
+            alloc,
+            "trace",
+            "FILE",
+            "Writes each step of the push-relabel machine's run to this file; not with --method pseudoflow",
+        ))?
+        .arg(named_option(
+            alloc,
+            "room",
+            "ROOM",
+            "The most steps of a trace, from 1 to 16777216 (1048576 by default); of no effect without --trace",
+        ))
+}
+
 /// The words that were given.
 pub fn solve_words<'a>(words: &ArgMatches<'a>) -> SolveWords<'a> {
     SolveWords {
@@ -93,6 +94,8 @@ pub fn solve_words<'a>(words: &ArgMatches<'a>) -> SolveWords<'a> {
         group: words.get_str("group"),
         steps: words.get_str("steps"),
         workers: words.get_str("workers"),
+        trace: words.get_str("trace"),
+        room: words.get_str("room"),
         progress: words.get_flag("progress"),
         verbose: words.get_flag("verbose"),
     }

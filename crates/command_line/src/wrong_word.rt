@@ -1,6 +1,7 @@
 //! A word that names nothing for its option, told in the library's form of error.
 
 use crate::declined::Declined;
+use crate::replay_command::replay_command;
 use crate::report_command::report_command;
 use crate::series_options::SeriesCommand;
 use crate::shells_command::shells_command;
@@ -17,6 +18,8 @@ pub enum Commanded {
     Slopes,
     /// `solve`.
     Solve,
+    /// `replay`.
+    Replay,
     /// `shells` or `report`.
     Series(SeriesCommand),
 }
@@ -38,6 +41,10 @@ pub enum NamedOption {
     Steps,
     /// `--workers`.
     Workers,
+    /// `--room`.
+    Room,
+    /// `--method` where `--trace` is given.
+    TracedMethod,
 }
 
 /// A word that names nothing that its option takes. Which words those are is decided above, where they are read.
@@ -73,6 +80,7 @@ fn command_of<'a>(alloc: Global, command: Commanded) -> Result<Command<'a>, Allo
     match command {
         Commanded::Slopes => slopes_command(alloc)?.bin_name("pit slopes"),
         Commanded::Solve => solve_command(alloc)?.bin_name("pit solve"),
+        Commanded::Replay => replay_command(alloc)?.bin_name("pit replay"),
         Commanded::Series(SeriesCommand::Shells) => shells_command(alloc)?.bin_name("pit shells"),
         Commanded::Series(SeriesCommand::Report) => report_command(alloc)?.bin_name("pit report"),
     }
@@ -84,10 +92,11 @@ fn shown(option: NamedOption) -> &'static str {
         NamedOption::Pattern => "--pattern <PATTERN>",
         NamedOption::Up => "--up <WAY>",
         NamedOption::Factor => "--factor <FACTOR>",
-        NamedOption::Method => "--method <METHOD>",
+        NamedOption::Method | NamedOption::TracedMethod => "--method <METHOD>",
         NamedOption::Group => "--group <GROUP>",
         NamedOption::Steps => "--steps <STEPS>",
         NamedOption::Workers => "--workers <WORKERS>",
+        NamedOption::Room => "--room <ROOM>",
     }
 }
 
@@ -102,5 +111,7 @@ fn taken(option: NamedOption) -> &'static str {
         NamedOption::Group => "pair, scaled or worth",
         NamedOption::Steps => "a whole number from 1 to 1099511627776",
         NamedOption::Workers => "a whole number from 1 to 64",
+        NamedOption::Room => "a whole number from 1 to 16777216",
+        NamedOption::TracedMethod => "auto or push-relabel where --trace is given",
     }
 }

@@ -1,12 +1,9 @@
 -- From what was read to the judgement.
-use Rattle.std.proofs.Common.{◌≡◌, ℕ, ◌<◌, ℤ, pos, Bool, List, length, map, get_or, refl, sym, ap, ◌∙◌, subst, arith, None, Some, Ok, inr}
+use Rattle.std.proofs.Common.{◌≡◌, ℕ, ◌<◌, ℤ, pos, Bool, List, length, map, refl, sym, ap, ◌∙◌, subst, arith, None, Some, Ok, inr}
 use Rattle.std.proofs.lemmas.List.{length-map, get_or-map}
 use Rattle.ordered_group.specs.Amount.{Amount, zero_amount}
-use Rattle.ordered_group.specs.Sums.{where_so}
-use Rattle.ordered_group.specs.Sets.{group_sum}
 use Rattle.ordered_group.specs.Laws.{SumsTellWorth}
 use Rattle.ordered_group.specs.declared.groups.Group.{Group}
-use Rattle.ordered_group.proofs.Totals.Ranges.{total-same}
 use Rattle.prec_file.specs.Rests.{RestsView}
 use Rattle.prec_file.specs.Records as prec
 use Rattle.closure_net.specs.Network.{NetView, FlowView, net_view, IsNet, holds_of}
@@ -19,7 +16,6 @@ use Rattle.check_pit.specs.declared.header.Price.{Price}
 use Rattle.check_pit.specs.declared.header.Header.{Header}
 use Rattle.check_pit.specs.Pieces.{pieces_of}
 use Rattle.check_pit.specs.Header.{header_of}
-use Rattle.engines.specs.declared.engine_fault.EngineFault.{EngineFault}
 use Rattle.engines.specs.Limits.{IsWithinLimit}
 use Rattle.engines.specs.Mines.{MineTexts, precedence_of, price_wanted, mine_of, DenoteMine}
 use Rattle.engines.specs.Readings.{Reads}
@@ -32,7 +28,7 @@ use Rattle.check_pit.specs.declared.cert_fault.CertFault.{CertFault}
 use Rattle.check_pit.specs.declared.cert_fault.CertFault.TheVariants as cert
 use Rattle.engines.specs.Judging.{of_certificate}
 use Rattle.engines.specs.ReadMines.{AreRead, IsGroupNamed, of_model}
-use Rattle.engines.proofs.Counted.{count_in-ascending}
+use Rattle.engines.proofs.Told.{size_told, worth_told}
 use Rattle.engines.proofs.Listed.{listed_rests}
 
 -- the net that is made of the worths that were read
@@ -79,23 +75,16 @@ module _ (name : Group) (block : ℤ → ℕ → Amount) (counts : Bool) (texts 
   pub refused : IsWithinLimit certificate → (fault : PitFault) → FaultStands net flow pit fault → IsRefused texts certificate fault
   refused within fault f = record { within = within; read = reads; stands = f }
 
-  group_sum_is : group_worth net.worths (holds_of pit) ≡ group_sum block (mine_of (length net.worths) texts).worth (holds_of pit) (length net.worths)
-  group_sum_is = total-same _ _ (length net.worths) (λ b l. ap (λ x. where_so (holds_of pit b) x) (h.of_mine.worths b l))
-
   pub accepted : IsWithinLimit certificate → (set_worth : Amount → ℕ → ℕ → ℤ) → SumsTellWorth block set_worth → IsSound net flow pit → IsGreatest net (holds_of pit) → (count : ℕ) (worth : ℤ) → count ≡ length pit → worth ≡ set_worth (group_worth net.worths (holds_of pit)) (length net.worths) count → IsAccepted texts certificate name count worth
   accepted within set_worth tells sound greatest count worth c w =
-      let n = length net.worths in
-      let mine = mine_of n texts in
-      let size = count_in-ascending pit n h.read.ascending h.read.known in
-      let told = tells mine.worth (holds_of pit) n in
       record {
         within = within;
         read = reads;
         group = refl;
         sound = sound;
-        proved = h.named.proves mine net (holds_of pit) h.of_mine greatest;
-        count = size ∙ sym c;
-        worth = sym (w ∙ ap (λ a. set_worth a n count) group_sum_is ∙ ap (λ (k : ℕ). set_worth (group_sum block mine.worth (holds_of pit) n) n k) (c ∙ sym size) ∙ told);
+        proved = h.named.proves (mine_of (length net.worths) texts) net (holds_of pit) h.of_mine greatest;
+        count = size_told block texts net h.of_mine pit h.read.ascending h.read.known count c;
+        worth = worth_told block texts net h.of_mine pit h.read.ascending h.read.known count c set_worth tells worth w;
       }
 
 -- the fault of a certificate's text behind its header, for the net that was made

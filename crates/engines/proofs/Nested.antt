@@ -1,5 +1,5 @@
 -- Accepted pits over one table of prices are nested.
-use Rattle.std.proofs.Common.{◌≡◌, ℕ, ◌≤◌, ℤ, Bool, List, sym, ap, ◌∙◌, subst, unwrap_or}
+use Rattle.std.proofs.Common.{◌≡◌, ℕ, Bool, List, sym, ◌∙◌, subst, unwrap_or}
 use Rattle.std.proofs.lemmas.List.FromFn.{length-map-range_with_len}
 use Rattle.blocks_file.specs.Records as blocks
 use Rattle.prec_file.specs.Records as prec

@@ -5,6 +5,7 @@ use Rattle.std.specs.Str.{bytes_eq}
 use Rattle.std.specs.List.{onto_first, position_or_len}
 use Rattle.std.proofs.lemmas.List.Quantifiers.{position-Some}
 use Rattle.fixed_worth.proofs.Cuts.{position_none}
+use Rattle.check_pit.proofs.Texts.{onto_some}
 use Rattle.engines.specs.PatternWords.{pieces_of, cone_of, pattern_with, pattern_of}
 
 -- the first piece ends at the first colon
@@ -33,10 +34,6 @@ undivided (b ∷ bs) h = piece_at b bs (eqb b 58) refl h (undivided bs)
 -- without a colon the word is one piece
 pub one_piece : (bs : List ℕ) → position (λ x. eqb x 58) bs ≡ None → pieces_of bs ≡ bs ∷ []
 one_piece bs e = undivided bs (position_none _ bs e)
-
-onto_some : (b : ℕ) (ws : List (List ℕ)) → 0 < length (onto_first b ws)
-onto_some b [] = omega arith
-onto_some b (w ∷ ws) = omega arith
 
 some_at : (b : ℕ) (bs : List ℕ) (t : Bool) → 0 < length (cond t ([] ∷ pieces_of bs) (onto_first b (pieces_of bs)))
 some_at b bs true = omega arith

@@ -1,6 +1,5 @@
 -- From prices that were read to the worths of the mine at a factor.
-use Rattle.std.proofs.Common.{◌+◌, ◌≡◌, ℕ, ◌<◌, ◌≤◌, ℤ, pos, List, [], ◌∷◌, length, map, get_or, refl, sym, ap, ◌∙◌, subst, arith, cond, ltb, Bool, true, false, Option, Some, None, unwrap_or, Result, Ok, Err, IfSome, MatchResult}
-use Rattle.std.specs.List.{range_with_len}
+use Rattle.std.proofs.Common.{◌+◌, ◌≡◌, ℕ, ◌<◌, pos, List, [], ◌∷◌, length, get_or, refl, sym, ap, ◌∙◌, subst, arith, cond, Bool, true, false, Option, Some, None, unwrap_or, Result, Ok, Err, IfSome, MatchResult}
 use Rattle.std.specs.Result.{result_unwrap_or}
 use Rattle.std.specs.Str.{bytes_eq}
 use Rattle.std.proofs.lemmas.List.FromFn.{length-map-range_with_len, get_or-map-range_with_len}
@@ -12,11 +11,10 @@ use Rattle.prec_file.specs.Rests.{RestsView}
 use Rattle.closure_net.proofs.SameLists.{same_at_default}
 use Rattle.settings_file.specs.declared.faults.SettingsFault.{SettingsFault}
 use Rattle.settings_file.specs.declared.faults.SettingsFault.TheVariants as settings_fault
-use Rattle.settings_file.specs.Settings.{SettingsView, ReadsSettings, settings_of, first_missing}
+use Rattle.settings_file.specs.Settings.{SettingsView, ReadsSettings, first_missing}
 use Rattle.settings_file.proofs.Known.{settings_are, settings_read}
-use Rattle.shells.specs.declared.prices_fault.PricesFault.{PricesFault}
 use Rattle.prec_file.specs.Records as prec
-use Rattle.shells.specs.Prices.{PricesView, NoneNegative, PricesFaultStands, blocks_of, worth_at, worths_at}
+use Rattle.shells.specs.Prices.{PricesView, plain_costs, NoneNegative, PricesFaultStands, blocks_of, worth_at, worths_at}
 use Rattle.check_pit.specs.Pieces.{Piece, piece_at, read_line, words_of, number_below}
 use Rattle.check_pit.specs.Header.{header_of, price_in, price_said, or_number, factor_of, value_behind, version_in, blocks_in, group_in}
 use Rattle.check_pit.specs.ReadBack.{IsPrice}
@@ -31,7 +29,7 @@ use Rattle.engines.specs.declared.engine_fault.EngineFault.{EngineFault}
 use Rattle.engines.specs.declared.engine_fault.EngineFault.TheVariants as engine
 use Rattle.engines.specs.BlockTexts.{ReadsBlocks, BlocksFails, BlocksReadFails}
 use Rattle.engines.specs.Inputs.{ReadsSettingsText, SettingsReadFails, ReadsPrices, ReadsPrec, PricesReadFail, ModelPricesFail}
-use Rattle.engines.specs.PricedTexts.{cell, cells, values_of, table_by, table_of, price_keys, price_columns, ColumnsKnown, SettingsFaultStands}
+use Rattle.engines.specs.PricedTexts.{cell, cells, values_of, first_columns, table_by, table_of, price_keys, price_columns, ColumnsKnown}
 use Rattle.engines.specs.Limits.{IsWithinLimit}
 use Rattle.engines.specs.ReadMines.{AreRead, ArePricesRead, of_settings}
 
@@ -62,13 +60,13 @@ column_is chosen text m i d h =
 
 -- the prices that are made of the columns of a model are those of its text
 pub table_is : (revenue cost : ℕ) (said : SettingsView) (text : List ℕ) (m : BlocksView) (table : PricesView) → revenue ∷ cost ∷ [] ≡ price_columns said → Denotes (revenue ∷ cost ∷ []) text m
-    → table ≡ record { revenue = values_of m 0; cost = values_of m 1 } → table ≡ table_by said text
+    → table ≡ first_columns m → table ≡ table_by said text
 table_is revenue cost said text m table e d is =
     let first = ap (λ (cs : List ℕ). get_or cs 0 0) e in
     let second = ap (λ (cs : List ℕ). get_or cs 1 0) e in
     let r = column_is (revenue ∷ cost ∷ []) text m 0 d (omega arith) ∙ ap (cells text) first in
     let c = column_is (revenue ∷ cost ∷ []) text m 1 d (omega arith) ∙ ap (cells text) second in
-    is ∙ λ i. record { revenue = r i; cost = c i }
+    is ∙ λ i. record { revenue = r i; costs = plain_costs (c i) }
 
 -- ---- the factor of a header
 
@@ -105,7 +103,7 @@ settings_told text settings_fault.NoMemory within h = tt
 
 -- the prices were made of the columns of the text
 prices_made : (o : Option (List ℕ)) (revenue cost : ℕ) (said : SettingsView) (m : BlocksView) (table : PricesView) → revenue ∷ cost ∷ [] ≡ price_columns said → IfSome o (λ text. ReadsBlocks (revenue ∷ cost ∷ []) text m)
-    → table ≡ record { revenue = values_of m 0; cost = values_of m 1 } → IfSome o (λ text. ReadsPrices said text table)
+    → table ≡ first_columns m → IfSome o (λ text. ReadsPrices said text table)
 prices_made None revenue cost said m table e h is = tt
 prices_made (Some text) revenue cost said m table e h is =
     let F : List ℕ → Type 0 = λ chosen. blocks.fault_of chosen text ≡ None in
@@ -115,8 +113,8 @@ prices_made (Some text) revenue cost said m table e h is =
 prices_fail : (text : List ℕ) (revenue cost : ℕ) (said : SettingsView) (m : BlocksView) (fault : EngineFault) → revenue ∷ cost ∷ [] ≡ price_columns said → ReadsBlocks (revenue ∷ cost ∷ []) text m → ModelPricesFail m fault → PricesReadFail said text fault
 prices_fail text revenue cost said m (engine.Prices fault) e h f =
     let F : List ℕ → Type 0 = λ chosen. blocks.fault_of chosen text ≡ None in
-    let table = table_is revenue cost said text m (record { revenue = values_of m 0; cost = values_of m 1 }) e h.2 refl in
-    let S : PricesView → Type 0 = λ t. PricesFaultStands t.revenue t.cost fault in
+    let table = table_is revenue cost said text m (first_columns m) e h.2 refl in
+    let S : PricesView → Type 0 = λ t. PricesFaultStands t fault in
     (h.0, subst F e h.1, subst S table f)
 prices_fail text revenue cost said m engine.Memory e h f = tt
 prices_fail text revenue cost said m engine.Device e h f = tt
@@ -127,12 +125,13 @@ prices_fail text revenue cost said m (engine.Prec p) e h f = absurd f
 prices_fail text revenue cost said m (engine.Slope p) e h f = absurd f
 prices_fail text revenue cost said m (engine.Model p) e h f = absurd f
 prices_fail text revenue cost said m (engine.Certificate p) e h f = absurd f
+prices_fail text revenue cost said m (engine.Trace p) e h f = absurd f
 prices_fail text revenue cost said m engine.Thread e h f = absurd f
 prices_fail text revenue cost said m engine.Stranger e h f = absurd f
 
 -- what is made of the columns of the text is told of it
 pub prices_told : (o : Option (List ℕ)) (revenue cost : ℕ) (said : SettingsView) (m : BlocksView) (made : Result PricesView EngineFault) → revenue ∷ cost ∷ [] ≡ price_columns said → IfSome o (λ text. ReadsBlocks (revenue ∷ cost ∷ []) text m)
-    → MatchResult made (λ table. table ≡ record { revenue = values_of m 0; cost = values_of m 1 }) (ModelPricesFail m) → IfSome o (λ text. MatchResult made (ReadsPrices said text) (PricesReadFail said text))
+    → MatchResult made (λ table. table ≡ first_columns m) (ModelPricesFail m) → IfSome o (λ text. MatchResult made (ReadsPrices said text) (PricesReadFail said text))
 prices_told None revenue cost said m made e h is = tt
 prices_told (Some text) revenue cost said m (Ok table) e h is = prices_made (Some text) revenue cost said m table e h is
 prices_told (Some text) revenue cost said m (Err fault) e h f = prices_fail text revenue cost said m fault e h f
@@ -150,6 +149,7 @@ blocks_fail (Some text) revenue cost said (engine.Prec p) e h = absurd h
 blocks_fail (Some text) revenue cost said (engine.Slope p) e h = absurd h
 blocks_fail (Some text) revenue cost said (engine.Model p) e h = absurd h
 blocks_fail (Some text) revenue cost said (engine.Certificate p) e h = absurd h
+blocks_fail (Some text) revenue cost said (engine.Trace p) e h = absurd h
 blocks_fail (Some text) revenue cost said engine.Thread e h = absurd h
 blocks_fail (Some text) revenue cost said engine.Stranger e h = absurd h
 

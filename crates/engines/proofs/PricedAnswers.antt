@@ -1,13 +1,12 @@
 -- From the parts of an engine over prices to its answer, where the readers tell their bytes.
-use Rattle.std.proofs.Common.{◌≡◌, ℕ, ℤ, List, [], refl, sym, ap, ◌∙◌, subst, Option, Some, None, Result, Ok, Err, inl, inr, IfSome, length, unwrap_or, map}
+use Rattle.std.proofs.Common.{◌≡◌, ℕ, ℤ, List, sym, ap, ◌∙◌, subst, Option, Some, None, Result, Ok, Err, inl, IfSome, unwrap_or}
 use Rattle.std.proofs.lemmas.List.FromFn.{length-map-range_with_len}
-use Rattle.std.specs.Io.KnownBytes.{Appends, Keeps}
+use Rattle.std.specs.Io.KnownBytes.{Appends}
 use Rattle.blocks_file.specs.Records as blocks
 use Rattle.prec_file.specs.Rests.{RestsView}
 use Rattle.settings_file.specs.declared.keys.Key.{Key}
-use Rattle.settings_file.specs.declared.faults.SettingsFault.{SettingsFault}
 use Rattle.settings_file.specs.declared.faults.SettingsFault.TheVariants as settings_fault
-use Rattle.settings_file.specs.Settings.{SettingsView, settings_of, first_missing}
+use Rattle.settings_file.specs.Settings.{SettingsView, first_missing}
 use Rattle.settings_file.proofs.Known.{settings_are, settings_read}
 use Rattle.shells.specs.Prices.{PricesView, PricesFaultStands, NoneNegative, blocks_of, worths_at}
 use Rattle.engines.specs.declared.judgement.Judgement.{Judgement}
@@ -18,7 +17,7 @@ use Rattle.engines.specs.declared.engine_fault.Problem.TheVariants as problem
 use Rattle.engines.specs.declared.method.Method.{Method}
 use Rattle.ordered_group.specs.declared.groups.Group.{Group}
 use Rattle.engines.specs.BlockTexts.{BlocksFails}
-use Rattle.engines.specs.PricedTexts.{price_keys, price_columns, cell, table_by, table_of, KeysSaid, ColumnsKnown, PricesRead, SettingsFaultStands, SettingsFails}
+use Rattle.engines.specs.PricedTexts.{price_keys, price_columns, cell, table_by, table_of, KeysSaid, ColumnsKnown, PricesRead, SettingsFails}
 use Rattle.engines.specs.Inputs.{ReadsSettingsText, SettingsReadFails, IsMissing, ReadsPrices, PricesReadFail, ReadsPrec, PrecReadFails, TextReadFails, PricedMineFails}
 use Rattle.engines.specs.Mines.{MineTexts, priced_texts, price_wanted}
 use Rattle.engines.specs.ReadMines.{AreRead, ArePricesRead}
@@ -28,7 +27,7 @@ use Rattle.engines.specs.Verdicts.{verdict_of}
 use Rattle.engines.specs.FaultStands.{Fails}
 use Rattle.engines.specs.Checking.{Checks, SoundIsAccepted, LineFails}
 use Rattle.engines.specs.Solving.{Solves}
-use Rattle.engines.proofs.Answered.{keeps_self, at_fault, text_stands, judged_at, written, line_failed}
+use Rattle.engines.proofs.Answered.{keeps_self, at_fault, text_stands, written, line_failed}
 use Rattle.check_pit.specs.declared.header.Price.TheVariants.{Factor}
 use Rattle.engines.proofs.Complete.{complete_at}
 use Rattle.engines.proofs.Judged.{read_as}
@@ -79,6 +78,7 @@ settings_fail s b p (engine.Prec q) h = absurd h
 settings_fail s b p (engine.Slope q) h = absurd h
 settings_fail s b p (engine.Model q) h = absurd h
 settings_fail s b p (engine.Certificate q) h = absurd h
+settings_fail s b p (engine.Trace q) h = absurd h
 settings_fail s b p engine.Thread h = absurd h
 settings_fail s b p engine.Stranger h = absurd h
 
@@ -118,7 +118,7 @@ prices_fail_at s b p said (engine.Blocks q) a whole h =
 prices_fail_at s b p said (engine.Prices f) a whole h =
     let known = sym (settings_are s said a.1) in
     let F : SettingsView → Type 0 = λ v. blocks.fault_of (price_columns v) b ≡ None in
-    let S : SettingsView → Type 0 = λ v. PricesFaultStands (table_by v b).revenue (table_by v b).cost f in
+    let S : SettingsView → Type 0 = λ v. PricesFaultStands (table_by v b) f in
     record { columns = columns_known s said a whole; within = h.0; read = subst F known h.1; stands = subst S known h.2 }
 prices_fail_at s b p said engine.Memory a whole h = tt
 prices_fail_at s b p said engine.Device a whole h = tt
@@ -128,6 +128,7 @@ prices_fail_at s b p said (engine.Prec q) a whole h = absurd h
 prices_fail_at s b p said (engine.Slope q) a whole h = absurd h
 prices_fail_at s b p said (engine.Model q) a whole h = absurd h
 prices_fail_at s b p said (engine.Certificate q) a whole h = absurd h
+prices_fail_at s b p said (engine.Trace q) a whole h = absurd h
 prices_fail_at s b p said engine.Thread a whole h = absurd h
 prices_fail_at s b p said engine.Stranger a whole h = absurd h
 
@@ -157,6 +158,7 @@ prec_fails_at s b p said table n (engine.Upit q) size positive whole a t h = abs
 prec_fails_at s b p said table n (engine.Slope q) size positive whole a t h = absurd h
 prec_fails_at s b p said table n (engine.Model q) size positive whole a t h = absurd h
 prec_fails_at s b p said table n (engine.Certificate q) size positive whole a t h = absurd h
+prec_fails_at s b p said table n (engine.Trace q) size positive whole a t h = absurd h
 prec_fails_at s b p said table n engine.Thread size positive whole a t h = absurd h
 prec_fails_at s b p said table n engine.Stranger size positive whole a t h = absurd h
 
@@ -187,6 +189,7 @@ mine_stands s b p c k (engine.Upit q) h = absurd h
 mine_stands s b p c k (engine.Slope q) h = absurd h
 mine_stands s b p c k (engine.Model q) h = absurd h
 mine_stands s b p c k (engine.Certificate q) h = absurd h
+mine_stands s b p c k (engine.Trace q) h = absurd h
 mine_stands s b p c k engine.Thread h = absurd h
 mine_stands s b p c k engine.Stranger h = absurd h
 
@@ -254,6 +257,7 @@ unread_to_solve s b p k name method limit w (engine.Upit q) h = absurd h
 unread_to_solve s b p k name method limit w (engine.Slope q) h = absurd h
 unread_to_solve s b p k name method limit w (engine.Model q) h = absurd h
 unread_to_solve s b p k name method limit w (engine.Certificate q) h = absurd h
+unread_to_solve s b p k name method limit w (engine.Trace q) h = absurd h
 unread_to_solve s b p k name method limit w engine.Thread h = absurd h
 unread_to_solve s b p k name method limit w engine.Stranger h = absurd h
 

@@ -1,5 +1,5 @@
 -- From the parts of the engine of slopes by settings to its answer, where the readers tell their bytes.
-use Rattle.std.proofs.Common.{◌≡◌, ℕ, List, [], sym, ap, ◌∙◌, subst, Option, Some, None, Result, Ok, Err, inl, inr, IfSome}
+use Rattle.std.proofs.Common.{◌≡◌, ℕ, List, [], sym, ap, ◌∙◌, subst, Option, Some, None, Ok, Err, inl, inr, IfSome}
 use Rattle.std.specs.List.{Contains}
 use Rattle.std.specs.Io.KnownBytes.{Appends}
 use Rattle.fixed_worth.specs.Device.{ReceivedPrefix}
@@ -37,6 +37,7 @@ unwritten source text up w (engine.Upit q) = keeps_self w
 unwritten source text up w (engine.Slope q) = keeps_self w
 unwritten source text up w (engine.Model q) = keeps_self w
 unwritten source text up w (engine.Certificate q) = keeps_self w
+unwritten source text up w (engine.Trace q) = keeps_self w
 unwritten source text up w engine.Memory = keeps_self w
 unwritten source text up w engine.Thread = keeps_self w
 unwritten source text up w engine.Stranger = keeps_self w
@@ -54,6 +55,7 @@ blocks_fail s b up (engine.Upit q) keys h = absurd h
 blocks_fail s b up (engine.Slope q) keys h = absurd h
 blocks_fail s b up (engine.Model q) keys h = absurd h
 blocks_fail s b up (engine.Certificate q) keys h = absurd h
+blocks_fail s b up (engine.Trace q) keys h = absurd h
 blocks_fail s b up engine.Thread keys h = absurd h
 blocks_fail s b up engine.Stranger keys h = absurd h
 
@@ -70,6 +72,7 @@ pattern_fails s b up xs m (engine.Prec q) keys is r h = absurd h
 pattern_fails s b up xs m (engine.Upit q) keys is r h = absurd h
 pattern_fails s b up xs m (engine.Model q) keys is r h = absurd h
 pattern_fails s b up xs m (engine.Certificate q) keys is r h = absurd h
+pattern_fails s b up xs m (engine.Trace q) keys is r h = absurd h
 pattern_fails s b up xs m engine.Thread keys is r h = absurd h
 pattern_fails s b up xs m engine.Stranger keys is r h = absurd h
 
@@ -86,6 +89,7 @@ pairs_fail s b up offsets m (engine.Prec q) keys are r h = absurd h
 pairs_fail s b up offsets m (engine.Upit q) keys are r h = absurd h
 pairs_fail s b up offsets m (engine.Model q) keys are r h = absurd h
 pairs_fail s b up offsets m (engine.Certificate q) keys are r h = absurd h
+pairs_fail s b up offsets m (engine.Trace q) keys are r h = absurd h
 pairs_fail s b up offsets m engine.Thread keys are r h = absurd h
 pairs_fail s b up offsets m engine.Stranger keys are r h = absurd h
 

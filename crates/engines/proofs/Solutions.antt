@@ -99,7 +99,7 @@ net_by block counts texts name rests worths net a named is_net is l =
     record { mine = subst D size a.mine; is_net = is_net; of_mine = subst B (sym named.block_is) (subst M size (subst N (sym is) made)) }
 
 module _ (block : ℤ → ℕ → Amount) (counts : Bool) (texts : MineTexts) (name : Group) (net : NetView) (method : Method) (limit : ℕ) (named : IsGroupNamed name block counts) (by : IsNetBy texts name net) where
-  certificate_is : (text : List ℕ) → IsCertificateOf counts name (price_wanted texts) net text → IsCertificate texts name text
+  pub certificate_is : (text : List ℕ) → IsCertificateOf counts name (price_wanted texts) net text → IsCertificate texts name text
   certificate_is text c =
       let B : (ℤ → ℕ → Amount) → Type 0 = λ b. IsNetOf b (mine_of (length net.worths) texts) net in
       let of_mine : IsNetOf block (mine_of (length net.worths) texts) net = subst B named.block_is by.of_mine in
@@ -132,6 +132,7 @@ module _ (block : ℤ → ℕ → Amount) (counts : Bool) (texts : MineTexts) (n
   solved old new (Err (engine.Prec q)) h = absurd h
   solved old new (Err (engine.Model q)) h = absurd h
   solved old new (Err (engine.Certificate q)) h = absurd h
+  solved old new (Err (engine.Trace q)) h = absurd h
   solved old new (Err (engine.Blocks q)) h = absurd h
   solved old new (Err (engine.Slope q)) h = absurd h
   solved old new (Err (engine.Settings q)) h = absurd h

@@ -100,7 +100,7 @@ table_stands : (settings text : List ℕ) (n : ℕ) (fault : PricesFault) → Pr
 table_stands settings text n prices_fault.WrongLength r h =
     let revenues = length-map-range_with_len (cell text (unwrap_or (settings_of settings).revenue 0)) 0 (blocks.count_of text) in
     let costs = length-map-range_with_len (cell text (unwrap_or (settings_of settings).cost 0)) 0 (blocks.count_of text) in
-    elim h.stands [ inl ne ↦ ne (revenues ∙ sym costs) | inr many ↦ omega (arith, many, revenues, few_blocks text (price_columns (settings_of settings)) r.read) ]
+    elim h.stands [ inl uncharged ↦ uncharged (costs ∙ sym revenues) | inr many ↦ omega (arith, many, revenues, few_blocks text (price_columns (settings_of settings)) r.read) ]
 table_stands settings text n (prices_fault.NegativeRevenue b) r h =
     let first = h.stands.2 in
     omega (arith, ints, first.negative, r.revenues b first.block)

@@ -1,5 +1,5 @@
 -- When an engine answers a fault: each stands in the texts, and none before it does.
-use Rattle.std.specs.Prelude.{◌≡◌, ◌≢◌, ℕ, ◌<◌, ℤ, pos, ◌⊎◌, List, length, slice_index_or, Some, None, Ok, Err}
+use Rattle.std.specs.Prelude.{◌≡◌, ◌≢◌, ℕ, ◌<◌, ℤ, pos, ◌⊎◌, List, length, slice_index_or, Some, Ok, Err}
 use Rattle.ordered_group.specs.declared.groups.Group.{Group}
 use Rattle.closure_net.specs.FaultStands.{WorthsFaultStands}
 use Rattle.closure_net.specs.declared.net.NetFault.{NetFault}
@@ -112,6 +112,7 @@ Fails texts certificate (engine.Settings p) = SettingsFail texts p
 Fails texts certificate (engine.Blocks p) = BlocksFail texts p
 Fails texts certificate (engine.Prices fault) = TableFails texts fault
 Fails texts certificate (engine.Slope p) = ⊥
+Fails texts certificate (engine.Trace p) = ⊥
 Fails texts certificate engine.Memory = Unit {0}
 Fails texts certificate engine.Device = Unit {0}
 Fails texts certificate engine.Thread = ⊥

@@ -14,7 +14,7 @@ use Rattle.settings_file.specs.declared.faults.SettingsFault.TheVariants as sett
 use Rattle.shells.specs.Prices.{PricesView, PricesFaultStands}
 use Rattle.engines.specs.declared.engine_fault.Problem.TheVariants as problem
 use Rattle.engines.specs.Limits.{IsTooLong, IsWithinLimit}
-use Rattle.engines.specs.PricedTexts.{price_keys, price_columns, values_of, table_by, PricesRead, SettingsFaultStands, SettingsFails, PricedBlocksFail, PricesFail}
+use Rattle.engines.specs.PricedTexts.{price_keys, price_columns, first_columns, table_by, PricesRead, SettingsFaultStands, SettingsFails, PricedBlocksFail, PricesFail}
 use Rattle.engines.specs.BlockTexts.{BlocksFails}
 use Rattle.engines.specs.Mines.{ValuesRead}
 use Rattle.engines.specs.FaultStands.{UpitFails, PrecFails}
@@ -78,14 +78,14 @@ pub record ReadsPrices (said : SettingsView) (text : List ℕ) (table : PricesVi
 
 abbrev pub PricesReadFail : SettingsView → List ℕ → EngineFault → Type 0
 PricesReadFail said text (engine.Blocks p) = BlocksFails (price_columns said) text p
-PricesReadFail said text (engine.Prices fault) = IsWithinLimit text × (blocks.fault_of (price_columns said) text ≡ None) × PricesFaultStands (table_by said text).revenue (table_by said text).cost fault
+PricesReadFail said text (engine.Prices fault) = IsWithinLimit text × (blocks.fault_of (price_columns said) text ≡ None) × PricesFaultStands (table_by said text) fault
 PricesReadFail said text engine.Memory = Unit {0}
 PricesReadFail said text engine.Device = Unit {0}
 PricesReadFail said text _ = ⊥
 
 -- why the first two columns of a model are no prices: want of memory, or they are no table
 abbrev pub ModelPricesFail : BlocksView → EngineFault → Type 0
-ModelPricesFail m (engine.Prices fault) = PricesFaultStands (values_of m 0) (values_of m 1) fault
+ModelPricesFail m (engine.Prices fault) = PricesFaultStands (first_columns m) fault
 ModelPricesFail m engine.Memory = Unit {0}
 ModelPricesFail m _ = ⊥
 

@@ -12,6 +12,7 @@ use Rattle.settings_file.specs.FaultText.{settings_fault_text}
 use Rattle.shells.specs.FaultText.{prices_fault_text}
 use Rattle.check_pit.specs.FaultText.{fault_text}
 use Rattle.check_pit.specs.FaultText.{pit_fault_text}
+use Rattle.trace_file.specs.FaultText.{fault_text as trace_fault_text}
 use Rattle.engines.specs.declared.judgement.Judgement.{Judgement}
 use Rattle.engines.specs.declared.judgement.Judgement.TheVariants.{Accepted, Refused}
 use Rattle.engines.specs.declared.engine_fault.Problem.{Problem}
@@ -62,6 +63,7 @@ fault_words (engine.Prices fault) = codes "prices " ++ prices_fault_text fault
 fault_words (engine.Slope p) = codes "slope " ++ slope_text p
 fault_words (engine.Model fault) = codes "model " ++ net_fault_text fault
 fault_words (engine.Certificate p) = codes "certificate " ++ certificate_text p
+fault_words (engine.Trace p) = codes "trace " ++ problem_text trace_fault_text p
 fault_words engine.Memory = codes "memory"
 fault_words engine.Device = codes "device"
 fault_words engine.Thread = codes "thread"

@@ -9,7 +9,7 @@ use Rattle.settings_file.specs.declared.keys.Key.TheVariants.{Revenue, Cost}
 use Rattle.settings_file.specs.declared.faults.SettingsFault.{SettingsFault}
 use Rattle.settings_file.specs.declared.faults.SettingsFault.TheVariants as settings_fault
 use Rattle.settings_file.specs.Settings.{SettingsView, ReadsSettings, AreSettings, settings_of, first_missing}
-use Rattle.shells.specs.Prices.{PricesView, NoneNegative, PricesFaultStands}
+use Rattle.shells.specs.Prices.{PricesView, plain_costs, NoneNegative, PricesFaultStands}
 use Rattle.shells.specs.declared.prices_fault.PricesFault.{PricesFault}
 use Rattle.engines.specs.declared.engine_fault.Problem.{Problem}
 use Rattle.engines.specs.declared.engine_fault.Problem.TheVariants as problem
@@ -36,9 +36,13 @@ cells text column = map (cell text column) (range_with_len 0 (blocks.count_of te
 abbrev pub values_of : BlocksView → ℕ → List ℤ
 values_of m i = map (λ b. slice_index_or (slice_index_or m.columns i []) b (pos 0)) (range_with_len 0 m.blocks)
 
+-- the prices that the first two of the chosen columns of a model make: its revenues and its costs
+abbrev pub first_columns : BlocksView → PricesView
+first_columns m = record { revenue = values_of m 0; costs = plain_costs (values_of m 1) }
+
 -- the revenues and the costs of the blocks of a text, by settings
 abbrev pub table_by : SettingsView → List ℕ → PricesView
-table_by s text = record { revenue = cells text (unwrap_or s.revenue 0); cost = cells text (unwrap_or s.cost 0) }
+table_by s text = record { revenue = cells text (unwrap_or s.revenue 0); costs = plain_costs (cells text (unwrap_or s.cost 0)) }
 
 -- the same by the text of the settings
 abbrev pub table_of : List ℕ → List ℕ → PricesView
@@ -81,4 +85,4 @@ pub record PricesFail (settings text : List ℕ) (fault : PricesFault) : Type 0 
   pub columns : ColumnsKnown settings
   pub within : IsWithinLimit text
   pub read : blocks.fault_of (price_columns (settings_of settings)) text ≡ None
-  pub stands : PricesFaultStands (table_of settings text).revenue (table_of settings text).cost fault
+  pub stands : PricesFaultStands (table_of settings text) fault

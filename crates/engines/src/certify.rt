@@ -1,6 +1,6 @@
 //! The pit that a flow proves, whatever engine made it: the one place where a solver's answer is trusted or not.
 
-ghost use Rattle.std.specs.Prelude.{◌≡◌, MatchResult};
+ghost use Rattle.std.specs.Prelude.{◌≡◌, IfOk, MatchResult};
 ghost use Rattle.check_pit.specs.Checks.{IsSound};
 ghost use Rattle.engines.specs.Certifying.{UncertifiedStands};
 
@@ -39,9 +39,10 @@ pub fn certified<G: OrderedGroup>(
     net: &Net<G>,
     flow: Flow<G>,
 ) -> Result<Solution<G>, Uncertified>
-    ensures { MatchResult result
+    ensures answer { MatchResult result
         (λ s. IsSound net.now s.flow s.pit)
         (λ why. UncertifiedStands net.now flow why) }
+    ensures same { IfOk result (λ s. s.flow ≡ flow) }
 {
     if !flow.fits(net) {
         return Err(Uncertified::Refused(PitFault::WrongSize));

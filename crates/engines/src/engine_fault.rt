@@ -11,6 +11,7 @@ use slope::{PatternFault, SlopeFault};
 use std::alloc::AllocError;
 use std::fmt;
 use thiserror::Error;
+use trace_file::TraceFault;
 use upit_file::UpitFault;
 
 /// What is wrong with an input: it is too long to be read, or its text has a fault.
@@ -113,6 +114,9 @@ pub enum EngineFault {
     /// The certificate.
     #[error("certificate {0}")]
     Certificate(CertificateProblem),
+    /// The steps of a run.
+    #[error("trace {0}")]
+    Trace(Problem<TraceFault>),
     /// An allocation was refused.
     #[error("memory")]
     Memory,

@@ -13,6 +13,7 @@ ghost use Rattle.closure_net.specs.FaultText.{net_fault_text};
 ghost use Rattle.settings_file.specs.Keys.{key_name};
 ghost use Rattle.settings_file.specs.FaultText.{settings_fault_text};
 ghost use Rattle.shells.specs.FaultText.{prices_fault_text};
+ghost use Rattle.trace_file.specs.FaultText.{fault_text};
 ghost use Rattle.engines.specs.OutputLines.{fault_line, fault_words, problem_text, slope_text, certificate_text};
 ghost use Rattle.engines.specs.Statuses.{status_of};
 
@@ -26,6 +27,7 @@ use prec_file::PrecFault;
 use settings_file::{Key, SettingsFault};
 use shells::PricesFault;
 use slope::{PatternFault, SlopeFault};
+use trace_file::TraceFault;
 use upit_file::UpitFault;
 
 /// The exit status of an engine's answer: 0 done, 1 no, 3 a fault of an input, 4 memory, a device,
@@ -99,6 +101,10 @@ fn push_words(line: &mut ShortLine, fault: &EngineFault)
         EngineFault::Certificate(problem) => {
             line.push(b"certificate ");
             push_certificate(line, problem);
+        }
+        EngineFault::Trace(problem) => {
+            line.push(b"trace ");
+            push_trace(line, problem);
         }
         EngineFault::Memory => line.push(b"memory"),
         EngineFault::Device => line.push(b"device"),
@@ -285,5 +291,19 @@ fn push_certificate(line: &mut ShortLine, problem: &CertificateProblem)
         CertificateProblem::Fault(CertFault::UnknownPair(n)) => push_at(line, b"UnknownPair", *n),
         CertificateProblem::Fault(CertFault::Truncated) => line.push(b"Truncated"),
         CertificateProblem::Fault(CertFault::NoMemory) => line.push(b"NoMemory"),
+    }
+}
+
+fn push_trace(line: &mut ShortLine, problem: &Problem<TraceFault>)
+    requires { length line.old ≤ 64 }
+    ensures text { line.new ≡ line.old ++ problem_text fault_text problem.now }
+    ensures length { length line.new ≤ length line.old + 60 }
+{
+    match problem {
+        Problem::InputTooLong => line.push(b"InputTooLong"),
+        Problem::Fault(TraceFault::Text(n)) => push_at(line, b"Text", *n),
+        Problem::Fault(TraceFault::Truncated) => line.push(b"Truncated"),
+        Problem::Fault(TraceFault::TooMany) => line.push(b"TooMany"),
+        Problem::Fault(TraceFault::NoMemory) => line.push(b"NoMemory"),
     }
 }

@@ -30,7 +30,8 @@ pub fn write_judgement<W: CountedWrite>(
     Ok(())
 }
 
-fn line_of(alloc: Global, judgement: Judgement) -> Result<String, AllocError>
+/// The line of a judgement.
+pub fn line_of(alloc: Global, judgement: Judgement) -> Result<String, AllocError>
     ensures { IfOk result (λ line. string_bytes line ≡ judgement_line judgement) }
 {
     match judgement {

@@ -3,7 +3,7 @@
 ghost use Rattle.std.specs.Prelude.{◌≡◌, ◌+◌, ◌-◌, ◌^◌, ◌<◌, ◌≤◌, ◌↔◌, [], ◌∷◌, length, None, IfOk, IfSome, MatchResult, IsErrOf};
 ghost use Rattle.settings_file.specs.Settings.{SettingsView, first_missing};
 ghost use Rattle.engines.specs.Limits.{IsWithinLimit};
-ghost use Rattle.engines.specs.PricedTexts.{price_keys, price_columns, values_of};
+ghost use Rattle.engines.specs.PricedTexts.{price_keys, price_columns, values_of, first_columns};
 ghost use Rattle.engines.specs.ReadMines.{ArePricesRead};
 ghost use Rattle.engines.specs.Inputs.{ReadsSettingsText, SettingsReadFails, IsMissing, ReadsPrices, PricesReadFail, ModelPricesFail, PricedMineFails};
 
@@ -91,7 +91,7 @@ pub fn prices_from<R: CountedRead>(
 pub fn prices_of(alloc: Global, model: &BlockModel) -> Result<Prices, EngineFault>
     requires { 2 ≤ length model.now.columns }
     ensures prices { MatchResult result
-        (λ prices. prices ≡ record { revenue = values_of model.now 0; cost = values_of model.now 1 })
+        (λ prices. prices ≡ first_columns model.now)
         (ModelPricesFail model.now) }
     ensures no_device { ¬ IsErrOf result EngineFault.Device }
 {

@@ -192,8 +192,8 @@ where
     Ok(Verdict::Done)
 }
 
-// Writes the line of an answer without a certificate.
-fn write_no<W: CountedWrite>(line: &[u8], out: &mut W) -> Result<Verdict, EngineFault>
+/// Writes the line of an answer without a certificate.
+pub fn write_no<W: CountedWrite>(line: &[u8], out: &mut W) -> Result<Verdict, EngineFault>
     requires { W.failed out.old < 2 ^ 64 - 1 }
     ensures answer { MatchResult result
         (λ verdict. (verdict ≡ Verdict.No) × Appends (W.contents out.old) (W.contents out.new) line.now)

@@ -13,3 +13,5 @@ pub mod DigitsFromEnd
 pub mod Joined
 pub mod WrittenNumbers
 pub mod NextLine
+pub mod PrintedDigits
+pub mod Results

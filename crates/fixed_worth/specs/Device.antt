@@ -7,6 +7,12 @@ pub record CountedDevice (T : Type 0) : Type 0 where
   pub inner : T
   pub failures : ℕ
 
+-- a device of tests: the one inside, how many calls were made, and the number of the call that fails
+pub record FailingDevice (T : Type 0) : Type 0 where
+  pub inner : T
+  pub calls : ℕ
+  pub fails_at : ℕ
+
 -- a write fails by an error, and by taking no byte of a piece that has some
 abbrev pub write_fails : {E : Type 0} → Result ℕ E → List ℕ → Bool
 write_fails (Err e) piece = true

@@ -1,112 +1,17 @@
 // Devices of the tests' own: they claim nothing of their bytes, so what they received or gave is
 // asserted as the tests run.
-ghost use Rattle.std.specs.Prelude.{◌≡◌, IfOk};
-
 use crate::{
-    Counted, CountedRead, CountedWrite, InputFault, Page, WriteFault, read_whole, write_text,
+    Counted, CountedRead, CountedWrite, Failing, Failure, InputFault, Page, WriteFault, read_whole,
+    write_text,
 };
 use std::alloc::{AllocError, Global};
 use std::io;
 use std::io::{Error, ErrorKind, Read, Write};
 use std::test::Fail;
 
-/// How a call of a faltering device fails.
-#[derive(Clone, Copy)]
-enum Failure {
-    Broken,
-    Interrupted,
-    TakesNothing,
-}
-
-impl Failure {
-    fn answer(self) -> io::Result<usize>
-        ensures { IfOk result (λ n. n ≡ 0) }
-    {
-        match self {
-            Failure::Broken => Err(Error::from(ErrorKind::BrokenPipe)),
-            Failure::Interrupted => Err(Error::from(ErrorKind::Interrupted)),
-            Failure::TakesNothing => Ok(0),
-        }
-    }
-}
-
-/// A reader that gives one byte a call, and fails at the call of that number, at none where it is 0.
-#[derive(Drop)]
-struct Trickle<'a> {
-    bytes: &'a [u8],
-    calls: u64,
-    fails_at: u64,
-    failure: Failure,
-}
-
-impl<'a> Trickle<'a> {
-    fn failing(bytes: &'a [u8], fails_at: u64, failure: Failure) -> Trickle<'a> {
-        Trickle {
-            bytes,
-            calls: 0,
-            fails_at,
-            failure,
-        }
-    }
-}
-
-impl Read for Trickle<'_> {
-    fn read(&mut self, buf: &mut [u8]) -> io::Result<usize> {
-        self.calls = self.calls.saturating_add(1);
-        if self.calls == self.fails_at {
-            return self.failure.answer();
-        }
-        if buf.is_empty() || self.bytes.is_empty() {
-            return Ok(0);
-        }
-        buf[0] = self.bytes[0];
-        self.bytes = &self.bytes[1..];
-        Ok(1)
-    }
-}
-
-/// A writer that takes at most three bytes a call, and fails as the reader does.
-#[derive(Drop)]
-struct Short {
-    received: Vec<u8>,
-    calls: u64,
-    fails_at: u64,
-    failure: Failure,
-}
-
-impl Short {
-    fn failing(received: Vec<u8>, fails_at: u64, failure: Failure) -> Short {
-        Short {
-            received,
-            calls: 0,
-            fails_at,
-            failure,
-        }
-    }
-}
-
-impl Write for Short {
-    fn write(&mut self, buf: &[u8]) -> io::Result<usize> {
-        self.calls = self.calls.saturating_add(1);
-        if self.calls == self.fails_at {
-            return self.failure.answer();
-        }
-        let taken = buf.len().min(3);
-        match self.received.extend_from_slice(&buf[..taken]) {
-            Ok(()) => Ok(taken),
-            Err(_) => Err(Error::from(ErrorKind::OutOfMemory)),
-        }
-    }
-
-    fn flush(&mut self) -> io::Result<()> {
-        self.failure.answer()?;
-        Ok(())
-    }
-}
-
 // The count after each of four reads of two bytes, the second of which fails.
 fn counts_of_reads(failure: Failure) -> [u64; 4] {
-    let mut from = Counted::new(Trickle::failing(b"ab", 2, failure));
+    let mut from = Counted::new(Failing::new(b"ab".as_slice(), 1, 2, failure));
     let mut counts = [9; 4];
     for count in &mut counts {
         if from.failures() < 9 {
@@ -125,7 +30,7 @@ fn a_failed_read_counts_once(rt: HostRuntime) {
 
 // The count after each of three writes of a byte, the second of which fails.
 fn counts_of_writes(alloc: Global, failure: Failure) -> [u64; 3] {
-    let mut out = Counted::new(Short::failing(Vec::new(alloc), 2, failure));
+    let mut out = Counted::new(Failing::new(Vec::new(alloc), 3, 2, failure));
     let mut counts = [9; 3];
     for count in &mut counts {
         if out.failures() < 9 {
@@ -145,16 +50,16 @@ fn a_failed_write_counts_once(rt: HostRuntime) {
 
 // The count after a read that fails and one at the end of the input.
 fn counts_of_plain_reads() -> (u64, u64) {
-    let mut from = Counted::new(Trickle::failing(b"", 1, Failure::Interrupted));
+    let mut from = Counted::new(Failing::new(b"".as_slice(), 1, 1, Failure::Interrupted));
     let _ = from.read(&mut [0; 4]);
     let first = from.failures();
     let _ = from.read(&mut [0; 4]);
     (first, from.failures())
 }
 
-// The count after a write that takes nothing, one of nothing, and a flush.
-fn counts_of_plain_writes(alloc: Global, failure: Failure) -> (u64, u64, u64) {
-    let mut out = Counted::new(Short::failing(Vec::new(alloc), 1, failure));
+// The count after a write of a byte, one of nothing, and a flush.
+fn counts_of_plain_writes(alloc: Global, fails_at: u64, failure: Failure) -> (u64, u64, u64) {
+    let mut out = Counted::new(Failing::new(Vec::new(alloc), 3, fails_at, failure));
     let _ = out.write(b"a");
     let first = out.failures();
     let _ = out.write(b"");
@@ -166,8 +71,10 @@ fn counts_of_plain_writes(alloc: Global, failure: Failure) -> (u64, u64, u64) {
 #[test]
 fn calls_by_the_traits_of_std_count_too(rt: HostRuntime) {
     assert!(rt; counts_of_plain_reads() == (1, 1));
-    assert!(rt; counts_of_plain_writes(rt.alloc(), Failure::TakesNothing) == (1, 1, 1));
-    assert!(rt; counts_of_plain_writes(rt.alloc(), Failure::Broken) == (1, 1, 2));
+    assert!(rt; counts_of_plain_writes(rt.alloc(), 1, Failure::TakesNothing) == (1, 1, 1));
+    assert!(rt; counts_of_plain_writes(rt.alloc(), 1, Failure::Broken) == (1, 1, 1));
+    assert!(rt; counts_of_plain_writes(rt.alloc(), 2, Failure::TakesNothing) == (0, 0, 0));
+    assert!(rt; counts_of_plain_writes(rt.alloc(), 3, Failure::Broken) == (0, 0, 1));
 }
 
 // How long the text is that was read, and how many calls it took.
@@ -178,12 +85,12 @@ fn read_by_bytes(
     fails_at: u64,
     failure: Failure,
 ) -> (Result<usize, InputFault>, u64) {
-    let mut from = Counted::new(Trickle::failing(bytes, fails_at, failure));
+    let mut from = Counted::new(Failing::new(bytes, 1, fails_at, failure));
     let answer = match read_whole(alloc, &mut from, u64::from(limit)) {
         Ok(text) => Ok(text.len()),
         Err(fault) => Err(fault),
     };
-    (answer, from.into_inner().calls)
+    (answer, from.into_inner().calls())
 }
 
 #[test]
@@ -225,9 +132,9 @@ fn an_input_longer_than_one_read_is_whole(rt: HostRuntime) -> Result<(), Fail> {
 
 // What a writer received of ten bytes, and whether all were sent.
 fn sent(alloc: Global, fails_at: u64, failure: Failure) -> (Result<(), WriteFault>, Vec<u8>) {
-    let mut out = Counted::new(Short::failing(Vec::new(alloc), fails_at, failure));
+    let mut out = Counted::new(Failing::new(Vec::new(alloc), 3, fails_at, failure));
     let answer = write_text(&mut out, b"0123456789");
-    (answer, out.into_inner().received)
+    (answer, out.into_inner().into_inner())
 }
 
 #[test]
@@ -312,13 +219,13 @@ fn a_page_gathers_short_pieces(rt: HostRuntime) -> Result<(), Fail> {
 
 // What a writer received of a page of four bytes, at which it fails.
 fn page_at_a_failing_writer(alloc: Global) -> (Result<(), WriteFault>, Vec<u8>) {
-    let mut out = Counted::new(Short::failing(Vec::new(alloc), 2, Failure::Broken));
+    let mut out = Counted::new(Failing::new(Vec::new(alloc), 3, 2, Failure::Broken));
     let mut page = Page::new();
     let answer = match page.put(&mut out, b"0123") {
         Ok(()) => page.finish(&mut out),
         Err(fault) => Err(fault),
     };
-    (answer, out.into_inner().received)
+    (answer, out.into_inner().into_inner())
 }
 
 #[test]

@@ -14,6 +14,7 @@
 
 mod decimals;
 mod devices;
+mod failing_device;
 mod fault_names;
 mod field_reader;
 pub mod laws;
@@ -31,6 +32,7 @@ mod short_line;
 mod whole_input;
 
 pub use devices::{Counted, CountedRead, CountedWrite};
+pub use failing_device::{Failing, Failure};
 pub use field_reader::{Field, Fields, is_separator};
 pub use limits::{LINE_BYTES, MOST_BLOCKS, MOST_FACTOR, MOST_FACTORS};
 pub use line_reader::{Lines, TextFault, behind_first, first_line_feed};

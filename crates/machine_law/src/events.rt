@@ -5,6 +5,9 @@ ghost use Rattle.machine_law.specs.KindText.{kind_text};
 
 use std::fmt;
 
+/// The most events that the history of a run, or its trace, may have.
+pub const MOST_EVENTS: u32 = 1 << 24;
+
 /// The kinds of step. Each reads or writes one number that several blocks may share.
 #[derive(Clone, Copy, Debug, PartialEq, Eq)]
 pub enum Kind {

@@ -17,6 +17,6 @@ pub mod laws;
 mod operations;
 mod reads;
 
-pub use events::{Event, Kind};
+pub use events::{Event, Kind, MOST_EVENTS};
 pub use operations::{Best, Operation};
 pub use reads::{better, ended, pass};

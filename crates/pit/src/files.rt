@@ -3,8 +3,12 @@
 ghost use Rattle.std.specs.Prelude.{◌≡◌, IfOk};
 ghost use Rattle.engines.specs.Slopes.{IsChoice};
 
-use crate::told::{Told, opened, output};
-use command_line::{CheckWords, ModelWords, SeriesCommand, SeriesWords, SlopesWords, SolveWords};
+use crate::solve_words::TraceAsked;
+use crate::told::{Told, made, opened, output};
+use audit_engines::{solve_traced_engine, solve_traced_priced_engine};
+use command_line::{
+    CheckWords, ModelWords, ReplayWords, SeriesCommand, SeriesWords, SlopesWords, SolveWords,
+};
 use engines::{
     Effort, EngineFault, PatternChoice, Verdict, check_engine, check_priced_engine, slopes_engine,
     slopes_from_settings_engine, solve_engine, solve_priced_engine,
@@ -12,6 +16,7 @@ use engines::{
 use fixed_worth::Counted;
 use ordered_group::Group;
 use pseudoflow::Progress;
+use replay_engines::{replay_engine, replay_priced_engine};
 use report_engines::report_engine;
 use shell_engines::{SeriesProgress, shells_engine};
 use shells::Factor;
@@ -52,7 +57,7 @@ pub fn check_files<R: Files + Print + Eprint + Threads + Sync + AllocGlobal>(
     }
 }
 
-/// Solves the mine of files of values and of precedence.
+/// Solves the mine of files of values and of precedence, and writes the trace that is asked for.
 pub fn solve_files<
     R: Files + Print + Eprint + Threads + Wait + Sync + AllocGlobal,
     T: Gate + Progress,
@@ -62,18 +67,25 @@ pub fn solve_files<
     upit: &str,
     group: Group,
     effort: Effort,
+    asked: Option<TraceAsked<'_>>,
     watch: &T,
 ) -> Result<Verdict, EngineFault> {
     let mut prec = file(rt, words.verbose, words.prec)?;
     let mut upit = file(rt, words.verbose, upit)?;
     let mut out = Counted::new(output(rt, words.verbose));
     let alloc = rt.alloc();
-    solve_engine(
-        rt, alloc, &mut upit, &mut prec, group, effort, watch, &mut out,
+    let Some(asked) = asked else {
+        return solve_engine(
+            rt, alloc, &mut upit, &mut prec, group, effort, watch, &mut out,
+        );
+    };
+    let mut trace = made_file(rt, words.verbose, asked.file)?;
+    solve_traced_engine(
+        rt, alloc, &mut upit, &mut prec, group, effort, asked.room, watch, &mut trace, &mut out,
     )
 }
 
-/// Solves the mine of files of settings, blocks and precedence, at a factor.
+/// Solves the mine of files of settings, blocks and precedence, at a factor, and writes the trace that is asked for.
 pub fn solve_priced_files<
     R: Files + Print + Eprint + Threads + Wait + Sync + AllocGlobal,
     T: Gate + Progress,
@@ -85,22 +97,89 @@ pub fn solve_priced_files<
     factor: Factor,
     group: Group,
     effort: Effort,
+    asked: Option<TraceAsked<'_>>,
     watch: &T,
 ) -> Result<Verdict, EngineFault> {
     let mut prec = file(rt, words.verbose, words.prec)?;
     let mut settings = file(rt, words.verbose, settings)?;
     let mut blocks = file(rt, words.verbose, blocks)?;
     let mut out = Counted::new(output(rt, words.verbose));
-    solve_priced_engine(
+    let alloc = rt.alloc();
+    let Some(asked) = asked else {
+        return solve_priced_engine(
+            rt,
+            alloc,
+            &mut settings,
+            &mut blocks,
+            &mut prec,
+            factor,
+            group,
+            effort,
+            watch,
+            &mut out,
+        );
+    };
+    let mut trace = made_file(rt, words.verbose, asked.file)?;
+    solve_traced_priced_engine(
         rt,
-        rt.alloc(),
+        alloc,
         &mut settings,
         &mut blocks,
         &mut prec,
         factor,
         group,
         effort,
+        asked.room,
         watch,
+        &mut trace,
+        &mut out,
+    )
+}
+
+/// Repeats a run over the mine of files of values and of precedence from the file of its trace.
+pub fn replay_files<R: Files + Print + Eprint + AllocGlobal>(
+    rt: &R,
+    words: ReplayWords<'_>,
+    upit: &str,
+    group: Group,
+) -> Result<Verdict, EngineFault> {
+    let mut prec = file(rt, words.verbose, words.prec)?;
+    let mut trace = file(rt, words.verbose, words.trace)?;
+    let mut upit = file(rt, words.verbose, upit)?;
+    let mut out = Counted::new(output(rt, words.verbose));
+    replay_engine(
+        rt.alloc(),
+        &mut upit,
+        &mut prec,
+        &mut trace,
+        group,
+        &mut out,
+    )
+}
+
+/// Repeats a run over the mine of files of settings, blocks and precedence, at a factor, from the file of its trace.
+pub fn replay_priced_files<R: Files + Print + Eprint + Threads + Sync + AllocGlobal>(
+    rt: &R,
+    words: ReplayWords<'_>,
+    settings: &str,
+    blocks: &str,
+    factor: Factor,
+    group: Group,
+) -> Result<Verdict, EngineFault> {
+    let mut prec = file(rt, words.verbose, words.prec)?;
+    let mut trace = file(rt, words.verbose, words.trace)?;
+    let mut settings = file(rt, words.verbose, settings)?;
+    let mut blocks = file(rt, words.verbose, blocks)?;
+    let mut out = Counted::new(output(rt, words.verbose));
+    replay_priced_engine(
+        rt,
+        rt.alloc(),
+        &mut settings,
+        &mut blocks,
+        &mut prec,
+        &mut trace,
+        factor,
+        group,
         &mut out,
     )
 }
@@ -175,6 +254,20 @@ fn file<'a, R: Files + Eprint>(
     ensures { IfOk result (λ counted. counted.failures ≡ 0) }
 {
     match opened(rt, verbose, name) {
+        Ok(file) => Ok(Counted::new(file)),
+        Err(_) => Err(EngineFault::Device),
+    }
+}
+
+// A new file, or an emptied one, whose failures are counted.
+fn made_file<'a, R: Files + Eprint>(
+    rt: &'a R,
+    verbose: bool,
+    name: &'a str,
+) -> Result<Counted<Told<'a, R, R::File>>, EngineFault>
+    ensures { IfOk result (λ counted. counted.failures ≡ 0) }
+{
+    match made(rt, verbose, name) {
         Ok(file) => Ok(Counted::new(file)),
         Err(_) => Err(EngineFault::Device),
     }

@@ -12,18 +12,19 @@ mod solve_words;
 mod told;
 
 use command_line::{
-    Declined, ModelWords, OffsetsWords, Request, SeriesWords, SlopesWords, SolveWords, WrongWord,
-    declined_for, request_of,
+    Commanded, Declined, ModelWords, OffsetsWords, ReplayWords, Request, SeriesWords, SlopesWords,
+    SolveWords, WrongWord, declined_for, request_of,
 };
 use effort_words::{effort_for_series, effort_to_solve};
 use engines::{EngineFault, Unwatched, Verdict, status, stored_check, write_fault};
 use files::{
-    check_files, listed_slopes_files, series_files, slopes_file, solve_files, solve_priced_files,
+    check_files, listed_slopes_files, replay_files, replay_priced_files, series_files, slopes_file,
+    solve_files, solve_priced_files,
 };
 use fixed_worth::Counted;
 use progress::Meter;
 use slopes_words::{pattern_asked, up_asked};
-use solve_words::{factor_asked, group_asked};
+use solve_words::{factor_asked, group_asked, trace_asked};
 use std::process::ExitCode;
 use std::rt::{Clock, Env, Files};
 use std::sync::Wait;
@@ -82,6 +83,7 @@ fn answer<R: Files + Print + Eprint + Clock + Threads + Wait + Sync + AllocGloba
 ) -> Result<Ending, EngineFault> {
     match request {
         Request::Check(words) => Ok(Ending::Answered(check_files(rt, words)?)),
+        Request::Replay(words) => replay(rt, words),
         Request::Solve(words) => solve(rt, words),
         Request::Series(words) => series(rt, words),
         Request::Slopes(words) => slopes(rt, words),
@@ -93,7 +95,7 @@ fn solve<R: Files + Print + Eprint + Clock + Threads + Wait + Sync + AllocGlobal
     rt: &R,
     words: SolveWords<'_>,
 ) -> Result<Ending, EngineFault> {
-    let group = match group_asked(words) {
+    let group = match group_asked(Commanded::Solve, words.group) {
         Ok(group) => group,
         Err(wrong) => return refused(rt, wrong),
     };
@@ -101,38 +103,60 @@ fn solve<R: Files + Print + Eprint + Clock + Threads + Wait + Sync + AllocGlobal
         Ok(effort) => effort,
         Err(wrong) => return refused(rt, wrong),
     };
+    let trace = match trace_asked(words) {
+        Ok(trace) => trace,
+        Err(wrong) => return refused(rt, wrong),
+    };
     match words.model {
         ModelWords::Values { upit } => {
             let verdict = if words.progress {
-                solve_files(
-                    rt,
-                    words,
-                    upit,
-                    group,
-                    effort,
-                    &Meter::new(rt, effort.steps),
-                )?
+                let meter = Meter::new(rt, effort.steps);
+                solve_files(rt, words, upit, group, effort, trace, &meter)?
             } else {
-                solve_files(rt, words, upit, group, effort, &Unwatched)?
+                solve_files(rt, words, upit, group, effort, trace, &Unwatched)?
             };
             Ok(Ending::Answered(verdict))
         }
         ModelWords::Prices { settings, blocks } => {
-            let factor = match factor_asked(words) {
+            let factor = match factor_asked(Commanded::Solve, words.factor) {
                 Ok(factor) => factor,
                 Err(wrong) => return refused(rt, wrong),
             };
             let verdict = if words.progress {
                 let meter = Meter::new(rt, effort.steps);
-                solve_priced_files(rt, words, settings, blocks, factor, group, effort, &meter)?
+                solve_priced_files(
+                    rt, words, settings, blocks, factor, group, effort, trace, &meter,
+                )?
             } else {
                 solve_priced_files(
-                    rt, words, settings, blocks, factor, group, effort, &Unwatched,
+                    rt, words, settings, blocks, factor, group, effort, trace, &Unwatched,
                 )?
             };
             Ok(Ending::Answered(verdict))
         }
     }
+}
+
+// Repeats a run over the mine of files from its trace.
+fn replay<R: Files + Print + Eprint + Threads + Sync + AllocGlobal>(
+    rt: &R,
+    words: ReplayWords<'_>,
+) -> Result<Ending, EngineFault> {
+    let group = match group_asked(Commanded::Replay, words.group) {
+        Ok(group) => group,
+        Err(wrong) => return refused(rt, wrong),
+    };
+    let verdict = match words.model {
+        ModelWords::Values { upit } => replay_files(rt, words, upit, group)?,
+        ModelWords::Prices { settings, blocks } => {
+            let factor = match factor_asked(Commanded::Replay, words.factor) {
+                Ok(factor) => factor,
+                Err(wrong) => return refused(rt, wrong),
+            };
+            replay_priced_files(rt, words, settings, blocks, factor, group)?
+        }
+    };
+    Ok(Ending::Answered(verdict))
 }
 
 // Draws the shells of the mine of three files or makes its bench table, and tells how far it is where that is asked for.

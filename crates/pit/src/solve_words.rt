@@ -1,15 +1,16 @@
-//! What the words of `solve` ask for, or the word that names nothing that there is.
+//! What the words of `solve` and `replay` ask for, or the word that names nothing that there is.
 
+use audit_engines::room_named;
 use command_line::{Commanded, NamedOption, SolveWords, WrongWord};
-use engines::{factor_named, group_named};
+use engines::{Method, factor_named, group_named, method_named};
 use ordered_group::Group;
 use shells::Factor;
 
 /// What amounts count: worth and size, where no word says.
-pub fn group_asked<'a>(words: SolveWords<'a>) -> Result<Group, WrongWord<'a>> {
-    match words.group {
+pub fn group_asked<'a>(command: Commanded, word: Option<&'a str>) -> Result<Group, WrongWord<'a>> {
+    match word {
         Some(word) => group_named(word.as_bytes()).ok_or(WrongWord {
-            command: Commanded::Solve,
+            command,
             option: NamedOption::Group,
             word,
         }),
@@ -18,11 +19,54 @@ pub fn group_asked<'a>(words: SolveWords<'a>) -> Result<Group, WrongWord<'a>> {
 }
 
 /// The factor of a priced model.
-pub fn factor_asked<'a>(words: SolveWords<'a>) -> Result<Factor, WrongWord<'a>> {
-    let word = words.factor.unwrap_or("");
+pub fn factor_asked<'a>(
+    command: Commanded,
+    word: Option<&'a str>,
+) -> Result<Factor, WrongWord<'a>> {
+    let word = word.unwrap_or("");
     factor_named(word.as_bytes()).ok_or(WrongWord {
-        command: Commanded::Solve,
+        command,
         option: NamedOption::Factor,
         word,
     })
+}
+
+// The most steps of a trace, where no word says.
+const USUAL_ROOM: u32 = 1_048_576;
+
+/// The trace that is asked for.
+#[derive(Clone, Copy)]
+pub struct TraceAsked<'a> {
+    /// The file to which it is written.
+    pub file: &'a str,
+    /// The most steps that it may have.
+    pub room: u32,
+}
+
+/// The trace, where one is asked for: of the push-relabel machine alone, so that pseudoflow can't be asked for beside it.
+pub fn trace_asked<'a>(words: SolveWords<'a>) -> Result<Option<TraceAsked<'a>>, WrongWord<'a>> {
+    let room = room_asked(words)?;
+    match (words.trace, words.method) {
+        (None, _) => Ok(None),
+        (Some(_), Some(word)) if method_named(word.as_bytes()) == Some(Method::Pseudoflow) => {
+            Err(WrongWord {
+                command: Commanded::Solve,
+                option: NamedOption::TracedMethod,
+                word,
+            })
+        }
+        (Some(file), _) => Ok(Some(TraceAsked { file, room })),
+    }
+}
+
+// The most steps of a trace.
+fn room_asked<'a>(words: SolveWords<'a>) -> Result<u32, WrongWord<'a>> {
+    match words.room {
+        Some(word) => room_named(word.as_bytes()).ok_or(WrongWord {
+            command: Commanded::Solve,
+            option: NamedOption::Room,
+            word,
+        }),
+        None => Ok(USUAL_ROOM),
+    }
 }

@@ -38,6 +38,29 @@ pub fn opened<'a, R: Files + Eprint>(
     }
 }
 
+/// Makes a file to be written, or empties the one that there is.
+///
+/// # Errors
+/// That of the system, of which it tells.
+pub fn made<'a, R: Files + Eprint>(
+    rt: &'a R,
+    is_asked: bool,
+    name: &'a str,
+) -> io::Result<Told<'a, R, R::File>> {
+    match File::create(rt, name) {
+        Ok(device) => Ok(Told {
+            rt,
+            is_asked,
+            name,
+            device,
+        }),
+        Err(error) => {
+            tell(rt, is_asked, "make", name, error);
+            Err(error)
+        }
+    }
+}
+
 /// Standard output.
 pub fn output<'a, R: Print + Eprint>(rt: &'a R, is_asked: bool) -> Told<'a, R, Printer<'a, R>> {
     Told {

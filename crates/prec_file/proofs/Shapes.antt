@@ -26,10 +26,6 @@ unless_told (WrongCount k) o f h = f h
 unless_told (TooMany k) o f h = f h
 
 -- what a result was before another error was put in place of its own
-pub ok_before : {T D E : Type 0} (Q : D → E → Type 0) (r : Result T D) (s : Result T E) (x : T) → s ≡ Ok x → MatchResult r (λ y. s ≡ Ok y) (λ d. IsErrAnd s (Q d)) → r ≡ Ok x
-ok_before Q (Ok y) s x is h = ap (λ t. Ok (result_unwrap_or t x)) (sym h ∙ is)
-ok_before Q (Err d) s x is h = absurd (rw is at h)
-
 pub err_before : {T D E : Type 0} (Q : D → E → Type 0) (r : Result T D) (s : Result T E) (e : E) → s ≡ Err e → MatchResult r (λ y. s ≡ Ok y) (λ d. IsErrAnd s (Q d)) → (d : D) × (r ≡ Err d) × Q d e
 err_before Q (Ok y) s e is h = absurd (false≢true (ap is_ok (sym is ∙ h)))
 err_before Q (Err d) s e is h = (d, refl, rw is at h)

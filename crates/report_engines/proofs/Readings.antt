@@ -8,11 +8,11 @@ use Rattle.settings_file.specs.declared.keys.Key.TheVariants.{Tonnes, Factors}
 use Rattle.settings_file.specs.declared.faults.SettingsFault.TheVariants as settings_fault
 use Rattle.settings_file.specs.Settings.{SettingsView, settings_of, first_missing}
 use Rattle.settings_file.proofs.Known.{settings_are, settings_read}
-use Rattle.shells.specs.Prices.{PricesView, PricesFaultStands, NoneNegative, blocks_of}
+use Rattle.shells.specs.Prices.{PricesView, plain_costs, PricesFaultStands, NoneNegative, blocks_of}
 use Rattle.engines.specs.declared.engine_fault.EngineFault.{EngineFault}
 use Rattle.engines.specs.declared.engine_fault.EngineFault.TheVariants as engine
 use Rattle.engines.specs.declared.engine_fault.Problem.TheVariants as problem
-use Rattle.engines.specs.PricedTexts.{price_keys, values_of, table_of}
+use Rattle.engines.specs.PricedTexts.{price_keys, first_columns, table_of}
 use Rattle.engines.specs.BlockTexts.{ReadsBlocks, BlocksFails, BlocksReadFails}
 use Rattle.engines.specs.Inputs.{ReadsSettingsText, SettingsReadFails, IsMissing, ReadsPrices, ReadsPrec, PrecReadFails, ModelPricesFail}
 use Rattle.engines.proofs.Priced.{column_is, all_read}
@@ -41,6 +41,7 @@ settings_fail_at s (engine.Prec q) h = absurd h
 settings_fail_at s (engine.Slope q) h = absurd h
 settings_fail_at s (engine.Model q) h = absurd h
 settings_fail_at s (engine.Certificate q) h = absurd h
+settings_fail_at s (engine.Trace q) h = absurd h
 settings_fail_at s engine.Thread h = absurd h
 settings_fail_at s engine.Stranger h = absurd h
 
@@ -97,6 +98,7 @@ blocks_fail_at columns text (engine.Prec q) h = absurd h
 blocks_fail_at columns text (engine.Slope q) h = absurd h
 blocks_fail_at columns text (engine.Model q) h = absurd h
 blocks_fail_at columns text (engine.Certificate q) h = absurd h
+blocks_fail_at columns text (engine.Trace q) h = absurd h
 blocks_fail_at columns text engine.Thread h = absurd h
 blocks_fail_at columns text engine.Stranger h = absurd h
 
@@ -115,6 +117,7 @@ prices_fail_at columns text m (engine.Prec q) r h = absurd h
 prices_fail_at columns text m (engine.Slope q) r h = absurd h
 prices_fail_at columns text m (engine.Model q) r h = absurd h
 prices_fail_at columns text m (engine.Certificate q) r h = absurd h
+prices_fail_at columns text m (engine.Trace q) r h = absurd h
 prices_fail_at columns text m engine.Thread r h = absurd h
 prices_fail_at columns text m engine.Stranger r h = absurd h
 
@@ -132,16 +135,16 @@ module _ (s t : List ℕ) (columns factors : List ℕ) (factor : ℕ) (said : Is
   model_read m r = subst (λ (chosen : List ℕ). ReadsBlocks chosen t m) said.columns_are r
 
   -- the first two columns are those of prices
-  first_columns : (m : BlocksView) → ReadsBlocks columns t m → record { revenue = values_of m 0; cost = values_of m 1 } ≡ table_of s t
-  first_columns m r =
+  columns_price : (m : BlocksView) → ReadsBlocks columns t m → first_columns m ≡ table_of s t
+  columns_price m r =
       let d = (model_read m r).2 in
       let v = column_is (report_columns (settings_of s)) t m 0 d (omega arith) in
       let c = column_is (report_columns (settings_of s)) t m 1 d (omega arith) in
-      λ i. record { revenue = v i; cost = c i }
+      λ i. record { revenue = v i; costs = plain_costs (c i) }
 
   model_fails : (p : List ℕ) (e : EngineFault) → PricedModelFails columns t e → ReportMineFails s t p e
   model_fails p (engine.Blocks q) h = (said.keys, subst (λ (chosen : List ℕ). BlocksFails chosen t q) said.columns_are h)
-  model_fails p (engine.Prices fault) h = (blocks_read h.0 h.1, subst (λ (table : PricesView). PricesFaultStands table.revenue table.cost fault) (first_columns h.0 h.1) h.2)
+  model_fails p (engine.Prices fault) h = (blocks_read h.0 h.1, subst (λ (table : PricesView). PricesFaultStands table fault) (columns_price h.0 h.1) h.2)
   model_fails p engine.Memory h = tt
   model_fails p engine.Device h = tt
   model_fails p (engine.Settings q) h = absurd h
@@ -150,6 +153,7 @@ module _ (s t : List ℕ) (columns factors : List ℕ) (factor : ℕ) (said : Is
   model_fails p (engine.Slope q) h = absurd h
   model_fails p (engine.Model q) h = absurd h
   model_fails p (engine.Certificate q) h = absurd h
+  model_fails p (engine.Trace q) h = absurd h
   model_fails p engine.Thread h = absurd h
   model_fails p engine.Stranger h = absurd h
 
@@ -164,7 +168,7 @@ module _ (s t : List ℕ) (columns factors : List ℕ) (factor : ℕ) (said : Is
     prices_read = record {
       within = r.0;
       read = unfaulted _ _ (two_of_three _ _ _) t (model_read m r).1;
-      is = priced.prices_are ∙ first_columns m r;
+      is = priced.prices_are ∙ columns_price m r;
     }
 
     prec_fails : (p : List ℕ) (n : ℕ) (e : EngineFault) → n ≡ blocks_of prices → NoneNegative prices → PrecReadFails n p e → ReportMineFails s t p e
@@ -178,6 +182,7 @@ module _ (s t : List ℕ) (columns factors : List ℕ) (factor : ℕ) (said : Is
     prec_fails p n (engine.Slope q) size positive h = absurd h
     prec_fails p n (engine.Model q) size positive h = absurd h
     prec_fails p n (engine.Certificate q) size positive h = absurd h
+    prec_fails p n (engine.Trace q) size positive h = absurd h
     prec_fails p n engine.Thread size positive h = absurd h
     prec_fails p n engine.Stranger size positive h = absurd h
 
@@ -206,6 +211,7 @@ said_fails_at s t p (engine.Prec q) h = absurd h
 said_fails_at s t p (engine.Slope q) h = absurd h
 said_fails_at s t p (engine.Model q) h = absurd h
 said_fails_at s t p (engine.Certificate q) h = absurd h
+said_fails_at s t p (engine.Trace q) h = absurd h
 said_fails_at s t p engine.Thread h = absurd h
 said_fails_at s t p engine.Stranger h = absurd h
 

@@ -52,9 +52,11 @@ module _ (m : BlocksView) (prices : PricesView) (p : IsPricedModel m prices) whe
 
   worth_bound : (k b : ℕ) → k ≤ MOST_FACTOR → b < m.blocks → unsigned_abs (worth_at prices k b) ≤ most
   worth_bound k b few l =
-      let r : unsigned_abs (number_at prices.revenue b) ≤ 10 ^ 18 = subst (λ (t : PricesView). unsigned_abs (number_at t.revenue b) ≤ 10 ^ 18) (sym p.prices_are) (value_bound m 0 b p.revenue l) in
-      let c : unsigned_abs (number_at prices.cost b) ≤ 10 ^ 18 = subst (λ (t : PricesView). unsigned_abs (number_at t.cost b) ≤ 10 ^ 18) (sym p.prices_are) (value_bound m 1 b p.cost l) in
-      difference_bound (pos k *ℤ number_at prices.revenue b) (pos 1000 *ℤ number_at prices.cost b) (product_bound k 10000 (number_at prices.revenue b) few r) (product_bound 1000 1000 (number_at prices.cost b) (omega arith) c)
+      let revenue = number_at (values_of m 0) b in
+      let cost = number_at (values_of m 1) b in
+      let r = product_bound k 10000 revenue few (value_bound m 0 b p.revenue l) in
+      let c = product_bound 1000 1000 cost (omega arith) (value_bound m 1 b p.cost l) in
+      subst (λ (t : PricesView). unsigned_abs (worth_at t k b) ≤ most) (sym p.prices_are) (difference_bound (pos k *ℤ revenue) (pos 1000 *ℤ cost) r c)
 
   worths_bound : (k b : ℕ) → k ≤ MOST_FACTOR → b < m.blocks → unsigned_abs (get_or (worths_at prices k) b (pos 0)) ≤ most
   worths_bound k b few l =

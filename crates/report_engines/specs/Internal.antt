@@ -11,7 +11,7 @@ use Rattle.engines.specs.declared.judgement.Verdict.{Verdict}
 use Rattle.engines.specs.declared.judgement.Verdict.TheVariants.{Done, No}
 use Rattle.engines.specs.declared.engine_fault.EngineFault.{EngineFault}
 use Rattle.engines.specs.declared.engine_fault.EngineFault.TheVariants as engine
-use Rattle.engines.specs.PricedTexts.{values_of, SettingsFails}
+use Rattle.engines.specs.PricedTexts.{first_columns, SettingsFails}
 use Rattle.engines.specs.BlockTexts.{ReadsBlocks, BlocksFails}
 use Rattle.engines.specs.ReadMines.{of_model}
 use Rattle.shell_engines.specs.declared.no_series.NoSeries.{NoSeries}
@@ -38,7 +38,7 @@ IsSmall m i = (b : ℕ) → b < m.blocks → unsigned_abs (slice_index_or (slice
 -- The prices are the first two of three columns of a model, and no value of these is large.
 pub record IsPricedModel (m : BlocksView) (prices : PricesView) : Type 0 where
   pub columns : length m.columns ≡ 3
-  pub prices_are : prices ≡ record { revenue = values_of m 0; cost = values_of m 1 }
+  pub prices_are : prices ≡ first_columns m
   pub revenue : IsSmall m 0
   pub cost : IsSmall m 1
   pub tonnes : IsSmall m 2
@@ -64,7 +64,7 @@ SaidFails settings _ = ⊥
 -- why blocks with these columns, and their prices, aren't read
 abbrev pub PricedModelFails : List ℕ → List ℕ → EngineFault → Type 0
 PricedModelFails columns text (engine.Blocks p) = BlocksFails columns text p
-PricedModelFails columns text (engine.Prices fault) = (m : BlocksView) × ReadsBlocks columns text m × PricesFaultStands (values_of m 0) (values_of m 1) fault
+PricedModelFails columns text (engine.Prices fault) = (m : BlocksView) × ReadsBlocks columns text m × PricesFaultStands (first_columns m) fault
 PricedModelFails columns text engine.Memory = Unit {0}
 PricedModelFails columns text engine.Device = Unit {0}
 PricedModelFails columns text _ = ⊥

@@ -60,7 +60,7 @@ report_blocks n settings text precedence pit = record {
 abbrev pub ReportMineFails : List ℕ → List ℕ → List ℕ → EngineFault → Type 0
 ReportMineFails settings text precedence (engine.Settings p) = SettingsFails report_keys settings p
 ReportMineFails settings text precedence (engine.Blocks p) = ReportKeysKnown settings × BlocksFails (report_columns (settings_of settings)) text p
-ReportMineFails settings text precedence (engine.Prices fault) = ReportBlocksRead settings text × PricesFaultStands (table_of settings text).revenue (table_of settings text).cost fault
+ReportMineFails settings text precedence (engine.Prices fault) = ReportBlocksRead settings text × PricesFaultStands (table_of settings text) fault
 ReportMineFails settings text precedence (engine.Prec p) = ReportBlocksRead settings text × ((n : ℕ) × PricesRead settings text n × PrecFails n precedence p)
 ReportMineFails settings text precedence engine.Memory = Unit {0}
 ReportMineFails settings text precedence engine.Device = Unit {0}

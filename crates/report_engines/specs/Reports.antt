@@ -1,7 +1,5 @@
 -- How the engine of `report` ends, by the bytes of its inputs and of its output.
-use Rattle.std.specs.Prelude.{◌≡◌, ℕ, ◌⊎◌, Bool, List, Contains, Option, Result, Ok, Err}
-use Rattle.std.specs.Io.KnownBytes.{Appends, Keeps}
-use Rattle.fixed_worth.specs.Device.{ReceivedPrefix}
+use Rattle.std.specs.Prelude.{◌≡◌, ℕ, Bool, List, Contains, Option, Result}
 use Rattle.closure_net.specs.Mine.{IsBest}
 use Rattle.bench_report.specs.declared.bench_row.BenchRow.{BenchRow}
 use Rattle.bench_report.specs.Benches.{IsBenchTable}
@@ -9,10 +7,10 @@ use Rattle.bench_report.specs.Written.{table_text}
 use Rattle.engines.specs.declared.judgement.Verdict.{Verdict}
 use Rattle.engines.specs.declared.judgement.Verdict.TheVariants.{Done, No}
 use Rattle.engines.specs.declared.engine_fault.EngineFault.{EngineFault}
-use Rattle.engines.specs.declared.engine_fault.EngineFault.TheVariants as engine
 use Rattle.engines.specs.declared.method.Method.{Method}
 use Rattle.engines.specs.Mines.{priced_texts, DenoteMine}
 use Rattle.shell_engines.specs.SeriesTexts.{factors_said}
+use Rattle.shell_engines.specs.Answering.{FailsBy, Ends}
 use Rattle.shell_engines.specs.Shells.{mine_at_factor, AreNested, IsNoTable, NoNetAt}
 use Rattle.report_engines.specs.ReportTexts.{ReportBlocksRead, report_blocks, ReportMineFails}
 
@@ -34,23 +32,10 @@ abbrev pub AnswersReport : List ℕ → List ℕ → List ℕ → Method → ℕ
 AnswersReport settings blocks precedence method limit Done text = IsReport settings blocks precedence text
 AnswersReport settings blocks precedence method limit No text = ReportBlocksRead settings blocks × IsNoTable settings blocks precedence method limit text
 
--- Why the engine answers a fault: it stands, and none before it does. Want of memory, of a thread, a failing device and a
--- board that comes back as another's say nothing of the texts.
+-- why the engine answers a fault: it stands, and none before it does
 abbrev pub ReportFails : List ℕ → List ℕ → List ℕ → EngineFault → Type 0
-ReportFails settings blocks precedence (engine.Model fault) = ReportBlocksRead settings blocks × NoNetAt settings blocks precedence fault
-ReportFails settings blocks precedence engine.Thread = Unit {0}
-ReportFails settings blocks precedence engine.Stranger = Unit {0}
-ReportFails settings blocks precedence fault = ReportMineFails settings blocks precedence fault
-
--- what is in the writer at a fault: what was there before, unless a device failed; then perhaps a prefix of an answer too
-abbrev pub WritesReportPrefix : List ℕ → List ℕ → List ℕ → Method → ℕ → Option (List ℕ) → Option (List ℕ) → Type 0
-WritesReportPrefix settings blocks precedence method limit old new = Keeps old new ⊎ ((verdict : Verdict) × (text : List ℕ) × AnswersReport settings blocks precedence method limit verdict text × ReceivedPrefix old new text)
-
-abbrev pub ReportAtFault : List ℕ → List ℕ → List ℕ → Method → ℕ → Option (List ℕ) → Option (List ℕ) → EngineFault → Type 0
-ReportAtFault settings blocks precedence method limit old new engine.Device = WritesReportPrefix settings blocks precedence method limit old new
-ReportAtFault settings blocks precedence method limit old new _ = Keeps old new
+ReportFails settings blocks precedence = FailsBy (ReportMineFails settings blocks precedence) (λ fault. ReportBlocksRead settings blocks × NoNetAt settings blocks precedence fault)
 
 -- the answer, and what was written with it
 abbrev pub Reports : List ℕ → List ℕ → List ℕ → Method → ℕ → Option (List ℕ) → Option (List ℕ) → Result Verdict EngineFault → Type 0
-Reports settings blocks precedence method limit old new (Ok verdict) = (text : List ℕ) × AnswersReport settings blocks precedence method limit verdict text × Appends old new text
-Reports settings blocks precedence method limit old new (Err fault) = ReportFails settings blocks precedence fault × ReportAtFault settings blocks precedence method limit old new fault
+Reports settings blocks precedence method limit = Ends (AnswersReport settings blocks precedence method limit) (ReportFails settings blocks precedence)

@@ -60,6 +60,7 @@ mine_fails_at s b p (engine.Upit q) keys h = absurd h
 mine_fails_at s b p (engine.Slope q) keys h = absurd h
 mine_fails_at s b p (engine.Model q) keys h = absurd h
 mine_fails_at s b p (engine.Certificate q) keys h = absurd h
+mine_fails_at s b p (engine.Trace q) keys h = absurd h
 mine_fails_at s b p engine.Thread keys h = absurd h
 mine_fails_at s b p engine.Stranger keys h = absurd h
 

@@ -2,4 +2,5 @@ pub mod Internal
 pub mod SeriesTexts
 pub mod Settling
 pub mod ShellTable
+pub mod Answering
 pub mod Shells

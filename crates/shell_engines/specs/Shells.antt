@@ -1,7 +1,5 @@
 -- How the engine of `shells` ends, by the bytes of its inputs and of its output.
-use Rattle.std.specs.Prelude.{◌≡◌, ℕ, ◌≤◌, ◌⊎◌, Bool, List, Contains, Option, Result, Ok, Err}
-use Rattle.std.specs.Io.KnownBytes.{Appends, Keeps}
-use Rattle.fixed_worth.specs.Device.{ReceivedPrefix}
+use Rattle.std.specs.Prelude.{◌≡◌, ℕ, ◌≤◌, Bool, List, Contains, Option, Result}
 use Rattle.ordered_group.specs.declared.groups.Group.{Group}
 use Rattle.ordered_group.specs.declared.groups.Group.TheVariants.{Scaled}
 use Rattle.closure_net.specs.Network.{NetView}
@@ -10,13 +8,13 @@ use Rattle.closure_net.specs.Mine.{Mine, IsBest, LiesWithin}
 use Rattle.engines.specs.declared.judgement.Verdict.{Verdict}
 use Rattle.engines.specs.declared.judgement.Verdict.TheVariants.{Done, No}
 use Rattle.engines.specs.declared.engine_fault.EngineFault.{EngineFault}
-use Rattle.engines.specs.declared.engine_fault.EngineFault.TheVariants as engine
 use Rattle.engines.specs.declared.method.Method.{Method}
 use Rattle.engines.specs.Mines.{priced_texts, mine_of, DenoteMine}
 use Rattle.engines.specs.FaultStands.{ModelFails}
 use Rattle.engines.specs.declared.solving.Unsolved.{Unsolved}
 use Rattle.engines.specs.Solving.{IsNetBy, UnsolvedStands}
 use Rattle.shell_engines.specs.declared.shell_rows.ShellRow.{ShellRow}
+use Rattle.shell_engines.specs.Answering.{FailsBy, Ends}
 use Rattle.shell_engines.specs.ShellTable.{AreRowsOf, table_text, IsLineOf}
 use Rattle.shell_engines.specs.SeriesTexts.{KeysKnown, factors_said, SeriesMineFails}
 
@@ -66,23 +64,10 @@ pub record NoNetAt (settings blocks precedence : List ℕ) (fault : NetFault) : 
   pub mine : DenoteMine (priced_texts settings blocks precedence factor) size
   pub stands : ModelFails (priced_texts settings blocks precedence factor) size shell_group fault
 
--- Why the engine answers a fault: it stands, and none before it does. Want of memory, of a thread, a failing device and a
--- board that comes back as another's say nothing of the texts.
+-- why the engine answers a fault: it stands, and none before it does
 abbrev pub ShellsFail : List ℕ → List ℕ → List ℕ → EngineFault → Type 0
-ShellsFail settings blocks precedence (engine.Model fault) = NoNetAt settings blocks precedence fault
-ShellsFail settings blocks precedence engine.Thread = Unit {0}
-ShellsFail settings blocks precedence engine.Stranger = Unit {0}
-ShellsFail settings blocks precedence fault = SeriesMineFails settings blocks precedence fault
-
--- what is in the writer at a fault: what was there before, unless a device failed; then perhaps a prefix of an answer too
-abbrev pub WritesShellsPrefix : List ℕ → List ℕ → List ℕ → Method → ℕ → Option (List ℕ) → Option (List ℕ) → Type 0
-WritesShellsPrefix settings blocks precedence method limit old new = Keeps old new ⊎ ((verdict : Verdict) × (text : List ℕ) × AnswersShells settings blocks precedence method limit verdict text × ReceivedPrefix old new text)
-
-abbrev pub ShellsAtFault : List ℕ → List ℕ → List ℕ → Method → ℕ → Option (List ℕ) → Option (List ℕ) → EngineFault → Type 0
-ShellsAtFault settings blocks precedence method limit old new engine.Device = WritesShellsPrefix settings blocks precedence method limit old new
-ShellsAtFault settings blocks precedence method limit old new _ = Keeps old new
+ShellsFail settings blocks precedence = FailsBy (SeriesMineFails settings blocks precedence) (NoNetAt settings blocks precedence)
 
 -- the answer, and what was written with it
 abbrev pub Shells : List ℕ → List ℕ → List ℕ → Method → ℕ → Option (List ℕ) → Option (List ℕ) → Result Verdict EngineFault → Type 0
-Shells settings blocks precedence method limit old new (Ok verdict) = (text : List ℕ) × AnswersShells settings blocks precedence method limit verdict text × Appends old new text
-Shells settings blocks precedence method limit old new (Err fault) = ShellsFail settings blocks precedence fault × ShellsAtFault settings blocks precedence method limit old new fault
+Shells settings blocks precedence method limit = Ends (AnswersShells settings blocks precedence method limit) (ShellsFail settings blocks precedence)

@@ -1,10 +1,10 @@
 -- Worths rise with the factor, and the best pits with them.
 use Rattle.std.proofs.Common.{ℕ, Bool, ◌*◌, ◌≤◌, ◌≤ℤ◌, ◌*ℤ◌, ℤ, pos, negsuc, refl, arith, mul-le-mul}
-use Rattle.std.proofs.lemmas.Int.{ints}
+use Rattle.std.proofs.lemmas.Int.{ints, clamps}
 use Rattle.std.proofs.Math.IntN.{pos-*ℤ-pos}
 use Rattle.closure_net.specs.Mine.{RisesTo}
 use Rattle.closure_net.proofs.BestPits.{best_is_within}
-use Rattle.shells.specs.Prices.{PricesView, number_at, NoneNegative}
+use Rattle.shells.specs.Prices.{CostsView, plain_costs, mill_costs, PricesView, number_at, worth_after, NoneNegative}
 use Rattle.shells.specs.Series.{priced}
 use Rattle.shells.specs.Nesting.{BestPitsAreNested}
 
@@ -15,11 +15,16 @@ rises_by j k (pos n) le p = rw (pos-*ℤ-pos j n, pos-*ℤ-pos k n) (omega (arit
     more j k n le = search (arith, mul-le-mul)
 rises_by j k (negsuc n) le p = absurd (omega (arith, ints, p))
 
+-- what is left is no less of more that is earned
+left_rises : (costs : CostsView) (b : ℕ) (x y : ℤ) → x ≤ℤ y → worth_after costs b x ≤ℤ worth_after costs b y
+left_rises (plain_costs cost) b x y le = omega (arith, ints, le)
+left_rises (mill_costs processing mining) b x y le = omega (arith, ints, clamps, le)
+
 pub mines_rise : (above : ℕ → ℕ → Bool) (table : PricesView) (j k : ℕ) → NoneNegative table → j ≤ k → RisesTo (priced above table j) (priced above table k)
 mines_rise above table j k known le = record {
   blocks = refl;
   rests = λ b p. refl;
-  worths = λ b l. omega (arith, ints, rises_by j k (number_at table.revenue b) le (known b l));
+  worths = λ b l. left_rises table.costs b (pos j *ℤ number_at table.revenue b) (pos k *ℤ number_at table.revenue b) (rises_by j k (number_at table.revenue b) le (known b l));
 }
 
 pub best_is_nested : BestPitsAreNested

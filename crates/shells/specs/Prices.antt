@@ -1,14 +1,21 @@
 -- A table of prices, and what it says a block is worth at a factor.
-use Rattle.std.specs.Prelude.{◌≡◌, ◌≢◌, ℕ, ◌<◌, ◌≤◌, ℤ, pos, ◌*ℤ◌, ◌-ℤ◌, ◌≤ℤ◌, ◌<ℤ◌, ◌⊎◌, List, length, map, slice_index_or}
+use Rattle.std.specs.Prelude.{◌≡◌, ℕ, ◌<◌, ◌≤◌, ℤ, pos, ◌*ℤ◌, ◌-ℤ◌, ◌≤ℤ◌, ◌<ℤ◌, ◌⊎◌, List, length, map, slice_index_or}
+use Rattle.std.specs.Int.{int_max}
 use Rattle.std.specs.List.{range_with_len}
 use Rattle.fixed_worth.specs.declared.limits.TheConstants.{MOST_BLOCKS}
 use Rattle.shells.specs.declared.prices_fault.PricesFault.{PricesFault}
 use Rattle.shells.specs.declared.prices_fault.PricesFault.TheVariants.{WrongLength, NegativeRevenue}
 
--- the revenue and the cost of each block, in millionths
+-- What is charged for each block, in millionths: its cost; or else what it costs to process it in the mill, where it goes
+-- there, and what it costs to mine it, wherever it goes.
+pub data CostsView : Type 0 where
+  plain_costs : (cost : List ℤ) → CostsView
+  mill_costs : (processing mining : List ℤ) → CostsView
+
+-- the revenue of each block, in millionths, and what is charged for it
 pub record PricesView : Type 0 where
   pub revenue : List ℤ
-  pub cost : List ℤ
+  pub costs : CostsView
 
 -- how many blocks a table prices
 abbrev pub blocks_of : PricesView → ℕ
@@ -18,9 +25,15 @@ blocks_of table = length table.revenue
 abbrev pub number_at : List ℤ → ℕ → ℤ
 number_at xs b = slice_index_or xs b (pos 0)
 
+-- What is left, in billionths, of what block b would earn. Where there is a mill the block goes to it or to waste, whichever
+-- is worth more: waste earns nothing and isn't processed, and mining is charged either way.
+abbrev pub worth_after : CostsView → ℕ → ℤ → ℤ
+worth_after (plain_costs cost) b earned = earned -ℤ pos 1000 *ℤ number_at cost b
+worth_after (mill_costs processing mining) b earned = int_max (earned -ℤ pos 1000 *ℤ number_at processing b) (pos 0) -ℤ pos 1000 *ℤ number_at mining b
+
 -- what block b is worth at so many thousandths of its revenue, in billionths
 abbrev pub worth_at : PricesView → ℕ → ℕ → ℤ
-worth_at table k b = pos k *ℤ number_at table.revenue b -ℤ pos 1000 *ℤ number_at table.cost b
+worth_at table k b = worth_after table.costs b (pos k *ℤ number_at table.revenue b)
 
 -- the worths of all blocks, in their order
 abbrev pub worths_at : PricesView → ℕ → List ℤ
@@ -30,9 +43,14 @@ worths_at table k = map (worth_at table k) (range_with_len 0 (blocks_of table))
 abbrev pub NoneNegative : PricesView → Type 0
 NoneNegative table = (b : ℕ) → b < blocks_of table → pos 0 ≤ℤ number_at table.revenue b
 
--- as many costs as revenues, at most `MOST_BLOCKS`, and no revenue is negative
+-- each charge is there for n blocks
+abbrev pub AreCharged : CostsView → ℕ → Type 0
+AreCharged (plain_costs cost) n = length cost ≡ n
+AreCharged (mill_costs processing mining) n = (length processing ≡ n) × (length mining ≡ n)
+
+-- as many of each charge as revenues, at most `MOST_BLOCKS`, and no revenue is negative
 pub record IsTable (table : PricesView) : Type 0 where
-  pub lengths : length table.cost ≡ length table.revenue
+  pub charged : AreCharged table.costs (length table.revenue)
   pub blocks : blocks_of table ≤ MOST_BLOCKS
   pub revenues : NoneNegative table
 
@@ -43,6 +61,6 @@ pub record IsFirstNegative (revenue : List ℤ) (b : ℕ) : Type 0 where
   pub before : (c : ℕ) → c < b → pos 0 ≤ℤ number_at revenue c
 
 -- why these are no table
-abbrev pub PricesFaultStands : List ℤ → List ℤ → PricesFault → Type 0
-PricesFaultStands revenue cost WrongLength = (length revenue ≢ length cost) ⊎ (MOST_BLOCKS < length revenue)
-PricesFaultStands revenue cost (NegativeRevenue b) = (length revenue ≡ length cost) × (length revenue ≤ MOST_BLOCKS) × IsFirstNegative revenue b
+abbrev pub PricesFaultStands : PricesView → PricesFault → Type 0
+PricesFaultStands table WrongLength = (AreCharged table.costs (length table.revenue) → ⊥) ⊎ (MOST_BLOCKS < length table.revenue)
+PricesFaultStands table (NegativeRevenue b) = AreCharged table.costs (length table.revenue) × (length table.revenue ≤ MOST_BLOCKS) × IsFirstNegative table.revenue b

@@ -13,6 +13,7 @@
 //! accepted pits for all who check pits at two factors.
 #![tactic(auto)]
 
+mod charges;
 pub mod laws;
 mod marking;
 mod matching;

@@ -1,51 +1,63 @@
 //! Tables of prices.
 
-ghost use Rattle.std.specs.Prelude.{◌≡◌, ◌<◌, ◌≤◌, ◌^◌, pos, ◌*ℤ◌, ◌-ℤ◌, unsigned_abs, length, IfOk, MatchResult};
-ghost use Rattle.shells.specs.Prices.{blocks_of, worth_at, worths_at, IsTable, PricesFaultStands};
+ghost use Rattle.std.specs.Prelude.{◌≡◌, ◌<◌, ◌≤◌, ◌≤ℤ◌, ℕ, pos, length, IfOk, MatchOption, MatchResult};
+ghost use Rattle.shells.specs.Prices.{plain_costs, mill_costs, blocks_of, worth_at, worths_at, number_at, IsTable, IsFirstNegative, PricesFaultStands};
+ghost use Rattle.shells.specs.Internal.{shown_costs};
 
+use crate::charges::{Costs, thousandths_of};
 use crate::prices_fault::PricesFault;
 use crate::thousandths::Factor;
-use fixed_worth::{MOST_BLOCKS, MOST_FACTOR, Micros};
+use fixed_worth::{MOST_BLOCKS, Micros};
 use rayon::prelude::*;
 use std::alloc::{AllocError, Global};
 use std::marker::Model;
 use std::thread::Threads;
 
-/// The revenue and the cost of each block. No revenue is negative.
+/// The revenue of each block and what is charged for it: its cost; or, where a block goes to the mill or to waste,
+/// whichever is worth more, what it costs to process it and to mine it. No revenue is negative.
 #[derive(Drop)]
 pub struct Prices {
     revenue: Vec<Micros>,
-    cost: Vec<Micros>,
+    costs: Costs,
 }
 
 impl Model for Prices {
     ghost use Rattle.shells.specs.Prices.{PricesView, IsTable};
+    ghost use Rattle.shells.specs.Internal.{shown_costs};
 
     ghost Value = { PricesView };
 
-    ghost view = { λ p. record { revenue = p.revenue.items; cost = p.cost.items } };
+    ghost view = { λ p. record { revenue = p.revenue.items; costs = shown_costs p.costs } };
 
-    ghost invariant = { λ p. IsTable (record { revenue = p.revenue.items; cost = p.cost.items }) };
+    ghost invariant = { λ p. IsTable (record { revenue = p.revenue.items; costs = shown_costs p.costs }) };
 }
 
-// So many thousandths of an amount in millionths, in billionths.
-fn thousandths_of(thousandths: u32, millionths: i64) -> i128
-    requires factor { thousandths ≤ MOST_FACTOR }
-    requires amount { unsigned_abs millionths ≤ 10 ^ 18 }
-    ensures is { result ≡ pos thousandths *ℤ millionths }
-    ensures bound { unsigned_abs result ≤ 10 ^ 22 }
+// The first block with a negative revenue.
+fn first_negative(revenue: &[Micros]) -> Option<u32>
+    requires { length revenue.now ≤ MOST_BLOCKS }
+    ensures { MatchOption result ((b : ℕ) → b < length revenue.now → pos 0 ≤ℤ number_at revenue.now b) (IsFirstNegative revenue.now) }
 {
-    thousandths as i128 * millionths as i128
+    for b in 0..revenue.len() {
+        if revenue[b].get() < 0 {
+            return Some(b as u32);
+        }
+    }
+    None
 }
 
-// So many thousandths of the revenue less all of the cost, in billionths.
-fn priced(thousandths: u32, revenue: i64, cost: i64) -> i128
-    requires factor { thousandths ≤ MOST_FACTOR }
-    requires revenue { unsigned_abs revenue ≤ 10 ^ 18 }
-    requires cost { unsigned_abs cost ≤ 10 ^ 18 }
-    ensures { result ≡ pos thousandths *ℤ revenue -ℤ pos 1000 *ℤ cost }
+// The table of these revenues and charges.
+fn table_of(revenue: Vec<Micros>, costs: Costs) -> Result<Prices, PricesFault>
+    ensures { MatchResult result
+        (λ p. p ≡ record { revenue = revenue.items; costs = shown_costs costs })
+        (PricesFaultStands (record { revenue = revenue.items; costs = shown_costs costs })) }
 {
-    thousandths_of(thousandths, revenue) - thousandths_of(1_000, cost)
+    if !costs.are_of(revenue.len()) || revenue.len() > MOST_BLOCKS as usize {
+        return Err(PricesFault::WrongLength);
+    }
+    match first_negative(&revenue) {
+        Some(b) => Err(PricesFault::NegativeRevenue(b)),
+        None => Ok(Prices { revenue, costs }),
+    }
 }
 
 impl Prices {
@@ -56,18 +68,27 @@ impl Prices {
     /// 2^24 of them; `NegativeRevenue` with the first block whose revenue is negative.
     pub fn new(revenue: Vec<Micros>, cost: Vec<Micros>) -> Result<Prices, PricesFault>
         ensures { MatchResult result
-            (λ p. p ≡ record { revenue = revenue.items; cost = cost.items })
-            (λ e. PricesFaultStands revenue.items cost.items e) }
+            (λ p. p ≡ record { revenue = revenue.items; costs = plain_costs cost.items })
+            (PricesFaultStands (record { revenue = revenue.items; costs = plain_costs cost.items })) }
     {
-        if revenue.len() != cost.len() || revenue.len() > MOST_BLOCKS as usize {
-            return Err(PricesFault::WrongLength);
-        }
-        for b in 0..revenue.len() {
-            if revenue[b].get() < 0 {
-                return Err(PricesFault::NegativeRevenue(b as u32));
-            }
-        }
-        Ok(Prices { revenue, cost })
+        table_of(revenue, Costs::Plain(cost))
+    }
+
+    /// The prices of blocks that go to the mill or to waste, whichever is worth more. In the mill a block earns its
+    /// revenue and is charged for processing; as waste it earns nothing; for mining it is charged either way.
+    ///
+    /// # Errors
+    /// Those of `new`, where `WrongLength` speaks of both charges.
+    pub fn mill(
+        revenue: Vec<Micros>,
+        processing: Vec<Micros>,
+        mining: Vec<Micros>,
+    ) -> Result<Prices, PricesFault>
+        ensures { MatchResult result
+            (λ p. p ≡ record { revenue = revenue.items; costs = mill_costs processing.items mining.items })
+            (PricesFaultStands (record { revenue = revenue.items; costs = mill_costs processing.items mining.items })) }
+    {
+        table_of(revenue, Costs::Mill { processing, mining })
     }
 
     /// How many blocks there are.
@@ -78,7 +99,8 @@ impl Prices {
         self.revenue.len() as u32
     }
 
-    /// What block b is worth at a factor, in billionths: the factor times its revenue, less its cost.
+    /// What block b is worth at a factor, in billionths: the factor times its revenue, less its cost. Where there is a
+    /// mill: the greater of the factor times its revenue less its processing, and zero; less its mining.
     pub fn worth(&self, b: u32, factor: Factor) -> i128
         requires { b < blocks_of self.now }
         ensures { result ≡ worth_at self.now factor b }
@@ -91,7 +113,8 @@ impl Prices {
         requires { b < blocks_of self.now }
         ensures { result ≡ worth_at self.now factor b }
     {
-        priced(factor.get(), self.revenue[b].get(), self.cost[b].get())
+        let earned = thousandths_of(factor.get(), self.revenue[b].get());
+        self.costs.left_of(earned, b, self.revenue.len())
     }
 
     /// What each block is worth at a factor, in billionths and in the order of the blocks: for each

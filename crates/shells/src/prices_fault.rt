@@ -6,10 +6,10 @@ ghost use Rattle.shells.specs.FaultText.{prices_fault_text};
 use std::error::Error;
 use std::fmt;
 
-/// Why revenues and costs are no table of prices.
+/// Why revenues and charges are no table of prices.
 #[derive(Clone, Copy, Debug, PartialEq, Eq)]
 pub enum PricesFault {
-    /// There are more or fewer costs than revenues, or more than 2^24 of them.
+    /// There are more or fewer of a charge than revenues, or more than 2^24 of them.
     WrongLength,
     /// The first block whose revenue is negative.
     NegativeRevenue(u32),

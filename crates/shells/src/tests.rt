@@ -203,6 +203,26 @@ fn faults_are_told_in_order(rt: HostRuntime) -> Result<(), Fail> {
 }
 
 #[test]
+fn a_block_goes_to_the_mill_or_to_waste(rt: HostRuntime) -> Result<(), Fail> {
+    let alloc = rt.alloc();
+    let earned = column(alloc, &[10_000_000])?;
+    let processing = column(alloc, &[3_000_000])?;
+    let mining = column(alloc, &[2_000_000])?;
+    let prices = Prices::mill(earned, processing, mining)
+        .ok()
+        .ok_or("prices")?;
+    for (thousandths, worth) in [(200, -2_000_000_000), (1_000, 5_000_000_000)] {
+        let factor = Factor::new(thousandths).ok_or("factor")?;
+        for b in 0..prices.len() {
+            assert!(rt; prices.worth(b, factor) == worth);
+        }
+    }
+    let short = Prices::mill(column(alloc, &[1])?, column(alloc, &[1])?, Vec::new(alloc));
+    assert!(rt; short.err() == Some(PricesFault::WrongLength));
+    Ok(())
+}
+
+#[test]
 fn a_series_has_a_price_for_each_block(rt: HostRuntime) -> Result<(), Fail> {
     let alloc = rt.alloc();
     let two = prices(alloc, &[1, 1], &[1, 1])?;

@@ -13,7 +13,8 @@ use Rattle.slope.specs.Slopes.{upward, offset_between}
 use Rattle.slope.specs.Internal.{place_cmp, IsPlace, IsIndex}
 use Rattle.slope.specs.declared.up.Up.{Up}
 use Rattle.slope.specs.declared.up.Up.TheVariants.{PlusZ, MinusZ}
-use Rattle.slope.proofs.OffsetSorting.{same_number, then_tie}
+use Rattle.prec_file.proofs.Sorting.{then_tie}
+use Rattle.slope.proofs.OffsetSorting.{same_number}
 
 -- places that tie are one place
 pub place_same : (p q : Place) → is_eq (place_cmp p q) ≡ true → p ≡ q

@@ -7,6 +7,7 @@ use Rattle.std.specs.List.Sorted.{IsStrictlySortedBy}
 use Rattle.std.proofs.lemmas.Cmp.{int_ranked, then_total, on_total, int_cmp_total, eq_by_cmp_equiv}
 use Rattle.std.proofs.lemmas.Bool.{and_parts}
 use Rattle.std.proofs.lemmas.List.Elements.{All-from_recursion}
+use Rattle.prec_file.proofs.Sorting.{then_tie}
 use Rattle.slope.specs.Offsets.{Offset, IsRising, Before}
 
 abbrev pub offset_cmp : Offset → Offset → Ordering
@@ -17,11 +18,6 @@ offset_eq x y = (int_eq x.0 y.0 && int_eq x.1 y.1) && int_eq x.2 y.2
 
 pub offsets_total : IsTotalOrder offset_cmp
 offsets_total = then_total (then_total (on_total (λ (o : Offset). o.0) int_cmp_total) (on_total (λ (o : Offset). o.1) int_cmp_total)) (on_total (λ (o : Offset). o.2) int_cmp_total)
-
-pub then_tie : (o p : Ordering) → (is_eq o && is_eq p) ≡ is_eq (ordering_then o p)
-then_tie Less p = refl
-then_tie Equal p = refl
-then_tie Greater p = refl
 
 pub offset_ties : (x y : Offset) → offset_eq x y ≡ eq_by_cmp offset_cmp x y
 offset_ties x y =

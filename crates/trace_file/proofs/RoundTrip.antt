@@ -11,7 +11,7 @@ use Rattle.std.proofs.lemmas.List.Splits.{join_with_byte-slice_split}
 use Rattle.fixed_worth.specs.Laws.{with_line_feeds}
 use Rattle.fixed_worth.proofs.Joined.{is_one_line}
 use Rattle.machine_law.specs.declared.events.Event.{Event}
-use Rattle.trace_file.specs.declared.limits.TheConstants.{MOST_EVENTS}
+use Rattle.machine_law.specs.declared.events.TheConstants.{MOST_EVENTS}
 use Rattle.trace_file.specs.declared.trace_fault.TraceFault.{TraceFault}
 use Rattle.trace_file.specs.declared.trace_fault.TraceFault.TheVariants.{Text, TooMany}
 use Rattle.trace_file.specs.Lines.{parts, event_of}

@@ -6,7 +6,7 @@ use Rattle.std.specs.Str.{bytes_eq}
 use Rattle.std.proofs.lemmas.Bool.Decides.{nat_tests}
 use Rattle.std.proofs.lemmas.Slice.Eq.{bytes_eq-Decides}
 use Rattle.machine_law.specs.declared.events.Event.{Event}
-use Rattle.trace_file.specs.declared.limits.TheConstants.{MOST_EVENTS}
+use Rattle.machine_law.specs.declared.events.TheConstants.{MOST_EVENTS}
 use Rattle.trace_file.specs.declared.trace_fault.TraceFault.{TraceFault}
 use Rattle.trace_file.specs.declared.trace_fault.TraceFault.TheVariants.{Text, Truncated, TooMany, NoMemory}
 use Rattle.trace_file.specs.Lines.{parts, event_of}

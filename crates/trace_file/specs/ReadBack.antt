@@ -1,7 +1,7 @@
 -- A trace has one text, and is read back from it.
 use Rattle.std.specs.Prelude.{◌≡◌, ℕ, ◌^◌, ◌<◌, ◌≤◌, List, length, All, None}
 use Rattle.machine_law.specs.declared.events.Event.{Event}
-use Rattle.trace_file.specs.declared.limits.TheConstants.{MOST_EVENTS}
+use Rattle.machine_law.specs.declared.events.TheConstants.{MOST_EVENTS}
 use Rattle.trace_file.specs.Faults.{fault_of, events_of}
 use Rattle.trace_file.specs.Written.{trace_text}
 

@@ -10,13 +10,12 @@
 
 mod event_line;
 pub mod laws;
-mod limits;
 mod parting;
 mod reading;
 mod trace_fault;
 mod writing;
 
-pub use limits::MOST_EVENTS;
+pub use machine_law::MOST_EVENTS;
 pub use reading::read_trace;
 pub use trace_fault::TraceFault;
 pub use writing::write_trace;

@@ -7,11 +7,10 @@ ghost use Rattle.trace_file.specs.Faults.{UnlessMemory, events_of, fault_behind,
 ghost use Rattle.trace_file.specs.ReadBack.{IsWritten};
 
 use crate::event_line::event_in;
-use crate::limits::MOST_EVENTS;
 use crate::parting::cut_at;
 use crate::trace_fault::TraceFault;
 use fixed_worth::LINE_BYTES;
-use machine_law::Event;
+use machine_law::{Event, MOST_EVENTS};
 use std::alloc::Global;
 
 const HEAD: &[u8] = b"PITTRACE 1";

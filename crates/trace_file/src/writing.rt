@@ -7,9 +7,8 @@ ghost use Rattle.trace_file.specs.ReadBack.{IsReadBack};
 ghost use Rattle.trace_file.specs.Written.{trace_text};
 
 use crate::event_line::written;
-use crate::limits::MOST_EVENTS;
 use fixed_worth::{CountedWrite, Page, WriteFault};
-use machine_law::Event;
+use machine_law::{Event, MOST_EVENTS};
 
 /// Writes a trace. It takes no memory, and sends the text in large pieces. [`crate::read_trace`] reads
 /// it back.

@@ -19,19 +19,10 @@ use Rattle.fixed_worth.specs.Rounding.{rounded_of}
 use Rattle.fixed_worth.proofs.Digits.{value_of-append}
 use Rattle.fixed_worth.proofs.Powers.{rounds_up}
 use Rattle.fixed_worth.proofs.Joined.{all_pass_weaker, Breaks, place_of_break}
+use Rattle.fixed_worth.proofs.PrintedDigits.{trimmed_digits, zeros_digits}
 use Rattle.fixed_worth.proofs.WrittenNumbers.{decimal_digits, value_of-decimal}
 
 -- ---- a fraction
-
-digits_before : (d : ℕ) (ds : List ℕ) → is_digit d ≡ true → list_all is_digit ds ≡ true → list_all is_digit (digit_before d ds) ≡ true
-digits_before d [] h k = elim (eqb d 48) as (λ t. list_all is_digit (cond t [] (d ∷ [])) ≡ true) [ true ↦ refl | false ↦ rw h refl ]
-digits_before d (e ∷ es) h k = rw (h, k) refl
-
-trimmed_digits : (ds : List ℕ) → list_all is_digit ds ≡ true → list_all is_digit (without_trailing_zeros ds) ≡ true
-trimmed_digits [] h = refl
-trimmed_digits (d ∷ ds) h =
-    let p = and_parts (is_digit d) (list_all is_digit ds) h in
-    digits_before d (without_trailing_zeros ds) p.0 (trimmed_digits ds p.1)
 
 -- Dropped zeros count as tens.
 abbrev Same : List ℕ → List ℕ → Type 0
@@ -62,10 +53,6 @@ same_before d (e ∷ es) all s = same_more d (e ∷ es) all s
 pub trimmed_same : (ds : List ℕ) → Same (without_trailing_zeros ds) ds
 trimmed_same [] = (omega arith, refl)
 trimmed_same (d ∷ ds) = same_before d (without_trailing_zeros ds) ds (trimmed_same ds)
-
-zeros_digits : (k : ℕ) → list_all is_digit (replicate k 48) ≡ true
-zeros_digits zero = refl
-zeros_digits (suc k) = zeros_digits k
 
 zeros_value : (k : ℕ) (ds : List ℕ) → value_of (replicate k 48 ++ ds) ≡ value_of ds
 zeros_value zero ds = refl

@@ -1,1 +1,2 @@
 pub mod RunEnds
+pub mod AuditEnds

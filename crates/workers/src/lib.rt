@@ -6,13 +6,18 @@
 //! a board's type keeps holds of the board; `solve` answers a flow only where it is a greatest one of
 //! the net handed in; it answers that a run is unsettled only where turns made all its steps and the
 //! state that they led to isn't quiet, and that a number is too large only where they led to a state
-//! whose next step of some block leads to such a number.
+//! whose next step of some block leads to such a number; and the history that `solve_audited` gives is a
+//! run of the net handed in whose replay leads to the flow that it answers, or to where it ended without
+//! one.
 //!
 //! No proof speaks of time: that workers run at once, and that a run ends settled, is shown by tests. A
 //! call that may wait meets any promise by never returning, so what is promised here holds where the
 //! call returns.
 #![tactic(auto)]
 
+#[cfg(test)]
+mod audit_tests;
+mod auditing;
 mod gate;
 #[cfg(test)]
 mod gate_tests;
@@ -28,7 +33,8 @@ mod worker;
 #[cfg(test)]
 mod worker_tests;
 
-pub use boards::{Board, End, Turn, TurnBoard};
+pub use auditing::{Audit, AuditEnd, AuditFault, solve_audited};
+pub use boards::{Audited, Board, End, Turn, TurnBoard};
 pub use gate::{Gate, OpenGate};
 pub use locked::{Locked, Shared};
 pub use solving::{MOST_WORKERS, SolveFault, Solved, solve};

@@ -1,6 +1,6 @@
 //! The lock that a board is under.
 
-use boards::{Board, Turn, TurnBoard};
+use boards::{Audited, Board, Turn, TurnBoard};
 use ordered_group::{OrderedGroup, Scaled, Worth, WorthSize};
 use std::sync::{Mutex, Wait};
 
@@ -52,6 +52,16 @@ fn turn_alone_at<G: OrderedGroup, R: Wait>(
     board.lock(rt).turn(own, from, steps)
 }
 
+fn turn_audited_at<G: OrderedGroup, R: Wait>(
+    rt: &R,
+    board: &Mutex<Audited<G>>,
+    own: Option<u32>,
+    from: u32,
+    steps: u64,
+) -> Turn {
+    board.lock(rt).turn(own, from, steps)
+}
+
 // The kit proves no method of a trait that calls on a group which is a parameter of the `impl`, since
 // a group crosses threads; so each group has an `impl` of its own.
 impl Shared for Locked<Board<Worth>> {
@@ -87,5 +97,23 @@ impl Shared for Locked<TurnBoard<WorthSize>> {
 impl Shared for Locked<TurnBoard<Scaled>> {
     fn act<R: Wait>(&self, rt: &R, own: Option<u32>, from: u32, steps: u64) -> Turn {
         turn_alone_at(rt, &self.inner, own, from, steps)
+    }
+}
+
+impl Shared for Locked<Audited<Worth>> {
+    fn act<R: Wait>(&self, rt: &R, own: Option<u32>, from: u32, steps: u64) -> Turn {
+        turn_audited_at(rt, &self.inner, own, from, steps)
+    }
+}
+
+impl Shared for Locked<Audited<WorthSize>> {
+    fn act<R: Wait>(&self, rt: &R, own: Option<u32>, from: u32, steps: u64) -> Turn {
+        turn_audited_at(rt, &self.inner, own, from, steps)
+    }
+}
+
+impl Shared for Locked<Audited<Scaled>> {
+    fn act<R: Wait>(&self, rt: &R, own: Option<u32>, from: u32, steps: u64) -> Turn {
+        turn_audited_at(rt, &self.inner, own, from, steps)
     }
 }

@@ -115,7 +115,7 @@ where
 }
 
 // The most steps of a run with this limit.
-fn most_steps(limit: u64) -> u64
+pub(crate) fn most_steps(limit: u64) -> u64
     ensures { result ≡ most_steps limit }
 {
     limit.min(MOST_STEPS)

@@ -5,7 +5,7 @@ use Rattle.blocks_file.specs.Records.{lines_in, columns_of}
 use Rattle.blocks_file.specs.Internal.{HoldsValues, ArePut}
 use Rattle.fixed_worth.proofs.NextLine.{Next}
 use Rattle.blocks_file.proofs.LineAfterLine.{begins, passes, keeps, read_all}
-use Rattle.blocks_file.proofs.Results.{ok_before}
+use Rattle.fixed_worth.proofs.Results.{ok_before}
 use Rattle.blocks_file.proofs.Lent.{written_back}
 use Rattle.blocks_file.proofs.reading.read_records.Goals as goal
 

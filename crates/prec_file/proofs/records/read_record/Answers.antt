@@ -4,7 +4,8 @@ use Rattle.fixed_worth.specs.Record.{is_remark}
 use Rattle.prec_file.specs.Records.{block_of, count_of, predecessors_of}
 use Rattle.prec_file.specs.declared.prec_fault.PrecFault.TheVariants.{Text, Number}
 use Rattle.std.proofs.lemmas.Result.{err_from_is_err_and}
-use Rattle.prec_file.proofs.Shapes.{ok_before, err_before, reads_ok, reads_err, too_few, bad_first, bad_second, bad_rest, unknown, sound, known, texts_length, pairs_at}
+use Rattle.fixed_worth.proofs.Results.{ok_before}
+use Rattle.prec_file.proofs.Shapes.{err_before, reads_ok, reads_err, too_few, bad_first, bad_second, bad_rest, unknown, sound, known, texts_length, pairs_at}
 use Rattle.prec_file.proofs.records.read_record.Goals as goal
 
 abbrev texts : List Run → List (List ℕ)

@@ -3,7 +3,7 @@ use Rattle.std.proofs.Math.Nat.{min-le_right}
 use Rattle.boards.specs.Boards.{shown}
 use Rattle.boards.specs.Ends.{HasEnded}
 use Rattle.boards.specs.Audits.{AuditView, IsToldAs}
-use Rattle.boards.specs.declared.audited_board.TheConstants.{MOST_ROOM}
+use Rattle.machine_law.specs.declared.events.TheConstants.{MOST_EVENTS}
 use Rattle.boards.proofs.Audits.{audited, run_ended}
 use Rattle.boards.proofs.audited_board.Audited.finish.Goals as goal
 
@@ -17,7 +17,7 @@ invariant_of-self g c =
     let records : new.records ≡ true = goes.records ∙ c.self.invariant.0 in
     let below : c.most-most.result ≤ old.room = subst (λ k. k ≤ old.room) (sym most) (min-le_right c.args.steps old.room) in
     let within : (shown new.board).steps ≤ old.room = omega (arith, goes.board.within, below) in
-    (records, audited new c.finish_recorded-end.ensures.made (c.finish_recorded-end.ensures.events records) (subst (λ k. (shown new.board).steps ≤ k) (sym goes.room) within) (subst (λ k. k ≤ MOST_ROOM) (sym goes.room) is.few))
+    (records, audited new c.finish_recorded-end.ensures.made (c.finish_recorded-end.ensures.events records) (subst (λ k. (shown new.board).steps ≤ k) (sym goes.room) within) (subst (λ k. k ≤ MOST_EVENTS) (sym goes.room) is.few))
 
 pub returns-clause-end : goal.returns-clause-end
 returns-clause-end g c =

@@ -4,7 +4,7 @@ use Rattle.boards.specs.Boards.{shown}
 use Rattle.boards.specs.Turns.{IsTurn, IsEnd}
 use Rattle.boards.specs.Records.{RecordView}
 use Rattle.boards.specs.Audits.{AuditView, audit_of, IsAuditTurn, IsToldAs}
-use Rattle.boards.specs.declared.audited_board.TheConstants.{MOST_ROOM}
+use Rattle.machine_law.specs.declared.events.TheConstants.{MOST_EVENTS}
 use Rattle.boards.specs.declared.turn.Turn.{Turn}
 use Rattle.boards.specs.declared.turn.Turn.TheVariants.{Stepped, Idle as Unserved}
 use Rattle.boards.proofs.Audits.{audited, turn_within, stepped, unserved, ended}
@@ -21,7 +21,7 @@ invariant_of-self g c =
     let records : new.records ≡ true = ap (λ (r : RecordView). r.records) c.turn.ensures.writes ∙ c.self.invariant.0 in
     let before : (shown old.board).steps ≤ old.room = omega (arith, is.counted, is.within) in
     let within = turn_within old.board new.board c.args.own c.args.from c.most-most.result old.room c.turn.result (subst (λ k. k ≤ old.room) (sym most) (min-le_right c.args.steps old.room)) before c.turn.ensures.turn in
-    (records, audited new c.turn.ensures.made (c.turn.ensures.events records) (subst (λ k. (shown new.board).steps ≤ k) (sym room) within) (subst (λ k. k ≤ MOST_ROOM) (sym room) is.few))
+    (records, audited new c.turn.ensures.made (c.turn.ensures.events records) (subst (λ k. (shown new.board).steps ≤ k) (sym room) within) (subst (λ k. k ≤ MOST_EVENTS) (sym room) is.few))
 
 pub returns-clause-turn : goal.returns-clause-turn
 returns-clause-turn g c =

@@ -1,0 +1,2 @@
+pub mod RunAnswers
+pub mod MineAnswers

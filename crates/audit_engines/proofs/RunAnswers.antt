@@ -1,0 +1,129 @@
+-- From an audited run to what is written of it.
+use Rattle.std.proofs.Common.{◌≡◌, ℕ, ◌<◌, Bool, List, length, refl, sym, ◌∙◌, subst, Option, Result, Ok, Err, inl, inr, All}
+use Rattle.std.specs.Io.KnownBytes.{Appends}
+use Rattle.std.specs.Prelude.{MatchResult}
+use Rattle.fixed_worth.specs.Device.{ReceivedPrefix}
+use Rattle.ordered_group.specs.declared.groups.Group.{Group}
+use Rattle.closure_net.specs.Network.{NetView, FlowView, holds_of}
+use Rattle.machine_law.specs.declared.events.Event.{Event}
+use Rattle.workers.specs.Auditing.{IsSomeHistory, IsAudit, AuditFaultStands}
+use Rattle.workers.specs.declared.solving.SolveFault.TheVariants.{Unsettled, TooLarge}
+use Rattle.workers.specs.declared.auditing.AuditEnd.{AuditEnd}
+use Rattle.workers.specs.declared.auditing.AuditEnd.TheVariants.{NoFlow, HistoryFull}
+use Rattle.trace_file.specs.Written.{trace_text}
+use Rattle.check_pit.specs.Checks.{IsSound, FaultStands}
+use Rattle.check_pit.specs.ReadBack.{IsReadBack}
+use Rattle.check_pit.specs.Written.{header_with, text_of}
+use Rattle.check_pit.specs.declared.pit_fault.PitFault.{PitFault}
+use Rattle.check_pit.specs.declared.header.Price.{Price}
+use Rattle.check_pit.proofs.Tightness.{refused_for_size_only}
+use Rattle.engines.specs.declared.judgement.Verdict.{Verdict}
+use Rattle.engines.specs.declared.judgement.Verdict.TheVariants.{Done, No}
+use Rattle.engines.specs.declared.engine_fault.EngineFault.{EngineFault}
+use Rattle.engines.specs.declared.engine_fault.EngineFault.TheVariants as engine
+use Rattle.engines.specs.Certifying.{IsRefusedFlow}
+use Rattle.engines.specs.Solving.{unsettled_line, too_large_line}
+use Rattle.engines.proofs.Answered.{keeps_self}
+use Rattle.engines.proofs.Solutions.{back_moved}
+use Rattle.audit_engines.specs.Tracing.{CheckOverflowsAfter, IsNoOfRun, TellsRun, TracesNet, history_full_line}
+use Rattle.audit_engines.specs.Sending.{SendsBoth}
+
+-- ---- histories
+
+pub history_of : (net : NetView) (limit room : ℕ) (flow : FlowView) (history : List Event) → IsAudit net limit room flow history → IsSomeHistory net limit room history
+history_of net limit room flow history is = (is.state, is.is_history)
+
+-- a line without a certificate is of a history
+no_is_of_history : (net : NetView) (limit room : ℕ) (history : List Event) (text : List ℕ) → IsNoOfRun net limit room history text → IsSomeHistory net limit room history
+no_is_of_history net limit room history text (inl h) = (h.0.state, h.0.is_history)
+no_is_of_history net limit room history text (inr (inl h)) = (h.0.state, h.0.is_history)
+no_is_of_history net limit room history text (inr (inr (inl h))) = (h.0.state, h.0.is_history)
+no_is_of_history net limit room history text (inr (inr (inr h))) = (h.0.audit.state, h.0.audit.is_history)
+
+-- ---- the check of a run's pit
+
+-- what the source reaches in the flow of a settled run is refused for sums that don't fit, and nothing else
+pub check_overflows : (net : NetView) (limit room : ℕ) (flow : FlowView) (history : List Event) (fault : PitFault) → IsAudit net limit room flow history → IsRefusedFlow net flow fault → CheckOverflowsAfter net limit room history
+check_overflows net limit room flow history fault audit refused =
+    let solved = audit.settles.solved in
+    let fits = solved.greatest.is_flow.fits in
+    let reached = refused.reached fits in
+    let of_net = refused.of_net fits in
+    let e = refused_for_size_only net flow refused.pit fault (record { of_net = of_net; is_flow = solved.greatest.is_flow; closed = solved.closed (holds_of refused.pit) reached; tight = solved.tight (holds_of refused.pit) reached }) refused.stands.holds in
+    record {
+      flow = flow;
+      audit = audit;
+      pit = refused.pit;
+      reached = reached;
+      of_net = of_net;
+      stands = subst (λ (f : PitFault). FaultStands net flow refused.pit f) e refused.stands;
+    }
+
+-- ---- what is written to standard output
+
+-- what was to be written of the flow, which a check has accepted
+module _ (counts : Bool) (name : Group) (price : Price) (net : NetView) (limit room : ℕ) (history : List Event) (blocks : ℕ) (pit : List ℕ) (flow left : FlowView) (n : ℕ) (ps : List (ℕ × ℕ)) (s : IsSound net flow pit) (same : flow ≡ left) (audit : IsAudit net limit room left history)
+    (b : blocks ≡ length net.worths) (e : n ≡ length net.worths) (f : ps ≡ net.pairs) where
+  abbrev text : List ℕ
+  text = text_of (header_with blocks price name) ps pit flow
+
+  audited : IsAudit net limit room flow history
+  audited = subst (λ (w : FlowView). IsAudit net limit room w history) (sym same) audit
+
+  pub certified : (old new : Option (List ℕ)) → (blocks ≡ n → All (λ k. k < n) pit → IsReadBack counts name n ps text price pit flow) → Appends old new text → TellsRun counts name price net limit room history old new (Ok Done)
+  certified old new back sent =
+      let below : All (λ k. k < n) pit = subst (λ (k : ℕ). All (λ x. x < k) pit) (sym e) s.proves.of_net in
+      let read = back_moved counts name n (length net.worths) ps net.pairs text price pit flow e f (back (b ∙ sym e) below) in
+      (text, record { certificate = record { pit = pit; flow = flow; read = read; sound = s }; audit = audited }, sent)
+
+  pub cut_short : (old new : Option (List ℕ)) → ReceivedPrefix old new text → TellsRun counts name price net limit room history old new (Err engine.Device)
+  cut_short old new prefix = (text, inl (record { due = record { pit = pit; flow = flow; sound = s; spelled = λ i. text_of (header_with (b i) price name) (f i) pit flow }; audit = audited }), prefix)
+
+pub said_no : (counts : Bool) (name : Group) (price : Price) (net : NetView) (limit room : ℕ) (history : List Event) (line : List ℕ) (old new : Option (List ℕ)) (r : Result Verdict EngineFault) → IsNoOfRun net limit room history line
+    → MatchResult r (λ v. (v ≡ No) × Appends old new line) (λ e. (e ≡ engine.Device) × ReceivedPrefix old new line) → TellsRun counts name price net limit room history old new r
+said_no counts name price net limit room history line old new (Ok v) h a = subst (λ (w : Verdict). TellsRun counts name price net limit room history old new (Ok w)) (sym a.0) (line, h, a.1)
+said_no counts name price net limit room history line old new (Err e) h a = subst (λ (w : EngineFault). TellsRun counts name price net limit room history old new (Err w)) (sym a.0) (line, inr h, a.1)
+
+-- ---- what is written to both
+
+module _ (counts : Bool) (name : Group) (price : Price) (net : NetView) (limit room : ℕ) (history : List Event) (before after old new : Option (List ℕ)) where
+  -- the history was written, and then what its run answers
+  pub traced : (r : Result Verdict EngineFault) → Appends before after (trace_text history) → TellsRun counts name price net limit room history old new r → TracesNet counts name price net limit room before after old new r
+  traced (Ok v) sent h = (history, sent, h)
+  traced (Err engine.Memory) sent h = inr (history, sent, h)
+  traced (Err engine.Device) sent h = inr (history, sent, h)
+  traced (Err engine.Thread) sent h = absurd h
+  traced (Err engine.Stranger) sent h = absurd h
+  traced (Err (engine.Upit q)) sent h = absurd h
+  traced (Err (engine.Prec q)) sent h = absurd h
+  traced (Err (engine.Model q)) sent h = absurd h
+  traced (Err (engine.Certificate q)) sent h = absurd h
+  traced (Err (engine.Trace q)) sent h = absurd h
+  traced (Err (engine.Blocks q)) sent h = absurd h
+  traced (Err (engine.Slope q)) sent h = absurd h
+  traced (Err (engine.Settings q)) sent h = absurd h
+  traced (Err (engine.Prices q)) sent h = absurd h
+
+  -- it was to be written, and then a line
+  pub sent_both : (line : List ℕ) (r : Result Verdict EngineFault) → IsNoOfRun net limit room history line → SendsBoth (trace_text history) line before after old new r → TracesNet counts name price net limit room before after old new r
+  sent_both line (Ok v) h a = subst (λ (w : Verdict). TracesNet counts name price net limit room before after old new (Ok w)) (sym a.0) (history, a.1, (line, h, a.2))
+  sent_both line (Err e) h (d, inl a) = subst (λ (w : EngineFault). TracesNet counts name price net limit room before after old new (Err w)) (sym d) (inl (history, no_is_of_history net limit room history line h, a.0, a.1))
+  sent_both line (Err e) h (d, inr a) = subst (λ (w : EngineFault). TracesNet counts name price net limit room before after old new (Err w)) (sym d) (inr (history, a.0, (line, inr h, a.1)))
+
+-- the device of the trace failed
+pub trace_cut : (counts : Bool) (name : Group) (price : Price) (net : NetView) (limit room : ℕ) (flow : FlowView) (history : List Event) (before after old : Option (List ℕ)) → IsAudit net limit room flow history → ReceivedPrefix before after (trace_text history) → TracesNet counts name price net limit room before after old old (Err engine.Device)
+trace_cut counts name price net limit room flow history before after old audit prefix = inl (history, history_of net limit room flow history audit, prefix, keeps_self old)
+
+-- a run without a flow: its trace was to be written, and then the line of its fault
+module _ (counts : Bool) (name : Group) (price : Price) (net : NetView) (workers limit room : ℕ) (why : AuditEnd) (history slice : List Event) (before after old new : Option (List ℕ)) (r : Result Verdict EngineFault) (same : slice ≡ history) (stands : AuditFaultStands net workers limit room why history) where
+  sent : (line : List ℕ) → IsNoOfRun net limit room history line → SendsBoth (trace_text slice) line before after old new r → TracesNet counts name price net limit room before after old new r
+  sent line h a = sent_both counts name price net limit room history before after old new line r h (subst (λ (xs : List Event). SendsBoth (trace_text xs) line before after old new r) same a)
+
+  pub unsettled : why ≡ NoFlow Unsettled → SendsBoth (trace_text slice) unsettled_line before after old new r → TracesNet counts name price net limit room before after old new r
+  unsettled e a = sent unsettled_line (inl (subst (λ (x : AuditEnd). AuditFaultStands net workers limit room x history) e stands, refl)) a
+
+  pub full : why ≡ HistoryFull → SendsBoth (trace_text slice) history_full_line before after old new r → TracesNet counts name price net limit room before after old new r
+  full e a = sent history_full_line (inr (inl (subst (λ (x : AuditEnd). AuditFaultStands net workers limit room x history) e stands, refl))) a
+
+  pub too_large : why ≡ NoFlow TooLarge → SendsBoth (trace_text slice) too_large_line before after old new r → TracesNet counts name price net limit room before after old new r
+  too_large e a = sent too_large_line (inr (inr (inl (subst (λ (x : AuditEnd). AuditFaultStands net workers limit room x history) e stands, refl)))) a

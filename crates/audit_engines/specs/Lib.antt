@@ -1,0 +1,3 @@
+pub mod Tracing
+pub mod Sending
+pub mod RoomWord

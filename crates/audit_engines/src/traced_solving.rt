@@ -1,0 +1,161 @@
+//! The engine of `solve` with a trace: the bytes of a mine in, the trace of a run and a certificate of its best pit out.
+
+ghost use Rattle.std.specs.Prelude.{◌≡◌, ◌+◌, ◌-◌, ◌^◌, ◌<◌, IfSome, IsErrOf};
+ghost use Rattle.check_pit.specs.ReadBack.{IsPrice};
+ghost use Rattle.engines.specs.ReadMines.{AreRead, IsGroupNamed};
+ghost use Rattle.engines.specs.Mines.{MineTexts, mine_texts, price_wanted};
+ghost use Rattle.audit_engines.specs.Tracing.{Traces};
+
+use crate::tracing::trace_net;
+use check_pit::Price;
+use closure_net::{Net, laws};
+use engines::inputs::{rests_from, upit_from};
+use engines::mines::nanos_of;
+use engines::{Effort, EngineFault, Verdict};
+use fixed_worth::{CountedRead, CountedWrite};
+use ordered_group::{Group, OrderedGroup, Scaled, Worth, WorthSize};
+use prec_file::Rests;
+use std::alloc::Global;
+use std::sync::Wait;
+use std::thread::Threads;
+use workers::{Audited, Gate, Locked, Shared};
+
+/// Finds the best pit of the mine of two texts by a run of the push-relabel machine, and writes the trace of the run and
+/// the certificate of the pit.
+///
+/// The run is that of the effort's workers and steps, whatever its method. Its trace has the whole history: all steps in
+/// their order, at most `room` and never more than 2^24. It is written right after the run and before anything is
+/// written to `out`.
+///
+/// `Done` where it wrote a certificate, as `engines::solve_engine` says; its flow is the one to which a replay of the
+/// trace leads. `No` where it wrote a line that says why there is none:
+///
+/// - `UNSETTLED`, where the trace has as many steps as the effort allows and some block isn't done after them;
+/// - `HISTORYFULL`, the same where there is no room for another step below that limit;
+/// - `REFUSED TooLarge`, where a number of the state after the trace's next step, or of the check of the flow to which it
+///   leads, would overflow its type.
+///
+/// # Errors
+/// As of `solve_engine`, and in its order. Nothing is written at any, but that the trace is whole where memory is
+/// refused after the run, and a front of it, or the whole and then a front of the answer, where a write fails.
+///
+/// Each device must have counted fewer than 2^64 - 1 failures, so that one more can be counted.
+pub fn solve_traced_engine<
+    R: Threads + Wait + Sync,
+    U: CountedRead,
+    P: CountedRead,
+    T: Gate,
+    V: CountedWrite,
+    W: CountedWrite,
+>(
+    rt: &R,
+    alloc: Global,
+    upit: &mut U,
+    prec: &mut P,
+    group: Group,
+    effort: Effort,
+    room: u32,
+    gate: &T,
+    trace: &mut V,
+    out: &mut W,
+) -> Result<Verdict, EngineFault>
+    requires upit_room { U.failed upit.old < 2 ^ 64 - 1 }
+    requires prec_room { P.failed prec.old < 2 ^ 64 - 1 }
+    requires trace_room { V.failed trace.old < 2 ^ 64 - 1 }
+    requires out_room { W.failed out.old < 2 ^ 64 - 1 }
+
+    // What it answers and writes, where the readers tell their bytes.
+    ensures answer { IfSome (U.remaining upit.old) (λ u. IfSome (P.remaining prec.old) (λ p.
+        Traces (mine_texts u p) group effort.steps room (V.contents trace.old) (V.contents trace.new) (W.contents out.old) (W.contents out.new) result)) }
+
+    // A device is named exactly where one failed.
+    ensures device { IsErrOf result EngineFault.Device → U.failed upit.new + P.failed prec.new + V.failed trace.new + W.failed out.new
+        ≡ U.failed upit.old + P.failed prec.old + V.failed trace.old + W.failed out.old + 1 }
+    ensures kept { ¬ IsErrOf result EngineFault.Device → (U.failed upit.new ≡ U.failed upit.old) × (P.failed prec.new ≡ P.failed prec.old)
+        × (V.failed trace.new ≡ V.failed trace.old) × (W.failed out.new ≡ W.failed out.old) }
+{
+    let upit = upit_from(alloc, upit)?;
+    let rests = rests_from(alloc, prec, upit.len())?;
+    let nanos = nanos_of(alloc, &upit)?;
+    let price = Price::Objective;
+    trace_mine(
+        rt,
+        alloc,
+        nanos.as_slice(),
+        rests,
+        price,
+        group,
+        effort,
+        room,
+        gate,
+        trace,
+        out,
+    )
+}
+
+/// The same, where the mine is read, and its blocks are worth so many billionths at a price.
+pub(crate) fn trace_mine<R: Threads + Wait + Sync, T: Gate, V: CountedWrite, W: CountedWrite>(
+    rt: &R,
+    alloc: Global,
+    nanos: &[i128],
+    rests: Rests,
+    price: Price,
+    group: Group,
+    effort: Effort,
+    room: u32,
+    gate: &T,
+    trace: &mut V,
+    out: &mut W,
+) -> Result<Verdict, EngineFault>
+    requires price { IsPrice price }
+    requires trace_room { V.failed trace.old < 2 ^ 64 - 1 }
+    requires out_room { W.failed out.old < 2 ^ 64 - 1 }
+    ensures answer { (texts : MineTexts) → AreRead texts nanos.now rests → price ≡ price_wanted texts
+        → Traces texts group effort.steps room (V.contents trace.old) (V.contents trace.new) (W.contents out.old) (W.contents out.new) result }
+    ensures device { IsErrOf result EngineFault.Device → V.failed trace.new + W.failed out.new ≡ V.failed trace.old + W.failed out.old + 1 }
+    ensures kept { ¬ IsErrOf result EngineFault.Device → (V.failed trace.new ≡ V.failed trace.old) × (W.failed out.new ≡ W.failed out.old) }
+{
+    // proof: a greatest set of the net is a pit that is worth most, and of amounts with sizes the best one
+    laws::greatest_set_is_richest_pit();
+    laws::greatest_set_is_best_pit::<WorthSize>();
+    laws::greatest_set_is_best_pit::<Scaled>();
+    match group {
+        Group::Worth => trace_by::<Worth, R, T, V, W>(
+            rt, alloc, nanos, rests, price, effort, room, gate, trace, out,
+        ),
+        Group::Pair => trace_by::<WorthSize, R, T, V, W>(
+            rt, alloc, nanos, rests, price, effort, room, gate, trace, out,
+        ),
+        Group::Scaled => trace_by::<Scaled, R, T, V, W>(
+            rt, alloc, nanos, rests, price, effort, room, gate, trace, out,
+        ),
+    }
+}
+
+// The same, in amounts of the group G.
+fn trace_by<G: OrderedGroup, R: Threads + Wait + Sync, T: Gate, V: CountedWrite, W: CountedWrite>(
+    rt: &R,
+    alloc: Global,
+    nanos: &[i128],
+    rests: Rests,
+    price: Price,
+    effort: Effort,
+    room: u32,
+    gate: &T,
+    trace: &mut V,
+    out: &mut W,
+) -> Result<Verdict, EngineFault>
+where
+    Locked<Audited<G>>: Shared,
+    requires price { IsPrice price }
+    requires trace_room { V.failed trace.old < 2 ^ 64 - 1 }
+    requires out_room { W.failed out.old < 2 ^ 64 - 1 }
+    ensures answer { (texts : MineTexts) → AreRead texts nanos.now rests → price ≡ price_wanted texts → IsGroupNamed G.name G.block_parts G.counts
+        → Traces texts G.name effort.steps room (V.contents trace.old) (V.contents trace.new) (W.contents out.old) (W.contents out.new) result }
+    ensures device { IsErrOf result EngineFault.Device → V.failed trace.new + W.failed out.new ≡ V.failed trace.old + W.failed out.old + 1 }
+    ensures kept { ¬ IsErrOf result EngineFault.Device → (V.failed trace.new ≡ V.failed trace.old) × (W.failed out.new ≡ W.failed out.old) }
+{
+    let net = Net::<G>::of_worths(alloc, rests, nanos)?;
+    let _worths = net.worths();
+    trace_net(rt, alloc, &net, price, effort, room, gate, trace, out)
+}

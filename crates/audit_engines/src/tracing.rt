@@ -1,0 +1,127 @@
+//! Solving a net by an audited run: its trace is written right after it, and then what it answers.
+
+ghost use Rattle.std.specs.Prelude.{◌≡◌, ◌+◌, ◌-◌, ◌^◌, ◌<◌, ◌≤◌, ◌↔◌, ℕ, List, length, MatchResult, IsErrOf};
+ghost use Rattle.std.specs.Io.KnownBytes.{Appends};
+ghost use Rattle.machine_law.specs.declared.events.Event.{Event};
+ghost use Rattle.machine_law.specs.declared.events.TheConstants.{MOST_EVENTS};
+ghost use Rattle.check_pit.specs.ReadBack.{IsPrice};
+ghost use Rattle.workers.specs.Auditing.{IsAudit};
+ghost use Rattle.trace_file.specs.Written.{trace_text};
+ghost use Rattle.audit_engines.specs.Tracing.{TellsRun, TracesNet};
+ghost use Rattle.audit_engines.specs.Sending.{SendsBoth};
+
+use async_step::Event;
+use check_pit::{Certificate, Price, write_certificate};
+use closure_net::{Flow, Net};
+use engines::certify::{Uncertified, certified};
+use engines::solving::write_no;
+use engines::{Effort, EngineFault, Verdict};
+use fixed_worth::CountedWrite;
+use ordered_group::OrderedGroup;
+use std::alloc::Global;
+use std::sync::Wait;
+use std::thread::Threads;
+use trace_file::write_trace;
+use workers::{AuditEnd, AuditFault, Audited, Gate, Locked, Shared, SolveFault, solve_audited};
+
+/// Makes a run over a net by the effort's workers, with room for so many events in its history, and
+/// writes the history to `trace`; then writes to `out` the certificate of the flow that the run leaves,
+/// once a check has accepted it, or a line that says why there is none.
+pub fn trace_net<
+    G: OrderedGroup,
+    R: Threads + Wait + Sync,
+    T: Gate,
+    V: CountedWrite,
+    W: CountedWrite,
+>(
+    rt: &R,
+    alloc: Global,
+    net: &Net<G>,
+    price: Price,
+    effort: Effort,
+    room: u32,
+    gate: &T,
+    trace: &mut V,
+    out: &mut W,
+) -> Result<Verdict, EngineFault>
+where
+    Locked<Audited<G>>: Shared,
+    requires price { IsPrice price }
+    requires trace_room { V.failed trace.old < 2 ^ 64 - 1 }
+    requires out_room { W.failed out.old < 2 ^ 64 - 1 }
+    ensures answer { TracesNet G.counts G.name price net.now effort.steps room (V.contents trace.old) (V.contents trace.new) (W.contents out.old) (W.contents out.new) result }
+    ensures device { IsErrOf result EngineFault.Device → V.failed trace.new + W.failed out.new ≡ V.failed trace.old + W.failed out.old + 1 }
+    ensures kept { ¬ IsErrOf result EngineFault.Device → (V.failed trace.new ≡ V.failed trace.old) × (W.failed out.new ≡ W.failed out.old) }
+{
+    let run = solve_audited(rt, alloc, net, effort.workers, effort.steps, room, gate);
+    let AuditFault { fault, history } = match run {
+        Ok(audit) => {
+            write_trace(audit.history.as_slice(), trace)?;
+            return tell_flow(alloc, net, price, audit.flow, out);
+        }
+        Err(ended) => ended,
+    };
+    let events = history.as_slice();
+    let why = match fault {
+        AuditEnd::HistoryFull => return tell_no(events, b"HISTORYFULL\n", trace, out),
+        AuditEnd::NoFlow(why) => why,
+    };
+    match why {
+        SolveFault::Unsettled => tell_no(events, b"UNSETTLED\n", trace, out),
+        SolveFault::TooLarge => tell_no(events, b"REFUSED TooLarge\n", trace, out),
+        SolveFault::NoMemory => Err(EngineFault::Memory),
+        SolveFault::NoThread => Err(EngineFault::Thread),
+        SolveFault::StrangerNet | SolveFault::BadWorkers => Err(EngineFault::Stranger),
+    }
+}
+
+// Writes the trace of a run, and then the line of an answer without a certificate.
+fn tell_no<V: CountedWrite, W: CountedWrite>(
+    events: &[Event],
+    line: &[u8],
+    trace: &mut V,
+    out: &mut W,
+) -> Result<Verdict, EngineFault>
+    requires few { length events.now ≤ MOST_EVENTS }
+    requires trace_room { V.failed trace.old < 2 ^ 64 - 1 }
+    requires out_room { W.failed out.old < 2 ^ 64 - 1 }
+    ensures answer { SendsBoth (trace_text events.now) line.now (V.contents trace.old) (V.contents trace.new) (W.contents out.old) (W.contents out.new) result }
+    ensures device { IsErrOf result EngineFault.Device → V.failed trace.new + W.failed out.new ≡ V.failed trace.old + W.failed out.old + 1 }
+    ensures kept { ¬ IsErrOf result EngineFault.Device → (V.failed trace.new ≡ V.failed trace.old) × (W.failed out.new ≡ W.failed out.old) }
+{
+    write_trace(events, trace)?;
+    write_no(line, out)
+}
+
+// Writes the certificate of the flow that a run leaves, or that a sum of its check doesn't fit.
+fn tell_flow<G: OrderedGroup, W: CountedWrite>(
+    alloc: Global,
+    net: &Net<G>,
+    price: Price,
+    flow: Flow<G>,
+    out: &mut W,
+) -> Result<Verdict, EngineFault>
+    requires price { IsPrice price }
+    requires room { W.failed out.old < 2 ^ 64 - 1 }
+    ensures answer { (limit room : ℕ) → (history : List Event) → IsAudit net.now limit room flow history
+        → TellsRun G.counts G.name price net.now limit room history (W.contents out.old) (W.contents out.new) result }
+    ensures device { IsErrOf result EngineFault.Device ↔ (W.failed out.new ≡ W.failed out.old + 1) }
+    ensures kept { ¬ IsErrOf result EngineFault.Device → W.failed out.new ≡ W.failed out.old }
+{
+    // proof: what is known of every net, that its pairs are of its blocks and in order
+    let _worths = net.worths();
+    let solution = match certified(alloc, net, flow) {
+        Ok(solution) => solution,
+        Err(Uncertified::NoMemory) => return Err(EngineFault::Memory),
+        // what the source reaches in a greatest flow is closed and tight, so only sums that overflow are left
+        Err(Uncertified::Refused(_)) => return write_no(b"REFUSED TooLarge\n", out),
+    };
+    let certificate = Certificate {
+        blocks: net.len(),
+        price,
+        pit: solution.pit,
+        flow: solution.flow,
+    };
+    write_certificate(&certificate, net.rests(), out)?;
+    Ok(Verdict::Done)
+}

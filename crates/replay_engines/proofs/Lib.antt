@@ -1,0 +1,4 @@
+pub mod Flows
+pub mod Comings
+pub mod Answered
+pub mod Again

@@ -1,0 +1,4 @@
+pub mod TraceTexts
+pub mod Outcomes
+pub mod Replays
+pub mod Histories

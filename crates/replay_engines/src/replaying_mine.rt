@@ -1,0 +1,105 @@
+//! The steps of a trace over a mine that was read.
+
+ghost use Rattle.std.specs.Prelude.{◌≡◌, ◌+◌, ◌-◌, ◌^◌, ◌<◌, ◌↔◌, ℕ, List, IfOk, MatchResult, IsErrOf};
+ghost use Rattle.engines.specs.Mines.{MineTexts};
+ghost use Rattle.engines.specs.ReadMines.{AreRead, IsGroupNamed};
+ghost use Rattle.engines.specs.Solving.{IsNetBy};
+ghost use Rattle.replay_engines.specs.Outcomes.{IsOutcome};
+ghost use Rattle.replay_engines.specs.Replays.{ComesOf, NothingComes, Replays};
+ghost use Rattle.replay_engines.specs.TraceTexts.{ReadsTrace};
+
+use crate::flow_judging::judge_flow;
+use crate::outcome::{Outcome, write_outcome};
+use async_step::{Event, ReplayFault, replay};
+use closure_net::{Net, laws};
+use engines::{EngineFault, Verdict};
+use fixed_worth::CountedWrite;
+use machine_law::laws as machine_laws;
+use ordered_group::{Group, OrderedGroup, Scaled, Worth, WorthSize};
+use prec_file::Rests;
+use std::alloc::{AllocError, Global};
+
+/// Makes the steps over the mine whose blocks are worth so many billionths, and writes what comes of them.
+pub fn replay_mine<W: CountedWrite>(
+    alloc: Global,
+    nanos: &[i128],
+    rests: Rests,
+    group: Group,
+    events: &[Event],
+    out: &mut W,
+) -> Result<Verdict, EngineFault>
+    requires { W.failed out.old < 2 ^ 64 - 1 }
+    ensures answer { (texts : MineTexts) (trace : List ℕ) → AreRead texts nanos.now rests → ReadsTrace trace events.now → Replays texts group trace (W.contents out.old) (W.contents out.new) result }
+    ensures device { IsErrOf result EngineFault.Device ↔ (W.failed out.new ≡ W.failed out.old + 1) }
+    ensures kept { ¬ IsErrOf result EngineFault.Device → W.failed out.new ≡ W.failed out.old }
+{
+    let outcome = outcome_of(alloc, nanos, rests, group, events)?;
+    write_outcome(alloc, outcome, out)?;
+    Ok(outcome.verdict())
+}
+
+// What comes of the steps.
+fn outcome_of(
+    alloc: Global,
+    nanos: &[i128],
+    rests: Rests,
+    group: Group,
+    events: &[Event],
+) -> Result<Outcome, EngineFault>
+    ensures comes { (texts : MineTexts) → AreRead texts nanos.now rests → MatchResult result (ComesOf texts group events.now) (NothingComes texts group) }
+    ensures no_device { ¬ IsErrOf result EngineFault.Device }
+{
+    // proof: a greatest set of the net is a pit that is worth most, and of amounts with sizes the best one
+    laws::greatest_set_is_richest_pit();
+    laws::greatest_set_is_best_pit::<WorthSize>();
+    laws::greatest_set_is_best_pit::<Scaled>();
+    match group {
+        Group::Worth => outcome_by::<Worth>(alloc, nanos, rests, events),
+        Group::Pair => outcome_by::<WorthSize>(alloc, nanos, rests, events),
+        Group::Scaled => outcome_by::<Scaled>(alloc, nanos, rests, events),
+    }
+}
+
+// The same in amounts of the group G.
+fn outcome_by<G: OrderedGroup>(
+    alloc: Global,
+    nanos: &[i128],
+    rests: Rests,
+    events: &[Event],
+) -> Result<Outcome, EngineFault>
+    ensures comes { (texts : MineTexts) → AreRead texts nanos.now rests → IsGroupNamed G.name G.block_parts G.counts
+        → MatchResult result (ComesOf texts G.name events.now) (NothingComes texts G.name) }
+    ensures no_device { ¬ IsErrOf result EngineFault.Device }
+{
+    let net = Net::<G>::of_worths(alloc, rests, nanos)?;
+    // proof: what is known of every net, that its pairs are of its blocks and in order
+    let _worths = net.worths();
+    Ok(outcome_over(alloc, &net, events)?)
+}
+
+// The same, where the mine's net is made.
+fn outcome_over<G: OrderedGroup>(
+    alloc: Global,
+    net: &Net<G>,
+    events: &[Event],
+) -> Result<Outcome, AllocError>
+    ensures comes { IfOk result (λ outcome. (texts : MineTexts) → IsNetBy texts G.name net.now → IsGroupNamed G.name G.block_parts G.counts → IsOutcome texts G.name net.now events.now outcome) }
+{
+    // proof: the flow of a quiet state solves the net
+    machine_laws::quiet_flow_is_greatest();
+    let steps = events.len() as u64;
+    let state = match replay(alloc, net, events) {
+        Ok(state) => state,
+        Err(ReplayFault::Refused(place, refusal)) => {
+            return Ok(Outcome::Refused { place, refusal });
+        }
+        Err(ReplayFault::NoMemory) => return Err(AllocError),
+    };
+    match state.into_flow(net) {
+        Ok(flow) => {
+            let judgement = judge_flow(alloc, net, &flow)?;
+            Ok(Outcome::Quiet { steps, judgement })
+        }
+        Err(_) => Ok(Outcome::Open { steps }),
+    }
+}

@@ -1,0 +1,49 @@
+//! Reading a trace as an input of an engine.
+
+ghost use Rattle.std.specs.Prelude.{◌≡◌, ◌+◌, ◌-◌, ◌^◌, ◌<◌, ◌↔◌, IfSome, MatchResult, IsErrOf};
+ghost use Rattle.engines.specs.Limits.{IsWithinLimit};
+ghost use Rattle.replay_engines.specs.TraceTexts.{ReadsTrace, TraceReadFails, of_trace};
+
+use async_step::Event;
+use engines::inputs::text_from;
+use engines::{EngineFault, Problem};
+use fixed_worth::CountedRead;
+use std::alloc::Global;
+use trace_file::{TraceFault, read_trace};
+
+/// The steps of a trace. The bytes of its text are given back here.
+///
+/// # Errors
+/// `Trace` for a text that is too long, or the fault of the first faulty line. `Memory` where memory is refused, `Device`
+/// where a read fails.
+pub fn events_from<E: CountedRead>(alloc: Global, from: &mut E) -> Result<Vec<Event>, EngineFault>
+    requires { E.failed from.old < 2 ^ 64 - 1 }
+    ensures read { IfSome (E.remaining from.old) (λ text. MatchResult result (λ v. ReadsTrace text v.items) (TraceReadFails text)) }
+    ensures device { IsErrOf result EngineFault.Device ↔ (E.failed from.new ≡ E.failed from.old + 1) }
+    ensures kept { ¬ IsErrOf result EngineFault.Device → E.failed from.new ≡ E.failed from.old }
+{
+    let text = text_from(alloc, from, EngineFault::Trace(Problem::InputTooLong))?;
+    events_in(alloc, text.as_slice())
+}
+
+// The steps that a text says.
+fn events_in(alloc: Global, text: &[u8]) -> Result<Vec<Event>, EngineFault>
+    requires { IsWithinLimit text.now }
+    ensures read { MatchResult result (λ v. ReadsTrace text.now v.items) (TraceReadFails text.now) }
+    ensures no_device { ¬ IsErrOf result EngineFault.Device }
+{
+    match read_trace(alloc, text) {
+        Ok(events) => Ok(events),
+        Err(fault) => Err(engine_fault_of(fault)),
+    }
+}
+
+// The engine's fault of a trace's: want of memory is one of its own.
+fn engine_fault_of(fault: TraceFault) -> EngineFault
+    ensures { result ≡ of_trace fault }
+{
+    match fault {
+        TraceFault::NoMemory => EngineFault::Memory,
+        fault => EngineFault::Trace(Problem::Fault(fault)),
+    }
+}

@@ -1,0 +1,63 @@
+-- From the parts of an engine over the factors of settings to its answer, where the readers tell their bytes.
+use Rattle.std.proofs.Common.{ℕ, List, Option, Result, Ok, Err, inl, inr, IfSome}
+use Rattle.std.specs.Io.KnownBytes.{Appends, Keeps}
+use Rattle.fixed_worth.specs.Device.{ReceivedPrefix}
+use Rattle.closure_net.specs.declared.net.NetFault.{NetFault}
+use Rattle.engines.specs.declared.engine_fault.EngineFault.{EngineFault}
+use Rattle.engines.specs.declared.engine_fault.EngineFault.TheVariants as engine
+use Rattle.engines.specs.declared.judgement.Verdict.{Verdict}
+use Rattle.engines.proofs.Answered.{keeps_self}
+use Rattle.engines.proofs.PricedAnswers.{under3}
+use Rattle.shell_engines.specs.Answering.{FailsBy, WritesAtFault, Ends}
+
+-- nothing was written
+unwritten : (Answers : Verdict → List ℕ → Type 0) (w : Option (List ℕ)) (e : EngineFault) → WritesAtFault Answers w w e
+unwritten Answers w (engine.Settings q) = keeps_self w
+unwritten Answers w (engine.Blocks q) = keeps_self w
+unwritten Answers w (engine.Prices q) = keeps_self w
+unwritten Answers w (engine.Prec q) = keeps_self w
+unwritten Answers w (engine.Upit q) = keeps_self w
+unwritten Answers w (engine.Slope q) = keeps_self w
+unwritten Answers w (engine.Model q) = keeps_self w
+unwritten Answers w (engine.Certificate q) = keeps_self w
+unwritten Answers w (engine.Trace q) = keeps_self w
+unwritten Answers w engine.Memory = keeps_self w
+unwritten Answers w engine.Thread = keeps_self w
+unwritten Answers w engine.Stranger = keeps_self w
+unwritten Answers w engine.Device = inl (keeps_self w)
+
+-- a fault of the reading is one of the engine
+unread : (Unread : EngineFault → Type 0) (NoNet : NetFault → Type 0) → ((q : NetFault) → Unread (engine.Model q) → NoNet q) → (e : EngineFault) → Unread e → FailsBy Unread NoNet e
+unread Unread NoNet none (engine.Settings q) h = h
+unread Unread NoNet none (engine.Blocks q) h = h
+unread Unread NoNet none (engine.Prices q) h = h
+unread Unread NoNet none (engine.Prec q) h = h
+unread Unread NoNet none (engine.Upit q) h = h
+unread Unread NoNet none (engine.Slope q) h = h
+unread Unread NoNet none (engine.Model q) h = none q h
+unread Unread NoNet none (engine.Certificate q) h = h
+unread Unread NoNet none (engine.Trace q) h = h
+unread Unread NoNet none engine.Memory h = h
+unread Unread NoNet none engine.Thread h = tt
+unread Unread NoNet none engine.Stranger h = tt
+unread Unread NoNet none engine.Device h = h
+
+module _ (o q r : Option (List ℕ)) (Answers : List ℕ → List ℕ → List ℕ → Verdict → List ℕ → Type 0) where
+  -- the texts were not read
+  pub texts_unread : (Unread : List ℕ → List ℕ → List ℕ → EngineFault → Type 0) (NoNet : List ℕ → List ℕ → List ℕ → NetFault → Type 0) → ((s b p : List ℕ) (k : NetFault) → Unread s b p (engine.Model k) → NoNet s b p k)
+      → (w : Option (List ℕ)) (e : EngineFault) → IfSome o (λ s. IfSome q (λ b. IfSome r (λ p. Unread s b p e))) → IfSome o (λ s. IfSome q (λ b. IfSome r (λ p. Ends (Answers s b p) (FailsBy (Unread s b p) (NoNet s b p)) w w (Err e))))
+  texts_unread Unread NoNet none w e h = under3 o q r (λ s b p. Unread s b p e) (λ s b p. Ends (Answers s b p) (FailsBy (Unread s b p) (NoNet s b p)) w w (Err e)) h (λ s b p f. (unread (Unread s b p) (NoNet s b p) (none s b p) e f, unwritten (Answers s b p) w e))
+
+  module _ (Fails : List ℕ → List ℕ → List ℕ → EngineFault → Type 0) (Read : List ℕ → List ℕ → List ℕ → Type 0) (h : IfSome o (λ s. IfSome q (λ b. IfSome r (λ p. Read s b p)))) where
+    -- there is no answer
+    pub unanswered : (w : Option (List ℕ)) (e : EngineFault) → ((s b p : List ℕ) → Read s b p → Fails s b p e) → IfSome o (λ s. IfSome q (λ b. IfSome r (λ p. Ends (Answers s b p) (Fails s b p) w w (Err e))))
+    unanswered w e fails = under3 o q r Read (λ s b p. Ends (Answers s b p) (Fails s b p) w w (Err e)) h (λ s b p read. (fails s b p read, unwritten (Answers s b p) w e))
+
+    module _ (old new : Option (List ℕ)) (verdict : Verdict) (text : List ℕ) (answers : (s b p : List ℕ) → Read s b p → Answers s b p verdict text) where
+      -- the answer was written
+      pub answered : Appends old new text → IfSome o (λ s. IfSome q (λ b. IfSome r (λ p. Ends (Answers s b p) (Fails s b p) old new (Ok verdict))))
+      answered sent = under3 o q r Read (λ s b p. Ends (Answers s b p) (Fails s b p) old new (Ok verdict)) h (λ s b p read. (text, answers s b p read, sent))
+
+      -- the device failed in writing it
+      pub cut_short : ((s b p : List ℕ) → Fails s b p engine.Device) → ReceivedPrefix old new text → IfSome o (λ s. IfSome q (λ b. IfSome r (λ p. Ends (Answers s b p) (Fails s b p) old new (Err engine.Device))))
+      cut_short fails prefix = under3 o q r Read (λ s b p. Ends (Answers s b p) (Fails s b p) old new (Err engine.Device)) h (λ s b p read. (fails s b p, inr (verdict, text, answers s b p read, prefix)))

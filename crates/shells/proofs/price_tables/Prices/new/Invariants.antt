@@ -1,6 +1,0 @@
-use Rattle.std.proofs.Common.{ℕ, ◌<◌, ◌≤ℤ◌, pos}
-use Rattle.shells.specs.Prices.{number_at}
-use Rattle.shells.proofs.price_tables.Prices.new.Given as goal
-
-abbrev pub invariant-loop-b : goal.invariant-loop-b
-invariant-loop-b l = (c : ℕ) → c < l.b → pos 0 ≤ℤ number_at l.revenue.items c

@@ -1,0 +1,119 @@
+-- A worth that is cut.
+use Rattle.std.proofs.Common.{inl, inr, ⊎_elim, ◌≡◌, ℕ, pos, ◌-ℤ◌, ◌<ℤ◌, ◌≤ℤ◌, ◌⊎◌, ◌+◌, ◌<◌, ◌^◌, List, [], ◌∷◌, ◌++◌, map, length, get_or, refl, ap, ap₂, sym, ◌∙◌, subst, arith}
+use Rattle.std.proofs.lemmas.Int.{ints}
+use Rattle.std.specs.Prelude.{FitsSigned}
+use Rattle.std.specs.Int.{w128}
+use Rattle.std.proofs.lemmas.Bool.{cases_eq}
+use Rattle.std.proofs.lemmas.List.{get_or-append-add, get_or_append_left, length-map}
+use mathlib.Core.List.{map-append}
+use Rattle.ordered_group.specs.Amount.{Amount, zero_amount, plus, minus, AtMost, Below, positive, negative, FitsPair}
+use Rattle.ordered_group.specs.Sums.{amount_at, total, SumFits}
+use Rattle.ordered_group.specs.declared.scaled.Scaled.{Scaled}
+use Rattle.ordered_group.proofs.Order.{AtMost-refl, Below-most}
+use Rattle.ordered_group.proofs.Signs.{positive-of_most, positive-of_NonNeg, sign_or}
+use Rattle.closure_net.specs.Network.{NetView, IsNet}
+use Rattle.closure_net.specs.FaultStands.{NetFaultStands, OppositeOverflows, PositivesOverflow}
+use Rattle.closure_net.specs.declared.net.NetFault.{NetFault}
+use Rattle.closure_net.specs.declared.net.NetFault.TheVariants.{WrongLength, TooLarge, NoMemory}
+use Rattle.ordered_group.proofs.Totals.{total-same}
+use Rattle.machine_law.specs.Conservation.{all_given}
+use Rattle.machine_law.proofs.Numbers.{equal}
+use Rattle.word_runner.specs.Words.{units}
+use Rattle.word_runner.specs.Tells.{scaled_parts, IsCut, IsCutWorth, AreCut, AreWithin, AreGains, IsCutNet, cut_to}
+
+pub cut_not : (w : Amount) (k : ℕ) → w.c ≡ pos 0 → (pos 0 -ℤ pos k) ≤ℤ w.w → IsCutWorth w k w
+cut_not w k wc l = record { positives = refl; less = AtMost-refl (negative w); fits = λ x h g. h; within = least_of (sign_or (minus zero_amount w)); is = inl refl }
+  where
+    least_of : AtMost (minus zero_amount w) zero_amount ⊎ Below zero_amount (minus zero_amount w) → AtMost (negative w) (units k)
+    least_of (inl h) = subst (λ (z : Amount). AtMost z (units k)) (sym (positive-of_most (minus zero_amount w) h)) (record { worths = omega (arith, ints); counts = λ i. omega (arith, ints) })
+    least_of (inr h) = subst (λ (z : Amount). AtMost z (units k)) (sym (positive-of_NonNeg (minus zero_amount w) (Below-most _ _ h))) (record { worths = omega (arith, ints, l); counts = λ i. omega (arith, ints, wc) })
+
+pub cut_here : (w c : Amount) (k : ℕ) → c.w ≡ pos 0 -ℤ pos k → c.c ≡ pos 0 → w.c ≡ pos 0 → w.w <ℤ (pos 0 -ℤ pos k) → IsCutWorth w k c
+cut_here w c k cw cc' wc l =
+    let is : minus zero_amount c ≡ units k = equal (record { w = omega (arith, ints, cw); c = omega (arith, ints, cc') }) in
+    let nc : negative c ≡ units k = positive-of_NonNeg (minus zero_amount c) (record { worths = omega (arith, ints, cw); counts = λ i. omega (arith, ints, cc') }) ∙ is in
+    let nw : negative w ≡ minus zero_amount w = positive-of_NonNeg (minus zero_amount w) (record { worths = omega (arith, ints, l); counts = λ i. omega (arith, ints, wc) }) in
+    record {
+      positives = positive-of_most c (record { worths = omega (arith, ints, cw); counts = λ i. omega (arith, ints, cc') }) ∙ sym (positive-of_most w (record { worths = omega (arith, ints, l); counts = λ i. omega (arith, ints, wc) }));
+      less = subst (λ (z : Amount). AtMost z (negative w)) (sym nc) (subst (AtMost (units k)) (sym nw) (record { worths = omega (arith, ints, l); counts = λ i. omega (arith, ints, wc) }));
+      fits = λ x h g. subst (AtMost x) (sym nc) g;
+      within = subst (λ (z : Amount). AtMost z (units k)) (sym nc) (AtMost-refl (units k));
+      is = inr (λ i. record { w = cw i; c = cc' i });
+    }
+
+pub pushed_all : (P : ℕ → Amount → Type 0) (xs ys : List Scaled) (x : Scaled) (n : ℕ) → ys ≡ xs ++ x ∷ [] → length xs ≡ n → ((j : ℕ) → j < n → P j (amount_at (map scaled_parts xs) j)) → P n (scaled_parts x) → (j : ℕ) → j < n + 1 → P j (amount_at (map scaled_parts ys) j)
+pushed_all P xs ys x n is size old new j l =
+    let bs = map scaled_parts xs in
+    let m = length-map xs scaled_parts in
+    let e : map scaled_parts ys ≡ bs ++ scaled_parts x ∷ [] = ap (map scaled_parts) is ∙ map-append scaled_parts xs (x ∷ []) in
+    elim (cases_eq j n) [
+      | inl at ↦
+          let k : j ≡ length bs + 0 = omega (arith, at, m, size) in
+          let v : amount_at (map scaled_parts ys) j ≡ scaled_parts x = ap (λ z. amount_at z j) e ∙ ap (λ i. get_or (bs ++ scaled_parts x ∷ []) i zero_amount) k ∙ get_or-append-add bs (scaled_parts x ∷ []) 0 zero_amount in
+          subst (λ (z : ℕ × Amount). P z.0 z.1) (λ i. (sym at i, sym v i)) new
+      | inr ne ↦
+          let v : amount_at (map scaled_parts ys) j ≡ amount_at bs j = ap (λ z. amount_at z j) e ∙ get_or_append_left bs (scaled_parts x ∷ []) zero_amount j (omega (arith, l, ne, m, size)) in
+          subst (P j) (sym v) (old j (omega (arith, l, ne)))
+    ]
+
+pub cuts_from : (net : NetView) (k : ℕ) (ws : List Amount) → AreCut net k ws → all_given net ≡ units k → IsCut net ws
+cuts_from net k ws a e = record {
+  size = a.size;
+  positives = λ b l. (a.each b l).positives;
+  less = λ b l. (a.each b l).less;
+  fits = λ b x l h g. (a.each b l).fits x h (subst (AtMost x) e g);
+}
+
+-- ---- the net that is cut
+
+-- what the source gives is the same
+pub cut_gives : (net : NetView) (ws : List Amount) → IsCut net ws → all_given (cut_to net ws) ≡ all_given net
+unfolding all_given
+cut_gives net ws c = ap (λ (n : ℕ). total (λ b. positive (amount_at ws b)) n) c.size ∙ total-same (λ b. positive (amount_at ws b)) (λ b. positive (amount_at net.worths b)) (length net.worths) c.positives
+
+-- and the sinks take no more than that
+pub cut_within : (net : NetView) (k : ℕ) (ws : List Amount) → AreCut net k ws → AreWithin (cut_to net ws) k
+cut_within net k ws a b l = let z = a.size in (a.each b (omega (arith, l, z))).within
+
+units_fit : (k : ℕ) → k < 2 ^ 63 → FitsPair (minus zero_amount (record { w = pos 0 -ℤ pos k; c = pos 0 }))
+units_fit k l = (subst (FitsSigned w128) (sym twice) (record { sfits = omega (arith, l) }), subst (FitsSigned w128) (sym none) (record { sfits = omega arith }))
+  where
+    twice : pos 0 -ℤ (pos 0 -ℤ pos k) ≡ pos k
+    twice = omega (arith, ints)
+
+    none : pos 0 -ℤ pos 0 ≡ pos 0
+    none = omega (arith, ints)
+
+sums_fit : (f g : ℕ → Amount) (n : ℕ) → ((b : ℕ) → b < n → f b ≡ g b) → SumFits g n → SumFits f n
+sums_fit f g n e h k l = subst FitsPair (sym (ap₂ plus (total-same f g k (λ b m. e b (omega (arith, m, l)))) (e k l))) (h k l)
+
+-- so it is a net, and building it doesn't fail
+pub cut_builds : (net : NetView) (k : ℕ) (ws : List Amount) (n : ℕ) (fault : NetFault) → k < 2 ^ 63 → IsNet net → AreCut net k ws → n ≡ length net.worths → NetFaultStands n ws fault → ⊥
+cut_builds net k ws n WrongLength small is c e f = f (e ∙ sym c.size)
+cut_builds net k ws n NoMemory small is c e f = f
+cut_builds net k ws n TooLarge small is c e f = ⊎_elim opposite positives_too f.1
+  where
+    opposite : OppositeOverflows ws → ⊥
+    opposite o =
+        let z = c.size in
+        let l = o.1 in
+        let m : o.0 < length net.worths = omega (arith, l, z) in
+        o.2 (elim (c.each o.0 m).is [
+          | inl same ↦ subst (λ (a : Amount). FitsPair (minus zero_amount a)) (sym same) (is.opposites o.0 m)
+          | inr here ↦ subst (λ (a : Amount). FitsPair (minus zero_amount a)) (sym here) (units_fit k small)
+        ])
+
+    positives_too : PositivesOverflow ws → ⊥
+    positives_too o =
+        let z = c.size in
+        let l = o.1 in
+        o.2 (sums_fit (λ b. positive (amount_at ws b)) (λ b. positive (amount_at net.worths b)) (length net.worths) (λ b m. (c.each b m).positives) is.positives o.0 (omega (arith, l, z)))
+
+-- what it gives, in units, is what the net gives
+pub cut_gains : (net cut : NetView) (gain : List ℕ) (sum : ℕ) → IsCutNet net cut → AreGains net gain sum → AreGains cut gain sum
+cut_gains net cut gain sum k g = subst (λ (n : NetView). AreGains n gain sum) (sym k.is) (record {
+  size = g.size ∙ sym k.cuts.size;
+  each = λ b l. let z = k.cuts.size in let m : b < length net.worths = omega (arith, l, z) in k.cuts.positives b m ∙ g.each b m;
+  all = cut_gives net k.worths k.cuts ∙ g.all;
+  small = g.small;
+})

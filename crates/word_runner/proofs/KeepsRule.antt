@@ -1,0 +1,178 @@
+-- A turn keeps the rule: one operation on one word is the step of the machine that is next for the block.
+use Rattle.std.proofs.Common.{inl, inr, ◌⊎◌, ◌≡◌, ◌≢◌, ℕ, ◌+◌, ◌<◌, ◌^◌, Bool, true, false, List, [], ◌∷◌, ◌++◌, All, length, get_or, set, get_or-set_same, refl, ap, sym, ◌∙◌, subst, arith}
+use Rattle.std.proofs.lemmas.Bool.{cases_eq, ltb-true}
+use mathlib.Core.Option.{none, some}
+use lib.ListN.{get_elem?}
+use Rattle.atomic_table.specs.Table.{State, Me, step, keeps, stepped, Allows}
+use Rattle.prec_file.specs.Rests.{IsKnown, from_at}
+use Rattle.closure_net.specs.Network.{NetView}
+use Rattle.machine_law.specs.declared.events.Event.{Event}
+use Rattle.machine_law.specs.declared.operations.Operation.{Operation}
+use Rattle.machine_law.specs.declared.operations.Operation.TheVariants.{Idle, Scan, PushDue, TakeDue, GiveDue, RaiseDue}
+use Rattle.closure_net.specs.declared.port.Port.{Port}
+use Rattle.closure_net.specs.declared.port.PortKind.{PortKind}
+use Rattle.closure_net.specs.declared.port.PortKind.TheVariants.{Sink, Forward, Backward, Source}
+use Rattle.ordered_group.specs.Amount.{AtMost}
+use Rattle.machine_law.specs.Residual.{IsEnd}
+use Rattle.machine_law.specs.Operations.{operation_as, best_as}
+use Rattle.machine_law.specs.States as law
+use Rattle.machine_law.specs.States.{put, opening}
+use Rattle.machine_law.specs.Steps.{Step, Run, advance_by, next_of}
+use Rattle.machine_law.specs.Amounts.{IsOperation}
+use Rattle.machine_law.specs.Conservation.{IsWhole}
+use Rattle.machine_law.proofs.Points.{put-same, put-other}
+use Rattle.machine_law.proofs.Law.{runs_keep_law}
+use Rattle.machine_law.proofs.Runs.{run_more}
+use Rattle.machine_law.proofs.Conserved.{runs_conserve}
+use Rattle.word_runner.specs.declared.view.View.{View}
+use Rattle.word_runner.specs.Words.{units, count, Cells, Ruled, Sees, IsOwn, Sat, flow_at, word_of, written, after, operation_at, labels_after, stopped_after, event_of, turned, turned_so, block_of, IsPlaced, CanTurn, capacity_word, push_units, push_written, overfull, RaisesTooFar, SomeFlowIsTooLarge, SomeLabelIsTooLarge, IsLargeBy}
+use Rattle.word_runner.proofs.Units.{units_above}
+use Rattle.word_runner.proofs.Shows.{operation_shown, labels_shown, labels_else}
+use Rattle.word_runner.proofs.Writes.{Fits, fits, placed, cells_shown, flow_shown}
+use Rattle.word_runner.proofs.SeatViews.{seats_set, operation_here, operation_else, shown_here, shown_else, block_is, made_more}
+
+module _ (s : State (Unit {0}) View) (id b : ℕ) (v : View) (q : CanTurn v b) (r : Ruled v.net s) (at : get_elem? s.views id ≡ some v) where
+  abbrev net : NetView
+  net = v.net
+
+  abbrev o : Operation ℕ
+  o = v.operation
+
+  abbrev t : law.State
+  t = r.machine
+
+  abbrev u : law.State
+  u = advance_by net t b (operation_as units o)
+
+  abbrev i : ℕ
+  i = word_of net b o
+
+  abbrev x : ℕ
+  x = get_or s.words i 0
+
+  abbrev e : Event
+  e = event_of net b o
+
+  known : All (IsKnown (count net)) net.pairs
+  known = r.is_net.rests.known
+
+  mine : Sees net t r.owner s.words id v
+  mine = r.seats id v at
+
+  was : t.operation b ≡ operation_as units o
+  was = mine.operation b q.block q.own ∙ ap (operation_as units) (shown_here v b q)
+
+  steps : Step net t e u
+  steps = record { block = q.block; kind = ap (next_of net b) was; after = sym (ap (advance_by net t b) was) }
+
+  runs : Run net (opening net) (r.events ++ e ∷ []) u
+  runs = run_more net (opening net) r.events e t u r.run steps
+
+  lawful : IsOperation net t b (operation_as units o)
+  lawful = subst (IsOperation net t b) was ((runs_keep_law net r.events t r.run).amounts.operation b)
+
+  own_flow : (k : ℕ) → k < length net.pairs → from_at net.pairs k ≡ b → get_or s.words (flow_at net k) 0 < 2 ^ 63
+  own_flow k l f = mine.flow k l (subst (IsOwn v) (sym f) q.own) q.runs
+
+  pub fit : Fits o x
+  fit = fits net known t s.words r.cells b q.block o lawful r.small (runs_conserve net r.events t known r.run) (runs_conserve net (r.events ++ e ∷ []) u known runs) own_flow
+
+  operation_is : u.operation ≡ put t.operation b (operation_as units (after net b (get_or v.labels b 0) o x))
+  operation_is = operation_shown net known t s.words r.cells b q.block o ∙ ap (λ (l : ℕ). put t.operation b (operation_as units (after net b l o x))) (mine.label b q.block q.own q.runs)
+
+  pub placed_after : IsPlaced net b (turned b v x).operation
+  placed_after = placed net u b (turned b v x).operation
+      (subst (IsOperation net u b) (ap (λ (f : ℕ → _). f b) operation_is ∙ put-same t.operation b _) ((runs_keep_law net (r.events ++ e ∷ []) u runs).amounts.operation b))
+
+  apart : (j : ℕ) (y : View) → j ≢ id → get_elem? s.views j ≡ some y → (c : ℕ) → c < count net → IsOwn y c → c ≢ b
+  apart j y ne at' c l own is = ne (sym ((r.seats j y at').owns c l own) ∙ ap r.owner is ∙ mine.owns b q.block q.own)
+
+  sees_mine : Sees net u r.owner (set s.words i (written o x)) id (turned b v x)
+  sees_mine = record {
+    owns = λ c l own. mine.owns c l (record { live = own.live; serves = own.serves });
+    operation = λ c l own. elim (cases_eq c b) [
+      | inl is ↦ ap (λ (f : ℕ → _). f c) operation_is ∙ ap (put t.operation b _) is ∙ put-same t.operation b _ ∙ ap (operation_as units) (sym (operation_here (turned b v x) c (sym is)))
+      | inr ne ↦
+          ap (λ (f : ℕ → _). f c) operation_is ∙ put-other t.operation b _ c ne ∙ mine.operation c l (record { live = own.live; serves = own.serves })
+          ∙ ap (operation_as units) (shown_else v b c q ne ∙ sym (operation_else (turned b v x) c (λ h. ne (sym h))))
+    ];
+    label = λ c l own run. labels_shown net known t s.words r.cells b q.block o v.labels (let w = q.wide in let lb = q.block in omega (arith, w, lb)) c (mine.label c l (record { live = own.live; serves = own.serves }) q.runs);
+    flow = λ k l own run. flow_shown net known t s.words r.cells b q.block o (placed net t b o lawful) k l (inl run) (mine.flow k l (record { live = own.live; serves = own.serves }) q.runs);
+  }
+
+  sees_other : (j : ℕ) (y : View) → j ≢ id → get_elem? s.views j ≡ some y → Sees net u r.owner (set s.words i (written o x)) j y
+  sees_other j y ne at' =
+      let old = r.seats j y at' in
+      record {
+        owns = old.owns;
+        operation = λ c l own. ap (λ (f : ℕ → _). f c) operation_is ∙ put-other t.operation b _ c (apart j y ne at' c l own) ∙ old.operation c l own;
+        label = λ c l own run. labels_else net known t s.words r.cells b q.block o c (apart j y ne at' c l own) ∙ old.label c l own run;
+        flow = λ k l own run. flow_shown net known t s.words r.cells b q.block o (placed net t b o lawful) k l (inr (apart j y ne at' (from_at net.pairs k) (known k (0, 0) l).0 own)) (old.flow k l own run);
+      }
+
+  pub keeps_rule : (homes : List _) → Ruled net (record { words = set s.words i (written o x); homes = homes; views = set s.views id (turned b v x) })
+  keeps_rule homes = record {
+    events = r.events ++ e ∷ [];
+    machine = u;
+    owner = r.owner;
+    is_net = r.is_net;
+    small = r.small;
+    run = runs;
+    made = made_more net r.events e s.views id v (turned b v x) r.made at (λ j y ne at' c l own. apart j y ne at' c l own) refl q.own (λ c. (λ own. record { live = own.live; serves = own.serves }, λ own. record { live = own.live; serves = own.serves }));
+    cells = cells_shown net known t s.words r.cells b q.block o (placed net t b o lawful) fit;
+    seats = seats_set (λ j y. Sees net u r.owner (set s.words i (written o x)) j y) s.views id (turned b v x) sees_mine sees_other;
+  }
+
+  -- the state after the step, where its numbers are too large
+  pushed_far : (have : ℕ) (p : Port) (kind : PortKind) (k : ℕ) → IsEnd net b kind p.other p.slot → overfull kind have (get_or s.words (capacity_word net b kind p.slot) 0) ≡ true → (v' : law.State) → Run net (opening net) (r.events ++ e ∷ []) v'
+      → Cells net v' (set s.words (capacity_word net b kind p.slot) (push_written kind (push_units have kind k) (get_or s.words (capacity_word net b kind p.slot) 0))) → SomeFlowIsTooLarge net
+  pushed_far have p Sink k h f v' run c = absurd cc
+  pushed_far have p Forward k h f v' run c =
+      let i = flow_at net p.slot in
+      let w = r.cells.wide in
+      let g = h.0 in
+      let y = get_or s.words i 0 + have in
+      let more = ltb-true 9223372036854775807 y f in
+      let is : v'.flow p.slot ≡ units y = c.flow p.slot h.0 ∙ ap units (get_or-set_same s.words i y 0 (omega (arith, w, g))) in
+      record { events = r.events ++ e ∷ []; machine = v'; run = run; pair = p.slot; known = h.0; amount = subst (AtMost (units 9223372036854775808)) (sym is) (units_above 9223372036854775808 y (omega (arith, more))) }
+  pushed_far have p Backward k h f v' run c = absurd cc
+  pushed_far have p Source k h f v' run c = absurd cc
+
+  flow_far : (z : Operation ℕ) → o ≡ z → IsPlaced net b z → stopped_after z (get_or s.words (word_of net b z) 0) ≡ true → SomeFlowIsTooLarge net
+  flow_far Idle is h f = absurd cc
+  flow_far (Scan have place read best) is h f = absurd cc
+  flow_far (PushDue have best) is h f =
+      pushed_far have best.port best.port.kind best.capacity h f u runs (subst (λ (z : Operation ℕ). Cells net u (set s.words (word_of net b z) (written z (get_or s.words (word_of net b z) 0)))) is (cells_shown net known t s.words r.cells b q.block o (placed net t b o lawful) fit))
+  flow_far (TakeDue d p) is h f = absurd cc
+  flow_far (GiveDue d p) is h f = absurd cc
+  flow_far (RaiseDue have best) is h f = absurd cc
+
+  label_far : (z : Operation ℕ) → u.operation b ≡ operation_as units z → RaisesTooFar z → SomeLabelIsTooLarge net
+  label_far Idle is h = absurd h
+  label_far (Scan have place read best) is h = absurd h
+  label_far (PushDue have best) is h = absurd h
+  label_far (TakeDue d p) is h = absurd h
+  label_far (GiveDue d p) is h = absurd h
+  label_far (RaiseDue have best) is h = record { events = r.events ++ e ∷ []; machine = u; run = runs; block = b; known = q.block; have = units have; best = best_as units best; next = is; label = h }
+
+  pub large_by : IsLargeBy net (turned b v x).stopped (turned b v x).operation
+  large_by = record {
+    flow = flow_far o refl (placed net t b o lawful);
+    label = label_far (turned b v x).operation (ap (λ (f : ℕ → _). f b) operation_is ∙ put-same t.operation b _);
+  }
+
+-- any operation on the word that writes what the step writes
+pub turns : (slots id a b : ℕ) (me : Sat) (f : ℕ → ℕ) → CanTurn me.0 b → ((x : ℕ) → x < 2 ^ 64 → Fits me.0.operation x → f x ≡ written me.0.operation x)
+    → Allows (Ruled me.0.net) slots id me (word_of me.0.net b me.0.operation) f (turned_so (step slots (word_of me.0.net b me.0.operation) a 0 none) me)
+turns slots id a b me f q writes s r _ at small =
+    let v = me.0 in
+    let i = word_of v.net b v.operation in
+    let x : ℕ = get_or s.words i 0 in
+    let is : f x ≡ written v.operation x = writes x small (fit s id b v q r at) in
+    let block = block_is v b q in (
+      turned b v x,
+      keeps,
+      tt,
+      subst (λ (z : ℕ). Ruled v.net (stepped s i z id me.1 (turned b v x) keeps)) (sym is) (keeps_rule s id b v q r at s.homes),
+      (ap (λ (c : ℕ). turned c v x) (sym block), subst (λ (c : ℕ). IsPlaced v.net c (turned b v x).operation) (sym block) (placed_after s id b v q r at), refl, large_by s id b v q r at),
+    )

@@ -1,0 +1,55 @@
+-- A load of an arrival keeps the rule, and tells a number below 2^63.
+use Rattle.std.proofs.Common.{◌≡◌, ℕ, ◌<◌, ◌≤◌, ◌^◌, List, [], ◌∷◌, ◌++◌, get_or, set, sym, refl, subst, arith}
+use mathlib.Core.Logic.{dite}
+use native.Mathlib.Decide.{ℕ_discrete}
+use mathlib.Core.Option.{none, some}
+use lib.ListN.{get_elem?}
+use lib.Seq.{set-get_or}
+use Rattle.atomic_table.specs.Table.{State, step, keeps, Allows}
+use Rattle.closure_net.specs.Network.{NetView}
+use Rattle.machine_law.specs.Conservation.{all_given}
+use Rattle.machine_law.proofs.Conserved.{runs_conserve}
+use Rattle.word_runner.specs.declared.view.View.{View}
+use Rattle.word_runner.specs.Words.{Ruled, Sees, IsOwn, IsMadeBy, Sat, looked_up}
+use Rattle.word_runner.proofs.SeatViews.{seats_set}
+use Rattle.word_runner.proofs.Units.{fits_in}
+
+arrived_small : (net : NetView) (s : State (Unit {0}) View) → Ruled net s → (i : ℕ) → i < 2 → get_or s.words i 0 < 2 ^ 63
+arrived_small net s r i l =
+    let w = runs_conserve net r.events r.machine r.is_net.rests.known r.run in
+    let a = fits_in 9223372036854775807 (get_or s.words 0 0) r.machine.at_source (all_given net) r.cells.at_source w.source_most r.small in
+    let b = fits_in 9223372036854775807 (get_or s.words 1 0) r.machine.at_sink (all_given net) r.cells.at_sink w.sink_most r.small in
+    dite (ℕ_discrete i 0)
+    (λ e. subst (λ (k : ℕ). get_or s.words k 0 < 2 ^ 63) (sym e) (omega (arith, a)))
+    (λ ne. let e : i ≡ 1 = omega (arith, ne, l) in subst (λ (k : ℕ). get_or s.words k 0 < 2 ^ 63) (sym e) (omega (arith, b)))
+
+-- a view that differs in what was loaded alone
+loaded_more : (net : NetView) (s : State (Unit {0}) View) (id : ℕ) (v : View) (l : List (ℕ × ℕ)) → Ruled net s → get_elem? s.views id ≡ some v → Ruled net (record { words = s.words; homes = s.homes; views = set s.views id (record v { loaded = l }) })
+loaded_more net s id v l r at =
+    let mine = r.seats id v at in
+    let made = r.made id v at in
+    let same : (b : ℕ) → IsOwn (record v { loaded = l }) b → IsOwn v b = λ b o. record { live = o.live; serves = o.serves } in
+    record {
+      events = r.events;
+      machine = r.machine;
+      owner = r.owner;
+      is_net = r.is_net;
+      small = r.small;
+      run = r.run;
+      made = seats_set (λ j x. IsMadeBy net r.events x) s.views id (record v { loaded = l })
+          (record { own = λ b m o. made.own b m (same b o); other = λ b m no. made.other b m (λ o. no (record { live = o.live; serves = o.serves })) }) (λ j x ne e. r.made j x e);
+      cells = r.cells;
+      seats = seats_set (λ j x. Sees net r.machine r.owner s.words j x) s.views id (record v { loaded = l })
+          (record { owns = λ b m o. mine.owns b m (same b o); operation = λ b m o. mine.operation b m (same b o); label = λ b m o. mine.label b m (same b o); flow = λ k m o. mine.flow k m (same _ o) })
+          (λ j x ne e. r.seats j x e);
+    }
+
+pub looks_up : (net : NetView) (slots id i : ℕ) (me : Sat) → Allows (Ruled net) slots id me i (λ n. n) (looked_up (step slots i 0 0 none) me)
+looks_up net slots id i me s r _ at _ =
+    let l = me.0.loaded ++ (i, get_or s.words i 0) ∷ [] in (
+      record me.0 { loaded = l },
+      keeps,
+      tt,
+      subst (λ (z : List ℕ). Ruled net (record { words = z; homes = s.homes; views = set s.views id (record me.0 { loaded = l }) })) (sym (set-get_or s.words i 0)) (loaded_more net s id me.0 l r at),
+      (refl, refl, λ m. arrived_small net s r i m),
+    )

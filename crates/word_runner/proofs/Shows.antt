@@ -1,0 +1,139 @@
+-- The step of the machine that is next for a block, as its word shows it: what the block's operation and the labels become.
+use Rattle.std.proofs.Common.{◌≡◌, ◌≢◌, ℕ, zero, ◌+◌, ◌<◌, Bool, true, false, cond, nat_lt, Option, Some, None, List, All, length, get_or, set, refl, ap, sym, ◌∙◌, subst, arith, get_or-set_other, get_or-set_same}
+use Rattle.std.proofs.Common.{inl, inr}
+use Rattle.std.proofs.lemmas.Bool.{cases_eq}
+use Rattle.std.specs.Prelude.{slice_get}
+use Rattle.std.specs.Option.{option_map}
+use Rattle.ordered_group.specs.Amount.{Amount, zero_amount}
+use Rattle.prec_file.specs.Rests.{IsKnown, from_at, to_at}
+use Rattle.closure_net.specs.Network.{NetView}
+use Rattle.closure_net.specs.Ports.{ports}
+use Rattle.closure_net.specs.declared.port.Port.{Port}
+use Rattle.closure_net.specs.declared.port.PortKind.{PortKind}
+use Rattle.closure_net.specs.declared.port.PortKind.TheVariants.{Sink, Forward, Backward, Source}
+use Rattle.machine_law.specs.declared.operations.Best.{Best}
+use Rattle.machine_law.specs.declared.operations.Operation.{Operation}
+use Rattle.machine_law.specs.declared.operations.Operation.TheVariants.{Idle, Scan, PushDue, TakeDue, GiveDue, RaiseDue}
+use Rattle.machine_law.specs.Operations.{best_as, operation_as}
+use Rattle.machine_law.specs.States as law
+use Rattle.machine_law.specs.States.{put}
+use Rattle.machine_law.specs.Residual.{IsEnd, IsPortOf, end_label, label_beyond}
+use Rattle.machine_law.specs.Reads.{is_positive, begun, passed, seen, chosen}
+use Rattle.machine_law.specs.Steps.{looked, looked_by, weighed, push_amount, pushed_by, given_by, advance_by}
+use Rattle.machine_law.proofs.Points.{put-same, put-other}
+use Rattle.machine_law.proofs.Naturality.{passed-as, chosen-as}
+use Rattle.machine_law.proofs.PortLists.{port_with, port-at}
+use Rattle.word_runner.specs.Words.{units, count, Cells, label_at, look_word, look_word_at, label_word_at, word_of, begun_at, seen_at, looked_at, looked_if, weighed_if, after, push_units, labels_after}
+use Rattle.word_runner.proofs.Units.{positive_units, least_units}
+
+-- ---- reads over units
+begun_units : (x : ℕ) → begun (units x) ≡ operation_as units (begun_at x)
+begun_units x = ap (λ z. cond z (Scan (units x) 0 None None) Idle) (positive_units x) ∙ pick (nat_lt 0 x)
+  where
+    pick : (z : Bool) → cond z (Scan (units x) 0 None None) Idle ≡ operation_as units (cond z (Scan x 0 None None) Idle)
+    pick true = refl
+    pick false = refl
+
+seen_units : (n label have place : ℕ) (best : Option (Best ℕ)) (x : ℕ) → seen n label (units have) place (option_map (best_as units) best) (units x) ≡ operation_as units (seen_at n label have place best x)
+seen_units n label have place best x =
+    ap (λ z. cond z (Scan (units have) place (Some (units x)) (option_map (best_as units) best)) (passed n label (units have) place (option_map (best_as units) best))) (positive_units x)
+    ∙ ap (λ o. cond (nat_lt 0 x) (Scan (units have) place (Some (units x)) (option_map (best_as units) best)) o) (sym (passed-as units n label have place best))
+    ∙ pick (nat_lt 0 x)
+  where
+    pick : (z : Bool) → cond z (Scan (units have) place (Some (units x)) (option_map (best_as units) best)) (operation_as units (passed n label have place best)) ≡ operation_as units (cond z (Scan have place (Some x) best) (passed n label have place best))
+    pick true = refl
+    pick false = refl
+
+pub push_of_units : (have : ℕ) (kind : PortKind) (read : ℕ) → push_amount (units have) kind (units read) ≡ units (push_units have kind read)
+push_of_units have Sink read = least_units have read
+push_of_units have Forward read = refl
+push_of_units have Backward read = least_units have read
+push_of_units have Source read = least_units have read
+
+-- the other end of a port is a block
+pub other_within : (net : NetView) (b : ℕ) (kind : PortKind) (other slot : ℕ) → All (IsKnown (count net)) net.pairs → b < count net → IsEnd net b kind other slot → other < count net
+other_within net b Sink other slot known lb q = let e = q.0 in omega (arith, e, lb)
+other_within net b Forward other slot known lb q = let k = (known slot (0, 0) q.0).1 in let e = q.2 in omega (arith, k, e)
+other_within net b Backward other slot known lb q = let k = (known slot (0, 0) q.0).0 in let e = q.2 in omega (arith, k, e)
+other_within net b Source other slot known lb q = let e = q.0 in omega (arith, e, lb)
+
+module _ (net : NetView) (known : All (IsKnown (count net)) net.pairs) (t : law.State) (ws : List ℕ) (c : Cells net t ws) (b : ℕ) (lb : b < count net) where
+  looked_shown : (have place : ℕ) (best : Option (Best ℕ)) (kind : PortKind) (other slot : ℕ) → IsEnd net b kind other slot
+      → looked_by net t b (units have) place (option_map (best_as units) best) (port_with kind other slot) kind ≡ operation_as units (looked_at net b (t.label b) have place best (port_with kind other slot) kind (get_or ws (look_word net b kind other slot) 0))
+  looked_shown have place best Sink other slot q = ap (seen (length (ports net b)) (t.label b) (units have) place (option_map (best_as units) best)) (c.room b lb) ∙ seen_units (length (ports net b)) (t.label b) have place best _
+  looked_shown have place best Forward other slot q =
+      ap (chosen (length (ports net b)) (t.label b) (units have) place (option_map (best_as units) best) zero_amount (port_with Forward other slot)) (c.label other (other_within net b Forward other slot known lb q))
+      ∙ sym (chosen-as units (length (ports net b)) (t.label b) have place best 0 (port_with Forward other slot) _)
+  looked_shown have place best Backward other slot q = ap (seen (length (ports net b)) (t.label b) (units have) place (option_map (best_as units) best)) (c.flow slot q.0) ∙ seen_units (length (ports net b)) (t.label b) have place best _
+  looked_shown have place best Source other slot q = ap (seen (length (ports net b)) (t.label b) (units have) place (option_map (best_as units) best)) (c.source b lb) ∙ seen_units (length (ports net b)) (t.label b) have place best _
+
+  looked_shown_if : (have place : ℕ) (best : Option (Best ℕ)) (q : Option Port) → slice_get (ports net b) place ≡ q
+      → looked net t b (units have) place (option_map (best_as units) best) q ≡ operation_as units (looked_if net b (t.label b) have place best q (get_or ws (look_word_at net b q) 0))
+  looked_shown_if have place best None e = refl
+  looked_shown_if have place best (Some p) e = looked_shown have place best p.kind p.other p.slot (port-at net b place p e)
+
+  weighed_shown_if : (have place : ℕ) (best : Option (Best ℕ)) (read : ℕ) (q : Option Port) → slice_get (ports net b) place ≡ q
+      → weighed net t b (units have) place (option_map (best_as units) best) (units read) q ≡ operation_as units (weighed_if net b (t.label b) have place best read q (get_or ws (label_word_at net q) 0))
+  weighed_shown_if have place best read None e = refl
+  weighed_shown_if have place best read (Some p) e =
+      ap (λ h. chosen (length (ports net b)) (t.label b) (units have) place (option_map (best_as units) best) (units read) p (label_beyond net p.kind h)) (c.label p.other (other_within net b p.kind p.other p.slot known lb (port-at net b place p e)))
+      ∙ sym (chosen-as units (length (ports net b)) (t.label b) have place best read p _)
+
+  -- a push, by the kind of port
+  pushed_operation : (d : Amount) (p : Port) (kind : PortKind) → (pushed_by t b d p kind).operation ≡ put t.operation b (TakeDue d p)
+  pushed_operation d p Sink = refl
+  pushed_operation d p Forward = refl
+  pushed_operation d p Backward = refl
+  pushed_operation d p Source = refl
+
+  given_operation : (d : Amount) (p : Port) (kind : PortKind) → (given_by t b d p kind).operation ≡ put t.operation b Idle
+  given_operation d p Sink = refl
+  given_operation d p Forward = refl
+  given_operation d p Backward = refl
+  given_operation d p Source = refl
+
+  pub operation_shown : (o : Operation ℕ) → (advance_by net t b (operation_as units o)).operation ≡ put t.operation b (operation_as units (after net b (t.label b) o (get_or ws (word_of net b o) 0)))
+  operation_shown Idle = ap (λ a. put t.operation b (begun a)) (c.excess b lb) ∙ ap (put t.operation b) (begun_units _)
+  operation_shown (Scan have place None best) = ap (put t.operation b) (looked_shown_if have place best (slice_get (ports net b) place) refl)
+  operation_shown (Scan have place (Some read) best) = ap (put t.operation b) (weighed_shown_if have place best read (slice_get (ports net b) place) refl)
+  operation_shown (PushDue have best) = pushed_operation (push_amount (units have) best.port.kind (units best.capacity)) best.port best.port.kind ∙ ap (λ a. put t.operation b (TakeDue a best.port)) (push_of_units have best.port.kind best.capacity)
+  operation_shown (TakeDue d p) = refl
+  operation_shown (GiveDue d p) = given_operation (units d) p p.kind
+  operation_shown (RaiseDue have best) = refl
+
+  -- ---- labels
+  pushed_label : (d : Amount) (p : Port) (kind : PortKind) → (pushed_by t b d p kind).label ≡ t.label
+  pushed_label d p Sink = refl
+  pushed_label d p Forward = refl
+  pushed_label d p Backward = refl
+  pushed_label d p Source = refl
+
+  given_label : (d : Amount) (p : Port) (kind : PortKind) → (given_by t b d p kind).label ≡ t.label
+  given_label d p Sink = refl
+  given_label d p Forward = refl
+  given_label d p Backward = refl
+  given_label d p Source = refl
+
+  abbrev LabelsTo : Operation ℕ → Type 0
+  LabelsTo o = (labels : List ℕ) → b < length labels → (x : ℕ) → t.label x ≡ get_or labels x 0 → (advance_by net t b (operation_as units o)).label x ≡ get_or (labels_after labels b o) x 0
+
+  pub labels_shown : (o : Operation ℕ) → LabelsTo o
+  labels_shown Idle labels l x e = e
+  labels_shown (Scan have place None best) labels l x e = e
+  labels_shown (Scan have place (Some read) best) labels l x e = e
+  labels_shown (PushDue have best) labels l x e = ap (λ f. f x) (pushed_label (push_amount (units have) best.port.kind (units best.capacity)) best.port best.port.kind) ∙ e
+  labels_shown (TakeDue d p) labels l x e = e
+  labels_shown (GiveDue d p) labels l x e = ap (λ f. f x) (given_label (units d) p p.kind) ∙ e
+  labels_shown (RaiseDue have best) labels l x e = elim (cases_eq x b) [
+    | inl at ↦ subst (λ z. put t.label b (best.label + 1) z ≡ get_or (set labels b (best.label + 1)) z 0) (sym at) (put-same t.label b (best.label + 1) ∙ sym (get_or-set_same labels b (best.label + 1) 0 l))
+    | inr ne ↦ put-other t.label b (best.label + 1) x ne ∙ e ∙ sym (get_or-set_other labels b x (best.label + 1) 0 ne)
+  ]
+
+  pub labels_else : (o : Operation ℕ) (x : ℕ) → x ≢ b → (advance_by net t b (operation_as units o)).label x ≡ t.label x
+  labels_else Idle x ne = refl
+  labels_else (Scan have place None best) x ne = refl
+  labels_else (Scan have place (Some read) best) x ne = refl
+  labels_else (PushDue have best) x ne = ap (λ f. f x) (pushed_label (push_amount (units have) best.port.kind (units best.capacity)) best.port best.port.kind)
+  labels_else (TakeDue d p) x ne = refl
+  labels_else (GiveDue d p) x ne = ap (λ f. f x) (given_label (units d) p p.kind)
+  labels_else (RaiseDue have best) x ne = put-other t.label b (best.label + 1) x ne

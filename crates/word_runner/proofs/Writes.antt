@@ -1,0 +1,180 @@
+-- The step that is next for a block, as its word shows it: that the word doesn't wrap, and what the words show after.
+use Rattle.std.proofs.Common.{inl, inr, ◌⊎◌, ◌≡◌, ◌≢◌, ℕ, zero, ◌+◌, ◌-◌, ◌<◌, ◌≤◌, ◌^◌, ◌==◌, Bool, true, false, cond, nat_lt, Option, Some, None, List, All, length, get_or, set, refl, ap, sym, ◌∙◌, subst, arith, get_or-set_other, get_or-set_same}
+use Rattle.std.specs.Prelude.{slice_get}
+use Rattle.std.specs.Option.{option_map}
+use Rattle.std.proofs.lemmas.Bool.{cases_eq, ltb-false}
+use lib.Seq.{set-get_or}
+use Rattle.ordered_group.specs.Amount.{Amount, zero_amount, plus, minus, negative, AtMost}
+use Rattle.ordered_group.specs.Sums.{amount_at}
+use Rattle.ordered_group.proofs.Order.{AtMost-trans}
+use Rattle.prec_file.specs.Rests.{IsKnown, from_at, to_at}
+use Rattle.closure_net.specs.Network.{NetView}
+use Rattle.closure_net.specs.Ports.{ports}
+use Rattle.closure_net.specs.declared.port.Port.{Port}
+use Rattle.closure_net.specs.declared.port.PortKind.{PortKind}
+use Rattle.closure_net.specs.declared.port.PortKind.TheVariants.{Sink, Forward, Backward, Source}
+use Rattle.machine_law.specs.declared.operations.Best.{Best}
+use Rattle.machine_law.specs.declared.operations.Operation.{Operation}
+use Rattle.machine_law.specs.declared.operations.Operation.TheVariants.{Idle, Scan, PushDue, TakeDue, GiveDue, RaiseDue}
+use Rattle.machine_law.specs.Operations.{best_as, operation_as}
+use Rattle.machine_law.specs.States as law
+use Rattle.machine_law.specs.States.{put}
+use Rattle.machine_law.specs.Residual.{IsEnd, IsPortOf}
+use Rattle.machine_law.specs.Amounts.{IsOperation, IsBestIfAny, IsWithinBy}
+use Rattle.machine_law.specs.Steps.{looked, weighed, push_amount, pushed_by, given_by, advance_by}
+use Rattle.machine_law.specs.Reads.{begun}
+use Rattle.machine_law.specs.Conservation.{all_given, IsWhole}
+use Rattle.machine_law.proofs.Points.{put-same}
+use Rattle.machine_law.proofs.PortLists.{port_with}
+use Rattle.word_runner.specs.Words.{units, count, width, Cells, excess_at, label_at, flow_at, capacity_word, landing_word, word_of, written, smaller, push_units, push_written, overfull, stopped_after, IsBestPlaced, IsPlaced}
+use Rattle.word_runner.proofs.Units.{units_most, units_minus, units_plus, less_room, fits_in, smaller_right}
+use Rattle.word_runner.proofs.Cells.{cells_op, cells_excess, cells_flow, cells_label, cells_source, cells_room, cells_at_source, cells_at_sink}
+use Rattle.word_runner.proofs.Shows.{push_of_units, other_within}
+
+-- ---- the word of a step takes what is written into it
+abbrev pub push_fits : PortKind → ℕ → ℕ → Type 0
+push_fits Sink d x = d ≤ x
+push_fits Forward d x = x + d < 2 ^ 64
+push_fits Backward d x = d ≤ x
+push_fits Source d x = d ≤ x
+
+abbrev pub Fits : Operation ℕ → ℕ → Type 0
+Fits Idle x = Unit {0}
+Fits (Scan have place read best) x = Unit {0}
+Fits (PushDue have best) x = push_fits best.port.kind (push_units have best.port.kind best.capacity) x
+Fits (TakeDue d port) x = d ≤ x
+Fits (GiveDue d port) x = x + d < 2 ^ 63
+Fits (RaiseDue have best) x = Unit {0}
+
+-- the places and ports of a lawful operation are there
+best_placed : (net : NetView) (t : law.State) (b : ℕ) (best : Option (Best ℕ)) → IsBestIfAny net t b (option_map (best_as units) best) → IsBestPlaced net b best
+best_placed net t b None h = tt
+best_placed net t b (Some best) h = h.port
+
+pub placed : (net : NetView) (t : law.State) (b : ℕ) (o : Operation ℕ) → IsOperation net t b (operation_as units o) → IsPlaced net b o
+placed net t b Idle h = tt
+placed net t b (Scan have place read best) h = (h.inside, best_placed net t b best h.passed)
+placed net t b (PushDue have best) h = h.over.port
+placed net t b (TakeDue d port) h = h.1
+placed net t b (GiveDue d port) h = h.1
+placed net t b (RaiseDue have best) h = h.over.port
+
+module _ (net : NetView) (known : All (IsKnown (count net)) net.pairs) (t : law.State) (ws : List ℕ) (c : Cells net t ws) (b : ℕ) (lb : b < count net) where
+  -- ---- the words after
+  pushed_cells : (d : ℕ) (p : Port) (kind : PortKind) → IsEnd net b kind p.other p.slot → push_fits kind d (get_or ws (capacity_word net b kind p.slot) 0)
+      → Cells net (pushed_by t b (units d) p kind) (set ws (capacity_word net b kind p.slot) (push_written kind d (get_or ws (capacity_word net b kind p.slot) 0)))
+  pushed_cells d p Sink q f = cells_room net t ws c (put t.operation b (TakeDue (units d) p)) (t.steps + 1) b _ (plus (t.sink b) (units d)) lb (less_room (negative (amount_at net.worths b)) (t.sink b) _ d (c.room b lb) f)
+  pushed_cells d p Forward q f = cells_flow net t ws c (put t.operation b (TakeDue (units d) p)) (t.steps + 1) p.slot _ (plus (t.flow p.slot) (units d)) q.0 (units_plus _ d (t.flow p.slot) (c.flow p.slot q.0))
+  pushed_cells d p Backward q f = cells_flow net t ws c (put t.operation b (TakeDue (units d) p)) (t.steps + 1) p.slot _ (minus (t.flow p.slot) (units d)) q.0 (units_minus _ d (t.flow p.slot) (c.flow p.slot q.0) f)
+  pushed_cells d p Source q f = cells_source net t ws c (put t.operation b (TakeDue (units d) p)) (t.steps + 1) b _ (minus (t.source b) (units d)) lb (units_minus _ d (t.source b) (c.source b lb) f)
+
+  given_cells : (d : ℕ) (p : Port) (kind : PortKind) → IsEnd net b kind p.other p.slot
+      → Cells net (given_by t b (units d) p kind) (set ws (landing_word net kind p.other) (get_or ws (landing_word net kind p.other) 0 + d))
+  given_cells d p Sink q = cells_at_sink net t ws c (put t.operation b Idle) (t.steps + 1) _ (plus t.at_sink (units d)) (units_plus _ d t.at_sink c.at_sink)
+  given_cells d p Forward q = let l = other_within net b Forward p.other p.slot known lb q in cells_excess net t ws c (put t.operation b Idle) (t.steps + 1) p.other _ (plus (t.excess p.other) (units d)) l (units_plus _ d (t.excess p.other) (c.excess p.other l))
+  given_cells d p Backward q = let l = other_within net b Backward p.other p.slot known lb q in cells_excess net t ws c (put t.operation b Idle) (t.steps + 1) p.other _ (plus (t.excess p.other) (units d)) l (units_plus _ d (t.excess p.other) (c.excess p.other l))
+  given_cells d p Source q = cells_at_source net t ws c (put t.operation b Idle) (t.steps + 1) _ (plus t.at_source (units d)) (units_plus _ d t.at_source c.at_source)
+
+  -- a step that changes no word
+  read_cells : (o : Operation Amount) (i : ℕ) → Cells net (record t { operation = put t.operation b o; steps = t.steps + 1 }) (set ws i (get_or ws i 0))
+  read_cells o i = subst (Cells net (record t { operation = put t.operation b o; steps = t.steps + 1 })) (sym (set-get_or ws i 0)) (cells_op net t ws c (put t.operation b o) (t.steps + 1))
+
+  pub cells_shown : (o : Operation ℕ) → IsPlaced net b o → Fits o (get_or ws (word_of net b o) 0) → Cells net (advance_by net t b (operation_as units o)) (set ws (word_of net b o) (written o (get_or ws (word_of net b o) 0)))
+  cells_shown Idle q f = read_cells (begun (t.excess b)) (excess_at net b)
+  cells_shown (Scan have place None best) q f = read_cells (looked net t b (units have) place (option_map (best_as units) best) (slice_get (ports net b) place)) (word_of net b (Scan have place None best))
+  cells_shown (Scan have place (Some read) best) q f = read_cells (weighed net t b (units have) place (option_map (best_as units) best) (units read) (slice_get (ports net b) place)) (word_of net b (Scan have place (Some read) best))
+  cells_shown (PushDue have best) q f =
+      let k = best.port.kind in
+      let i = capacity_word net b k best.port.slot in
+      let d = push_units have k best.capacity in
+      subst (λ a. Cells net (pushed_by t b a best.port k) (set ws i (push_written k d (get_or ws i 0)))) (sym (push_of_units have k best.capacity)) (pushed_cells d best.port k q f)
+  cells_shown (TakeDue d p) q f = cells_excess net t ws c (put t.operation b (GiveDue (units d) p)) (t.steps + 1) b _ (minus (t.excess b) (units d)) lb (units_minus _ d (t.excess b) (c.excess b lb) f)
+  cells_shown (GiveDue d p) q f = given_cells d p p.kind q
+  cells_shown (RaiseDue have best) q f = cells_label net t ws c (put t.operation b Idle) (t.steps + 1) b (best.label + 1) lb
+
+  -- ---- the word takes it
+  push_most : (have read slot : ℕ) (kind : PortKind) (other : ℕ) → IsEnd net b kind other slot → IsWithinBy net t b kind slot (units read) → (kind ≡ Forward → get_or ws (flow_at net slot) 0 + have < 2 ^ 64)
+      → push_fits kind (push_units have kind read) (get_or ws (capacity_word net b kind slot) 0)
+  push_most have read slot Sink other q w f = let m = units_most read _ _ (c.room b lb) w.1 in let s = smaller_right have read in omega (arith, m, s)
+  push_most have read slot Forward other q w f = f refl
+  push_most have read slot Backward other q w f = let m = units_most read _ _ (c.flow slot q.0) w.1 in let s = smaller_right have read in omega (arith, m, s)
+  push_most have read slot Source other q w f = let m = units_most read _ _ (c.source b lb) w.1 in let s = smaller_right have read in omega (arith, m, s)
+
+  -- no excess and no arrival passes what is given in all, after the step
+  landed : (d : ℕ) (p : Port) (kind : PortKind) → IsEnd net b kind p.other p.slot → AtMost (all_given net) (units 9223372036854775807) → IsWhole net (given_by t b (units d) p kind) → get_or ws (landing_word net kind p.other) 0 + d < 2 ^ 63
+  landed d p Sink q m w = let l = fits_in 9223372036854775807 _ (plus t.at_sink (units d)) (all_given net) (units_plus _ d t.at_sink c.at_sink) w.sink_most m in omega (arith, l)
+  landed d p Forward q m w =
+      let lo = other_within net b Forward p.other p.slot known lb q in
+      let l = fits_in 9223372036854775807 _ (put t.excess p.other (plus (t.excess p.other) (units d)) p.other) (all_given net) (put-same t.excess p.other (plus (t.excess p.other) (units d)) ∙ units_plus _ d (t.excess p.other) (c.excess p.other lo)) (w.excess_most p.other lo) m in
+      omega (arith, l)
+  landed d p Backward q m w =
+      let lo = other_within net b Backward p.other p.slot known lb q in
+      let l = fits_in 9223372036854775807 _ (put t.excess p.other (plus (t.excess p.other) (units d)) p.other) (all_given net) (put-same t.excess p.other (plus (t.excess p.other) (units d)) ∙ units_plus _ d (t.excess p.other) (c.excess p.other lo)) (w.excess_most p.other lo) m in
+      omega (arith, l)
+  landed d p Source q m w = let l = fits_in 9223372036854775807 _ (plus t.at_source (units d)) (all_given net) (units_plus _ d t.at_source c.at_source) w.source_most m in omega (arith, l)
+
+  -- a push is below 2^63 units
+  have_small : (have : ℕ) → AtMost (all_given net) (units 9223372036854775807) → IsWhole net t → AtMost (units have) (t.excess b) → have < 2 ^ 63
+  have_small have m w h = let l = fits_in 9223372036854775807 have (units have) (all_given net) refl (AtMost-trans (units have) (t.excess b) (all_given net) h (w.excess_most b lb)) m in omega (arith, l)
+
+  pub fits : (o : Operation ℕ) → IsOperation net t b (operation_as units o) → AtMost (all_given net) (units 9223372036854775807) → IsWhole net t → IsWhole net (advance_by net t b (operation_as units o))
+      → ((k : ℕ) → k < length net.pairs → from_at net.pairs k ≡ b → get_or ws (flow_at net k) 0 < 2 ^ 63) → Fits o (get_or ws (word_of net b o) 0)
+  fits Idle h m w u flow = tt
+  fits (Scan have place None best) h m w u flow = tt
+  fits (Scan have place (Some read) best) h m w u flow = tt
+  fits (PushDue have best) h m w u flow = push_most have best.capacity best.port.slot best.port.kind best.port.other h.over.port h.over.within
+      (λ e. let q : IsEnd net b Forward best.port.other best.port.slot = subst (λ k. IsEnd net b k best.port.other best.port.slot) e h.over.port in
+      let f = flow best.port.slot q.0 q.1 in let s = have_small have m w h.held.held in omega (arith, f, s))
+  fits (TakeDue d p) h m w u flow = units_most d _ _ (c.excess b lb) h.0.held
+  fits (GiveDue d p) h m w u flow = landed d p p.kind h.1 m u
+  fits (RaiseDue have best) h m w u flow = tt
+
+  -- ---- the flows after
+  elsewhere : (i v k : ℕ) → flow_at net k ≢ i → get_or ws (flow_at net k) 0 < 2 ^ 63 → get_or (set ws i v) (flow_at net k) 0 < 2 ^ 63
+  elsewhere i v k ne h = subst (λ (z : ℕ). z < 2 ^ 63) (sym (get_or-set_other ws i (flow_at net k) v 0 ne)) h
+
+  lower : (i v k : ℕ) → i < length ws → v ≤ get_or ws i 0 → get_or ws (flow_at net k) 0 < 2 ^ 63 → get_or (set ws i v) (flow_at net k) 0 < 2 ^ 63
+  lower i v k l le h = elim (cases_eq (flow_at net k) i) [
+    | inl e ↦ let s : get_or (set ws i v) (flow_at net k) 0 ≡ v = ap (λ j. get_or (set ws i v) j 0) e ∙ get_or-set_same ws i v 0 l in let g = ap (λ j. get_or ws j 0) e in omega (arith, s, g, h, le)
+    | inr ne ↦ elsewhere i v k ne h
+  ]
+
+  same_flow : (i k : ℕ) → get_or ws (flow_at net k) 0 < 2 ^ 63 → get_or (set ws i (get_or ws i 0)) (flow_at net k) 0 < 2 ^ 63
+  same_flow i k h = subst (λ (xs : List ℕ). get_or xs (flow_at net k) 0 < 2 ^ 63) (sym (set-get_or ws i 0)) h
+
+  abbrev Excused : Bool → ℕ → Type 0
+  Excused stopped k = (stopped ≡ false) ⊎ (from_at net.pairs k ≢ b)
+
+  pushed_flow : (have read : ℕ) (kind : PortKind) (other slot k : ℕ) → IsEnd net b kind other slot → k < length net.pairs → Excused (overfull kind have (get_or ws (capacity_word net b kind slot) 0)) k → get_or ws (flow_at net k) 0 < 2 ^ 63
+      → get_or (set ws (capacity_word net b kind slot) (push_written kind (push_units have kind read) (get_or ws (capacity_word net b kind slot) 0))) (flow_at net k) 0 < 2 ^ 63
+  pushed_flow have read Sink other slot k q l x h = elsewhere _ _ k (λ e. omega (arith, e, lb)) h
+  pushed_flow have read Forward other slot k q l x h = elim (cases_eq k slot) [
+    | inl e ↦
+        let i = flow_at net slot in
+        let w = c.wide in
+        let v = get_or ws i 0 + have in
+        let s : get_or (set ws i v) (flow_at net k) 0 ≡ v = ap (λ j. get_or (set ws i v) (flow_at net j) 0) e ∙ get_or-set_same ws i v 0 (let g = q.0 in omega (arith, w, g)) in
+        elim x [
+          | inl y ↦ let f = ltb-false 9223372036854775807 v y in omega (arith, s, f)
+          | inr ne ↦ absurd (ne (ap (from_at net.pairs) e ∙ q.1))
+        ]
+    | inr ne ↦ elsewhere _ _ k (λ e. ne (omega (arith, e))) h
+  ]
+  pushed_flow have read Backward other slot k q l x h = let w = c.wide in let g = q.0 in lower _ _ k (omega (arith, w, g)) (omega arith) h
+  pushed_flow have read Source other slot k q l x h = elsewhere _ _ k (λ e. omega (arith, e, lb)) h
+
+  given_flow : (d k : ℕ) (kind : PortKind) (other slot : ℕ) → IsEnd net b kind other slot → get_or ws (flow_at net k) 0 < 2 ^ 63 → get_or (set ws (landing_word net kind other) (get_or ws (landing_word net kind other) 0 + d)) (flow_at net k) 0 < 2 ^ 63
+  given_flow d k Sink other slot q h = elsewhere _ _ k (λ e. omega (arith, e)) h
+  given_flow d k Forward other slot q h = let l = other_within net b Forward other slot known lb q in elsewhere _ _ k (λ e. omega (arith, e, l)) h
+  given_flow d k Backward other slot q h = let l = other_within net b Backward other slot known lb q in elsewhere _ _ k (λ e. omega (arith, e, l)) h
+  given_flow d k Source other slot q h = elsewhere _ _ k (λ e. omega (arith, e)) h
+
+  pub flow_shown : (o : Operation ℕ) → IsPlaced net b o → (k : ℕ) → k < length net.pairs → Excused (stopped_after o (get_or ws (word_of net b o) 0)) k → get_or ws (flow_at net k) 0 < 2 ^ 63
+      → get_or (set ws (word_of net b o) (written o (get_or ws (word_of net b o) 0))) (flow_at net k) 0 < 2 ^ 63
+  flow_shown Idle q k l x h = same_flow _ k h
+  flow_shown (Scan have place None best) q k l x h = same_flow _ k h
+  flow_shown (Scan have place (Some read) best) q k l x h = same_flow _ k h
+  flow_shown (PushDue have best) q k l x h = pushed_flow have best.capacity best.port.kind best.port.other best.port.slot k q l x h
+  flow_shown (TakeDue d p) q k l x h = elsewhere _ _ k (λ e. omega (arith, e, lb)) h
+  flow_shown (GiveDue d p) q k l x h = given_flow d k p.kind p.other p.slot q h
+  flow_shown (RaiseDue have best) q k l x h = elsewhere _ _ k (λ e. omega (arith, e, lb)) h

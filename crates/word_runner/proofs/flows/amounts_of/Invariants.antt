@@ -1,0 +1,13 @@
+use Rattle.std.proofs.Common.{◌≡◌, ◌<◌, ◌≤◌, ◌+◌, ◌-◌, ℕ, length, map}
+use Rattle.std.specs.Prelude.{slice_index}
+use Rattle.std.specs.Mem.Slots.{slots_items}
+use Rattle.ordered_group.specs.Sums.{amount_at}
+use Rattle.word_runner.specs.Words.{units}
+use Rattle.word_runner.specs.Tells.{scaled_parts}
+use Rattle.word_runner.proofs.flows.amounts_of.Given as goal
+
+abbrev pub invariant-loop-k : goal.invariant-loop-k
+invariant-loop-k l = (l.k ≤ l.size) × (length l.amounts.items ≡ l.k) × ((j : ℕ) → j < l.k → amount_at (map scaled_parts l.amounts.items) j ≡ units (slice_index (slots_items l.closed.words) (l.from + j)))
+
+abbrev pub decreases-loop-k : goal.decreases-loop-k
+decreases-loop-k l = l.size - l.k

@@ -1,0 +1,14 @@
+use Rattle.std.proofs.Common.{◌≡◌, ◌<◌, ◌≤◌, ◌+◌, ◌-◌, ℕ, length, map}
+use Rattle.std.specs.Prelude.{slice_index}
+use Rattle.std.specs.Mem.Slots.{slots_items}
+use Rattle.ordered_group.specs.Amount.{minus, negative}
+use Rattle.ordered_group.specs.Sums.{amount_at}
+use Rattle.word_runner.specs.Words.{units, room_at}
+use Rattle.word_runner.specs.Tells.{scaled_parts}
+use Rattle.word_runner.proofs.flows.sinks_of.Given as goal
+
+abbrev pub invariant-loop-b : goal.invariant-loop-b
+invariant-loop-b l = (l.b ≤ l.blocks) × (length l.amounts.items ≡ l.b) × ((j : ℕ) → j < l.b → amount_at (map scaled_parts l.amounts.items) j ≡ minus (negative (amount_at l.net.worths j)) (units (slice_index (slots_items l.closed.words) (room_at l.net j))))
+
+abbrev pub decreases-loop-b : goal.decreases-loop-b
+decreases-loop-b l = l.blocks - l.b

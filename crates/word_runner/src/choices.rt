@@ -1,0 +1,206 @@
+//! What a block does next, by what it read.
+
+ghost use Rattle.std.specs.Prelude.{◌≡◌, ◌<◌, length};
+ghost use Rattle.closure_net.specs.Ports.{ports};
+ghost use Rattle.machine_law.specs.Residual.{label_beyond};
+ghost use Rattle.machine_law.specs.Reads.{better as better_of, ended as ended_by, passed as passed_by, chosen as chosen_by};
+ghost use Rattle.word_runner.specs.Words.{begun_at, seen_at, looked_at, smaller as smaller_of, push_units as units_of_push, after as after_step, IsPlaced};
+
+use closure_net::{Net, Port, PortKind};
+use machine_law::{Best, Operation};
+use ordered_group::Scaled;
+
+// The better of two ports.
+fn better(best: Option<Best<u64>>, new: Best<u64>) -> Best<u64>
+    ensures { result ≡ better_of best new }
+{
+    match best {
+        None => new,
+        Some(old) => { if new.label < old.label { new } else { old } }
+    }
+}
+
+// The operation once all ports are passed.
+fn ended(label: u64, have: u64, best: Option<Best<u64>>) -> Operation<u64>
+    ensures { result ≡ ended_by label have best }
+{
+    match best {
+        None => Operation::Idle,
+        Some(best) => {
+            if best.label < label {
+                Operation::PushDue { have, best }
+            } else {
+                Operation::RaiseDue { have, best }
+            }
+        }
+    }
+}
+
+// The operation once the port at this place is passed.
+fn passed(count: u32, label: u64, have: u64, place: u32, best: Option<Best<u64>>) -> Operation<u64>
+    requires { place < count }
+    ensures { result ≡ passed_by count label have place best }
+{
+    if place + 1 < count {
+        Operation::Scan {
+            have,
+            place: place + 1,
+            read: None,
+            best,
+        }
+    } else {
+        ended(label, have, best)
+    }
+}
+
+// The operation once a capacity is read.
+fn seen(
+    count: u32,
+    label: u64,
+    have: u64,
+    place: u32,
+    best: Option<Best<u64>>,
+    x: u64,
+) -> Operation<u64>
+    requires { place < count }
+    ensures { result ≡ seen_at count label have place best x }
+{
+    if x > 0 {
+        Operation::Scan {
+            have,
+            place,
+            read: Some(x),
+            best,
+        }
+    } else {
+        passed(count, label, have, place, best)
+    }
+}
+
+// The label beyond a port, where the word has x.
+fn beyond(net: &Net<Scaled>, kind: PortKind, x: u64) -> u64
+    ensures { result ≡ label_beyond net.now kind x }
+{
+    match kind {
+        PortKind::Sink => 0,
+        PortKind::Forward => x,
+        PortKind::Backward => x,
+        PortKind::Source => net.len() as u64 + 2,
+    }
+}
+
+// The operation once a label is read.
+fn chosen(
+    count: u32,
+    label: u64,
+    have: u64,
+    place: u32,
+    best: Option<Best<u64>>,
+    capacity: u64,
+    port: Port,
+    beyond: u64,
+) -> Operation<u64>
+    requires { place < count }
+    ensures { result ≡ chosen_by count label have place best capacity port beyond }
+{
+    let new = Best {
+        port,
+        capacity,
+        label: beyond,
+    };
+    passed(count, label, have, place, Some(better(best, new)))
+}
+
+// The operation after the first read at a port.
+fn looked(
+    net: &Net<Scaled>,
+    b: u32,
+    label: u64,
+    have: u64,
+    place: u32,
+    best: Option<Best<u64>>,
+    port: Port,
+    kind: PortKind,
+    x: u64,
+) -> Operation<u64>
+    requires known { b < length net.now.worths }
+    requires inside { place < length (ports net.now b) }
+    ensures { result ≡ looked_at net.now b label have place best port kind x }
+{
+    let count = net.ports(b);
+    match kind {
+        PortKind::Sink => seen(count, label, have, place, best, x),
+        PortKind::Forward => chosen(count, label, have, place, best, 0, port, x),
+        PortKind::Backward => seen(count, label, have, place, best, x),
+        PortKind::Source => seen(count, label, have, place, best, x),
+    }
+}
+
+fn smaller(have: u64, capacity: u64) -> u64
+    ensures { result ≡ smaller_of have capacity }
+{
+    if capacity < have { capacity } else { have }
+}
+
+/// How many units a push over a port of this kind moves.
+pub fn push_units(have: u64, kind: PortKind, capacity: u64) -> u64
+    ensures { result ≡ units_of_push have kind capacity }
+{
+    match kind {
+        PortKind::Sink => smaller(have, capacity),
+        PortKind::Forward => have,
+        PortKind::Backward => smaller(have, capacity),
+        PortKind::Source => smaller(have, capacity),
+    }
+}
+
+/// The operation of b after its next step, where its word was x.
+pub fn after(
+    net: &Net<Scaled>,
+    b: u32,
+    label: u64,
+    operation: &Operation<u64>,
+    x: u64,
+) -> Operation<u64>
+    requires known { b < length net.now.worths }
+    requires placed { IsPlaced net.now b operation.now }
+    ensures { result ≡ after_step net.now b label operation.now x }
+{
+    match *operation {
+        Operation::Idle => {
+            if x > 0 {
+                Operation::Scan {
+                    have: x,
+                    place: 0,
+                    read: None,
+                    best: None,
+                }
+            } else {
+                Operation::Idle
+            }
+        }
+        Operation::Scan {
+            have,
+            place,
+            read,
+            best,
+        } => {
+            let port = net.port(b, place);
+            match read {
+                None => looked(net, b, label, have, place, best, port, port.kind, x),
+                Some(capacity) => {
+                    let count = net.ports(b);
+                    let end = beyond(net, port.kind, x);
+                    chosen(count, label, have, place, best, capacity, port, end)
+                }
+            }
+        }
+        Operation::PushDue { have, best } => Operation::TakeDue {
+            amount: push_units(have, best.port.kind, best.capacity),
+            port: best.port,
+        },
+        Operation::TakeDue { amount, port } => Operation::GiveDue { amount, port },
+        Operation::GiveDue { amount: _, port: _ } => Operation::Idle,
+        Operation::RaiseDue { have: _, best: _ } => Operation::Idle,
+    }
+}

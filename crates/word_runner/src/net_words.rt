@@ -1,0 +1,29 @@
+//! The words of a net.
+
+ghost use Rattle.word_runner.specs.Tells.{WordsView, IsWords};
+
+use crate::table::WordTable;
+use closure_net::Net;
+use ordered_group::Scaled;
+use std::marker::Model;
+
+/// The state of the machine in words that one or two seats share without a lock.
+#[derive(Drop)]
+pub struct Words {
+    pub(crate) table: WordTable,
+    // the net that was handed in, but that a negative worth takes no more than the total
+    pub(crate) net: Net<Scaled>,
+    // what the source gives in all, in units
+    pub(crate) total: u64,
+    pub(crate) workers: u32,
+}
+
+impl Model for Words {
+    ghost use Rattle.word_runner.specs.Tells.{WordsView, IsWords};
+
+    ghost Value = { WordsView };
+
+    ghost view = { λ w. record { shared = w.table.shared; cut = w.net; total = w.total; workers = w.workers } };
+
+    ghost invariant = { λ w. IsWords w.table.shared w.net w.total w.workers };
+}

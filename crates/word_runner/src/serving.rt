@@ -1,0 +1,209 @@
+//! One worker.
+
+ghost use Rattle.std.specs.Prelude.{◌≡◌, ◌<◌, ◌≤◌, ◌+◌, ◌^◌, length, MatchResult};
+ghost use Rattle.word_runner.specs.Tells.{IsFirst, IsServing, IsRound, HasServed};
+
+use crate::net_words::Words;
+use crate::seats::WordSeat;
+use crate::turns::WordTurn;
+use std::sync::atomic::AtomicBool;
+use std::sync::atomic::Ordering::SeqCst;
+use workers::Gate;
+
+/// A worker's seat once its turns are over, and how many steps it made.
+#[derive(Drop)]
+pub struct Served {
+    pub seat: WordSeat,
+    pub steps: u64,
+}
+
+// Where a worker is in a round of its blocks.
+#[derive(Drop)]
+pub(crate) struct Round {
+    pub(crate) seat: WordSeat,
+    pub(crate) steps: u64,
+    pub(crate) at: u32,
+    // whether a block of this round had excess
+    found: bool,
+    // what had arrived at the source, where it was loaded
+    source: Option<u64>,
+}
+
+// The first round of the seat of this number.
+pub(crate) fn first_round(seat: WordSeat, number: u32) -> Round
+    ensures { (result.seat ≡ seat) × (result.at ≡ number) × (result.steps ≡ 0) }
+{
+    Round {
+        seat,
+        steps: 0,
+        at: number,
+        found: false,
+        source: None,
+    }
+}
+
+// The step that is next at the block of the round.
+fn step_at(words: &Words, round: Round, _number: u32, _turn: u64) -> Result<Round, Served>
+    requires round { IsRound words.now _number round.seat round.at round.steps _turn }
+    requires block { (round.at < length words.now.cut.worths) × (_number < words.now.workers) × (_turn + 1 < 2 ^ 64) }
+    ensures { MatchResult result
+        (λ next. IsRound words.now _number next.seat next.at next.steps (_turn + 1))
+        (λ served. HasServed words.now _number words.now.workers (_turn + 1) served.seat served.steps) }
+{
+    let _few = words.net.rests().len();
+    let Round {
+        seat,
+        steps,
+        at,
+        found,
+        source,
+    } = round;
+    let mut seat = seat;
+    match seat.turn(words, at) {
+        WordTurn::Stepped {
+            event: _,
+            more: true,
+        } => Ok(Round {
+            seat,
+            steps: steps + 1,
+            at,
+            found: true,
+            source,
+        }),
+        WordTurn::Stepped {
+            event: _,
+            more: false,
+        } => Ok(Round {
+            seat,
+            steps: steps + 1,
+            at: at + words.workers,
+            found,
+            source,
+        }),
+        WordTurn::TooLarge => Err(Served { seat, steps }),
+    }
+}
+
+// A load of an arrival, after a round in which no block had excess: first of the source's, and then of the sink's, after which
+// the next round begins, or the run ends where they sum to the total.
+fn look_at(words: &Words, round: Round, number: u32, _turn: u64) -> Result<Round, Served>
+    requires round { IsRound words.now number round.seat round.at round.steps _turn }
+    requires over { (length words.now.cut.worths ≤ round.at) × (number < words.now.workers) }
+    ensures { MatchResult result
+        (λ next. IsRound words.now number next.seat next.at next.steps (_turn + 1))
+        (λ served. HasServed words.now number words.now.workers (_turn + 1) served.seat served.steps) }
+{
+    let Round {
+        seat,
+        steps,
+        at,
+        found,
+        source,
+    } = round;
+    let mut seat = seat;
+    match source {
+        None => {
+            let amount = seat.load(words, 0);
+            Ok(Round {
+                seat,
+                steps,
+                at,
+                found,
+                source: Some(amount),
+            })
+        }
+        Some(amount) => {
+            if seat.load(words, 1).wrapping_add(amount) == words.total {
+                return Err(Served { seat, steps });
+            }
+            Ok(Round {
+                seat,
+                steps,
+                at: number,
+                found,
+                source: None,
+            })
+        }
+    }
+}
+
+// One turn.
+pub(crate) fn take_turn(
+    words: &Words,
+    round: Round,
+    number: u32,
+    turn: u64,
+) -> Result<Round, Served>
+    requires round { IsRound words.now number round.seat round.at round.steps turn }
+    requires few { (number < words.now.workers) × (turn + 1 < 2 ^ 64) }
+    ensures { MatchResult result
+        (λ next. IsRound words.now number next.seat next.at next.steps (turn + 1))
+        (λ served. HasServed words.now number words.now.workers (turn + 1) served.seat served.steps) }
+{
+    let blocks = words.net.rests().len();
+    if round.at < blocks {
+        return step_at(words, round, number, turn);
+    }
+    if !round.found {
+        return look_at(words, round, number, turn);
+    }
+    let next = next_round(words, round, number, turn);
+    if next.at < blocks {
+        step_at(words, next, number, turn)
+    } else {
+        look_at(words, next, number, turn)
+    }
+}
+
+// The next round.
+fn next_round(words: &Words, round: Round, number: u32, _turn: u64) -> Round
+    requires round { IsRound words.now number round.seat round.at round.steps _turn }
+    requires over { (length words.now.cut.worths ≤ round.at) × (number < words.now.workers) }
+    ensures { IsRound words.now number result.seat result.at result.steps _turn }
+{
+    let _words = words.total;
+    Round {
+        seat: round.seat,
+        steps: round.steps,
+        at: number,
+        found: false,
+        source: None,
+    }
+}
+
+/// Takes at most so many turns of the seat of this number, and passes the gate before each. It goes round its blocks, ascending,
+/// with one operation for each. After a round in which no block had excess it loads both arrivals, which are two turns, and ends
+/// where they sum to the total. It ends also where a turn is too large, which it tells the other worker by the flag.
+pub fn serve<T: Gate>(
+    words: &Words,
+    stop: &AtomicBool,
+    gate: &T,
+    seat: WordSeat,
+    number: u32,
+    turns: u64,
+) -> Served
+    requires few { number < words.now.workers }
+    requires first { IsFirst words.now number words.now.workers seat }
+    ensures { HasServed words.now number words.now.workers turns result.seat result.steps }
+{
+    let mut round = first_round(seat, number);
+    for turn in 0..turns {
+        if stop.load(SeqCst) {
+            break;
+        }
+        gate.turn(number, turn);
+        match take_turn(words, round, number, turn) {
+            Ok(next) => round = next,
+            Err(served) => {
+                if served.seat.stopped {
+                    stop.store(true, SeqCst);
+                }
+                return served;
+            }
+        }
+    }
+    Served {
+        seat: round.seat,
+        steps: round.steps,
+    }
+}

@@ -1,0 +1,47 @@
+//! The four operations on words by which steps are made.
+
+ghost use Rattle.std.specs.Prelude.{◌<◌};
+ghost use Rattle.word_runner.specs.Tells.{IsSeat, IsNextAt, HasTurned, IsSame, Reads, Adds, Subtracts, Stores};
+
+use crate::plays::Turned;
+use crate::table::{SharedWords, TableSeat};
+
+/// The step of block b that is next, where it reads the word `at`: what it read.
+pub fn load_next(words: &SharedWords, place: &mut TableSeat, _b: u32, at: usize) -> u64
+    requires seat { IsSeat words.now place.old }
+    requires next { IsNextAt place.old.me.0 _b at × Reads place.old.me.0.operation }
+    ensures same { IsSame place.old place.new }
+    ensures view { HasTurned _b place.old.me.0 result place.new.me.0 }
+{
+    words.load::<Turned>(place, at)
+}
+
+/// The same, where it adds k to the word: what the word was.
+pub fn add_next(words: &SharedWords, place: &mut TableSeat, _b: u32, at: usize, k: u64) -> u64
+    requires seat { IsSeat words.now place.old }
+    requires next { IsNextAt place.old.me.0 _b at × Adds place.old.me.0.operation k }
+    ensures same { IsSame place.old place.new }
+    ensures view { HasTurned _b place.old.me.0 result place.new.me.0 }
+{
+    words.fetch_add::<Turned>(place, at, k)
+}
+
+/// The same, where it takes k from the word.
+pub fn subtract_next(words: &SharedWords, place: &mut TableSeat, _b: u32, at: usize, k: u64) -> u64
+    requires seat { IsSeat words.now place.old }
+    requires next { IsNextAt place.old.me.0 _b at × Subtracts place.old.me.0.operation k }
+    ensures same { IsSame place.old place.new }
+    ensures view { HasTurned _b place.old.me.0 result place.new.me.0 }
+{
+    words.fetch_sub::<Turned>(place, at, k)
+}
+
+/// The same, where it stores k in the word.
+pub fn store_next(words: &SharedWords, place: &mut TableSeat, _b: u32, at: usize, k: u64)
+    requires seat { IsSeat words.now place.old }
+    requires next { IsNextAt place.old.me.0 _b at × Stores place.old.me.0.operation k }
+    ensures same { IsSame place.old place.new }
+    ensures view { HasTurned _b place.old.me.0 k place.new.me.0 }
+{
+    words.store::<Turned>(place, at, k);
+}

@@ -1,0 +1,251 @@
+//! Whole runs whose pits and ends are known from elsewhere.
+
+ghost use Rattle.std.specs.Prelude.{◌≡◌};
+ghost use Rattle.word_runner.specs.Tells.{IsFirst, IsServed};
+
+use crate::opening::{split, words_of};
+use crate::seats::WordSeat;
+use crate::serving::{first_round, take_turn};
+use crate::settling::settle_two;
+use crate::{SettleFault, Words, WordsFault, solve_words};
+use closure_net::{Net, pit_of};
+use ordered_group::Scaled;
+use prec_file::Rests;
+use std::alloc::Global;
+use std::process::Abort;
+use std::sync::Wait;
+use std::sync::atomic::AtomicU64;
+use std::sync::atomic::Ordering::SeqCst;
+use std::test::Fail;
+use std::thread;
+use std::thread::Threads;
+use std::time::{Clock, Duration};
+use workers::{Gate, OpenGate, SolveFault};
+
+// A net of these pairs and these worths in units.
+fn net_of(alloc: Global, pairs: &[(u32, u32)], units: &[i128]) -> Result<Net<Scaled>, Fail> {
+    let n = units.len().min(100) as u32;
+    let rests = Rests::from_pairs(alloc, n, pairs).ok().ok_or("pairs")?;
+    let mut worths = Vec::new(alloc);
+    for worth in units {
+        worths.push(Scaled { units: *worth })?;
+    }
+    Ok(Net::build(rests, worths).ok().ok_or("net")?)
+}
+
+// Blocks worth 6 and 5 that rest on one of worth -10.
+const DEAR_WASTE: [i128; 3] = [23_999_999_999, 19_999_999_999, -40_000_000_001];
+
+fn two_on_dear_waste(alloc: Global) -> Result<Net<Scaled>, Fail> {
+    net_of(alloc, &[(0, 2), (1, 2)], &DEAR_WASTE)
+}
+
+// A run by so many workers leaves this pit.
+fn leaves_the_pit<R: Abort + Threads + Wait + Sync>(
+    rt: &R,
+    alloc: Global,
+    net: &Net<Scaled>,
+    workers: u32,
+    pit: &[u32],
+) -> Result<(), Fail> {
+    let solved = solve_words(rt, alloc, net, workers, 100_000, &OpenGate).ok();
+    let flow = solved.ok_or("solved")?.flow;
+    assert!(rt; flow.fits(net));
+    assert!(rt; pit_of(alloc, net, &flow)?.blocks() == pit);
+    Ok(())
+}
+
+// In whatever order the steps come: two on dear waste; worth what it costs; each on the other; a priced model at two factors; a
+// cost beyond any word; the greatest total.
+#[test]
+fn runs_leave_the_best_pits(rt: HostRuntime) -> Result<(), Fail> {
+    let cases: [(&[(u32, u32)], &[i128], &[u32]); 7] = [
+        (&[(0, 2), (1, 2)], &DEAR_WASTE, &[0, 1, 2]),
+        (&[(0, 1)], &[29_999_999_999, -30_000_000_001], &[]),
+        (&[(0, 1), (1, 0)], &[8_999_999_999, -6_000_000_001], &[0, 1]),
+        (
+            &[(0, 1)],
+            &[23_999_999_999, -20_000_000_001, 11_999_999_999],
+            &[0, 1, 2],
+        ),
+        (
+            &[(0, 1)],
+            &[3_999_999_999, -20_000_000_001, 3_999_999_999],
+            &[2],
+        ),
+        (
+            &[(0, 1)],
+            &[5, -1_267_650_600_228_229_401_496_703_205_376],
+            &[],
+        ),
+        (&[], &[9_223_372_036_854_775_807], &[0]),
+    ];
+    for (pairs, units, pit) in cases {
+        let net = net_of(rt.alloc(), pairs, units)?;
+        for _run in 0..20 {
+            leaves_the_pit(&rt, rt.alloc(), &net, 1, pit)?;
+            leaves_the_pit(&rt, rt.alloc(), &net, 2, pit)?;
+        }
+    }
+    Ok(())
+}
+
+// The last is a flow of 2^63 in a ring, in the second push over its first pair.
+#[test]
+fn faults_of_runs(rt: HostRuntime) -> Result<(), Fail> {
+    let cases: [(&[(u32, u32)], &[i128], u32, u64, SolveFault); 6] = [
+        (
+            &[(0, 2), (1, 2)],
+            &DEAR_WASTE,
+            0,
+            1_000,
+            SolveFault::BadWorkers,
+        ),
+        (
+            &[(0, 2), (1, 2)],
+            &DEAR_WASTE,
+            3,
+            1_000,
+            SolveFault::BadWorkers,
+        ),
+        (&[(0, 2), (1, 2)], &DEAR_WASTE, 1, 3, SolveFault::Unsettled),
+        (&[], &[9_999_999_999], 1, 9, SolveFault::Unsettled),
+        (
+            &[],
+            &[9_223_372_036_854_775_808],
+            1,
+            1_000,
+            SolveFault::TooLarge,
+        ),
+        (
+            &[(0, 1), (1, 0)],
+            &[4_611_686_018_427_387_905, -1],
+            1,
+            1_000,
+            SolveFault::TooLarge,
+        ),
+    ];
+    for (pairs, units, workers, steps, fault) in cases {
+        let net = net_of(rt.alloc(), pairs, units)?;
+        let ran = solve_words(&rt, rt.alloc(), &net, workers, steps, &OpenGate);
+        assert_eq!(rt; ran.err(), Some(fault));
+    }
+    Ok(())
+}
+
+#[test]
+fn one_block_takes_eleven_steps_and_two_loads(rt: HostRuntime) -> Result<(), Fail> {
+    let net = net_of(rt.alloc(), &[], &[9_999_999_999])?;
+    let solved = solve_words(&rt, rt.alloc(), &net, 1, 13, &OpenGate).ok();
+    assert_eq!(rt; solved.ok_or("solved")?.steps, 11);
+    Ok(())
+}
+
+// Waits until a number is another one, ten seconds or so at most.
+fn becomes<R: Clock>(clock: &R, number: &AtomicU64, goal: u64) -> bool {
+    for _look in 0..10_000 {
+        if number.load(SeqCst) == goal {
+            return true;
+        }
+        thread::sleep(clock, Duration::from_millis(1));
+    }
+    false
+}
+
+// Before turn 0 the two workers wait for each other.
+#[derive(Drop)]
+struct Meeting<R: Clock + Sync + Drop> {
+    clock: R,
+    came: AtomicU64,
+    met: AtomicU64,
+}
+
+impl<R: Clock + Sync + Drop> Gate for Meeting<R> {
+    fn turn(&self, worker: u32, turn: u64) {
+        if turn == 0 {
+            let own = 1u64.wrapping_shl(worker);
+            self.came.fetch_add(own, SeqCst);
+            if becomes(&self.clock, &self.came, 3) {
+                self.met.fetch_add(own, SeqCst);
+            }
+        }
+    }
+}
+
+#[test]
+fn both_workers_are_at_their_turns_at_once(rt: HostRuntime) -> Result<(), Fail> {
+    let net = two_on_dear_waste(rt.alloc())?;
+    let gate = Meeting {
+        clock: rt,
+        came: AtomicU64::new(0),
+        met: AtomicU64::new(0),
+    };
+    let solved = solve_words(&rt, rt.alloc(), &net, 2, 10_000_000, &gate);
+    assert_eq!(rt; gate.met.load(SeqCst), 3);
+    assert!(rt; solved.is_ok());
+    Ok(())
+}
+
+// Two seats take their turns one after the other.
+fn by_one_thread(words: &Words, left: WordSeat, right: WordSeat, turns: u64) -> (WordSeat, WordSeat)
+    requires two { words.now.workers ≡ 2 }
+    requires left { IsFirst words.now 0 2 left }
+    requires right { IsFirst words.now 1 2 right }
+    ensures { IsServed words.now.shared 0 2 result.0 × IsServed words.now.shared 1 2 result.1 }
+{
+    let mut left = first_round(left, 0);
+    let mut right = first_round(right, 1);
+    for turn in 0..turns {
+        match take_turn(words, left, 0, turn) {
+            Ok(next) => left = next,
+            Err(served) => return (served.seat, right.seat),
+        }
+        match take_turn(words, right, 1, turn) {
+            Ok(next) => right = next,
+            Err(served) => return (left.seat, served.seat),
+        }
+    }
+    (left.seat, right.seat)
+}
+
+#[test]
+fn two_seats_of_one_thread_settle(rt: HostRuntime) -> Result<(), Fail> {
+    let alloc = rt.alloc();
+    let net = two_on_dear_waste(alloc)?;
+    for turns in [20u64, 1_000] {
+        let (words, seat) = words_of(alloc, &net, 2).ok().ok_or("words")?;
+        let (left, right) = split(alloc, &words, seat).ok().ok_or("seats")?;
+        let (left, right) = by_one_thread(&words, left, right, turns);
+        let settled = settle_two(alloc, words, left, right);
+        assert_eq!(rt; settled.is_ok(), turns == 1_000);
+    }
+    Ok(())
+}
+
+// How words that are opened and closed at once end.
+fn opened_and_settled(
+    alloc: Global,
+    net: &Net<Scaled>,
+    workers: u32,
+) -> Result<SettleFault, WordsFault> {
+    let (words, seats) = Words::open(alloc, net, workers)?;
+    match words.settle(alloc, seats) {
+        Ok(_) => Err(WordsFault::NoMemory),
+        Err(fault) => Ok(fault),
+    }
+}
+
+#[test]
+fn words_before_the_first_step(rt: HostRuntime) -> Result<(), Fail> {
+    let cases: [(i128, u32, Result<SettleFault, WordsFault>); 4] = [
+        (5, 1, Ok(SettleFault::Unsettled)),
+        (5, 2, Ok(SettleFault::Unsettled)),
+        (5, 3, Err(WordsFault::BadWorkers)),
+        (9_223_372_036_854_775_808, 1, Err(WordsFault::TooLarge)),
+    ];
+    for (units, workers, end) in cases {
+        let net = net_of(rt.alloc(), &[], &[units])?;
+        assert_eq!(rt; opened_and_settled(rt.alloc(), &net, workers), end);
+    }
+    Ok(())
+}
