@@ -40,6 +40,10 @@ fn two_on_dear_waste(alloc: Global) -> Result<Net<Scaled>, Fail> {
     net_of(alloc, &[(0, 2), (1, 2)], &DEAR_WASTE)
 }
 
+// While one worker waits for a processor the other goes round its blocks and loads the arrivals, each load a turn: no small limit
+// will do.
+const MANY_TURNS: u64 = 1_000_000_000;
+
 // A run by so many workers leaves this pit.
 fn leaves_the_pit<R: Abort + Threads + Wait + Sync>(
     rt: &R,
@@ -48,7 +52,7 @@ fn leaves_the_pit<R: Abort + Threads + Wait + Sync>(
     workers: u32,
     pit: &[u32],
 ) -> Result<(), Fail> {
-    let solved = solve_words(rt, alloc, net, workers, 100_000, &OpenGate).ok();
+    let solved = solve_words(rt, alloc, net, workers, MANY_TURNS, &OpenGate).ok();
     let flow = solved.ok_or("solved")?.flow;
     assert!(rt; flow.fits(net));
     assert!(rt; pit_of(alloc, net, &flow)?.blocks() == pit);
@@ -180,7 +184,7 @@ fn both_workers_are_at_their_turns_at_once(rt: HostRuntime) -> Result<(), Fail> 
         came: AtomicU64::new(0),
         met: AtomicU64::new(0),
     };
-    let solved = solve_words(&rt, rt.alloc(), &net, 2, 10_000_000, &gate);
+    let solved = solve_words(&rt, rt.alloc(), &net, 2, MANY_TURNS, &gate);
     assert_eq!(rt; gate.met.load(SeqCst), 3);
     assert!(rt; solved.is_ok());
     Ok(())
