@@ -31,16 +31,37 @@ impl WrittenNumber {
         ensures digits { result ≡ decimal n }
         ensures most { length result ≤ 39 }
     {
-        let mut bytes = [0u8; 39];
-        let mut start = MOST - 1;
-        let mut left = n;
-        bytes[start] = b'0' + (left % 10) as u8;
-        while left >= 10 {
-            left /= 10;
+        let mut written = WrittenNumber {
+            bytes: [0; 39],
+            start: MOST,
+        };
+        written.set(n);
+        written
+    }
+
+    /// Holds the digits of n, without leading zeros, in place of what it held. Whoever writes many numbers keeps one of
+    /// these: to hand a new one on for each number costs a copy of it.
+    pub fn set(&mut self, n: u128)
+        ensures digits { self.new ≡ decimal n }
+        ensures most { length self.new ≤ 39 }
+    {
+        let mut start = MOST;
+        let mut wide = n;
+        while wide > u64::MAX as u128 {
             start -= 1;
-            bytes[start] = b'0' + (left % 10) as u8;
+            self.bytes[start] = b'0' + (wide % 10) as u8;
+            wide /= 10;
         }
-        WrittenNumber { bytes, start }
+        // A division of 128 bits is a call, and one of 64 bits by ten a product: nearly all numbers are this small.
+        let mut left = wide as u64;
+        while left >= 10 {
+            start -= 1;
+            self.bytes[start] = b'0' + (left % 10) as u8;
+            left /= 10;
+        }
+        start -= 1;
+        self.bytes[start] = b'0' + left as u8;
+        self.start = start;
     }
 
     /// The digits as bytes.

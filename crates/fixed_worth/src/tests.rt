@@ -1,8 +1,8 @@
 use crate::NumberFault::{NotANumber, TooLarge, TooLong};
 use crate::{
     Field, Fields, InputFault, Lines, Micros, MicrosTotal, Nanos, NumberFault, TextFault,
-    WriteFault, behind_first, first_line_feed, is_separator, laws, plain_signed, signed_whole,
-    trimmed_fraction, whole,
+    WriteFault, WrittenNumber, behind_first, first_line_feed, is_separator, laws, plain_signed,
+    signed_whole, trimmed_fraction, whole,
 };
 use std::test::Fail;
 
@@ -146,6 +146,22 @@ fn printed_amounts(rt: HostRuntime) -> Result<(), Fail> {
 fn trimmed_fractions(rt: HostRuntime) {
     assert_eq!(rt; trimmed_fraction(1_500, 4), (15, 2));
     assert_eq!(rt; trimmed_fraction(25, 6), (25, 6));
+}
+
+#[test]
+fn digits_of_numbers(rt: HostRuntime) {
+    let mut digits = WrittenNumber::of(10);
+    assert_eq!(rt; digits.as_bytes(), b"10".as_slice());
+    for (n, text) in [
+        (0, "0"),
+        (u64::MAX as u128, "18446744073709551615"),
+        (u64::MAX as u128 + 1, "18446744073709551616"),
+        (u128::MAX, "340282366920938463463374607431768211455"),
+        (1_060, "1060"),
+    ] {
+        digits.set(n);
+        assert_eq!(rt; digits.as_bytes(), text.as_bytes());
+    }
 }
 
 #[test]

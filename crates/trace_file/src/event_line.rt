@@ -1,12 +1,14 @@
 //! The line of an event, as it is read and as it is written.
 
-ghost use Rattle.std.specs.Prelude.{◌≡◌, ◌<◌, ◌^◌, ◌∷◌, [], ◌++◌, length, None, MatchOption};
+ghost use Rattle.std.specs.Prelude.{◌≡◌, ◌+◌, ◌-◌, ◌<◌, ◌^◌, ◌∷◌, [], ◌++◌, None, MatchOption, OnOk, OnErr};
+ghost use Rattle.fixed_worth.specs.Device.{ReceivedPrefix, SentOrHeld};
 ghost use Rattle.trace_file.specs.Lines as spec;
 ghost use Rattle.trace_file.specs.Lines.{parts, event_of_words};
 ghost use Rattle.trace_file.specs.Written as written;
+ghost use Rattle.trace_file.specs.Written.{event_line};
 
 use crate::parting::cut_at;
-use fixed_worth::{ShortLine, plain_signed};
+use fixed_worth::{CountedWrite, Page, WriteFault, WrittenNumber, plain_signed};
 use machine_law::{Event, Kind};
 
 const READ_EXCESS: &[u8] = b"RE";
@@ -50,8 +52,7 @@ fn kind_of(word: &[u8]) -> Option<Kind>
 }
 
 fn kind_word(kind: Kind) -> &'static [u8]
-    ensures word { result.now ≡ written.kind_word kind }
-    ensures length { length result.now ≡ 2 }
+    ensures { result.now ≡ written.kind_word kind }
 {
     match kind {
         Kind::ReadExcess => READ_EXCESS,
@@ -111,15 +112,29 @@ pub fn event_in(line: &[u8]) -> Option<Event>
     }
 }
 
-/// The line of an event with its line feed.
-pub fn written(event: Event) -> ShortLine
-    ensures text { result ≡ written.event_line event ++ (10 ∷ []) }
+/// Puts the line of an event with its line feed. The digits of its block are made in `digits`, which the lines of a
+/// trace share.
+///
+/// # Errors
+/// `Device` where a write failed: the writer has then received a prefix of what was held and the line.
+///
+/// `out` must have counted fewer than 2^64 - 1 failures, so that one more can be counted.
+pub fn put_event<W: CountedWrite>(
+    page: &mut Page,
+    out: &mut W,
+    digits: &mut WrittenNumber,
+    event: Event,
+) -> Result<(), WriteFault>
+    requires { W.failed out.old < 2 ^ 64 - 1 }
+    ensures held { OnOk result (SentOrHeld (W.contents out.old) (W.contents out.new) page.new (page.old ++ (event_line event ++ (10 ∷ [])))) }
+    ensures kept { OnOk result (W.failed out.new ≡ W.failed out.old) }
+    ensures prefix { OnErr result (ReceivedPrefix (W.contents out.old) (W.contents out.new) (page.old ++ (event_line event ++ (10 ∷ [])))) }
+    ensures counted { OnErr result (W.failed out.new ≡ W.failed out.old + 1) }
     ensures fits { event.block < 2 ^ 32 }
 {
-    let mut line = ShortLine::new();
-    line.push(kind_word(event.kind));
-    line.push(b" ");
-    line.push_number(event.block as u128);
-    line.push(b"\n");
-    line
+    digits.set(event.block as u128);
+    page.put(out, kind_word(event.kind))?;
+    page.put(out, b" ")?;
+    page.put(out, digits.as_bytes())?;
+    page.put(out, b"\n")
 }

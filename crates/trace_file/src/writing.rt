@@ -6,8 +6,8 @@ ghost use Rattle.fixed_worth.specs.Device.{ReceivedPrefix};
 ghost use Rattle.trace_file.specs.ReadBack.{IsReadBack};
 ghost use Rattle.trace_file.specs.Written.{trace_text};
 
-use crate::event_line::written;
-use fixed_worth::{CountedWrite, Page, WriteFault};
+use crate::event_line::put_event;
+use fixed_worth::{CountedWrite, Page, WriteFault, WrittenNumber};
 use machine_law::{Event, MOST_EVENTS};
 
 /// Writes a trace. It takes no memory, and sends the text in large pieces. [`crate::read_trace`] reads
@@ -27,9 +27,10 @@ pub fn write_trace<W: CountedWrite>(events: &[Event], out: &mut W) -> Result<(),
     ensures counted { OnErr result (W.failed out.new ≡ W.failed out.old + 1) }
 {
     let mut page = Page::new();
+    let mut digits = WrittenNumber::of(0);
     page.put(out, b"PITTRACE 1\n")?;
     for event in events {
-        page.put(out, written(*event).as_bytes())?;
+        put_event(&mut page, out, &mut digits, *event)?;
     }
     page.put(out, b"END\n")?;
     page.finish(out)
