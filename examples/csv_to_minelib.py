@@ -1,17 +1,43 @@
 #!/usr/bin/env python3
 """Makes MineLib's .blocks and .upit files of a table of blocks.
 
-    python3 csv_to_minelib.py TABLE.csv XSIZE YSIZE ZSIZE NAME
+    python3 csv_to_minelib.py TABLE.csv XSIZE YSIZE ZSIZE NAME [COLUMN ..]
 
 reads a CSV table with a header line and a row for each block, and writes NAME.blocks and NAME.upit. The sizes are those
 of a block, in the unit of the coordinates. Blocks are numbered from 0 in the order of the rows. A block's index along an
 axis is its distance from the lowest coordinate, in blocks; so z has to count upward, as an elevation does.
+
+The columns that are named behind NAME, as revenue, cost and tonnes, are written into NAME.blocks behind z, in this order:
+settings know them as columns 0, 1, 2 and so on.
 """
 import csv
+import re
 import sys
 
 COORDINATES = "x", "y", "z"     # the columns with a block's centre
 VALUE = "value"                 # the column with what the block is worth
+
+DECIMAL = re.compile(r"[+-]?(\d+\.?\d*|\.\d+)([eE][+-]?\d+)?")
+
+
+def rows_of(table):
+    with open(table, newline="", encoding="utf-8-sig") as file:
+        separator = ";" if ";" in file.readline() else ","
+        file.seek(0)
+        return list(csv.DictReader(file, delimiter=separator))
+
+
+def cells(rows, column):
+    """What stands in a column, a plain decimal in each row."""
+    if not rows:
+        sys.exit("the table has no rows")
+    if column not in rows[0]:
+        sys.exit("the table has no column %s: its header line has %s" % (column, ", ".join(map(str, rows[0]))))
+    found = [(row[column] or "").strip() for row in rows]
+    for block, cell in enumerate(found):
+        if not DECIMAL.fullmatch(cell):
+            sys.exit("block %d, row %d below the header: %s is '%s', and has to be a plain decimal, as -1250.75" % (block, block + 1, column, cell))
+    return found
 
 
 def indices(coordinates, size):
@@ -23,12 +49,20 @@ def indices(coordinates, size):
     return [round(step) for step in steps]
 
 
-table, *sizes, name = sys.argv[1:]
-with open(table, newline="", encoding="utf-8-sig") as file:
-    rows = list(csv.DictReader(file))
-axes = [indices([float(row[axis]) for row in rows], float(size)) for axis, size in zip(COORDINATES, sizes)]
-with open(name + ".blocks", "w") as blocks, open(name + ".upit", "w") as upit:
-    upit.write("NAME: %s\nTYPE: UPIT\nNBLOCKS: %d\nOBJECTIVE_FUNCTION:\n" % (name, len(rows)))
-    for number, (row, place) in enumerate(zip(rows, zip(*axes))):
-        blocks.write("%d %d %d %d\n" % (number, *place))
-        upit.write("%d %s\n" % (number, row[VALUE]))
+def main():
+    if len(sys.argv) < 6:
+        sys.exit(__doc__)
+    table, *sizes, name = sys.argv[1:6]
+    rows = rows_of(table)
+    axes = [indices([float(cell) for cell in cells(rows, axis)], float(size)) for axis, size in zip(COORDINATES, sizes)]
+    values = cells(rows, VALUE)
+    further = [cells(rows, column) for column in sys.argv[6:]]
+    with open(name + ".blocks", "w") as blocks, open(name + ".upit", "w") as upit:
+        upit.write("NAME: %s\nTYPE: UPIT\nNBLOCKS: %d\nOBJECTIVE_FUNCTION:\n" % (name, len(rows)))
+        for number, (place, value) in enumerate(zip(zip(*axes), values)):
+            blocks.write(" ".join(map(str, [number, *place, *(column[number] for column in further)])) + "\n")
+            upit.write("%d %s\n" % (number, value))
+
+
+if __name__ == "__main__":
+    main()

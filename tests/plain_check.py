@@ -1,8 +1,10 @@
 """Reads a mine and a certificate anew, by docs/FORMATS.md alone, and says whether the pit is closed, how many blocks it
-has and what it is worth. It shares no line with the program, and is slow.
+has and what it is worth, and of a certificate at GROUP PAIR whether its flow proves that no pit is better. It shares no
+line with the program, and is slow.
 """
 import re
 import tomllib
+from collections import namedtuple
 from fractions import Fraction
 
 NUMERAL = re.compile(rb"[+-]?(\d+\.?\d*|\.\d+)([eE][+-]?\d+)?")
@@ -77,3 +79,76 @@ def verdict(files, certificate):
         worths = worths_of_prices(files["settings"], files["blocks"], int(price))
     is_closed = all(predecessors(files["prec"]).get(b, set()) <= pit for b in pit)
     return is_closed, len(pit), Fraction(sum(worths[b] for b in pit), 10**9)
+
+
+# What a certificate at GROUP PAIR says: its pit, and its amounts (worth in billionths, count) by block or by pair.
+Proof = namedtuple("Proof", "pit source rest sink")
+
+
+def proof_of(certificate):
+    """What a certificate says, of which each line is taken to have its form."""
+    said = Proof(set(), {}, {}, {})
+    for line in certificate.decode().split("\n"):
+        match line.split():
+            case ["PIT", b]:
+                said.pit.add(int(b))
+            case ["SOURCE", b, w, c]:
+                said.source[int(b)] = int(w), int(c)
+            case ["REST", b, p, w, c]:
+                said.rest[int(b), int(p)] = int(w), int(c)
+            case ["SINK", b, w, c]:
+                said.sink[int(b)] = int(w), int(c)
+    return said
+
+
+def sum_of(amounts):
+    """The sum of amounts."""
+    worth = count = 0
+    for w, c in amounts:
+        worth, count = worth + w, count + c
+    return worth, count
+
+
+def more_than_fits(said, worths):
+    """The first block that the source gives more than it may, or that gives the sink more."""
+    for b, worth in enumerate(worths):
+        ore, waste = max((worth, -1), (0, 0)), max((-worth, 1), (0, 0))
+        if said.source.get(b, (0, 0)) > ore or said.sink.get(b, (0, 0)) > waste:
+            return b
+    return None
+
+
+def unbalanced(said, blocks):
+    """The first block out of which not the same flows as into it."""
+    more = [[0, 0] for _ in range(blocks)]
+    for into, out_of, (w, c) in ([(b, None, amount) for b, amount in said.source.items()] + [(None, b, amount) for b, amount in said.sink.items()]
+                                 + [(p, b, amount) for (b, p), amount in said.rest.items()]):
+        for b, sign in ((into, 1), (out_of, -1)):
+            if b is not None:
+                more[b][0] += sign * w
+                more[b][1] += sign * c
+    return next((b for b, left in enumerate(more) if left != [0, 0]), None)
+
+
+def refusal(worths, rests, said):
+    """What FORMATS's table of refusals says of a pit and its flow, by its first row that holds; None where the flow proves the pit.
+
+    Then no closed set is worth more, and each other one that is worth as much has more blocks: whatever set one takes, its
+    amounts are no more than what the source could give and didn't, and the pit's are as much.
+    """
+    for b in sorted(said.pit):
+        for p in sorted(rests.get(b, ())):
+            if p not in said.pit:
+                return "NotClosed(%d, %d)" % (b, p)
+    if any(amount < (0, 0) for amounts in said[1:] for amount in amounts.values()):
+        return "Negative"
+    b = more_than_fits(said, worths)
+    if b is not None:
+        return "OverCapacity(%d)" % b
+    b = unbalanced(said, len(worths))
+    if b is not None:
+        return "Unbalanced(%d)" % b
+    given = sum_of(said.source.values())
+    could = sum_of((worth, -1) for worth in worths if (worth, -1) > (0, 0))
+    pit = sum_of((worths[b], -1) for b in said.pit)
+    return None if pit == (could[0] - given[0], could[1] - given[1]) else "NotTight"
