@@ -1,26 +1,21 @@
 -- From what is written for a net to what is written for the mine of texts.
-use Rattle.std.proofs.Common.{◌≡◌, ℕ, ℤ, Bool, List, length, refl, sym, ap, ◌∙◌, subst, Option, Some, None, Result, Ok, Err, inl, inr, IfSome}
+use Rattle.std.proofs.Common.{ℕ, ℤ, Bool, List, sym, subst, Option, Some, None, Result, Ok, Err, inl, inr, IfSome}
 use Rattle.ordered_group.specs.Amount.{Amount}
 use Rattle.ordered_group.specs.declared.groups.Group.{Group}
 use Rattle.prec_file.specs.Rests.{RestsView}
-use Rattle.upit_file.specs.Records as upit
 use Rattle.closure_net.specs.Network.{NetView}
 use Rattle.closure_net.specs.FaultStands.{WorthsFaultStands}
 use Rattle.closure_net.specs.declared.net.NetFault.{NetFault}
-use Rattle.shells.specs.Prices.{PricesView, worths_at}
-use Rattle.check_pit.specs.declared.header.Price.TheVariants.{Objective, Factor}
 use Rattle.engines.specs.declared.judgement.Verdict.{Verdict}
 use Rattle.engines.specs.declared.judgement.Verdict.TheVariants.{Done, No}
 use Rattle.engines.specs.declared.engine_fault.EngineFault.{EngineFault}
 use Rattle.engines.specs.declared.engine_fault.EngineFault.TheVariants as engine
 use Rattle.engines.specs.declared.method.Method.TheVariants.{PushRelabel}
-use Rattle.engines.specs.Inputs.{ReadsUpit, ReadsPrec, PricedMineFails}
-use Rattle.engines.specs.ReadMines.{AreRead, ArePricesRead, IsGroupNamed, of_model, billionths_of}
+use Rattle.engines.specs.Inputs.{PricedMineFails}
+use Rattle.engines.specs.ReadMines.{AreRead, IsGroupNamed, of_model}
 use Rattle.engines.specs.Mines.{MineTexts, mine_texts, priced_texts, price_wanted}
 use Rattle.engines.specs.Solving.{IsNetBy, Solves}
-use Rattle.engines.proofs.Answered.{keeps_self, read_both}
-use Rattle.engines.proofs.Judged.{read_as}
-use Rattle.engines.proofs.Priced.{worths_priced}
+use Rattle.engines.proofs.Answered.{keeps_self}
 use Rattle.engines.proofs.PricedAnswers.{under3, unread_to_solve}
 use Rattle.engines.proofs.Solutions.{certificate_is, unmade}
 use Rattle.audit_engines.specs.Tracing.{IsCertificateOfRun, TracesNet, TraceAtFault, Traces}
@@ -72,18 +67,6 @@ module _ (block : ℤ → ℕ → Amount) (counts : Bool) (texts : MineTexts) (n
   traced (Err (engine.Prices q)) h = absurd h
 
 -- ---- where the readers tell their bytes
-
--- what holds of any texts of what was read holds of these
-pub mine_answer : (P : MineTexts → Type 0) (o r : Option (List ℕ)) (values : upit.UpitView) (rests : RestsView) (n : ℕ) (slice worths : List ℤ) → n ≡ length values.values → IfSome o (λ u. ReadsUpit u values) → IfSome r (λ p. ReadsPrec n p rests) → slice ≡ worths → worths ≡ billionths_of values.values
-    → ((texts : MineTexts) → AreRead texts slice rests → Objective ≡ price_wanted texts → P texts) → IfSome o (λ u. IfSome r (λ p. P (mine_texts u p)))
-mine_answer P None r values rests n slice worths e a b s w h = tt
-mine_answer P (Some u) None values rests n slice worths e a b s w h = tt
-mine_answer P (Some u) (Some p) values rests n slice worths e a b s w h = h (mine_texts u p) (read_as (mine_texts u p) (billionths_of values.values) slice rests (s ∙ w) (read_both u p values rests n e a b)) refl
-
-pub priced_answer : (P : MineTexts → Type 0) (o q r : Option (List ℕ)) (k named : ℕ) (table : PricesView) (rests : RestsView) (slice : List ℤ) → IfSome o (λ s. IfSome q (λ b. IfSome r (λ p. ArePricesRead s b p table rests))) → named ≡ k → slice ≡ worths_at table k
-    → ((texts : MineTexts) → AreRead texts slice rests → Factor named ≡ price_wanted texts → P texts) → IfSome o (λ s. IfSome q (λ b. IfSome r (λ p. P (priced_texts s b p k))))
-priced_answer P o q r k named table rests slice h e is all = under3 o q r (λ s b p. ArePricesRead s b p table rests) (λ s b p. P (priced_texts s b p k)) h (λ s b p a.
-    all (priced_texts s b p k) (read_as (priced_texts s b p k) (worths_at table k) slice rests is (worths_priced s b p table rests k a)) (ap Factor e))
 
 pub priced_unread : (o q r t w : Option (List ℕ)) (k : ℕ) (name : Group) (limit room : ℕ) (e : EngineFault) → IfSome o (λ s. IfSome q (λ b. IfSome r (λ p. PricedMineFails s b p e))) → IfSome o (λ s. IfSome q (λ b. IfSome r (λ p. Traces (priced_texts s b p k) name limit room t t w w (Err e))))
 priced_unread o q r t w k name limit room e h = under3 o q r (λ s b p. PricedMineFails s b p e) (λ s b p. Traces (priced_texts s b p k) name limit room t t w w (Err e)) h (λ s b p f. untraced (priced_texts s b p k) name limit room t w e (unread_to_solve s b p k name PushRelabel limit w e f))

@@ -14,3 +14,4 @@ pub mod Pieces
 pub mod SlopeAnswers
 pub mod Lone
 pub mod Solutions
+pub mod OfTexts

@@ -19,7 +19,7 @@ use Rattle.bench_report.specs.declared.bench_row.BenchRow.{BenchRow}
 use Rattle.bench_report.specs.Benches.{reported, IsBenchTable}
 use Rattle.bench_report.specs.Written.{table_text}
 use Rattle.engines.specs.declared.judgement.Verdict.TheVariants.{No}
-use Rattle.engines.specs.declared.method.Method.{Method}
+use Rattle.engines.specs.declared.effort.Effort.{Effort}
 use Rattle.engines.specs.declared.solving.Unsolved.{Unsolved}
 use Rattle.engines.specs.declared.engine_fault.EngineFault.{EngineFault}
 use Rattle.engines.specs.PricedTexts.{cell, table_of}
@@ -91,8 +91,8 @@ module _ (s t p : List ℕ) (prices : PricesView) (rests : RestsView) (factors :
     }
 
   -- no pit is proved at a factor, and this line says so
-  is_none : (method : Method) (limit k : ℕ) (why : Unsolved) (line : List ℕ) → NoSeriesStands scaled_block rests prices factors method limit (none.Unsolved k why) → IsLineOf k why line → AnswersReport s t p method limit No line
-  is_none method limit k why line h spelled = (blocks_read, is_no_table s t p prices rests factors read.series method limit k why h.1.0 line h.0 h.1.1 h.1.2 spelled)
+  is_none : (effort : Effort) (k : ℕ) (why : Unsolved) (line : List ℕ) → NoSeriesStands scaled_block rests prices factors effort (none.Unsolved k why) → IsLineOf k why line → AnswersReport s t p effort No line
+  is_none effort k why line h spelled = (blocks_read, is_no_table s t p prices rests factors read.series effort k why h.1.0 line h.0 h.1.1 h.1.2 spelled)
 
   wanted : (e : EngineFault) → IsWant e → ReportFails s t p e
   wanted e (inl is) = subst (ReportFails s t p) (sym is) tt
@@ -100,10 +100,10 @@ module _ (s t p : List ℕ) (prices : PricesView) (rests : RestsView) (factors :
   wanted e (inr (inr is)) = subst (ReportFails s t p) (sym is) tt
 
   -- the answer where no pit is proved at a factor
-  none_answer : (method : Method) (limit k : ℕ) (why : Unsolved) (answer : Result Outcome EngineFault) → NoSeriesStands scaled_block rests prices factors method limit (none.Unsolved k why) → MatchResult answer (λ o. (verdict_of o ≡ No) × IsLineOf k why (text_of o)) IsWant
-      → MatchResult answer (λ o. AnswersReport s t p method limit (verdict_of o) (text_of o)) (ReportFails s t p)
-  none_answer method limit k why (Ok o) h line = subst (λ (v : Verdict). AnswersReport s t p method limit v (text_of o)) (sym line.0) (is_none method limit k why (text_of o) h line.1)
-  none_answer method limit k why (Err e) h want = wanted e want
+  none_answer : (effort : Effort) (k : ℕ) (why : Unsolved) (answer : Result Outcome EngineFault) → NoSeriesStands scaled_block rests prices factors effort (none.Unsolved k why) → MatchResult answer (λ o. (verdict_of o ≡ No) × IsLineOf k why (text_of o)) IsWant
+      → MatchResult answer (λ o. AnswersReport s t p effort (verdict_of o) (text_of o)) (ReportFails s t p)
+  none_answer effort k why (Ok o) h line = subst (λ (v : Verdict). AnswersReport s t p effort v (text_of o)) (sym line.0) (is_none effort k why (text_of o) h line.1)
+  none_answer effort k why (Err e) h want = wanted e want
 
   net_fails : (fault : NetFault) → ShellsFail s t p (of_model fault) → ReportFails s t p (of_model fault)
   net_fails net_fault.WrongLength h = (blocks_read, h)
@@ -115,10 +115,10 @@ module _ (s t p : List ℕ) (prices : PricesView) (rests : RestsView) (factors :
   no_net k fault h = net_fails fault (no_net_answer s t p prices rests factors read.series k fault h)
 
   -- what comes of a mine that has no series
-  pub no_series_answer : (method : Method) (limit : ℕ) (x : NoSeries) (answer : Result Outcome EngineFault) → NoSeriesStands scaled_block rests prices factors method limit x → MatchResult answer (λ o. (verdict_of o ≡ No) × TellsWhy x (text_of o)) (IsFaultOf x)
-      → MatchResult answer (λ o. AnswersReport s t p method limit (verdict_of o) (text_of o)) (ReportFails s t p)
-  no_series_answer method limit (none.Unsolved k why) answer h m = none_answer method limit k why answer h m
-  no_series_answer method limit (none.Model k fault) (Ok o) h m = absurd m.1
-  no_series_answer method limit (none.Model k fault) (Err e) h m = subst (ReportFails s t p) (sym m) (no_net k fault h)
-  no_series_answer method limit none.Memory (Ok o) h m = absurd m.1
-  no_series_answer method limit none.Memory (Err e) h m = subst (ReportFails s t p) (sym m) tt
+  pub no_series_answer : (effort : Effort) (x : NoSeries) (answer : Result Outcome EngineFault) → NoSeriesStands scaled_block rests prices factors effort x → MatchResult answer (λ o. (verdict_of o ≡ No) × TellsWhy x (text_of o)) (IsFaultOf x)
+      → MatchResult answer (λ o. AnswersReport s t p effort (verdict_of o) (text_of o)) (ReportFails s t p)
+  no_series_answer effort (none.Unsolved k why) answer h m = none_answer effort k why answer h m
+  no_series_answer effort (none.Model k fault) (Ok o) h m = absurd m.1
+  no_series_answer effort (none.Model k fault) (Err e) h m = subst (ReportFails s t p) (sym m) (no_net k fault h)
+  no_series_answer effort none.Memory (Ok o) h m = absurd m.1
+  no_series_answer effort none.Memory (Err e) h m = subst (ReportFails s t p) (sym m) tt

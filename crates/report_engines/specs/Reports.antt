@@ -7,7 +7,7 @@ use Rattle.bench_report.specs.Written.{table_text}
 use Rattle.engines.specs.declared.judgement.Verdict.{Verdict}
 use Rattle.engines.specs.declared.judgement.Verdict.TheVariants.{Done, No}
 use Rattle.engines.specs.declared.engine_fault.EngineFault.{EngineFault}
-use Rattle.engines.specs.declared.method.Method.{Method}
+use Rattle.engines.specs.declared.effort.Effort.{Effort}
 use Rattle.engines.specs.Mines.{priced_texts, DenoteMine}
 use Rattle.shell_engines.specs.SeriesTexts.{factors_said}
 use Rattle.shell_engines.specs.Answering.{FailsBy, Ends}
@@ -28,14 +28,14 @@ pub record IsReport (settings blocks precedence text : List ℕ) : Type 0 where
   pub spelled : text ≡ table_text rows
 
 -- the text that answers for them
-abbrev pub AnswersReport : List ℕ → List ℕ → List ℕ → Method → ℕ → Verdict → List ℕ → Type 0
-AnswersReport settings blocks precedence method limit Done text = IsReport settings blocks precedence text
-AnswersReport settings blocks precedence method limit No text = ReportBlocksRead settings blocks × IsNoTable settings blocks precedence method limit text
+abbrev pub AnswersReport : List ℕ → List ℕ → List ℕ → Effort → Verdict → List ℕ → Type 0
+AnswersReport settings blocks precedence effort Done text = IsReport settings blocks precedence text
+AnswersReport settings blocks precedence effort No text = ReportBlocksRead settings blocks × IsNoTable settings blocks precedence effort text
 
 -- why the engine answers a fault: it stands, and none before it does
 abbrev pub ReportFails : List ℕ → List ℕ → List ℕ → EngineFault → Type 0
 ReportFails settings blocks precedence = FailsBy (ReportMineFails settings blocks precedence) (λ fault. ReportBlocksRead settings blocks × NoNetAt settings blocks precedence fault)
 
 -- the answer, and what was written with it
-abbrev pub Reports : List ℕ → List ℕ → List ℕ → Method → ℕ → Option (List ℕ) → Option (List ℕ) → Result Verdict EngineFault → Type 0
-Reports settings blocks precedence method limit = Ends (AnswersReport settings blocks precedence method limit) (ReportFails settings blocks precedence)
+abbrev pub Reports : List ℕ → List ℕ → List ℕ → Effort → Option (List ℕ) → Option (List ℕ) → Result Verdict EngineFault → Type 0
+Reports settings blocks precedence effort = Ends (AnswersReport settings blocks precedence effort) (ReportFails settings blocks precedence)

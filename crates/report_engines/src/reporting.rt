@@ -14,7 +14,6 @@ use bench_report::{BenchRow, ReportWriteFault, write_report};
 use engines::solving::Unsolved;
 use engines::{Effort, EngineFault, Verdict};
 use fixed_worth::{CountedRead, CountedWrite, write_text};
-use ordered_group::Scaled;
 use pseudoflow::Progress;
 use shell_engines::SeriesProgress;
 use shell_engines::no_series::NoSeries;
@@ -66,7 +65,7 @@ pub fn report_engine<
 
     // What it answers and writes, where the readers tell their bytes.
     ensures answer { IfSome (S.remaining settings.old) (λ s. IfSome (B.remaining blocks.old) (λ b. IfSome (P.remaining prec.old) (λ p.
-        Reports s b p effort.method effort.steps (W.contents out.old) (W.contents out.new) result))) }
+        Reports s b p effort (W.contents out.old) (W.contents out.new) result))) }
 
     // A device is named exactly where one failed.
     ensures device { IsErrOf result EngineFault.Device → S.failed settings.new + B.failed blocks.new + P.failed prec.new + W.failed out.new
@@ -95,7 +94,7 @@ fn outcome_of<R: Threads + Wait + Sync, T: Gate + Progress + SeriesProgress>(
     gate: &T,
 ) -> Result<Outcome, EngineFault>
     ensures answer { (s b p : List ℕ) → IsReportRead s b p mine.series.prices mine.series.rests mine.series.factors.items mine.model mine.factor → MatchResult result
-        (λ outcome. AnswersReport s b p effort.method effort.steps (verdict_of outcome) (text_of outcome))
+        (λ outcome. AnswersReport s b p effort (verdict_of outcome) (text_of outcome))
         (λ e. ReportFails s b p e) }
     ensures no_device { ¬ IsErrOf result EngineFault.Device }
 {
@@ -106,7 +105,7 @@ fn outcome_of<R: Threads + Wait + Sync, T: Gate + Progress + SeriesProgress>(
         model,
         factor,
     } = mine;
-    match settle::<Scaled, R, T>(rt, alloc, series, effort, gate) {
+    match settle(rt, alloc, series, effort, gate) {
         Ok(shells) => Ok(Outcome::Table(rows_at(rt, alloc, &model, &shells.series, factor)?)),
         Err(none) => no_series(alloc, none),
     }

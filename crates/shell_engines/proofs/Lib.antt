@@ -5,3 +5,4 @@ pub mod Growing
 pub mod Lifted
 pub mod Answering
 pub mod Answers
+pub mod WordEnds

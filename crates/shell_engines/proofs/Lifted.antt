@@ -15,7 +15,7 @@ use Rattle.shells.specs.Series as series
 use Rattle.shells.specs.Series.{mine_at}
 use Rattle.shells.specs.Nesting.{BestPitsAreNested}
 use Rattle.shells.proofs.OverNets.{net_of_over}
-use Rattle.engines.specs.declared.method.Method.{Method}
+use Rattle.engines.specs.declared.effort.Effort.{Effort}
 use Rattle.engines.specs.declared.solving.Unsolved.{Unsolved}
 use Rattle.engines.specs.declared.judgement.Verdict.{Verdict}
 use Rattle.engines.specs.declared.judgement.Verdict.TheVariants.{No}
@@ -23,13 +23,13 @@ use Rattle.engines.specs.declared.engine_fault.EngineFault.{EngineFault}
 use Rattle.engines.specs.Mines.{priced_texts, rests_by, mine_of, DenoteMine}
 use Rattle.engines.specs.ReadMines.{ArePricesRead, of_model}
 use Rattle.engines.specs.FaultStands.{NetFails, ModelFails}
-use Rattle.engines.specs.Solving.{IsNetBy, UnsolvedStands}
+use Rattle.engines.specs.Solving.{IsNetBy}
 use Rattle.engines.proofs.Listed.{is_listed, where_listed, listed_rests}
 use Rattle.engines.proofs.Priced.{worths_priced}
 use Rattle.shell_engines.specs.declared.shell_rows.ShellRow.{ShellRow}
 use Rattle.shell_engines.specs.ShellTable.{AreRowsOf, table_text, IsLineOf}
 use Rattle.shell_engines.specs.SeriesTexts.{factors_said, IsSeriesRead}
-use Rattle.shell_engines.specs.Settling.{IsNetAt, NoSeriesStands}
+use Rattle.shell_engines.specs.Settling.{IsNetAt, NotSolvedStands, NoSeriesStands}
 use Rattle.shell_engines.specs.Internal.{IsWant}
 use Rattle.shell_engines.specs.declared.no_series.NoSeries.TheVariants as none
 use Rattle.shell_engines.specs.declared.series_engine.Answer.{Answer}
@@ -89,8 +89,8 @@ module _ (s t p : List ℕ) (table : PricesView) (rests : RestsView) (factors : 
   said : (k : ℕ) → Contains factors k → Contains (factors_said s) k
   said k c = subst (λ (fs : List ℕ). Contains fs k) read.factors_are c
 
-  pub is_no_table : (method : Method) (limit factor : ℕ) (why : Unsolved) (net : NetView) (text : List ℕ) → Contains factors factor → IsNetAt scaled_block rests.pairs table factor net → UnsolvedStands net method limit why → IsLineOf factor why text → IsNoTable s t p method limit text
-  is_no_table method limit factor why net text c at stands spelled = record {
+  pub is_no_table : (effort : Effort) (factor : ℕ) (why : Unsolved) (net : NetView) (text : List ℕ) → Contains factors factor → IsNetAt scaled_block rests.pairs table factor net → NotSolvedStands net effort why → IsLineOf factor why text → IsNoTable s t p effort text
+  is_no_table effort factor why net text c at stands spelled = record {
     factor = factor;
     said = said factor c;
     net = net;
@@ -101,13 +101,13 @@ module _ (s t p : List ℕ) (table : PricesView) (rests : RestsView) (factors : 
   }
 
   -- the answer where no pit is proved at a factor
-  pub no_pit_answer : (method : Method) (limit factor : ℕ) (why : Unsolved) (answer : Result Answer EngineFault) → NoSeriesStands scaled_block rests table factors method limit (none.Unsolved factor why) → MatchResult answer (λ a. (a.verdict ≡ No) × IsLineOf factor why a.text.items) IsWant
-      → MatchResult answer (λ a. AnswersShells s t p method limit a.verdict a.text.items) (ShellsFail s t p)
-  no_pit_answer method limit factor why (Ok a) h line =
-      subst (λ (v : Verdict). AnswersShells s t p method limit v a.text.items) (sym line.0) (is_no_table method limit factor why h.1.0 a.text.items h.0 h.1.1 h.1.2 line.1)
-  no_pit_answer method limit factor why (Err e) h (inl is) = subst (ShellsFail s t p) (sym is) tt
-  no_pit_answer method limit factor why (Err e) h (inr (inl is)) = subst (ShellsFail s t p) (sym is) tt
-  no_pit_answer method limit factor why (Err e) h (inr (inr is)) = subst (ShellsFail s t p) (sym is) tt
+  pub no_pit_answer : (effort : Effort) (factor : ℕ) (why : Unsolved) (answer : Result Answer EngineFault) → NoSeriesStands scaled_block rests table factors effort (none.Unsolved factor why) → MatchResult answer (λ a. (a.verdict ≡ No) × IsLineOf factor why a.text.items) IsWant
+      → MatchResult answer (λ a. AnswersShells s t p effort a.verdict a.text.items) (ShellsFail s t p)
+  no_pit_answer effort factor why (Ok a) h line =
+      subst (λ (v : Verdict). AnswersShells s t p effort v a.text.items) (sym line.0) (is_no_table effort factor why h.1.0 a.text.items h.0 h.1.1 h.1.2 line.1)
+  no_pit_answer effort factor why (Err e) h (inl is) = subst (ShellsFail s t p) (sym is) tt
+  no_pit_answer effort factor why (Err e) h (inr (inl is)) = subst (ShellsFail s t p) (sym is) tt
+  no_pit_answer effort factor why (Err e) h (inr (inr is)) = subst (ShellsFail s t p) (sym is) tt
 
   -- an amount of the mine doesn't fit at a factor
   no_net : (factor : ℕ) (fault : NetFault) → Contains factors factor → ModelFails (priced_texts s t p factor) rests.blocks shell_group fault → NoNetAt s t p fault

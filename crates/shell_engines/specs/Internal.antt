@@ -2,7 +2,7 @@
 use Rattle.std.specs.Prelude.{◌≡◌, ℕ, ℤ, ◌⊎◌, ◌++◌, ◌∷◌, [], List, Contains}
 use Rattle.ordered_group.specs.Amount.{Amount}
 use Rattle.prec_file.specs.Rests.{RestsView}
-use Rattle.engines.specs.declared.method.Method.{Method}
+use Rattle.engines.specs.declared.effort.Effort.{Effort}
 use Rattle.shells.specs.Prices.{PricesView}
 use Rattle.shells.specs.Series.{SeriesView, mine_at}
 use Rattle.engines.specs.declared.engine_fault.EngineFault.{EngineFault}
@@ -14,7 +14,7 @@ use Rattle.shell_engines.specs.Settling.{NoSeriesStands}
 
 -- why there is no net at a factor, whatever else there is
 abbrev pub NoNetStands : (ℤ → ℕ → Amount) → RestsView → PricesView → ℕ → NoSeries → Type 0
-NoNetStands block rests prices factor e = (factors : List ℕ) (method : Method) (limit : ℕ) → Contains factors factor → NoSeriesStands block rests prices factors method limit e
+NoNetStands block rests prices factor e = (factors : List ℕ) (effort : Effort) → Contains factors factor → NoSeriesStands block rests prices factors effort e
 
 -- one factor more, with its row
 pub record IsAdded (s t : SeriesView) (rows rows' : List ShellRow) (factor : ℕ) : Type 0 where

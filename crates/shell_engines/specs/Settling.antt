@@ -1,13 +1,16 @@
 -- A series of shells over prices and pairs that were read, and why there may be none.
-use Rattle.std.specs.Prelude.{◌≡◌, ℕ, ℤ, List, length, Contains}
+use Rattle.std.specs.Prelude.{◌≡◌, ◌<◌, ◌⊎◌, ℕ, ℤ, List, length, Contains}
 use Rattle.ordered_group.specs.Amount.{Amount}
 use Rattle.prec_file.specs.Rests.{RestsView}
 use Rattle.closure_net.specs.Network.{NetView, IsNet}
 use Rattle.closure_net.specs.FaultStands.{WorthsFaultStands}
 use Rattle.shells.specs.Prices.{PricesView, worths_at}
 use Rattle.shells.specs.Series.{SeriesView, mine_at, IsOver}
-use Rattle.engines.specs.declared.method.Method.{Method}
+use Rattle.engines.specs.declared.effort.Effort.{Effort}
+use Rattle.engines.specs.declared.solving.Unsolved as unsolved
+use Rattle.engines.specs.declared.solving.Unsolved.TheVariants.{Unsettled}
 use Rattle.engines.specs.Solving.{UnsolvedStands}
+use Rattle.word_engines.specs.WordRuns.{HasWords}
 use Rattle.shell_engines.specs.declared.no_series.NoSeries.{NoSeries}
 use Rattle.shell_engines.specs.declared.no_series.NoSeries.TheVariants.{Unsolved, Model, Memory}
 use Rattle.shell_engines.specs.declared.shell_rows.ShellRow.{ShellRow}
@@ -25,8 +28,14 @@ pub record IsNetAt (block : ℤ → ℕ → Amount) (pairs : List (ℕ × ℕ)) 
   pub is_net : IsNet net
   pub over : IsOver block pairs prices factor net
 
+-- Why no pit is proved at a factor. One worker or two run without a lock, and where that run is unsettled nothing is said of the net
+-- but that its totals fit words; everything else is said of runs under a lock, and of pseudoflow.
+abbrev pub NotSolvedStands : NetView → Effort → unsolved.Unsolved → Type 0
+NotSolvedStands net effort Unsettled = ((effort.workers < 3) × HasWords net) ⊎ UnsolvedStands net effort.method effort.steps Unsettled
+NotSolvedStands net effort reason = UnsolvedStands net effort.method effort.steps reason
+
 -- Why there is none: at one of the factors no pit was proved, or there is no net; or memory is wanted.
-abbrev pub NoSeriesStands : (ℤ → ℕ → Amount) → RestsView → PricesView → List ℕ → Method → ℕ → NoSeries → Type 0
-NoSeriesStands block rests prices factors method limit (Unsolved factor why) = Contains factors factor × ((net : NetView) × IsNetAt block rests.pairs prices factor net × UnsolvedStands net method limit why)
-NoSeriesStands block rests prices factors method limit (Model factor fault) = Contains factors factor × WorthsFaultStands block rests.blocks (worths_at prices factor) fault
-NoSeriesStands block rests prices factors method limit Memory = Unit {0}
+abbrev pub NoSeriesStands : (ℤ → ℕ → Amount) → RestsView → PricesView → List ℕ → Effort → NoSeries → Type 0
+NoSeriesStands block rests prices factors effort (Unsolved factor why) = Contains factors factor × ((net : NetView) × IsNetAt block rests.pairs prices factor net × NotSolvedStands net effort why)
+NoSeriesStands block rests prices factors effort (Model factor fault) = Contains factors factor × WorthsFaultStands block rests.blocks (worths_at prices factor) fault
+NoSeriesStands block rests prices factors effort Memory = Unit {0}

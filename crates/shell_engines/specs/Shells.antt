@@ -8,12 +8,13 @@ use Rattle.closure_net.specs.Mine.{Mine, IsBest, LiesWithin}
 use Rattle.engines.specs.declared.judgement.Verdict.{Verdict}
 use Rattle.engines.specs.declared.judgement.Verdict.TheVariants.{Done, No}
 use Rattle.engines.specs.declared.engine_fault.EngineFault.{EngineFault}
-use Rattle.engines.specs.declared.method.Method.{Method}
+use Rattle.engines.specs.declared.effort.Effort.{Effort}
 use Rattle.engines.specs.Mines.{priced_texts, mine_of, DenoteMine}
 use Rattle.engines.specs.FaultStands.{ModelFails}
 use Rattle.engines.specs.declared.solving.Unsolved.{Unsolved}
-use Rattle.engines.specs.Solving.{IsNetBy, UnsolvedStands}
+use Rattle.engines.specs.Solving.{IsNetBy}
 use Rattle.shell_engines.specs.declared.shell_rows.ShellRow.{ShellRow}
+use Rattle.shell_engines.specs.Settling.{NotSolvedStands}
 use Rattle.shell_engines.specs.Answering.{FailsBy, Ends}
 use Rattle.shell_engines.specs.ShellTable.{AreRowsOf, table_text, IsLineOf}
 use Rattle.shell_engines.specs.SeriesTexts.{KeysKnown, factors_said, SeriesMineFails}
@@ -42,19 +43,19 @@ pub record IsShellTable (settings blocks precedence text : List ℕ) : Type 0 wh
   pub spelled : text ≡ table_text rows
 
 -- At one of the factors of the settings no pit is proved, for a reason that stands.
-pub record IsNoTable (settings blocks precedence : List ℕ) (method : Method) (limit : ℕ) (text : List ℕ) : Type 0 where
+pub record IsNoTable (settings blocks precedence : List ℕ) (effort : Effort) (text : List ℕ) : Type 0 where
   pub factor : ℕ
   pub said : Contains (factors_said settings) factor
   pub net : NetView
   pub by : IsNetBy (priced_texts settings blocks precedence factor) shell_group net
   pub why : Unsolved
-  pub stands : UnsolvedStands net method limit why
+  pub stands : NotSolvedStands net effort why
   pub spelled : IsLineOf factor why text
 
 -- the text that answers for them
-abbrev pub AnswersShells : List ℕ → List ℕ → List ℕ → Method → ℕ → Verdict → List ℕ → Type 0
-AnswersShells settings blocks precedence method limit Done text = IsShellTable settings blocks precedence text
-AnswersShells settings blocks precedence method limit No text = IsNoTable settings blocks precedence method limit text
+abbrev pub AnswersShells : List ℕ → List ℕ → List ℕ → Effort → Verdict → List ℕ → Type 0
+AnswersShells settings blocks precedence effort Done text = IsShellTable settings blocks precedence text
+AnswersShells settings blocks precedence effort No text = IsNoTable settings blocks precedence effort text
 
 -- at one of the factors of the settings an amount of the mine's doesn't fit
 pub record NoNetAt (settings blocks precedence : List ℕ) (fault : NetFault) : Type 0 where
@@ -69,5 +70,5 @@ abbrev pub ShellsFail : List ℕ → List ℕ → List ℕ → EngineFault → T
 ShellsFail settings blocks precedence = FailsBy (SeriesMineFails settings blocks precedence) (NoNetAt settings blocks precedence)
 
 -- the answer, and what was written with it
-abbrev pub Shells : List ℕ → List ℕ → List ℕ → Method → ℕ → Option (List ℕ) → Option (List ℕ) → Result Verdict EngineFault → Type 0
-Shells settings blocks precedence method limit = Ends (AnswersShells settings blocks precedence method limit) (ShellsFail settings blocks precedence)
+abbrev pub Shells : List ℕ → List ℕ → List ℕ → Effort → Option (List ℕ) → Option (List ℕ) → Result Verdict EngineFault → Type 0
+Shells settings blocks precedence effort = Ends (AnswersShells settings blocks precedence effort) (ShellsFail settings blocks precedence)

@@ -13,6 +13,7 @@ pub mod series_engine;
 pub mod series_inputs;
 pub mod settling;
 mod shell_rows;
+mod solving_at;
 
 pub use announcing::SeriesProgress;
 pub use series_engine::shells_engine;

@@ -60,7 +60,7 @@ pub fn shells_engine<
 
     // What it answers and writes, where the readers tell their bytes.
     ensures answer { IfSome (S.remaining settings.old) (λ s. IfSome (B.remaining blocks.old) (λ b. IfSome (P.remaining prec.old) (λ p.
-        Shells s b p effort.method effort.steps (W.contents out.old) (W.contents out.new) result))) }
+        Shells s b p effort (W.contents out.old) (W.contents out.new) result))) }
 
     // A device is named exactly where one failed.
     ensures device { IsErrOf result EngineFault.Device → S.failed settings.new + B.failed blocks.new + P.failed prec.new + W.failed out.new
@@ -92,13 +92,13 @@ fn answer_of<R: Threads + Wait + Sync, T: Gate + Progress + SeriesProgress>(
     gate: &T,
 ) -> Result<Answer, EngineFault>
     ensures answer { (s b p : List ℕ) → IsSeriesRead s b p mine.prices mine.rests mine.factors.items → MatchResult result
-        (λ a. AnswersShells s b p effort.method effort.steps a.verdict a.text.items)
+        (λ a. AnswersShells s b p effort a.verdict a.text.items)
         (λ e. ShellsFail s b p e) }
     ensures no_device { ¬ IsErrOf result EngineFault.Device }
 {
     // proof: of two factors, the best pit at the lower one lies within that at the other
     laws::best_pits_at_factors_are_nested();
-    match settle::<Scaled, R, T>(rt, alloc, mine, effort, gate) {
+    match settle(rt, alloc, mine, effort, gate) {
         Ok(shells) => Ok(Answer {
             verdict: Verdict::Done,
             text: table_of(alloc, shells.rows.as_slice())?,

@@ -1,12 +1,12 @@
 //! Settling a series: at each factor the mine's net is solved, its flow is checked, and the pit is added.
 
 ghost use Rattle.std.specs.Prelude.{◌≡◌, ℕ, ◌+◌, ◌<◌, ◌≤◌, ◌∷◌, [], List, take, length, slice_index_or, Contains, OnOk, IfOk, IfErr, IfSome, MatchResult};
+ghost use Rattle.ordered_group.specs.Block.{scaled_block};
 ghost use Rattle.prec_file.specs.Rests.{RestsView};
 ghost use Rattle.settings_file.specs.Values.{AreFactors};
 ghost use Rattle.closure_net.specs.Network.{holds_of};
 ghost use Rattle.closure_net.specs.Mine.{Mine, IsBest, IsNetOf};
 ghost use Rattle.shells.specs.Series.{IsAbove, IsOver};
-ghost use Rattle.engines.specs.declared.method.Method.{Method as MethodView};
 ghost use Rattle.shell_engines.specs.ShellTable.{IsRowOf};
 ghost use Rattle.shell_engines.specs.Settling.{IsSettled, IsNetAt, NoSeriesStands};
 ghost use Rattle.shell_engines.specs.Internal.{IsAdded};
@@ -16,20 +16,21 @@ use crate::candidates::{candidates, proved};
 use crate::no_series::NoSeries;
 use crate::series_inputs::SeriesMine;
 use crate::shell_rows::ShellRow;
+use crate::solving_at::solution_at;
 use check_pit::{Accepted, check};
 use closure_net::Net;
 use engines::judging::{size_of, worth_of};
-use engines::solving::{Unsolved, solution_of};
+use engines::solving::Unsolved;
 use engines::{Effort, Method};
 use fixed_worth::MOST_FACTORS;
-use ordered_group::SizeGroup;
+use ordered_group::{Scaled, SizeGroup};
 use prec_file::Rests;
 use pseudoflow::Progress;
 use shells::{Factor, Series, SeriesFault};
 use std::alloc::{AllocError, Global};
 use std::sync::Wait;
 use std::thread::Threads;
-use workers::{Gate, Locked, Shared, TurnBoard};
+use workers::Gate;
 
 /// The shells of a mine, and a row for each factor.
 #[derive(Drop)]
@@ -79,25 +80,23 @@ impl Shells {
 
 impl Shells {
     // Adds the best pit at a factor: the one that was found beside others, or else one that is looked for now.
-    fn settle_at<G: SizeGroup, R: Threads + Wait + Sync, T: Gate + Progress>(
+    fn settle_at<R: Threads + Wait + Sync, T: Gate + Progress>(
         &mut self,
         rt: &R,
         alloc: Global,
         factor: Factor,
-        net: &Net<G>,
-        found: &Option<Accepted<'_, G>>,
+        net: &Net<Scaled>,
+        found: &Option<Accepted<'_, Scaled>>,
         effort: Effort,
         gate: &T,
     ) -> Result<(), NoSeries>
-    where
-        Locked<TurnBoard<G>>: Shared,
         requires above { IsAbove self.old.series.factors factor }
-        requires net { IsNetAt G.block_parts self.old.series.pairs self.old.series.prices factor net.now }
+        requires net { IsNetAt scaled_block self.old.series.pairs self.old.series.prices factor net.now }
         requires found { IfSome found.now (λ a. a.net ≡ net.now) }
         requires room { length self.old.series.factors < MOST_FACTORS }
         ensures added { OnOk result (IsAdded self.old.series self.new.series self.old.rows.items self.new.rows.items factor) }
         ensures fault { IfErr result (λ e. (rests : RestsView) (factors : List ℕ) → rests.pairs ≡ self.old.series.pairs → Contains factors factor
-            → NoSeriesStands G.block_parts rests self.old.series.prices factors effort.method effort.steps e) }
+            → NoSeriesStands scaled_block rests self.old.series.prices factors effort e) }
     {
         if let Some(accepted) = found {
             return Ok(self.add(factor, accepted)?);
@@ -105,7 +104,7 @@ impl Shells {
         if effort.method == Method::Pseudoflow {
             return Err(NoSeries::Unsolved(factor.get(), Unsolved::GaveUp));
         }
-        let solution = match solution_of(rt, alloc, net, effort, gate) {
+        let solution = match solution_at(rt, alloc, net, effort, gate) {
             Ok(solution) => solution,
             Err(why) => return Err(NoSeries::Unsolved(factor.get(), why)),
         };
@@ -117,7 +116,7 @@ impl Shells {
 
     // Adds the best pits at the factors from one place on to another, which are solved side by side where pseudoflow
     // solves them.
-    fn settle_from<G: SizeGroup, R: Threads + Wait + Sync, T: Gate + Progress + SeriesProgress>(
+    fn settle_from<R: Threads + Wait + Sync, T: Gate + Progress + SeriesProgress>(
         &mut self,
         rt: &R,
         alloc: Global,
@@ -128,16 +127,14 @@ impl Shells {
         effort: Effort,
         gate: &T,
     ) -> Result<(), NoSeries>
-    where
-        Locked<TurnBoard<G>>: Shared,
         requires order { from ≤ to }
         requires end { to ≤ length factors.now }
         requires form { AreFactors factors.now }
         requires done { IsSettled rests.now.pairs self.old.series.prices (take from factors.now) self.old.series self.old.rows.items }
         ensures settled { OnOk result (IsSettled rests.now.pairs self.old.series.prices (take to factors.now) self.new.series self.new.rows.items) }
-        ensures fault { IfErr result (λ e. NoSeriesStands G.block_parts rests.now self.old.series.prices factors.now effort.method effort.steps e) }
+        ensures fault { IfErr result (λ e. NoSeriesStands scaled_block rests.now self.old.series.prices factors.now effort e) }
     {
-        let candidates = candidates::<G, R>(
+        let candidates = candidates::<Scaled, R>(
             rt,
             alloc,
             self.series.prices(),
@@ -177,24 +174,22 @@ fn at_once(effort: Effort, blocks: u32) -> usize
 /// the series, in the order of the factors.
 ///
 /// Where pseudoflow begins, as many factors are solved side by side as the effort has workers; otherwise these are the
-/// threads of the push-relabel machine, and one factor is solved after another. What comes of it doesn't depend on the
-/// schedule: a mine has one best pit.
+/// workers of the push-relabel machine, and one factor is solved after another. One worker or two run without a lock, and more
+/// under one. What pits come of it doesn't depend on the schedule: a mine has one best pit.
 ///
 /// # Errors
 /// Of the first factor at which no pit is proved: `Unsolved` with the reason, `Model` where an amount of its net
 /// doesn't fit. `Memory` where memory is refused.
-pub fn settle<G: SizeGroup, R: Threads + Wait + Sync, T: Gate + Progress + SeriesProgress>(
+pub fn settle<R: Threads + Wait + Sync, T: Gate + Progress + SeriesProgress>(
     rt: &R,
     alloc: Global,
     mine: SeriesMine,
     effort: Effort,
     gate: &T,
 ) -> Result<Shells, NoSeries>
-where
-    Locked<TurnBoard<G>>: Shared,
     ensures { MatchResult result
         (λ shells. IsSettled mine.rests.pairs mine.prices mine.factors.items shells.series shells.rows.items)
-        (λ e. NoSeriesStands G.block_parts mine.rests mine.prices mine.factors.items effort.method effort.steps e) }
+        (λ e. NoSeriesStands scaled_block mine.rests mine.prices mine.factors.items effort e) }
 {
     let SeriesMine {
         prices,
@@ -214,7 +209,7 @@ where
     let mut done = 0;
     while done < factors.len() {
         let next = done + step.min(factors.len() - done);
-        shells.settle_from::<G, R, T>(
+        shells.settle_from(
             rt,
             alloc,
             &rests,

@@ -1,7 +1,8 @@
 use Rattle.std.proofs.Common.{◌∙◌}
 use Rattle.std.proofs.lemmas.Result.{err_from_is_err_and}
+use Rattle.engines.proofs.OfTexts.{priced_answer}
 use Rattle.audit_engines.specs.Tracing.{Traces}
-use Rattle.audit_engines.proofs.MineAnswers.{priced_answer, priced_refused, priced_unread}
+use Rattle.audit_engines.proofs.MineAnswers.{priced_refused, priced_unread}
 use Rattle.audit_engines.proofs.priced_traced_solving.solve_traced_priced_engine.Goals as goal
 
 pub returns-in_err-mine-clause-answer : goal.returns-in_err-mine-clause-answer

@@ -1,6 +1,7 @@
 use Rattle.std.proofs.lemmas.Result.{err_from_is_err_and}
+use Rattle.engines.proofs.OfTexts.{mine_answer}
 use Rattle.audit_engines.specs.Tracing.{Traces}
-use Rattle.audit_engines.proofs.MineAnswers.{mine_answer, mine_refused}
+use Rattle.audit_engines.proofs.MineAnswers.{mine_refused}
 use Rattle.audit_engines.proofs.traced_solving.solve_traced_engine.Goals as goal
 
 pub returns-in_err-nanos-clause-answer : goal.returns-in_err-nanos-clause-answer

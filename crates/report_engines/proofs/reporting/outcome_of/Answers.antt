@@ -16,7 +16,7 @@ returns-in-Ok-clause-answer g c = λ s b p read.
 pub returns-clause-answer : goal.returns-clause-answer
 returns-clause-answer g c = λ s b p read.
     let mine = c.args.mine in
-    no_series_answer s b p mine.series.prices mine.series.rests mine.series.factors.items mine.model mine.factor read c.args.effort.method c.args.effort.steps c.in-Err.none c.no_series.result c.in-Err.ensures c.no_series.ensures
+    no_series_answer s b p mine.series.prices mine.series.rests mine.series.factors.items mine.model mine.factor read c.args.effort c.in-Err.none c.no_series.result c.in-Err.ensures c.no_series.ensures
 
 pub returns-in_err-rows_at-in-Ok-clause-answer : goal.returns-in_err-rows_at-in-Ok-clause-answer
 returns-in_err-rows_at-in-Ok-clause-answer g c = λ s b p read.

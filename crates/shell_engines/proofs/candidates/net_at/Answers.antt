@@ -15,7 +15,7 @@ returns-in-Ok g c =
     record { is_net = c.worths-worths.ensures.net; over = over_of block c.args.rests.now c.args.prices.now c.args.factor c.in-Ok.net made.0 made.1 }
 
 pub returns : goal.returns
-returns g c = λ factors method limit held.
+returns g c = λ factors effort held.
     let block = g.G.OrderedGroup.block_parts in
     let worths : c.as_slice.result.now ≡ worths_at c.args.prices.now c.args.factor = c.as_slice.ensures.value ∙ c.in_ok-nanos.ensures in
     let F : ℕ → List ℤ → Type 0 = λ n vs. WorthsFaultStands block n vs c.in-Err.fault in

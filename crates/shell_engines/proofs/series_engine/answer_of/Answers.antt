@@ -13,8 +13,8 @@ returns-in_ok-table_of-in-Ok-clause-answer g c = λ s b p read.
 
 pub returns-in-Err-Unsolved-clause-answer : goal.returns-in-Err-Unsolved-clause-answer
 returns-in-Err-Unsolved-clause-answer g c = λ s b p read.
-    no_pit_answer s b p c.args.mine.prices c.args.mine.rests c.args.mine.factors.items read c.args.effort.method c.args.effort.steps c.in-Err-Unsolved.factor c.in-Err-Unsolved.why c.answer_at.result (subst (λ (x : NoSeries). NoSeriesStands scaled_block c.args.mine.rests c.args.mine.prices c.args.mine.factors.items c.args.effort.method c.args.effort.steps x) c.in-Err-Unsolved.field-0-is c.in-Err-Unsolved.ensures) c.answer_at.ensures
+    no_pit_answer s b p c.args.mine.prices c.args.mine.rests c.args.mine.factors.items read c.args.effort c.in-Err-Unsolved.factor c.in-Err-Unsolved.why c.answer_at.result (subst (λ (x : NoSeries). NoSeriesStands scaled_block c.args.mine.rests c.args.mine.prices c.args.mine.factors.items c.args.effort x) c.in-Err-Unsolved.field-0-is c.in-Err-Unsolved.ensures) c.answer_at.ensures
 
 pub returns-in-Err-Model-clause-answer : goal.returns-in-Err-Model-clause-answer
 returns-in-Err-Model-clause-answer g c = λ s b p read.
-    subst (ShellsFail s b p) (sym c.from.ensures) (no_net_answer s b p c.args.mine.prices c.args.mine.rests c.args.mine.factors.items read c.in-Err-Model.field-0-0 c.in-Err-Model.fault (subst (λ (x : NoSeries). NoSeriesStands scaled_block c.args.mine.rests c.args.mine.prices c.args.mine.factors.items c.args.effort.method c.args.effort.steps x) c.in-Err-Model.field-0-is c.in-Err-Model.ensures))
+    subst (ShellsFail s b p) (sym c.from.ensures) (no_net_answer s b p c.args.mine.prices c.args.mine.rests c.args.mine.factors.items read c.in-Err-Model.field-0-0 c.in-Err-Model.fault (subst (λ (x : NoSeries). NoSeriesStands scaled_block c.args.mine.rests c.args.mine.prices c.args.mine.factors.items c.args.effort x) c.in-Err-Model.field-0-is c.in-Err-Model.ensures))

@@ -1,0 +1,101 @@
+//! Which mine `solve` is to solve and how, by its words, or the word that names nothing that there is.
+
+use crate::effort_words::{effort_by_words, effort_to_solve};
+use crate::solve_words::{TraceAsked, asks_for_words, factor_asked, group_asked, trace_asked};
+use command_line::{Commanded, ModelWords, NamedOption, SolveWords, WrongWord};
+use engines::Effort;
+use ordered_group::Group;
+use shells::Factor;
+use word_engines::WordEffort;
+
+/// A mine that is to be solved.
+#[derive(Clone, Copy)]
+pub enum MineAsked<'a> {
+    /// The values of its blocks.
+    Values {
+        /// The file.
+        upit: &'a str,
+    },
+    /// Blocks with prices, at a factor.
+    Prices {
+        /// The file of settings.
+        settings: &'a str,
+        /// The file of blocks.
+        blocks: &'a str,
+        /// The factor.
+        factor: Factor,
+    },
+}
+
+/// How it is to be solved.
+#[derive(Clone, Copy)]
+pub enum SolvingAsked<'a> {
+    /// By the method of an effort.
+    ByMethod {
+        /// What amounts count.
+        group: Group,
+        /// The method, the workers and the steps.
+        effort: Effort,
+        /// The trace, where one is asked for.
+        trace: Option<TraceAsked<'a>>,
+    },
+    /// By a run without a lock.
+    ByWords(WordEffort),
+}
+
+impl<'a> SolvingAsked<'a> {
+    /// The most steps.
+    pub fn steps(self) -> u64 {
+        match self {
+            SolvingAsked::ByMethod { effort, .. } => effort.steps,
+            SolvingAsked::ByWords(effort) => effort.steps,
+        }
+    }
+}
+
+/// The mine of the words.
+pub fn mine_asked<'a>(words: SolveWords<'a>) -> Result<MineAsked<'a>, WrongWord<'a>> {
+    match words.model {
+        ModelWords::Values { upit } => Ok(MineAsked::Values { upit }),
+        ModelWords::Prices { settings, blocks } => Ok(MineAsked::Prices {
+            settings,
+            blocks,
+            factor: factor_asked(Commanded::Solve, words.factor)?,
+        }),
+    }
+}
+
+/// How the words say that it is solved.
+pub fn solving_asked<'a>(words: SolveWords<'a>) -> Result<SolvingAsked<'a>, WrongWord<'a>> {
+    let group = group_asked(Commanded::Solve, words.group)?;
+    if let Some(method) = words.method && asks_for_words(method) {
+        return words_asked(words, method, group);
+    }
+    let effort = effort_to_solve(words)?;
+    let trace = trace_asked(words)?;
+    Ok(SolvingAsked::ByMethod {
+        group,
+        effort,
+        trace,
+    })
+}
+
+// A run without a lock: it has amounts of one group, and no trace.
+fn words_asked<'a>(
+    words: SolveWords<'a>,
+    method: &'a str,
+    group: Group,
+) -> Result<SolvingAsked<'a>, WrongWord<'a>> {
+    let wrong = |option: NamedOption, word: &'a str| WrongWord {
+        command: Commanded::Solve,
+        option,
+        word,
+    };
+    if let Some(word) = words.group && group != Group::Scaled {
+        return Err(wrong(NamedOption::GroupOfWords, word));
+    }
+    if words.trace.is_some() {
+        return Err(wrong(NamedOption::TracedMethod, method));
+    }
+    Ok(SolvingAsked::ByWords(effort_by_words(words)?))
+}

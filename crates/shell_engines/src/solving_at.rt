@@ -1,0 +1,39 @@
+//! The pit at a factor: the workers of the machine run without a lock where that can be.
+
+ghost use Rattle.std.specs.Prelude.{MatchResult};
+ghost use Rattle.check_pit.specs.Checks.{IsSound};
+ghost use Rattle.shell_engines.specs.Settling.{NotSolvedStands};
+
+use closure_net::Net;
+use engines::Effort;
+use engines::certify::Solution;
+use engines::solving::{Unsolved, solution_of};
+use ordered_group::Scaled;
+use pseudoflow::Progress;
+use std::alloc::Global;
+use std::sync::Wait;
+use std::thread::Threads;
+use word_engines::{WordEffort, by_words};
+use workers::Gate;
+
+/// A pit of a net with a flow that proves it. One worker or two run without a lock; where a number of that run doesn't fit a word,
+/// and where there are more workers, the effort's method finds it under one, with all the steps.
+pub fn solution_at<R: Threads + Wait + Sync, T: Gate + Progress>(
+    rt: &R,
+    alloc: Global,
+    net: &Net<Scaled>,
+    effort: Effort,
+    gate: &T,
+) -> Result<Solution<Scaled>, Unsolved>
+    ensures { MatchResult result
+        (λ s. IsSound net.now s.flow s.pit)
+        (λ why. NotSolvedStands net.now effort why) }
+{
+    let Some(words) = WordEffort::new(effort.workers, effort.steps) else {
+        return solution_of(rt, alloc, net, effort, gate);
+    };
+    match by_words(rt, alloc, net, words, gate) {
+        Err(Unsolved::TooLarge) => solution_of(rt, alloc, net, effort, gate),
+        answer => answer,
+    }
+}

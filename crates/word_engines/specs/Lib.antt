@@ -1,0 +1,4 @@
+pub mod MethodWord
+pub mod Tightness
+pub mod WordRuns
+pub mod WordSolving

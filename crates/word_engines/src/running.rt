@@ -1,0 +1,54 @@
+//! The pit that a run without a lock proves.
+
+ghost use Rattle.std.specs.Prelude.{MatchResult};
+ghost use Rattle.check_pit.specs.Checks.{IsSound};
+ghost use Rattle.word_engines.specs.WordRuns.{WordsStand};
+
+use crate::laws;
+use crate::word_effort::WordEffort;
+use closure_net::Net;
+use engines::certify::{Solution, Uncertified, certified};
+use engines::solving::Unsolved;
+use ordered_group::Scaled;
+use std::alloc::Global;
+use std::sync::Wait;
+use std::thread::Threads;
+use word_runner::solve_words;
+use workers::{Gate, SolveFault};
+
+/// The pit that a run of the push-relabel machine without a lock proves: its flow has passed the check of this net.
+///
+/// # Errors
+/// `Unsettled` where the turns were over before all had arrived; `TooLarge` where the positive worths sum to 2^63 units or more,
+/// where the flow of a pair came to 2^63 in a step or a label would have, or where a sum of the check overflows. `NoMemory` where
+/// memory is refused, `NoThread` where a worker can't be started. `GaveUp` and `Stranger` never.
+pub fn by_words<R: Threads + Wait + Sync, T: Gate>(
+    rt: &R,
+    alloc: Global,
+    net: &Net<Scaled>,
+    effort: WordEffort,
+    gate: &T,
+) -> Result<Solution<Scaled>, Unsolved>
+    ensures { MatchResult result
+        (λ s. IsSound net.now s.flow s.pit)
+        (λ unsolved. WordsStand net.now effort.workers effort.steps unsolved) }
+{
+    // proof: what the source reaches in the flow of a run is closed and tight, and the check of such a pit fails for its sums alone
+    laws::runs_are_tight();
+    let _worths = net.worths();
+    let flow = match solve_words(rt, alloc, net, effort.workers, effort.steps, gate) {
+        Ok(solved) => solved.flow,
+        Err(SolveFault::Unsettled) => return Err(Unsolved::Unsettled),
+        Err(SolveFault::TooLarge) => return Err(Unsolved::TooLarge),
+        Err(SolveFault::NoMemory) => return Err(Unsolved::NoMemory),
+        Err(SolveFault::NoThread) => return Err(Unsolved::NoThread),
+        Err(SolveFault::BadWorkers | SolveFault::StrangerNet) => {
+            unreachable!("there are one or two workers, and their words are the net's")
+        }
+    };
+    match certified(alloc, net, flow) {
+        Ok(solution) => Ok(solution),
+        Err(Uncertified::NoMemory) => Err(Unsolved::NoMemory),
+        Err(Uncertified::Refused(_)) => Err(Unsolved::TooLarge),
+    }
+}

@@ -1,0 +1,133 @@
+//! The engine of `solve` by words: the bytes of a mine in, a certificate of its best pit out.
+
+ghost use Rattle.std.specs.Prelude.{◌≡◌, ◌+◌, ◌-◌, ◌^◌, ◌<◌, ◌↔◌, IfSome, IsErrOf};
+ghost use Rattle.check_pit.specs.ReadBack.{IsPrice};
+ghost use Rattle.engines.specs.ReadMines.{AreRead};
+ghost use Rattle.engines.specs.Mines.{MineTexts, mine_texts, price_wanted};
+ghost use Rattle.word_engines.specs.WordSolving.{SolvesNetByWords, SolvesByWords};
+
+use crate::running::by_words;
+use crate::word_effort::WordEffort;
+use check_pit::{Certificate, Price, write_certificate};
+use closure_net::{Net, laws};
+use engines::inputs::{rests_from, upit_from};
+use engines::mines::nanos_of;
+use engines::solving::{Unsolved, write_no};
+use engines::{EngineFault, Verdict};
+use fixed_worth::{CountedRead, CountedWrite};
+use ordered_group::Scaled;
+use prec_file::Rests;
+use std::alloc::Global;
+use std::sync::Wait;
+use std::thread::Threads;
+use workers::Gate;
+
+/// Finds the best pit of the mine of two texts by a run of the push-relabel machine without a lock, in amounts of the group
+/// `scaled`, and writes its certificate.
+///
+/// `Done` where it wrote a certificate, as `engines::solve_engine` says: its flow has passed the check of the mine's net. `No`
+/// where it wrote `UNSETTLED`, since the workers' turns were over before all that the source gave had arrived, or
+/// `REFUSED TooLarge`, where a total, a flow or a label comes to 2^63, or where a sum of the check overflows.
+///
+/// The inputs are read in the order of the arguments, each to its end, and nothing is written before the answer is known. Each
+/// worker passes the gate before each of its turns.
+///
+/// # Errors
+/// As of `solve_engine`, and in its order; `Stranger` never comes of the run.
+///
+/// Each device must have counted fewer than 2^64 - 1 failures, so that one more can be counted.
+pub fn solve_words_engine<
+    R: Threads + Wait + Sync,
+    U: CountedRead,
+    P: CountedRead,
+    T: Gate,
+    W: CountedWrite,
+>(
+    rt: &R,
+    alloc: Global,
+    upit: &mut U,
+    prec: &mut P,
+    effort: WordEffort,
+    gate: &T,
+    out: &mut W,
+) -> Result<Verdict, EngineFault>
+    requires upit_room { U.failed upit.old < 2 ^ 64 - 1 }
+    requires prec_room { P.failed prec.old < 2 ^ 64 - 1 }
+    requires out_room { W.failed out.old < 2 ^ 64 - 1 }
+
+    // What it answers and writes, where the readers tell their bytes.
+    ensures answer { IfSome (U.remaining upit.old) (λ u. IfSome (P.remaining prec.old) (λ p.
+        SolvesByWords (mine_texts u p) effort.workers effort.steps (W.contents out.old) (W.contents out.new) result)) }
+
+    // A device is named exactly where one failed.
+    ensures device { IsErrOf result EngineFault.Device → U.failed upit.new + P.failed prec.new + W.failed out.new ≡ U.failed upit.old + P.failed prec.old + W.failed out.old + 1 }
+    ensures kept { ¬ IsErrOf result EngineFault.Device → (U.failed upit.new ≡ U.failed upit.old) × (P.failed prec.new ≡ P.failed prec.old) × (W.failed out.new ≡ W.failed out.old) }
+{
+    let upit = upit_from(alloc, upit)?;
+    let rests = rests_from(alloc, prec, upit.len())?;
+    let nanos = nanos_of(alloc, &upit)?;
+    let price = Price::Objective;
+    mine_by_words(rt, alloc, nanos.as_slice(), rests, price, effort, gate, out)
+}
+
+/// The same, where the mine is read, and its blocks are worth so many billionths at a price.
+pub(crate) fn mine_by_words<R: Threads + Wait + Sync, T: Gate, W: CountedWrite>(
+    rt: &R,
+    alloc: Global,
+    nanos: &[i128],
+    rests: Rests,
+    price: Price,
+    effort: WordEffort,
+    gate: &T,
+    out: &mut W,
+) -> Result<Verdict, EngineFault>
+    requires price { IsPrice price }
+    requires room { W.failed out.old < 2 ^ 64 - 1 }
+    ensures answer { (texts : MineTexts) → AreRead texts nanos.now rests → price ≡ price_wanted texts → SolvesByWords texts effort.workers effort.steps (W.contents out.old) (W.contents out.new) result }
+    ensures device { IsErrOf result EngineFault.Device ↔ (W.failed out.new ≡ W.failed out.old + 1) }
+    ensures kept { ¬ IsErrOf result EngineFault.Device → W.failed out.new ≡ W.failed out.old }
+{
+    // proof: a greatest set of the net is the best pit
+    laws::greatest_set_is_best_pit::<Scaled>();
+    let net = Net::<Scaled>::of_worths(alloc, rests, nanos)?;
+    let _worths = net.worths();
+    net_by_words(rt, alloc, &net, price, effort, gate, out)
+}
+
+// Writes the certificate of a net at this price, or a line that says why there is none.
+fn net_by_words<R: Threads + Wait + Sync, T: Gate, W: CountedWrite>(
+    rt: &R,
+    alloc: Global,
+    net: &Net<Scaled>,
+    price: Price,
+    effort: WordEffort,
+    gate: &T,
+    out: &mut W,
+) -> Result<Verdict, EngineFault>
+    requires price { IsPrice price }
+    requires room { W.failed out.old < 2 ^ 64 - 1 }
+    ensures answer { SolvesNetByWords price net.now effort.workers effort.steps (W.contents out.old) (W.contents out.new) result }
+    ensures device { IsErrOf result EngineFault.Device ↔ (W.failed out.new ≡ W.failed out.old + 1) }
+    ensures kept { ¬ IsErrOf result EngineFault.Device → W.failed out.new ≡ W.failed out.old }
+{
+    // proof: what is known of every net, that its pairs are of its blocks and in order
+    let _worths = net.worths();
+    let solution = match by_words(rt, alloc, net, effort, gate) {
+        Ok(solution) => solution,
+        Err(Unsolved::Unsettled) => return write_no(b"UNSETTLED\n", out),
+        Err(Unsolved::TooLarge) => return write_no(b"REFUSED TooLarge\n", out),
+        Err(Unsolved::NoMemory) => return Err(EngineFault::Memory),
+        Err(Unsolved::NoThread) => return Err(EngineFault::Thread),
+        Err(Unsolved::GaveUp | Unsolved::Stranger) => {
+            unreachable!("pseudoflow isn't asked, and the words are the net's")
+        }
+    };
+    let certificate = Certificate {
+        blocks: net.len(),
+        price,
+        pit: solution.pit,
+        flow: solution.flow,
+    };
+    write_certificate(&certificate, net.rests(), out)?;
+    Ok(Verdict::Done)
+}
