@@ -68,16 +68,14 @@ pub fn mine_asked<'a>(words: SolveWords<'a>) -> Result<MineAsked<'a>, WrongWord<
 /// How the words say that it is solved.
 pub fn solving_asked<'a>(words: SolveWords<'a>) -> Result<SolvingAsked<'a>, WrongWord<'a>> {
     let group = group_asked(Commanded::Solve, words.group)?;
-    if let Some(method) = words.method && asks_for_words(method) {
-        return words_asked(words, method, group);
+    match words.method {
+        Some(method) if asks_for_words(method) => words_asked(words, method, group),
+        _ => Ok(SolvingAsked::ByMethod {
+            group,
+            effort: effort_to_solve(words)?,
+            trace: trace_asked(words)?,
+        }),
     }
-    let effort = effort_to_solve(words)?;
-    let trace = trace_asked(words)?;
-    Ok(SolvingAsked::ByMethod {
-        group,
-        effort,
-        trace,
-    })
 }
 
 // A run without a lock: it has amounts of one group, and no trace.
@@ -86,16 +84,17 @@ fn words_asked<'a>(
     method: &'a str,
     group: Group,
 ) -> Result<SolvingAsked<'a>, WrongWord<'a>> {
-    let wrong = |option: NamedOption, word: &'a str| WrongWord {
+    match words.group {
+        Some(word) if group != Group::Scaled => Err(wrong(NamedOption::GroupOfWords, word)),
+        _ if words.trace.is_some() => Err(wrong(NamedOption::TracedMethod, method)),
+        _ => Ok(SolvingAsked::ByWords(effort_by_words(words)?)),
+    }
+}
+
+fn wrong<'a>(option: NamedOption, word: &'a str) -> WrongWord<'a> {
+    WrongWord {
         command: Commanded::Solve,
         option,
         word,
-    };
-    if let Some(word) = words.group && group != Group::Scaled {
-        return Err(wrong(NamedOption::GroupOfWords, word));
     }
-    if words.trace.is_some() {
-        return Err(wrong(NamedOption::TracedMethod, method));
-    }
-    Ok(SolvingAsked::ByWords(effort_by_words(words)?))
 }
