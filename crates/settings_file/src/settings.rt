@@ -2,8 +2,9 @@
 
 ghost use Rattle.std.specs.Prelude.{◌≡◌, ◌≤◌, IfSome, option_map};
 ghost use Rattle.settings_file.specs.Values.{AreFactors};
-ghost use Rattle.settings_file.specs.Settings.{SettingsView, IsSettings, names_mill};
+ghost use Rattle.settings_file.specs.Settings.{SettingsView, IsSettings, is_said, names_mill};
 
+use crate::keys::Key;
 use fixed_worth::MOST_FACTOR;
 use std::marker::Model;
 
@@ -136,7 +137,22 @@ impl Settings {
     pub fn names_mill(&self) -> bool
         ensures { result ≡ names_mill self.now }
     {
-        let is_processed = self.processing.is_some();
-        is_processed || self.mining.is_some()
+        self.says(Key::Processing) || self.says(Key::Mining)
+    }
+
+    /// Whether something is said at a key.
+    pub fn says(&self, key: Key) -> bool
+        ensures { result ≡ is_said self.now key }
+    {
+        match key {
+            Key::Revenue => self.revenue.is_some(),
+            Key::Cost => self.cost.is_some(),
+            Key::Tonnes => self.tonnes.is_some(),
+            Key::Factors => self.factors.is_some(),
+            Key::Report => self.report.is_some(),
+            Key::Offsets => self.offsets.is_some(),
+            Key::Processing => self.processing.is_some(),
+            Key::Mining => self.mining.is_some(),
+        }
     }
 }

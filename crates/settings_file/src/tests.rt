@@ -49,6 +49,7 @@ fn keys_of_a_mill(rt: HostRuntime) -> Result<(), Fail> {
     assert_eq!(rt; settings.processing(), Some(1));
     assert_eq!(rt; settings.mining(), Some(65_535));
     assert!(rt; settings.names_mill() && settings.cost().is_none());
+    assert!(rt; settings.says(Key::Mining) && !settings.says(Key::Tonnes));
     Ok(())
 }
 

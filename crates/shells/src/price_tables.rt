@@ -1,12 +1,13 @@
 //! Tables of prices.
 
 ghost use Rattle.std.specs.Prelude.{◌≡◌, ◌<◌, ◌≤◌, ◌≤ℤ◌, ℕ, pos, length, IfOk, MatchOption, MatchResult};
-ghost use Rattle.shells.specs.Prices.{plain_costs, mill_costs, blocks_of, worth_at, worths_at, number_at, IsTable, IsFirstNegative, PricesFaultStands};
+ghost use Rattle.shells.specs.Prices.{plain_costs, mill_costs, blocks_of, price_of, worth_at, worths_at, number_at, IsTable, IsFirstNegative, PricesFaultStands};
 ghost use Rattle.shells.specs.Internal.{shown_costs};
 
 use crate::charges::{Costs, thousandths_of};
 use crate::prices_fault::PricesFault;
 use crate::thousandths::Factor;
+use check_pit::Price;
 use fixed_worth::{MOST_BLOCKS, Micros};
 use rayon::prelude::*;
 use std::alloc::{AllocError, Global};
@@ -97,6 +98,13 @@ impl Prices {
         ensures table { IsTable self.now }
     {
         self.revenue.len() as u32
+    }
+
+    /// The price that certificates over this table name at a factor: one of a mill where blocks may go to it.
+    pub fn price_at(&self, factor: Factor) -> Price
+        ensures { result ≡ price_of self.now.costs factor }
+    {
+        self.costs.price_at(factor.get())
     }
 
     /// What block b is worth at a factor, in billionths: the factor times its revenue, less its cost. Where there is a
