@@ -11,7 +11,7 @@ ghost use Rattle.engines.specs.Limits.{IsWithinLimit};
 ghost use Rattle.check_pit.specs.declared.header.Price.TheVariants.{Objective};
 ghost use Rattle.engines.specs.Mines.{MineTexts, priced_texts, DenoteMine, mine_of, price_wanted};
 ghost use Rattle.engines.specs.FaultStands.{IsHeader, Fails};
-ghost use Rattle.engines.specs.Judging.{Judges, factor_at, factor_in};
+ghost use Rattle.engines.specs.Judging.{Judges, factor_in};
 ghost use Rattle.engines.specs.ReadMines.{AreRead, ArePricesRead, IsGroupNamed, billionths_of};
 
 use crate::engine_fault::{CertificateProblem, EngineFault};
@@ -21,7 +21,7 @@ use check_pit::{Accepted, CertFault, Header, Price, check, read_certificate, rea
 use closure_net::{Net, laws};
 use ordered_group::{Group, OrderedGroup, Scaled, Worth, WorthSize};
 use prec_file::Rests;
-use shells::{Factor, Prices};
+use shells::Prices;
 use std::alloc::Global;
 use std::thread::Threads;
 use upit_file::Upit;
@@ -63,26 +63,11 @@ pub fn judge_priced<R: Threads + Sync>(
     ensures no_device { ¬ IsErrOf result EngineFault.Device }
 {
     let header = header_for(certificate, rests.len())?;
-    let Some(factor) = Factor::new(factor_at(header.price)) else {
-        // a header's factor is at most 10,000
-        unreachable!();
-    };
-    if header.price != prices.price_at(factor) {
+    let Some(factor) = prices.factor_of(header.price) else {
         return Err(EngineFault::Certificate(CertificateProblem::WrongPrice));
-    }
+    };
     let nanos = prices.worths_at(rt, alloc, factor)?;
     judge_in(alloc, header.group, nanos.as_slice(), rests, certificate)
-}
-
-// The factor that a price names, in thousandths: 0 where it names none.
-fn factor_at(price: Price) -> u32
-    ensures { result ≡ factor_at price }
-{
-    match price {
-        Price::Objective => 0,
-        Price::Factor(thousandths) => thousandths,
-        Price::Mill(thousandths) => thousandths,
-    }
 }
 
 // The header of a certificate for a mine of n blocks.

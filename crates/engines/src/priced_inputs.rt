@@ -182,13 +182,12 @@ pub fn prices_of(
 {
     let revenue = column_of(alloc, model, 0)?;
     let first = column_of(alloc, model, 1)?;
-    let made = match charges {
-        ChargeColumns::Plain { .. } => Prices::new(revenue, first),
-        ChargeColumns::Mill { .. } => Prices::mill(revenue, first, column_of(alloc, model, 2)?),
-    };
-    match made {
-        Ok(prices) => Ok(prices),
-        Err(fault) => Err(EngineFault::Prices(fault)),
+    match charges {
+        ChargeColumns::Plain { .. } => Ok(Prices::new(revenue, first)?),
+        ChargeColumns::Mill { .. } => {
+            let mining = column_of(alloc, model, 2)?;
+            Ok(Prices::mill(revenue, first, mining)?)
+        }
     }
 }
 

@@ -17,10 +17,10 @@ use Rattle.engines.specs.BlockTexts.{ReadsBlocks, BlocksFails, BlocksReadFails}
 use Rattle.engines.specs.Inputs.{ReadsSettingsText, SettingsReadFails, IsMissing, ReadsPrices, ReadsPrec, PrecReadFails, ModelPricesFail}
 use Rattle.engines.proofs.Priced.{column_is, all_read}
 use Rattle.engines.proofs.PricedAnswers.{prec_answer}
-use Rattle.shell_engines.proofs.Keys.{first_missing-append, first_missing-front}
+use Rattle.settings_file.proofs.MissingKeys.{first_missing-append, first_missing-front}
 use Rattle.report_engines.specs.ReportTexts.{report_keys, report_columns, ReportBlocksRead, factor_by, ReportMineFails}
 use Rattle.report_engines.specs.Internal.{column_keys, IsSaid, SaidFails, PricedModelFails, IsPricedModel, IsReportRead}
-use Rattle.report_engines.proofs.Keys.{none_missing}
+use Rattle.settings_file.proofs.MissingKeys.{none_missing}
 use Rattle.report_engines.proofs.Columns.{unfaulted, two_of_three}
 
 -- ---- settings

@@ -16,7 +16,7 @@ use Rattle.engines.specs.PricedTexts.{price_keys, SettingsFails}
 use Rattle.engines.specs.Inputs.{ReadsSettingsText, IsMissing, PricedMineFails}
 use Rattle.engines.specs.ReadMines.{ArePricesRead}
 use Rattle.shell_engines.specs.SeriesTexts.{series_keys, KeysKnown, factors_said, IsSeriesRead, SeriesMineFails}
-use Rattle.shell_engines.proofs.Keys.{first_missing-append, first_missing-front}
+use Rattle.settings_file.proofs.MissingKeys.{first_missing-append, first_missing-front}
 
 -- ---- keys
 

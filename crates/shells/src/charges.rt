@@ -2,6 +2,7 @@
 
 ghost use Rattle.std.specs.Prelude.{◌≡◌, ◌<◌, ◌≤◌, ◌^◌, ◌*◌, ◌+◌, pos, ◌*ℤ◌, ◌-ℤ◌, ◌↔◌, unsigned_abs, IsTrue};
 ghost use Rattle.std.specs.Int.{int_max};
+ghost use Rattle.check_pit.specs.ReadBack.{IsPrice};
 ghost use Rattle.shells.specs.Prices.{AreCharged, price_of, worth_after};
 ghost use Rattle.shells.specs.Internal.{shown_costs};
 
@@ -73,7 +74,9 @@ impl Costs {
 
     // The price that certificates at so many thousandths name.
     pub(crate) fn price_at(&self, thousandths: u32) -> Price
-        ensures { result ≡ price_of (shown_costs self.now) thousandths }
+        requires { thousandths ≤ MOST_FACTOR }
+        ensures is { result ≡ price_of (shown_costs self.now) thousandths }
+        ensures bound { IsPrice result }
     {
         match self {
             Costs::Plain(_) => Price::Factor(thousandths),

@@ -256,8 +256,17 @@ fn a_table_says_what_its_certificates_name(rt: HostRuntime) -> Result<(), Fail> 
     let alloc = rt.alloc();
     let factor = Factor::new(200).ok_or("factor")?;
     let plain = prices(alloc, &[1], &[1])?;
+    let mill = waste(alloc)?;
     assert!(rt; plain.price_at(factor) == Price::Factor(200));
-    assert!(rt; waste(alloc)?.price_at(factor) == Price::Mill(200));
+    assert!(rt; mill.price_at(factor) == Price::Mill(200));
+    assert!(rt; plain.factor_of(Price::Factor(200)) == Some(factor));
+    assert!(rt; mill.factor_of(Price::Mill(200)) == Some(factor));
+    for price in [Price::Objective, Price::Mill(200)] {
+        assert!(rt; plain.factor_of(price).is_none());
+    }
+    for price in [Price::Objective, Price::Factor(200)] {
+        assert!(rt; mill.factor_of(price).is_none());
+    }
     Ok(())
 }
 
