@@ -16,6 +16,7 @@ pub mod Splits
 pub mod Texts
 pub mod ValueLines
 pub mod Verdicts
+pub mod HeaderLines
 pub mod Wants
 pub mod Whole
 pub mod Tightness

@@ -6,7 +6,6 @@ ghost use Rattle.word_engines.specs.WordSolving.{SolvesByWords};
 
 use crate::word_effort::WordEffort;
 use crate::words_solving::mine_by_words;
-use check_pit::Price;
 use engines::priced_inputs::priced_mine_from;
 use engines::{EngineFault, Verdict};
 use fixed_worth::{CountedRead, CountedWrite};
@@ -62,7 +61,7 @@ pub fn solve_priced_words_engine<
 {
     let mine = priced_mine_from(alloc, settings, blocks, prec)?;
     let nanos = mine.prices.worths_at(rt, alloc, factor)?;
-    let price = Price::Factor(factor.get());
+    let price = mine.prices.price_at(factor);
     mine_by_words(
         rt,
         alloc,

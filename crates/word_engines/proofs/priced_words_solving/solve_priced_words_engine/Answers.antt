@@ -1,6 +1,6 @@
 use Rattle.std.proofs.Common.{◌∙◌}
 use Rattle.std.proofs.lemmas.Result.{err_from_is_err_and}
-use Rattle.engines.proofs.OfTexts.{priced_answer}
+use Rattle.engines.proofs.OfTexts.{priced_answers}
 use Rattle.word_engines.specs.WordSolving.{SolvesByWords}
 use Rattle.word_engines.proofs.MineAnswers.{priced_refused, priced_unread}
 use Rattle.word_engines.proofs.priced_words_solving.solve_priced_words_engine.Goals as goal
@@ -19,6 +19,6 @@ returns-in_err-nanos-clause-answer g c =
 
 pub returns-clause-answer : goal.returns-clause-answer
 returns-clause-answer g c =
-    priced_answer (λ texts. SolvesByWords texts c.args.effort.workers c.args.effort.steps (g.W.Write.contents c.args.out.now) (g.W.Write.contents c.mine_by_words.new.out) c.mine_by_words.result)
-    (g.S.Read.remaining c.args.settings.now) (g.B.Read.remaining c.args.blocks.now) (g.P.Read.remaining c.args.prec.now) c.args.factor c.get.result c.in_ok-mine.mine.prices c.in_ok-mine.mine.rests c.as_slice.result.now
-    c.in_ok-mine.ensures.read c.get.ensures.value (c.as_slice.ensures.value ∙ c.in_ok-nanos.ensures) c.mine_by_words.ensures.answer
+    priced_answers (λ texts. SolvesByWords texts c.args.effort.workers c.args.effort.steps (g.W.Write.contents c.args.out.now) (g.W.Write.contents c.mine_by_words.new.out) c.mine_by_words.result)
+    (g.S.Read.remaining c.args.settings.now) (g.B.Read.remaining c.args.blocks.now) (g.P.Read.remaining c.args.prec.now) c.args.factor c.price_at-price.result c.in_ok-mine.mine.prices c.in_ok-mine.mine.rests c.as_slice.result.now
+    c.in_ok-mine.ensures.read c.price_at-price.ensures.is (c.as_slice.ensures.value ∙ c.in_ok-nanos.ensures) c.mine_by_words.ensures.answer
