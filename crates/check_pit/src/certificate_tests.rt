@@ -205,9 +205,18 @@ fn headers_have_faults(rt: HostRuntime) {
     let texts: [(&[u8], CertFault); 13] = [
         (b"PITCERT 3\n", CertFault::Text(1)),
         (b"PITCERT 2\nBLOCKS 3\nPRICE 5\n", CertFault::Text(3)),
-        (b"PITCERT 2\nBLOCKS 3\nPRICE OBJECTIVE\n", CertFault::Text(3)),
-        (b"PITCERT 2\nBLOCKS 3\nPRICE MILL 10001\n", CertFault::Number(3)),
-        (b"PITCERT 2\nBLOCKS 3\nPRICE MILL 05\n", CertFault::Number(3)),
+        (
+            b"PITCERT 2\nBLOCKS 3\nPRICE OBJECTIVE\n",
+            CertFault::Text(3),
+        ),
+        (
+            b"PITCERT 2\nBLOCKS 3\nPRICE MILL 10001\n",
+            CertFault::Number(3),
+        ),
+        (
+            b"PITCERT 2\nBLOCKS 3\nPRICE MILL 05\n",
+            CertFault::Number(3),
+        ),
         (b"PITCERT 1\nBLOCKS \n", CertFault::Number(2)),
         (b"PITCERT 1\nBLOCKS 3\r\n", CertFault::Number(2)),
         (b"PITCERT 1\nBLOCKS 16777217\n", CertFault::Number(2)),

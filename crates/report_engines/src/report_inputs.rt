@@ -12,7 +12,9 @@ ghost use Rattle.report_engines.specs.Internal.{columns_by, report_list, tonnes_
 use blocks_file::BlockModel;
 use engines::EngineFault;
 use engines::inputs::{blocks_from, rests_from};
-use engines::priced_inputs::{ChargeColumns, PriceColumns, price_columns, prices_of, settings_from};
+use engines::priced_inputs::{
+    ChargeColumns, PriceColumns, price_columns, prices_of, settings_from,
+};
 use fixed_worth::CountedRead;
 use settings_file::{Key, Settings};
 use shell_engines::series_inputs::{SeriesMine, factors_of};

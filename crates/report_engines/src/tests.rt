@@ -72,8 +72,7 @@ fn tonnes_are_missing_before_factors(rt: HostRuntime) {
 // At 200 thousandths the block is waste, and at 1,000 it pays for the mill.
 #[test]
 fn a_block_for_the_mill(rt: HostRuntime) {
-    let settings =
-        b"revenue = 0\nprocessing = 1\nmining = 2\ntonnes = 3\nfactors = [200, 1000]\n";
+    let settings = b"revenue = 0\nprocessing = 1\nmining = 2\ntonnes = 3\nfactors = [200, 1000]\n";
     let (answer, text) = reported_of(&rt, settings, b"0 0 0 0 10 3 2 7\n", b"");
     assert!(rt; answer == Ok(Verdict::Done));
     assert!(rt; text.as_slice() == b"z,shell,blocks,tonnes,worth\n0,1000,1,7,5\n".as_slice());

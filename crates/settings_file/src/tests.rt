@@ -238,7 +238,10 @@ fn printed_faults(rt: HostRuntime) -> Result<(), Fail> {
         (SettingsFault::Missing(Key::Factors), "Missing(factors)"),
         (SettingsFault::BadValue(Key::Report), "BadValue(report)"),
         (SettingsFault::BadValue(Key::Offsets), "BadValue(offsets)"),
-        (SettingsFault::Missing(Key::Processing), "Missing(processing)"),
+        (
+            SettingsFault::Missing(Key::Processing),
+            "Missing(processing)",
+        ),
         (SettingsFault::Missing(Key::Mining), "Missing(mining)"),
         (SettingsFault::NoMemory, "NoMemory"),
     ];

@@ -219,7 +219,11 @@ fn a_block_goes_to_the_mill_or_to_waste(rt: HostRuntime) -> Result<(), Fail> {
     }
     let short = Prices::mill(column(alloc, &[1])?, column(alloc, &[1])?, Vec::new(alloc));
     assert!(rt; short.err() == Some(PricesFault::WrongLength));
-    let negative = Prices::mill(column(alloc, &[-1])?, column(alloc, &[0])?, column(alloc, &[0])?);
+    let negative = Prices::mill(
+        column(alloc, &[-1])?,
+        column(alloc, &[0])?,
+        column(alloc, &[0])?,
+    );
     assert!(rt; negative.err() == Some(PricesFault::NegativeRevenue(0)));
     Ok(())
 }
