@@ -16,7 +16,7 @@ from common import PIT, Model, adopt_orphans, arguments, model, rounds, size_of,
 
 WORD = 1 << 63
 NANOS = 1_000_000_000
-STEPS = 20_000_000
+STEPS = 10_000_000
 KINDS = [("words", n, ["--method", "words", "--workers", str(n)]) for n in (1, 2)]
 KINDS += [("lock", n, ["--method", "push-relabel", "--group", "scaled", "--workers", str(n)]) for n in (1, 2)]
 
@@ -40,11 +40,11 @@ def words_of(mine, steps, kind):
 
 
 def measured(mine, steps, given, status):
-    """Of each kind the fewest seconds that passed in a round, without those of reading the files; and all must end so."""
+    """Of each kind the fewest seconds that passed in a round, without those of reading the files; all runs must end so."""
     reading = rounds([words_of(mine, 1, kind) for _, _, kind in KINDS], given.rounds, given.cores)
     running = rounds([words_of(mine, steps, kind) for _, _, kind in KINDS], given.rounds, given.cores)
     for runs in running:
-        if any(r.status not in status for r in runs):
+        if any(r.status != status for r in runs):
             sys.exit(f"bench: {mine.name}: status {runs[0].status}: {runs[0].output[:80]}")
     return [max(min(r.wall for r in b) - min(r.wall for r in a), 0.001) for a, b in zip(reading, running)]
 
@@ -58,16 +58,16 @@ def rows_of(name, blocks, by, turns, seconds):
 def main():
     words = arguments(__doc__, ["newman", "zuck"])
     words.add_argument("--cores", default="0-3", metavar="LIST", help="the cores of all runs, for taskset (0-3)")
-    words.add_argument("--steps", type=int, default=STEPS, metavar="N", help="the turns of a run that is cut short (20,000,000)")
+    words.add_argument("--steps", type=int, default=STEPS, metavar="N", help="the turns of a run that is cut short (10,000,000)")
     given = words.parse_args()
     adopt_orphans()
     rows, ends = [], []
     with tempfile.TemporaryDirectory() as folder:
         for place, name in enumerate(given.models):
             mine, blocks, by = in_words(model(name), folder)
-            rows += rows_of(mine.name, blocks, by, given.steps, measured(mine, given.steps, given, (0, 1)))
+            rows += rows_of(mine.name, blocks, by, given.steps, measured(mine, given.steps, given, 1))
             if place == 0:
-                ends = rows_of(mine.name, blocks, by, None, measured(mine, 1 << 40, given, (0,)))
+                ends = rows_of(mine.name, blocks, by, None, measured(mine, 1 << 40, given, 0))
     head = ["model", "blocks", "values by", "run", "workers", "s passed", "turns a second", "times one under the lock"]
     table(head, rows)
     print()
