@@ -93,12 +93,12 @@ fn what_is_unsettled_and_what_is_too_large(rt: HostRuntime) -> Result<(), Fail> 
     let few = WordEffort::new(2, 3).ok_or("effort")?;
     let short = solved(&rt, SHARED_WASTE, BOTH_ON_WASTE, few);
     assert!(rt; short.answer == Ok(Verdict::No));
-    assert!(rt; short.text.as_slice() == b"UNSETTLED\n");
+    assert!(rt; short.text.as_slice() == b"UNSETTLED\n".as_slice());
     let dear: &[u8] = b"NBLOCKS: 1\nOBJECTIVE_FUNCTION:\n0 5000000000\n";
     let many = WordEffort::new(1, MANY_TURNS).ok_or("effort")?;
     let large = solved(&rt, dear, b"", many);
     assert!(rt; large.answer == Ok(Verdict::No));
-    assert!(rt; large.text.as_slice() == b"REFUSED TooLarge\n");
+    assert!(rt; large.text.as_slice() == b"REFUSED TooLarge\n".as_slice());
     Ok(())
 }
 
