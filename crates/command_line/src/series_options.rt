@@ -50,13 +50,11 @@ pub fn with_series<'a>(
         .arg(file_option(alloc, "prec", PREC_HELP))?
         .arg(file_option(alloc, "blocks", PRICED_BLOCKS_HELP))?
         .arg(file_option(alloc, "settings", settings_help))?
-        .arg(
-            method_option(
-                alloc,
-                "Which engine makes the flow: auto (the default), pseudoflow or push-relabel",
-            )
-            .long_help(METHODS),
-        )?
+        .arg(method_option(
+            alloc,
+            "Which engine makes the flow: auto (the default), pseudoflow or push-relabel",
+        )
+        .long_help(METHODS))?
         .arg(steps_option(alloc))?
         .arg(workers_option(
             alloc,

@@ -50,7 +50,8 @@ pub fn solve_command<'a>(alloc: Global) -> Result<Command<'a>, AllocError> {
 
 // The options that say how it is solved.
 fn with_kinds<'a>(alloc: Global, command: Command<'a>) -> Result<Command<'a>, AllocError> {
-    let methods = "Which engine makes the flow: auto (the default), pseudoflow, push-relabel or words";
+    let methods =
+        "Which engine makes the flow: auto (the default), pseudoflow, push-relabel or words";
     command
         .arg(method_option(alloc, methods))?
         .arg(group_option(alloc))

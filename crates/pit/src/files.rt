@@ -4,9 +4,7 @@ ghost use Rattle.std.specs.Prelude.{◌≡◌, IfOk};
 ghost use Rattle.engines.specs.Slopes.{IsChoice};
 
 use crate::told::{Told, made, opened, output};
-use command_line::{
-    CheckWords, ModelWords, ReplayWords, SeriesCommand, SeriesWords, SlopesWords,
-};
+use command_line::{CheckWords, ModelWords, ReplayWords, SeriesCommand, SeriesWords, SlopesWords};
 use engines::{
     Effort, EngineFault, PatternChoice, Verdict, check_engine, check_priced_engine, slopes_engine,
     slopes_from_settings_engine,

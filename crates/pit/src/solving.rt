@@ -89,10 +89,7 @@ fn solve_by_words<R: Files + Print + Eprint + Threads + Wait + Sync + AllocGloba
 }
 
 // Solves the mine of files of values and of precedence, and writes the trace that is asked for.
-fn solve_files<
-    R: Files + Print + Eprint + Threads + Wait + Sync + AllocGlobal,
-    T: Gate + Progress,
->(
+fn solve_files<R: Files + Print + Eprint + Threads + Wait + Sync + AllocGlobal, T: Gate + Progress>(
     rt: &R,
     words: SolveWords<'_>,
     upit: &str,

@@ -105,7 +105,7 @@ module _ (net : NetView) (ws : List Amount) (c : IsCut net ws) (flow : FlowView)
       | inr o ↦ elim (most_or_below (still_to_give net flow) zero_amount) [
         | inl none ↦ nothing_reached net flow is none e r b i
         | inr some ↦ absurd (taken _ _ (all_given net) _ (subst (AtMost (plus (total (λ k. where_so (e k) (amount_at ws k)) n) (negative (amount_at ws b)))) all_same (less_one n (amount_at ws) e b l i))
-          (c.fits b (all_given net) l (Below-most _ _ o) (AtMost-refl _)) tight_at some)
+            (c.fits b (all_given net) l (Below-most _ _ o) (AtMost-refl _)) tight_at some)
       ]
     ]
 
