@@ -4,7 +4,8 @@
     python3 examples/make_copper.py [FOLDER]
 
 writes copper.blocks, copper.prec, copper.upit and copper.cert (a pit with a flow that proves it), and the same blocks
-with a revenue, a cost and tonnes each: priced.blocks and settings.toml.
+with a revenue, a cost, tonnes and a mill's two charges each: priced.blocks, with settings.toml for the cost and mill.toml
+for the mill.
 Standard library alone, no random numbers: the files are the same on every machine.
 The certificate's flow comes from a plain maximum-flow search made here, not from `pit`.
 """
@@ -14,6 +15,8 @@ from pathlib import Path
 
 ACROSS, ALONG, BENCHES = 11, 9, 3
 COST = 1_400            # dollars to dig a block, whatever it holds
+MINING = 950            # of these, dollars to dig a block that isn't treated
+PROCESSING = 780        # dollars to treat a block in the mill
 PRICE = 260             # dollars for a unit of grade
 BIG = 1 << 60           # a block's count in the number that stands for a pair of worth and count
 
@@ -35,9 +38,23 @@ def revenue(x, y, z):
     return PRICE * grade(x, y, z)
 
 
-def cost(x, y, z):
+def haul(z):
     """Whole dollars; benches are numbered from the lowest, which costs most to haul from."""
-    return COST + 150 * (BENCHES - 1 - z)
+    return 150 * (BENCHES - 1 - z)
+
+
+def cost(x, y, z):
+    return COST + haul(z)
+
+
+def processing(x, y, z):
+    """Whole dollars, where the block goes to the mill."""
+    return PROCESSING
+
+
+def mining(x, y, z):
+    """Whole dollars, wherever the block goes."""
+    return MINING + haul(z)
 
 
 def tonnes(x, y, z):
@@ -146,11 +163,16 @@ def main():
         (folder / name).write_text("".join(line + "\n" for line in lines))
 
     write("copper.blocks", ["%d %d %d %d %d %d" % (b, *place, grade(*place), values[b]) for b, place in enumerate(places)])
-    write("priced.blocks", ["%d %d %d %d %d %d %d" % (b, *place, revenue(*place), cost(*place), tonnes(*place)) for b, place in enumerate(places)])
+    columns = [revenue, cost, tonnes, processing, mining]
+    write("priced.blocks", [" ".join(map(str, [b, *place] + [column(*place) for column in columns])) for b, place in enumerate(places)])
     write("settings.toml", ["revenue = 0    # the first column behind z in priced.blocks", "cost = 1       # the second",
                             "tonnes = 2     # the third",
                             "factors = [500, 650, 800, 1000, 1200]    # of the price of the revenues, in thousandths",
                             "report = 1000  # the factor at which `pit report` counts worths"])
+    write("mill.toml", ["revenue = 0     # the first column behind z in priced.blocks",
+                        "processing = 3  # the fourth: what it costs to treat a block in the mill",
+                        "mining = 4      # the fifth: what it costs to dig it, be it ore or waste", "tonnes = 2",
+                        "factors = [500, 650, 800, 1000, 1200]"])
     write("copper.prec", ["%d %d%s" % (b, len(ps), "".join(" %d" % p for p in ps)) for b, ps in enumerate(above)])
     write("copper.upit", ["NAME: copper", "TYPE: UPIT", "NBLOCKS: %d" % len(values), "OBJECTIVE_FUNCTION:"]
           + ["%d %d" % pair for pair in enumerate(values)] + ["EOF"])

@@ -7,8 +7,9 @@ use Rattle.upit_file.specs.Records as upit
 use Rattle.closure_net.specs.Network.{NetView}
 use Rattle.closure_net.specs.FaultStands.{WorthsFaultStands}
 use Rattle.closure_net.specs.declared.net.NetFault.{NetFault}
-use Rattle.shells.specs.Prices.{PricesView, worths_at}
-use Rattle.check_pit.specs.declared.header.Price.TheVariants.{Objective, Factor}
+use Rattle.shells.specs.Prices.{PricesView, price_of, worths_at}
+use Rattle.check_pit.specs.declared.header.Price.{Price}
+use Rattle.check_pit.specs.declared.header.Price.TheVariants.{Objective}
 use Rattle.engines.specs.declared.judgement.Verdict.{Verdict}
 use Rattle.engines.specs.declared.judgement.Verdict.TheVariants.{Done, No}
 use Rattle.engines.specs.declared.engine_fault.EngineFault.{EngineFault}
@@ -21,7 +22,7 @@ use Rattle.engines.specs.Solving.{IsNetBy, Solves}
 use Rattle.engines.proofs.Answered.{keeps_self, read_both}
 use Rattle.engines.proofs.Judged.{read_as}
 use Rattle.engines.proofs.Priced.{worths_priced}
-use Rattle.engines.proofs.PricedAnswers.{under3, unread_to_solve}
+use Rattle.engines.proofs.PricedAnswers.{under3, priced_answer, unread_to_solve}
 use Rattle.engines.proofs.Solutions.{certificate_is, unmade}
 use Rattle.audit_engines.specs.Tracing.{IsCertificateOfRun, TracesNet, TraceAtFault, Traces}
 
@@ -80,10 +81,10 @@ mine_answer P None r values rests n slice worths e a b s w h = tt
 mine_answer P (Some u) None values rests n slice worths e a b s w h = tt
 mine_answer P (Some u) (Some p) values rests n slice worths e a b s w h = h (mine_texts u p) (read_as (mine_texts u p) (billionths_of values.values) slice rests (s ∙ w) (read_both u p values rests n e a b)) refl
 
-pub priced_answer : (P : MineTexts → Type 0) (o q r : Option (List ℕ)) (k named : ℕ) (table : PricesView) (rests : RestsView) (slice : List ℤ) → IfSome o (λ s. IfSome q (λ b. IfSome r (λ p. ArePricesRead s b p table rests))) → named ≡ k → slice ≡ worths_at table k
-    → ((texts : MineTexts) → AreRead texts slice rests → Factor named ≡ price_wanted texts → P texts) → IfSome o (λ s. IfSome q (λ b. IfSome r (λ p. P (priced_texts s b p k))))
-priced_answer P o q r k named table rests slice h e is all = under3 o q r (λ s b p. ArePricesRead s b p table rests) (λ s b p. P (priced_texts s b p k)) h (λ s b p a.
-    all (priced_texts s b p k) (read_as (priced_texts s b p k) (worths_at table k) slice rests is (worths_priced s b p table rests k a)) (ap Factor e))
+pub priced_answers : (P : MineTexts → Type 0) (o q r : Option (List ℕ)) (k : ℕ) (price : Price) (table : PricesView) (rests : RestsView) (slice : List ℤ) → IfSome o (λ s. IfSome q (λ b. IfSome r (λ p. ArePricesRead s b p table rests))) → price ≡ price_of table.costs k → slice ≡ worths_at table k
+    → ((texts : MineTexts) → AreRead texts slice rests → price ≡ price_wanted texts → P texts) → IfSome o (λ s. IfSome q (λ b. IfSome r (λ p. P (priced_texts s b p k))))
+priced_answers P o q r k price table rests slice h e is all = under3 o q r (λ s b p. ArePricesRead s b p table rests) (λ s b p. P (priced_texts s b p k)) h (λ s b p a.
+    all (priced_texts s b p k) (read_as (priced_texts s b p k) (worths_at table k) slice rests is (worths_priced s b p table rests k a)) (priced_answer s b p k price table rests a e))
 
 pub priced_unread : (o q r t w : Option (List ℕ)) (k : ℕ) (name : Group) (limit room : ℕ) (e : EngineFault) → IfSome o (λ s. IfSome q (λ b. IfSome r (λ p. PricedMineFails s b p e))) → IfSome o (λ s. IfSome q (λ b. IfSome r (λ p. Traces (priced_texts s b p k) name limit room t t w w (Err e))))
 priced_unread o q r t w k name limit room e h = under3 o q r (λ s b p. PricedMineFails s b p e) (λ s b p. Traces (priced_texts s b p k) name limit room t t w w (Err e)) h (λ s b p f. untraced (priced_texts s b p k) name limit room t w e (unread_to_solve s b p k name PushRelabel limit w e f))

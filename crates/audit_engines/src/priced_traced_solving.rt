@@ -5,7 +5,6 @@ ghost use Rattle.engines.specs.Mines.{priced_texts};
 ghost use Rattle.audit_engines.specs.Tracing.{Traces};
 
 use crate::traced_solving::trace_mine;
-use check_pit::Price;
 use engines::priced_inputs::priced_mine_from;
 use engines::{Effort, EngineFault, Verdict};
 use fixed_worth::{CountedRead, CountedWrite};
@@ -67,7 +66,7 @@ pub fn solve_traced_priced_engine<
 {
     let mine = priced_mine_from(alloc, settings, blocks, prec)?;
     let nanos = mine.prices.worths_at(rt, alloc, factor)?;
-    let price = Price::Factor(factor.get());
+    let price = mine.prices.price_at(factor);
     trace_mine(
         rt,
         alloc,

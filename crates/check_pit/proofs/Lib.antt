@@ -20,6 +20,7 @@ pub mod Splits
 pub mod Texts
 pub mod ValueLines
 pub mod Verdicts
+pub mod HeaderLines
 pub mod Wants
 pub mod Whole
 pub mod Tightness

@@ -13,7 +13,9 @@ use Rattle.ordered_group.specs.declared.groups.Group.{Group}
 use Rattle.ordered_group.specs.Group.{group_name}
 use Rattle.ordered_group.proofs.Names.{group_read, group_name-one_word, group_name-few}
 use Rattle.check_pit.specs.declared.header.Price.{Price}
-use Rattle.check_pit.specs.declared.header.Price.TheVariants.{Objective, Factor}
+use Rattle.check_pit.specs.declared.header.Price.TheVariants.{Objective, Factor, Mill}
+use Rattle.check_pit.specs.declared.header.Version.{Version}
+use Rattle.check_pit.specs.declared.header.Version.TheVariants.{One, Two}
 use Rattle.check_pit.specs.declared.cert_fault.CertFault.{CertFault}
 use Rattle.check_pit.specs.declared.cert_fault.LineFault.{LineFault}
 use Rattle.check_pit.specs.declared.cert_fault.LineFault.TheVariants.{Text}
@@ -21,13 +23,14 @@ use Rattle.check_pit.specs.declared.lines_of_body.LineKind.{LineKind}
 use Rattle.check_pit.specs.declared.lines_of_body.LineKind.TheVariants.{Pit, Source, Rest, Sink, End}
 use Rattle.check_pit.specs.declared.lines_of_body.BodyLine.{BodyLine}
 use Rattle.check_pit.specs.Pieces.{Piece, pieces_of, words_of, read_line, no_line, number_below}
-use Rattle.check_pit.specs.Header.{◌>>=◌, header_for, version_in, value_behind, or_number, wanted_blocks, blocks_said, blocks_in, factor_of, price_said, price_in, group_named, group_said, group_in}
+use Rattle.check_pit.specs.Header.{header_for, version_in, value_behind, value_behind_both, or_number, wanted_blocks, blocks_said, blocks_in, factor_of, price_said, mill_of, mill_said, price_in, group_named, group_said, group_in}
 use Rattle.check_pit.specs.BodyLines.{line_of, is_end, rank, is_of_model, may_follow, next_line, end_fault, fault_from, body_fault, lines_from, lines_in}
 use Rattle.check_pit.specs.Certificate.{wanted_for}
 use Rattle.check_pit.specs.ReadBack.{IsPrice}
-use Rattle.check_pit.specs.Written.{spaced, lines_text, line_words, price_word, header_words, header_with, body_text, end_text}
+use Rattle.check_pit.specs.Written.{spaced, lines_text, line_words, version_for, version_word, price_words, header_words, header_with, body_text, end_text}
 use Rattle.check_pit.proofs.Texts.{is_word, are_words, has_no_feed, words_read, spaced_no_feed, line_before, decimal_is_word}
-use Rattle.check_pit.proofs.Heads.{regroup}
+use Rattle.check_pit.proofs.HeaderLines.{all_ok}
+use Rattle.check_pit.proofs.Heads.{version_text, regroup}
 use Rattle.check_pit.proofs.Order.{InOrder}
 use Rattle.check_pit.proofs.LineOrder.{Proper}
 use Rattle.check_pit.proofs.ValueLines.{UpTo, higher}
@@ -104,13 +107,30 @@ blocks_read n name h =
     ∙ ap (λ (o : Option ℕ). or_number (wanted_blocks (wanted_for n name) o)) (number_read (MOST_BLOCKS + 1) n (omega arith) (omega arith))
     ∙ ap (λ (t : Bool). or_number (cond t (Some n) None)) (eq-eqb n n refl)
 
-price_length : (price : Price) → IsPrice price → length (price_word price) ≤ 9
+price_length : (price : Price) → IsPrice price → length (spaced (price_words price)) ≤ 20
 price_length Objective h = omega arith
 price_length (Factor k) h = let few = length-decimal-le_wide 5 k (omega arith) (omega arith) (omega arith) in omega arith
+price_length (Mill k) h = let few = length-decimal-le_wide 5 k (omega arith) (omega arith) (omega arith) in omega arith
 
-price_is_word : (price : Price) → IsPrice price → is_word (price_word price) ≡ true
-price_is_word Objective h = refl
-price_is_word (Factor k) h = decimal_is_word k (omega arith)
+mill_words : (k : ℕ) → k ≤ MOST_FACTOR → are_words (codes "PRICE" ∷ codes "MILL" ∷ decimal k ∷ []) ≡ true
+mill_words k h = let w : is_word (decimal k) ≡ true = decimal_is_word k (omega arith) in rw w refl
+
+price_feed : (price : Price) → IsPrice price → has_no_feed (spaced (price_words price)) ≡ true
+price_feed Objective h = refl
+price_feed (Factor k) h = keyed_feed (codes "PRICE") (decimal k) refl (decimal_is_word k (omega arith))
+price_feed (Mill k) h = spaced_no_feed (codes "PRICE") (codes "MILL" ∷ decimal k ∷ []) (mill_words k h)
+
+version_feed : (v : Version) → has_no_feed (version_text v) ≡ true
+version_feed One = refl
+version_feed Two = refl
+
+version_short : (v : Version) → length (version_text v) ≤ LINE_BYTES
+version_short One = omega arith
+version_short Two = omega arith
+
+version_read : (v : Version) → version_in (version_text v) ≡ Ok v
+version_read One = refl
+version_read Two = refl
 
 factor_read : (k : ℕ) (t : Bool) → k ≤ MOST_FACTOR → (t ≡ true → decimal k ≡ codes "OBJECTIVE") → cond t (Ok Objective) (or_number (factor_of (number_below (MOST_FACTOR + 1) (decimal k)))) ≡ Ok (Factor k)
 factor_read k true h e =
@@ -119,11 +139,14 @@ factor_read k true h e =
     absurd (omega (arith, few, long))
 factor_read k false h e = ap (λ (o : Option ℕ). or_number (factor_of o)) (number_read (MOST_FACTOR + 1) k (omega arith) (omega arith))
 
-price_read : (price : Price) → IsPrice price → price_in (spaced (codes "PRICE" ∷ price_word price ∷ [])) ≡ Ok price
+price_read : (price : Price) → IsPrice price → price_in (version_for price) (spaced (price_words price)) ≡ Ok price
 price_read Objective h = refl
 price_read (Factor k) h =
     ap price_said (keyed_read (codes "PRICE") (decimal k) refl (decimal_is_word k (omega arith)) refl)
     ∙ factor_read k (bytes_eq (decimal k) (codes "OBJECTIVE")) h (bytes_eq-Decides (decimal k) (codes "OBJECTIVE")).0
+price_read (Mill k) h =
+    ap (λ (ws : List (List ℕ)). mill_said (value_behind_both (codes "PRICE") (codes "MILL") ws)) (words_read (codes "PRICE") (codes "MILL" ∷ decimal k ∷ []) (mill_words k h))
+    ∙ ap (λ (o : Option ℕ). or_number (mill_of o)) (number_read (MOST_FACTOR + 1) k (omega arith) (omega arith))
 
 kind_read : (n : ℕ) (name : Group) → group_in (wanted_for n name) (spaced (codes "GROUP" ∷ group_name name ∷ [])) ≡ Ok name
 kind_read n name =
@@ -135,36 +158,35 @@ kind_read n name =
 abbrev pub head_of : ℕ → Price → Group → List ℕ
 head_of n price name = lines_text (header_words (header_with n price name))
 
-pieces_four : (n : ℕ) (price : Price) (name : Group) (rest : List ℕ) → n ≤ MOST_BLOCKS → IsPrice price
-    → pieces_of (head_of n price name ++ rest) ≡ line_piece (codes "PITCERT 1") ∷ line_piece (spaced (codes "BLOCKS" ∷ decimal n ∷ [])) ∷ line_piece (spaced (codes "PRICE" ∷ price_word price ∷ [])) ∷ line_piece (spaced (codes "GROUP" ∷ group_name name ∷ [])) ∷ pieces_of rest
+-- the pieces of a header with these, before others
+abbrev headed : ℕ → Price → Group → List Piece → List Piece
+headed n price name ps = line_piece (version_text (version_for price)) ∷ line_piece (spaced (codes "BLOCKS" ∷ decimal n ∷ [])) ∷ line_piece (spaced (price_words price)) ∷ line_piece (spaced (codes "GROUP" ∷ group_name name ∷ [])) ∷ ps
+
+pieces_four : (n : ℕ) (price : Price) (name : Group) (rest : List ℕ) → n ≤ MOST_BLOCKS → IsPrice price → pieces_of (head_of n price name ++ rest) ≡ headed n price name (pieces_of rest)
 pieces_four n price name rest h p =
+    let a = version_text (version_for price) in
     let b = spaced (codes "BLOCKS" ∷ decimal n ∷ []) in
-    let c = spaced (codes "PRICE" ∷ price_word price ∷ []) in
+    let c = spaced (price_words price) in
     let d = spaced (codes "GROUP" ∷ group_name name ∷ []) in
-    ap pieces_of (regroup b c d rest)
-    ∙ line_before (codes "PITCERT 1") (b ++ (10 ∷ (c ++ (10 ∷ (d ++ (10 ∷ rest)))))) refl
-    ∙ ap (λ (ps : List Piece). line_piece (codes "PITCERT 1") ∷ ps) (line_before b (c ++ (10 ∷ (d ++ (10 ∷ rest)))) (keyed_feed (codes "BLOCKS") (decimal n) refl (decimal_is_word n (omega arith))))
-    ∙ ap (λ (ps : List Piece). line_piece (codes "PITCERT 1") ∷ line_piece b ∷ ps) (line_before c (d ++ (10 ∷ rest)) (keyed_feed (codes "PRICE") (price_word price) refl (price_is_word price p)))
-    ∙ ap (λ (ps : List Piece). line_piece (codes "PITCERT 1") ∷ line_piece b ∷ line_piece c ∷ ps) (line_before d rest (keyed_feed (codes "GROUP") (group_name name) refl (group_name-one_word name)))
+    ap pieces_of (regroup a b c d rest)
+    ∙ line_before a (b ++ (10 ∷ (c ++ (10 ∷ (d ++ (10 ∷ rest)))))) (version_feed (version_for price))
+    ∙ ap (λ (ps : List Piece). line_piece a ∷ ps) (line_before b (c ++ (10 ∷ (d ++ (10 ∷ rest)))) (keyed_feed (codes "BLOCKS") (decimal n) refl (decimal_is_word n (omega arith))))
+    ∙ ap (λ (ps : List Piece). line_piece a ∷ line_piece b ∷ ps) (line_before c (d ++ (10 ∷ rest)) (price_feed price p))
+    ∙ ap (λ (ps : List Piece). line_piece a ∷ line_piece b ∷ line_piece c ∷ ps) (line_before d rest (keyed_feed (codes "GROUP") (group_name name) refl (group_name-one_word name)))
 
 short_pair : (key w : List ℕ) → length key ≤ 100 → length w ≤ 100 → length (spaced (key ∷ w ∷ [])) ≤ LINE_BYTES
 short_pair key w h i = omega (arith, length-append key (32 ∷ w))
 
-all_ok : (a : Result (Unit {0}) CertFault) (b : Result ℕ CertFault) (c : Result Price CertFault) (d : Result Group CertFault) (n : ℕ) (price : Price) (name : Group) → a ≡ Ok tt → b ≡ Ok n → c ≡ Ok price → d ≡ Ok name
-    → (a >>= λ x. b >>= λ blocks. c >>= λ price. d >>= λ group. Ok (record { blocks = blocks; price = price; group = group })) ≡ Ok (header_with n price name)
-all_ok a b c d n price name e f g h = rw (e, f, g, h) refl
-
-header_steps : (n : ℕ) (price : Price) (name : Group) (ps qs : List Piece) → n ≤ MOST_BLOCKS → IsPrice price
-    → ps ≡ line_piece (codes "PITCERT 1") ∷ line_piece (spaced (codes "BLOCKS" ∷ decimal n ∷ [])) ∷ line_piece (spaced (codes "PRICE" ∷ price_word price ∷ [])) ∷ line_piece (spaced (codes "GROUP" ∷ group_name name ∷ [])) ∷ qs
-    → header_for (wanted_for n name) ps ≡ Ok (header_with n price name)
+header_steps : (n : ℕ) (price : Price) (name : Group) (ps qs : List Piece) → n ≤ MOST_BLOCKS → IsPrice price → ps ≡ headed n price name qs → header_for (wanted_for n name) ps ≡ Ok (header_with n price name)
 header_steps n price name ps qs h p e =
     let few = length-decimal-le_wide 8 n (omega arith) (omega arith) (omega arith) in
-    let a : read_line version_in 1 (line_piece (codes "PITCERT 1")) ≡ Ok tt = line_read version_in 1 (codes "PITCERT 1") tt (omega arith) refl in
+    let v = version_for price in
+    let a : read_line version_in 1 (line_piece (version_text v)) ≡ Ok v = line_read version_in 1 (version_text v) v (version_short v) (version_read v) in
     let b : read_line (blocks_in (wanted_for n name)) 2 (line_piece (spaced (codes "BLOCKS" ∷ decimal n ∷ []))) ≡ Ok n = line_read (blocks_in (wanted_for n name)) 2 (spaced (codes "BLOCKS" ∷ decimal n ∷ [])) n (short_pair (codes "BLOCKS") (decimal n) (omega arith) (omega arith)) (blocks_read n name h) in
     let long = price_length price p in
-    let c : read_line price_in 3 (line_piece (spaced (codes "PRICE" ∷ price_word price ∷ []))) ≡ Ok price = line_read price_in 3 (spaced (codes "PRICE" ∷ price_word price ∷ [])) price (short_pair (codes "PRICE") (price_word price) (omega arith) (omega arith)) (price_read price p) in
+    let c : read_line (price_in v) 3 (line_piece (spaced (price_words price))) ≡ Ok price = line_read (price_in v) 3 (spaced (price_words price)) price (omega (arith, long)) (price_read price p) in
     let d : read_line (group_in (wanted_for n name)) 4 (line_piece (spaced (codes "GROUP" ∷ group_name name ∷ []))) ≡ Ok name = line_read (group_in (wanted_for n name)) 4 (spaced (codes "GROUP" ∷ group_name name ∷ [])) name (short_pair (codes "GROUP") (group_name name) (omega arith) (omega (arith, group_name-few name))) (kind_read n name) in
-    ap (header_for (wanted_for n name)) e ∙ all_ok (read_line version_in 1 (line_piece (codes "PITCERT 1"))) (read_line (blocks_in (wanted_for n name)) 2 (line_piece (spaced (codes "BLOCKS" ∷ decimal n ∷ [])))) (read_line price_in 3 (line_piece (spaced (codes "PRICE" ∷ price_word price ∷ [])))) (read_line (group_in (wanted_for n name)) 4 (line_piece (spaced (codes "GROUP" ∷ group_name name ∷ [])))) n price name a b c d
+    ap (header_for (wanted_for n name)) e ∙ all_ok (read_line version_in 1 (line_piece (version_text v))) (read_line (blocks_in (wanted_for n name)) 2 (line_piece (spaced (codes "BLOCKS" ∷ decimal n ∷ [])))) (λ x. read_line (price_in x) 3 (line_piece (spaced (price_words price)))) (read_line (group_in (wanted_for n name)) 4 (line_piece (spaced (codes "GROUP" ∷ group_name name ∷ [])))) v n price name a b c d
 
 pub header_read : (n : ℕ) (price : Price) (name : Group) (rest : List ℕ) → n ≤ MOST_BLOCKS → IsPrice price → header_for (wanted_for n name) (pieces_of (head_of n price name ++ rest)) ≡ Ok (header_with n price name)
 header_read n price name rest h p = header_steps n price name (pieces_of (head_of n price name ++ rest)) (pieces_of rest) h p (pieces_four n price name rest h p)

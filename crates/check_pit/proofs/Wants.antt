@@ -11,33 +11,41 @@ use Rattle.ordered_group.proofs.Names.{group_name-same}
 use Rattle.check_pit.specs.declared.header.Header.{Header}
 use Rattle.check_pit.specs.declared.header.Wanted.{Wanted}
 use Rattle.check_pit.specs.declared.header.Price.{Price}
+use Rattle.check_pit.specs.declared.header.Version.{Version}
 use Rattle.check_pit.specs.declared.cert_fault.CertFault.{CertFault}
 use Rattle.check_pit.specs.declared.cert_fault.LineFault.{LineFault}
 use Rattle.check_pit.specs.declared.cert_fault.LineFault.TheVariants.{Text}
 use Rattle.check_pit.specs.Pieces.{Piece, piece_at, read_line, words_of, number_below}
+use Rattle.check_pit.specs.Written.{header_with}
 use Rattle.check_pit.specs.Header.{◌>>=◌, header_for, version_in, blocks_in, price_in, group_in, blocks_said, wanted_blocks, is_same_group, group_named, group_said, or_number, value_behind}
 use Rattle.check_pit.proofs.Going.{text_read}
 
 -- A header has the blocks and the group that are wanted.
-pub record Joined (a : Result (Unit {0}) CertFault) (b : Result ℕ CertFault) (c : Result Price CertFault) (d : Result Group CertFault) (h : Header) : Type 0 where
-  pub version : a ≡ Ok tt
+pub record Joined (a : Result Version CertFault) (b : Result ℕ CertFault) (c : Version → Result Price CertFault) (d : Result Group CertFault) (h : Header) : Type 0 where
+  pub version : Version
+  pub said : a ≡ Ok version
   pub blocks : b ≡ Ok h.blocks
-  pub price : c ≡ Ok h.price
+  pub price : c version ≡ Ok h.price
   pub group : d ≡ Ok h.group
 
-pub joined : (a : Result (Unit {0}) CertFault) (b : Result ℕ CertFault) (c : Result Price CertFault) (d : Result Group CertFault) (h : Header)
-    → (a >>= λ x. b >>= λ blocks. c >>= λ price. d >>= λ group. Ok (record { blocks = blocks; price = price; group = group })) ≡ Ok h → Joined a b c d h
-joined (Ok x) (Ok b) (Ok c) (Ok d) h e =
-    let made : Header = record { blocks = b; price = c; group = d } in
-    let same : made ≡ h = ap (λ (r : Result Header CertFault). result_unwrap_or r h) e in
+-- the price and the group, when the version and the number of blocks are read
+joined_last : (x : Version) (b : ℕ) (c : Version → Result Price CertFault) (said : Result Price CertFault) (d : Result Group CertFault) (h : Header) → c x ≡ said
+    → (said >>= λ price. d >>= λ group. Ok (header_with b price group)) ≡ Ok h → Joined (Ok x) (Ok b) c d h
+joined_last x b c (Ok price) (Ok group) h same e =
+    let is : header_with b price group ≡ h = ap (λ (r : Result Header CertFault). result_unwrap_or r h) e in
     record {
-      version = refl;
-      blocks = ap (λ (k : Header). Ok k.blocks) same;
-      price = ap (λ (k : Header). Ok k.price) same;
-      group = ap (λ (k : Header). Ok k.group) same;
+      version = x;
+      said = refl;
+      blocks = ap (λ (k : Header). Ok k.blocks) is;
+      price = same ∙ ap (λ (k : Header). Ok k.price) is;
+      group = ap (λ (k : Header). Ok k.group) is;
     }
-joined (Ok x) (Ok b) (Ok c) (Err d) h e = absurd cc
-joined (Ok x) (Ok b) (Err c) d h e = absurd cc
+joined_last x b c (Ok price) (Err group) h same e = absurd cc
+joined_last x b c (Err price) d h same e = absurd cc
+
+pub joined : (a : Result Version CertFault) (b : Result ℕ CertFault) (c : Version → Result Price CertFault) (d : Result Group CertFault) (h : Header)
+    → (a >>= λ x. b >>= λ blocks. c x >>= λ price. d >>= λ group. Ok (header_with blocks price group)) ≡ Ok h → Joined a b c d h
+joined (Ok x) (Ok b) c d h e = joined_last x b c (c x) d h refl e
 joined (Ok x) (Err b) c d h e = absurd cc
 joined (Err x) b c d h e = absurd cc
 
@@ -72,7 +80,7 @@ group_wanted w None g h = absurd cc
 
 pub header_wanted : (w : Wanted) (ps : List Piece) (h : Header) → header_for (Some w) ps ≡ Ok h → (h.blocks ≡ w.blocks) × (h.group ≡ w.group)
 header_wanted w ps h e =
-    let q = joined (read_line version_in 1 (piece_at ps 0)) (read_line (blocks_in (Some w)) 2 (piece_at ps 1)) (read_line price_in 3 (piece_at ps 2)) (read_line (group_in (Some w)) 4 (piece_at ps 3)) h e in (
+    let q = joined (read_line version_in 1 (piece_at ps 0)) (read_line (blocks_in (Some w)) 2 (piece_at ps 1)) (λ v. read_line (price_in v) 3 (piece_at ps 2)) (read_line (group_in (Some w)) 4 (piece_at ps 3)) h e in (
       blocks_wanted w (value_behind (codes "BLOCKS") (words_of (piece_at ps 1).text)) h.blocks (text_read (blocks_in (Some w)) 2 (piece_at ps 1) h.blocks q.blocks),
       group_wanted w (value_behind (codes "GROUP") (words_of (piece_at ps 3).text)) h.group (text_read (group_in (Some w)) 4 (piece_at ps 3) h.group q.group),
     )

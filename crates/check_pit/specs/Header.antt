@@ -1,5 +1,5 @@
 -- The first four lines of a certificate.
-use Rattle.std.specs.Prelude.{ℕ, ◌+◌, ◌==◌, Bool, cond, List, [], ◌∷◌, Option, Some, None, Result, Ok, Err}
+use Rattle.std.specs.Prelude.{ℕ, ◌+◌, ◌==◌, ◌&&◌, Bool, cond, List, [], ◌∷◌, Option, Some, None, Result, Ok, Err}
 use Rattle.std.specs.Str.{bytes_eq}
 use lib.Chars.{codes}
 use Rattle.fixed_worth.specs.declared.limits.TheConstants.{MOST_BLOCKS, MOST_FACTOR}
@@ -7,8 +7,10 @@ use Rattle.ordered_group.specs.declared.groups.Group.{Group}
 use Rattle.ordered_group.specs.Group.{group_name, group_of}
 use Rattle.check_pit.specs.declared.header.Header.{Header}
 use Rattle.check_pit.specs.declared.header.Wanted.{Wanted}
+use Rattle.check_pit.specs.declared.header.Version.{Version}
+use Rattle.check_pit.specs.declared.header.Version.TheVariants.{One, Two}
 use Rattle.check_pit.specs.declared.header.Price.{Price}
-use Rattle.check_pit.specs.declared.header.Price.TheVariants.{Objective, Factor}
+use Rattle.check_pit.specs.declared.header.Price.TheVariants.{Objective, Factor, Mill}
 use Rattle.check_pit.specs.declared.cert_fault.CertFault.{CertFault}
 use Rattle.check_pit.specs.declared.cert_fault.LineFault.{LineFault}
 use Rattle.check_pit.specs.declared.cert_fault.LineFault.TheVariants.{Text, Number}
@@ -19,14 +21,19 @@ abbrev pub value_behind : List ℕ → List (List ℕ) → Option (List ℕ)
 value_behind key (k ∷ v ∷ []) = cond (bytes_eq k key) (Some v) None
 value_behind key _ = None
 
+-- the third of three words, of which the first two are the keys
+abbrev pub value_behind_both : List ℕ → List ℕ → List (List ℕ) → Option (List ℕ)
+value_behind_both key other (k ∷ o ∷ v ∷ []) = cond (bytes_eq k key && bytes_eq o other) (Some v) None
+value_behind_both key other _ = None
+
 -- what is read of a number, or that it is none
 abbrev pub or_number : {A : Type 0} → Option A → Result A LineFault
 or_number (Some a) = Ok a
 or_number None = Err Number
 
--- PITCERT 1
-abbrev pub version_in : List ℕ → Result (Unit {0}) LineFault
-version_in text = cond (bytes_eq text (codes "PITCERT 1")) (Ok tt) (Err Text)
+-- PITCERT 1 or PITCERT 2
+abbrev pub version_in : List ℕ → Result Version LineFault
+version_in text = cond (bytes_eq text (codes "PITCERT 1")) (Ok One) (cond (bytes_eq text (codes "PITCERT 2")) (Ok Two) (Err Text))
 
 -- the number of blocks, where it is the one that is wanted
 abbrev pub wanted_blocks : Option Wanted → Option ℕ → Option ℕ
@@ -53,9 +60,19 @@ abbrev pub price_said : Option (List ℕ) → Result Price LineFault
 price_said None = Err Text
 price_said (Some word) = cond (bytes_eq word (codes "OBJECTIVE")) (Ok Objective) (or_number (factor_of (number_below (MOST_FACTOR + 1) word)))
 
--- PRICE OBJECTIVE, or PRICE k with a factor from 0 to 10,000
-abbrev pub price_in : List ℕ → Result Price LineFault
-price_in text = price_said (value_behind (codes "PRICE") (words_of text))
+-- the price at a factor where there is a mill
+abbrev pub mill_of : Option ℕ → Option Price
+mill_of (Some k) = Some (Mill k)
+mill_of None = None
+
+abbrev pub mill_said : Option (List ℕ) → Result Price LineFault
+mill_said None = Err Text
+mill_said (Some word) = or_number (mill_of (number_below (MOST_FACTOR + 1) word))
+
+-- PRICE OBJECTIVE, or PRICE k with a factor from 0 to 10,000; in a text of the second version PRICE MILL k and nothing else
+abbrev pub price_in : Version → List ℕ → Result Price LineFault
+price_in One text = price_said (value_behind (codes "PRICE") (words_of text))
+price_in Two text = mill_said (value_behind_both (codes "PRICE") (codes "MILL") (words_of text))
 
 -- two names of one group
 abbrev pub is_same_group : Group → Group → Bool
@@ -91,7 +108,7 @@ abbrev pub header_for : Option Wanted → List Piece → Result Header CertFault
 header_for wanted ps = do
   version ← read_line version_in 1 (piece_at ps 0)
   blocks ← read_line (blocks_in wanted) 2 (piece_at ps 1)
-  price ← read_line price_in 3 (piece_at ps 2)
+  price ← read_line (price_in version) 3 (piece_at ps 2)
   group ← read_line (group_in wanted) 4 (piece_at ps 3)
   Ok (record { blocks = blocks; price = price; group = group })
 

@@ -6,13 +6,14 @@ use Rattle.ordered_group.specs.Amount.{Amount, FitsPair}
 use Rattle.ordered_group.specs.Sums.{amount_at}
 use Rattle.closure_net.specs.Network.{FlowView}
 use Rattle.check_pit.specs.declared.header.Price.{Price}
-use Rattle.check_pit.specs.declared.header.Price.TheVariants.{Objective, Factor}
+use Rattle.check_pit.specs.declared.header.Price.TheVariants.{Objective, Factor, Mill}
 use Rattle.check_pit.specs.Certificate.{IsRead, fault_of}
 
 -- a factor is at most 10,000
 abbrev pub IsPrice : Price → Type 0
 IsPrice Objective = Unit {0}
 IsPrice (Factor k) = k ≤ MOST_FACTOR
+IsPrice (Mill k) = k ≤ MOST_FACTOR
 
 -- an amount that a text can give: both its numbers fit, and it has no count where the group has none
 pub record Writable (counts : Bool) (x : Amount) : Type 0 where

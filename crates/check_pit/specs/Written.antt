@@ -8,7 +8,9 @@ use Rattle.ordered_group.specs.Amount.{Amount, is_zero}
 use Rattle.closure_net.specs.Network.{FlowView}
 use Rattle.check_pit.specs.declared.header.Header.{Header}
 use Rattle.check_pit.specs.declared.header.Price.{Price}
-use Rattle.check_pit.specs.declared.header.Price.TheVariants.{Objective, Factor}
+use Rattle.check_pit.specs.declared.header.Price.TheVariants.{Objective, Factor, Mill}
+use Rattle.check_pit.specs.declared.header.Version.{Version}
+use Rattle.check_pit.specs.declared.header.Version.TheVariants.{One, Two}
 use Rattle.check_pit.specs.declared.lines_of_body.LineKind.{LineKind}
 use Rattle.check_pit.specs.declared.lines_of_body.LineKind.TheVariants.{Pit, Source, Rest, Sink, End}
 use Rattle.check_pit.specs.declared.lines_of_body.BodyLine.{BodyLine}
@@ -24,17 +26,29 @@ abbrev pub lines_text : List (List (List ℕ)) → List ℕ
 lines_text [] = []
 lines_text (words ∷ lines) = spaced words ++ (10 ∷ lines_text lines)
 
--- the word of a price
-abbrev pub price_word : Price → List ℕ
-price_word Objective = codes "OBJECTIVE"
-price_word (Factor k) = decimal k
+-- the version of a text with this price: the second one exactly where there is a mill
+abbrev pub version_for : Price → Version
+version_for Objective = One
+version_for (Factor k) = One
+version_for (Mill k) = Two
+
+-- the number of a version
+abbrev pub version_word : Version → List ℕ
+version_word One = codes "1"
+version_word Two = codes "2"
+
+-- the words of the line of a price
+abbrev pub price_words : Price → List (List ℕ)
+price_words Objective = codes "PRICE" ∷ codes "OBJECTIVE" ∷ []
+price_words (Factor k) = codes "PRICE" ∷ decimal k ∷ []
+price_words (Mill k) = codes "PRICE" ∷ codes "MILL" ∷ decimal k ∷ []
 
 -- the words of the first four lines
 abbrev pub header_words : Header → List (List (List ℕ))
 header_words h =
-    (codes "PITCERT" ∷ codes "1" ∷ [])
+    (codes "PITCERT" ∷ version_word (version_for h.price) ∷ [])
     ∷ (codes "BLOCKS" ∷ decimal h.blocks ∷ [])
-    ∷ (codes "PRICE" ∷ price_word h.price ∷ [])
+    ∷ price_words h.price
     ∷ (codes "GROUP" ∷ group_name h.group ∷ [])
     ∷ []
 

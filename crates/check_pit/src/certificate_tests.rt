@@ -191,12 +191,32 @@ fn headers_are_read(rt: HostRuntime) {
     };
     let text = b"PITCERT 1\nBLOCKS 16777216\nPRICE 10000\nGROUP PAIR\nx";
     assert_eq!(rt; header(text.as_slice()), Ok(priced));
+    let milled = Header {
+        blocks: 1,
+        price: Price::Mill(200),
+        group: Group::Scaled,
+    };
+    let text = b"PITCERT 2\nBLOCKS 1\nPRICE MILL 200\nGROUP SCALED\n";
+    assert_eq!(rt; header(text.as_slice()), Ok(milled));
 }
 
 #[test]
 fn headers_have_faults(rt: HostRuntime) {
-    let texts: [(&[u8], CertFault); 9] = [
-        (b"PITCERT 2\n", CertFault::Text(1)),
+    let texts: [(&[u8], CertFault); 13] = [
+        (b"PITCERT 3\n", CertFault::Text(1)),
+        (b"PITCERT 2\nBLOCKS 3\nPRICE 5\n", CertFault::Text(3)),
+        (
+            b"PITCERT 2\nBLOCKS 3\nPRICE OBJECTIVE\n",
+            CertFault::Text(3),
+        ),
+        (
+            b"PITCERT 2\nBLOCKS 3\nPRICE MILL 10001\n",
+            CertFault::Number(3),
+        ),
+        (
+            b"PITCERT 2\nBLOCKS 3\nPRICE MILL 05\n",
+            CertFault::Number(3),
+        ),
         (b"PITCERT 1\nBLOCKS \n", CertFault::Number(2)),
         (b"PITCERT 1\nBLOCKS 3\r\n", CertFault::Number(2)),
         (b"PITCERT 1\nBLOCKS 16777217\n", CertFault::Number(2)),
@@ -245,7 +265,12 @@ fn written_as_it_was_read(rt: HostRuntime) -> Result<(), Fail> {
 
 #[test]
 fn worked_certificates_are_written_as_they_were_read(rt: HostRuntime) -> Result<(), Fail> {
-    let worked: [(u32, &[(u32, u32)], &[u8]); 6] = [
+    let worked: [(u32, &[(u32, u32)], &[u8]); 7] = [
+        (
+            1,
+            &[],
+            b"PITCERT 2\nBLOCKS 1\nPRICE MILL 1000\nGROUP PAIR\nPIT 0\nEND\n",
+        ),
         (
             0,
             &[],

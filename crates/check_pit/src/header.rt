@@ -9,6 +9,8 @@ pub enum Price {
     Objective,
     /// The values at a price factor in thousandths, from 0 to 10,000.
     Factor(u32),
+    /// The values at such a factor where a block goes to the mill or to waste, whichever is worth more.
+    Mill(u32),
 }
 
 /// What the first four lines of a certificate say.
@@ -20,6 +22,13 @@ pub struct Header {
     pub price: Price,
     /// The kind of the amounts.
     pub group: Group,
+}
+
+/// The version of a text: the second one has the prices where there is a mill, and the first one the others.
+#[derive(Clone, Copy)]
+pub enum Version {
+    One,
+    Two,
 }
 
 /// What the header must say, where the certificate is read for a model.

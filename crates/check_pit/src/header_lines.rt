@@ -7,18 +7,22 @@ ghost use Rattle.check_pit.specs.Pieces.{Unread, Passed, words_of, piece_at, rea
 ghost use Rattle.check_pit.specs.Header as spec;
 
 use crate::cert_fault::{CertFault, LineFault};
-use crate::header::{Header, Price, Wanted};
+use crate::header::{Header, Price, Version, Wanted};
 use crate::piece_reader::{Pieces, Words};
 use fixed_worth::{MOST_BLOCKS, MOST_FACTOR, plain_signed};
 use ordered_group::Group;
 
-const VERSION: &[u8] = b"PITCERT 1";
+const VERSION_ONE: &[u8] = b"PITCERT 1";
+
+const VERSION_TWO: &[u8] = b"PITCERT 2";
 
 const BLOCKS: &[u8] = b"BLOCKS";
 
 const PRICE: &[u8] = b"PRICE";
 
 const OBJECTIVE: &[u8] = b"OBJECTIVE";
+
+const MILL: &[u8] = b"MILL";
 
 const GROUP: &[u8] = b"GROUP";
 
@@ -47,17 +51,33 @@ fn value_behind<'a>(key: &[u8], text: &'a [u8]) -> Option<&'a [u8]>
     Some(value)
 }
 
+// The third of three words, of which the first two are the keys.
+fn value_behind_both<'a>(key: &[u8], other: &[u8], text: &'a [u8]) -> Option<&'a [u8]>
+    ensures { MatchOption result (spec.value_behind_both key.now other.now (words_of text.now) ≡ None) (λ v. spec.value_behind_both key.now other.now (words_of text.now) ≡ Some v.now) }
+{
+    let mut words = Words::new(text);
+    let first = words.next()?;
+    let second = words.next()?;
+    let value = words.next()?;
+    if words.next().is_some() || first != key || second != other {
+        return None;
+    }
+    Some(value)
+}
+
 fn or_number<T>(read: Option<T>) -> Result<T, LineFault>
     ensures { result ≡ spec.or_number read }
 {
     read.ok_or(LineFault::Number)
 }
 
-fn version_in(text: &[u8]) -> Result<(), LineFault>
+fn version_in(text: &[u8]) -> Result<Version, LineFault>
     ensures { result ≡ spec.version_in text.now }
 {
-    if text == VERSION {
-        Ok(())
+    if text == VERSION_ONE {
+        Ok(Version::One)
+    } else if text == VERSION_TWO {
+        Ok(Version::Two)
     } else {
         Err(LineFault::Text)
     }
@@ -90,14 +110,38 @@ fn factor_of(read: Option<u32>) -> Option<Price>
     Some(Price::Factor(read?))
 }
 
-fn price_in(text: &[u8]) -> Result<Price, LineFault>
-    ensures { result ≡ spec.price_in text.now }
+fn mill_of(read: Option<u32>) -> Option<Price>
+    ensures { result ≡ spec.mill_of read }
+{
+    Some(Price::Mill(read?))
+}
+
+// The price of a text of the first version.
+fn plain_price_in(text: &[u8]) -> Result<Price, LineFault>
+    ensures { result ≡ spec.price_in Version.One text.now }
 {
     let word = value_behind(PRICE, text).ok_or(LineFault::Text)?;
     if word == OBJECTIVE {
         Ok(Price::Objective)
     } else {
         or_number(factor_of(number_below(MOST_FACTOR + 1, word)))
+    }
+}
+
+// The price of a text of the second version.
+fn mill_price_in(text: &[u8]) -> Result<Price, LineFault>
+    ensures { result ≡ spec.price_in Version.Two text.now }
+{
+    let word = value_behind_both(PRICE, MILL, text).ok_or(LineFault::Text)?;
+    or_number(mill_of(number_below(MOST_FACTOR + 1, word)))
+}
+
+fn price_in(version: Version, text: &[u8]) -> Result<Price, LineFault>
+    ensures { result ≡ spec.price_in version text.now }
+{
+    match version {
+        Version::One => plain_price_in(text),
+        Version::Two => mill_price_in(text),
     }
 }
 
@@ -132,7 +176,7 @@ pub fn in_line<T>(number: u64, read: Result<T, LineFault>) -> Result<T, CertFaul
     })
 }
 
-fn read_version(pieces: &mut Pieces) -> Result<(), CertFault>
+fn read_version(pieces: &mut Pieces) -> Result<Version, CertFault>
     ensures { MatchResult result (λ x. Passed spec.version_in pieces.old pieces.new x) (λ e. read_line spec.version_in (pieces.old.number + 1) (piece_at pieces.old.pieces 0) ≡ Err e) }
 {
     let line = pieces.next_line()?;
@@ -146,11 +190,11 @@ fn read_blocks(pieces: &mut Pieces, wanted: Option<Wanted>) -> Result<u32, CertF
     in_line(pieces.number(), blocks_in(wanted, line))
 }
 
-fn read_price(pieces: &mut Pieces) -> Result<Price, CertFault>
-    ensures { MatchResult result (λ x. Passed spec.price_in pieces.old pieces.new x) (λ e. read_line spec.price_in (pieces.old.number + 1) (piece_at pieces.old.pieces 0) ≡ Err e) }
+fn read_price(pieces: &mut Pieces, version: Version) -> Result<Price, CertFault>
+    ensures { MatchResult result (λ x. Passed (spec.price_in version) pieces.old pieces.new x) (λ e. read_line (spec.price_in version) (pieces.old.number + 1) (piece_at pieces.old.pieces 0) ≡ Err e) }
 {
     let line = pieces.next_line()?;
-    in_line(pieces.number(), price_in(line))
+    in_line(pieces.number(), price_in(version, line))
 }
 
 fn read_group(pieces: &mut Pieces, wanted: Option<Wanted>) -> Result<Group, CertFault>
@@ -167,9 +211,9 @@ pub fn read_header(pieces: &mut Pieces, wanted: Option<Wanted>) -> Result<Header
         (λ h. (spec.header_for wanted pieces.old.pieces ≡ Ok h) × (pieces.new.pieces ≡ drop 4 pieces.old.pieces) × (pieces.new.number ≡ 4))
         (λ e. spec.header_for wanted pieces.old.pieces ≡ Err e) }
 {
-    read_version(pieces)?;
+    let version = read_version(pieces)?;
     let blocks = read_blocks(pieces, wanted)?;
-    let price = read_price(pieces)?;
+    let price = read_price(pieces, version)?;
     let group = read_group(pieces, wanted)?;
     Ok(Header {
         blocks,

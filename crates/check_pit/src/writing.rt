@@ -76,14 +76,33 @@ fn written(line: &BodyLine) -> ShortLine
     text
 }
 
-fn push_price(text: &mut ShortLine, price: Price)
-    requires { length text.old + 39 ≤ 192 }
-    ensures text { text.new ≡ text.old ++ spec.price_word price }
-    ensures length { length text.new ≤ length text.old + 39 }
+// The number of the version of a text with this price.
+fn version_word(price: Price) -> &'static [u8]
+    ensures word { result.now ≡ spec.version_word (spec.version_for price) }
+    ensures length { length result.now ≡ 1 }
 {
     match price {
-        Price::Objective => text.push(b"OBJECTIVE"),
-        Price::Factor(factor) => text.push_number(factor as u128),
+        Price::Objective | Price::Factor(_) => b"1",
+        Price::Mill(_) => b"2",
+    }
+}
+
+// Adds the line of a price, without its line feed.
+fn push_price(text: &mut ShortLine, price: Price)
+    requires { length text.old + 50 ≤ 192 }
+    ensures text { text.new ≡ text.old ++ spaced (spec.price_words price) }
+    ensures length { length text.new ≤ length text.old + 50 }
+{
+    match price {
+        Price::Objective => text.push(b"PRICE OBJECTIVE"),
+        Price::Factor(factor) => {
+            text.push(b"PRICE ");
+            text.push_number(factor as u128);
+        }
+        Price::Mill(factor) => {
+            text.push(b"PRICE MILL ");
+            text.push_number(factor as u128);
+        }
     }
 }
 
@@ -100,9 +119,11 @@ fn written_header(header: &Header) -> ShortLine
     ensures { result ≡ lines_text (header_words header.now) }
 {
     let mut text = ShortLine::new();
-    text.push(b"PITCERT 1\nBLOCKS ");
+    text.push(b"PITCERT ");
+    text.push(version_word(header.price));
+    text.push(b"\nBLOCKS ");
     text.push_number(header.blocks as u128);
-    text.push(b"\nPRICE ");
+    text.push(b"\n");
     push_price(&mut text, header.price);
     text.push(b"\nGROUP ");
     push_group(&mut text, header.group);

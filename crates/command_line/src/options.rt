@@ -35,11 +35,11 @@ pub fn file_option<'a>(alloc: Global, name: &'a str, help: &'a str) -> Arg<'a> {
 
 /// The help of `--settings`.
 pub const SETTINGS_HELP: &str =
-    "Which columns of the blocks are revenues and costs, and the factors of shells: a TOML text";
+    "Which columns of the blocks are revenues and costs, or a mill's charges in place of costs, and the factors of shells: a TOML text";
 
 /// The help of `--blocks` of a priced model.
 pub const PRICED_BLOCKS_HELP: &str =
-    "The blocks with columns of revenues and costs: MineLib's .blocks";
+    "The blocks with columns of revenues and costs, or of a mill's charges: MineLib's .blocks";
 
 /// What a mine's worths are read from.
 #[derive(Clone, Copy)]

@@ -13,7 +13,7 @@ const DETAILS: &str =
 Prints comma-separated values, which a spreadsheet opens: the line z,shell,blocks,tonnes,worth, and a line for each bench and shell that have a block. The shell of a block is the lowest of the factors in the settings whose best pit holds it; a block that no pit holds is in no line. The worths count at one factor for all shells: `report` in the settings, or without that key the last of `factors`. Each pit is found and checked as `pit shells` does it, and nothing is printed before all are. Prints UNSETTLED and the factor where the run at a factor needs more steps than --steps allows, and REFUSED TooLarge where a sum of a run doesn't fit the machine's numbers; both have the status 1.";
 
 const SETTINGS_HELP: &str =
-    "Which columns of the blocks are revenues, costs and tonnes, the factors of the shells, and that of the worths: a TOML text";
+    "Which columns of the blocks are revenues, costs or a mill's charges, and tonnes, the factors of the shells, and that of the worths: a TOML text";
 
 /// The command.
 pub fn report_command<'a>(alloc: Global) -> Result<Command<'a>, AllocError> {

@@ -3,6 +3,7 @@ pub mod Told
 pub mod Listed
 pub mod Judged
 pub mod Priced
+pub mod PriceKeys
 pub mod PricedAnswers
 pub mod Nested
 pub mod Answered

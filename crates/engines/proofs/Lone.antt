@@ -11,8 +11,9 @@ use Rattle.check_pit.specs.declared.cert_fault.CertFault.{CertFault}
 use Rattle.check_pit.specs.declared.cert_fault.LineFault.{LineFault}
 use Rattle.check_pit.specs.declared.cert_fault.LineFault.TheVariants.{Text}
 use Rattle.check_pit.specs.Pieces.{Piece, piece_at, read_line, words_of, number_below, unless_fault, in_line, no_line}
-use Rattle.check_pit.specs.Header.{◌>>=◌, header_for, version_in, blocks_in, price_in, group_in, blocks_said, wanted_blocks, is_same_group, group_named, group_said, or_number, value_behind}
+use Rattle.check_pit.specs.Header.{header_for, version_in, blocks_in, price_in, group_in, blocks_said, wanted_blocks, is_same_group, group_named, group_said, or_number, value_behind}
 use Rattle.check_pit.proofs.Going.{text_read}
+use Rattle.check_pit.proofs.HeaderLines.{all_ok}
 use Rattle.check_pit.proofs.Wants.{joined}
 
 number_alone : (w : Wanted) (k n : ℕ) (t : Bool) → or_number (cond t (Some k) None) ≡ Ok n → or_number (Some k) ≡ Ok n
@@ -48,15 +49,11 @@ line_by f g k p x step h =
     let told = text_read f k p x h in
     ap (λ r. unless_fault (no_line k p) (in_line k r)) (step told ∙ sym told) ∙ h
 
-all_joined : (a : Result (Unit {0}) CertFault) (b : Result ℕ CertFault) (c : Result Price CertFault) (d : Result Group CertFault) (h : Header) → a ≡ Ok tt → b ≡ Ok h.blocks → c ≡ Ok h.price → d ≡ Ok h.group
-    → (a >>= λ x. b >>= λ blocks. c >>= λ price. d >>= λ group. Ok (record { blocks = blocks; price = price; group = group })) ≡ Ok h
-all_joined a b c d h e f g k = rw (e, f, g, k) refl
-
 pub header_alone : (w : Wanted) (ps : List Piece) (h : Header) → header_for (Some w) ps ≡ Ok h → header_for None ps ≡ Ok h
 header_alone w ps h e =
-    let q = joined (read_line version_in 1 (piece_at ps 0)) (read_line (blocks_in (Some w)) 2 (piece_at ps 1)) (read_line price_in 3 (piece_at ps 2)) (read_line (group_in (Some w)) 4 (piece_at ps 3)) h e in
-    all_joined (read_line version_in 1 (piece_at ps 0)) (read_line (blocks_in None) 2 (piece_at ps 1)) (read_line price_in 3 (piece_at ps 2)) (read_line (group_in None) 4 (piece_at ps 3)) h
-    q.version
+    let q = joined (read_line version_in 1 (piece_at ps 0)) (read_line (blocks_in (Some w)) 2 (piece_at ps 1)) (λ v. read_line (price_in v) 3 (piece_at ps 2)) (read_line (group_in (Some w)) 4 (piece_at ps 3)) h e in
+    all_ok (read_line version_in 1 (piece_at ps 0)) (read_line (blocks_in None) 2 (piece_at ps 1)) (λ v. read_line (price_in v) 3 (piece_at ps 2)) (read_line (group_in None) 4 (piece_at ps 3)) q.version h.blocks h.price h.group
+    q.said
     (line_by (blocks_in (Some w)) (blocks_in None) 2 (piece_at ps 1) h.blocks (blocks_alone w (value_behind (codes "BLOCKS") (words_of (piece_at ps 1).text)) h.blocks) q.blocks)
     q.price
     (line_by (group_in (Some w)) (group_in None) 4 (piece_at ps 3) h.group (word_alone w (value_behind (codes "GROUP") (words_of (piece_at ps 3).text)) h.group) q.group)

@@ -1,7 +1,8 @@
 -- From prices that were read to the worths of the mine at a factor.
-use Rattle.std.proofs.Common.{◌+◌, ◌≡◌, ℕ, ◌<◌, pos, List, [], ◌∷◌, length, get_or, refl, sym, ap, ◌∙◌, subst, arith, cond, Bool, true, false, Option, Some, None, unwrap_or, Result, Ok, Err, IfSome, MatchResult}
+use Rattle.std.proofs.Common.{◌+◌, ◌≡◌, ℕ, ◌<◌, pos, List, [], ◌∷◌, ◌++◌, length, get_or, refl, sym, ap, ◌∙◌, subst, arith, cond, Bool, true, false, Option, Some, None, unwrap_or, Result, Ok, Err, IfSome, MatchResult}
 use Rattle.std.specs.Result.{result_unwrap_or}
 use Rattle.std.specs.Str.{bytes_eq}
+use Rattle.std.proofs.lemmas.List.{append-nil}
 use Rattle.std.proofs.lemmas.List.FromFn.{length-map-range_with_len, get_or-map-range_with_len}
 use Rattle.fixed_worth.specs.declared.limits.TheConstants.{MOST_FACTOR}
 use lib.Chars.{codes}
@@ -14,13 +15,16 @@ use Rattle.settings_file.specs.declared.faults.SettingsFault.TheVariants as sett
 use Rattle.settings_file.specs.Settings.{SettingsView, ReadsSettings, first_missing}
 use Rattle.settings_file.proofs.Known.{settings_are, settings_read}
 use Rattle.prec_file.specs.Records as prec
-use Rattle.shells.specs.Prices.{PricesView, plain_costs, NoneNegative, PricesFaultStands, blocks_of, worth_at, worths_at}
+use Rattle.shells.specs.Prices.{PricesView, plain_costs, mill_costs, NoneNegative, PricesFaultStands, blocks_of, worth_at, worths_at}
 use Rattle.check_pit.specs.Pieces.{Piece, piece_at, read_line, words_of, number_below}
-use Rattle.check_pit.specs.Header.{header_of, price_in, price_said, or_number, factor_of, value_behind, version_in, blocks_in, group_in}
+use Rattle.check_pit.specs.Header.{header_of, price_in, price_said, mill_said, or_number, factor_of, mill_of, value_behind, value_behind_both, version_in, blocks_in, group_in}
 use Rattle.check_pit.specs.ReadBack.{IsPrice}
 use Rattle.check_pit.specs.declared.header.Header.{Header}
 use Rattle.check_pit.specs.declared.header.Price.{Price}
 use Rattle.check_pit.specs.declared.header.Price.TheVariants.{Objective, Factor}
+use Rattle.check_pit.specs.declared.header.Price.TheVariants as price_mill
+use Rattle.check_pit.specs.declared.header.Version.{Version}
+use Rattle.check_pit.specs.declared.header.Version.TheVariants.{One, Two}
 use Rattle.check_pit.specs.declared.cert_fault.LineFault.{LineFault}
 use Rattle.check_pit.proofs.Going.{text_read, below_limit}
 use Rattle.check_pit.proofs.Wants.{joined}
@@ -29,7 +33,10 @@ use Rattle.engines.specs.declared.engine_fault.EngineFault.{EngineFault}
 use Rattle.engines.specs.declared.engine_fault.EngineFault.TheVariants as engine
 use Rattle.engines.specs.BlockTexts.{ReadsBlocks, BlocksFails, BlocksReadFails}
 use Rattle.engines.specs.Inputs.{ReadsSettingsText, SettingsReadFails, ReadsPrices, ReadsPrec, PricesReadFail, ModelPricesFail}
-use Rattle.engines.specs.PricedTexts.{cell, cells, values_of, first_columns, table_by, table_of, price_keys, price_columns, ColumnsKnown}
+use Rattle.engines.specs.PricedTexts.{cell, cells, values_of, charge_list, column_list, columns_said, costs_at, first_charges, first_columns, table_at, table_by, table_of, price_keys, price_columns, ColumnsKnown}
+use Rattle.engines.specs.declared.priced_inputs.ChargeColumns.{ChargeColumns}
+use Rattle.engines.specs.declared.priced_inputs.ChargeColumns.TheVariants.{Plain, Mill}
+use Rattle.engines.specs.declared.priced_inputs.PriceColumns.{PriceColumns}
 use Rattle.engines.specs.Limits.{IsWithinLimit}
 use Rattle.engines.specs.ReadMines.{AreRead, ArePricesRead, of_settings}
 
@@ -58,15 +65,25 @@ column_is chosen text m i d h =
     get_or-map-range_with_len (λ c. get_or column c (pos 0)) 0 m.blocks b b (pos 0) below (omega arith) ∙ d.value i b h below
     ∙ sym (get_or-map-range_with_len (cell text (get_or chosen i 0)) 0 (blocks.count_of text) b b (pos 0) inside (omega arith)))
 
--- the prices that are made of the columns of a model are those of its text
-pub table_is : (revenue cost : ℕ) (said : SettingsView) (text : List ℕ) (m : BlocksView) (table : PricesView) → revenue ∷ cost ∷ [] ≡ price_columns said → Denotes (revenue ∷ cost ∷ []) text m
-    → table ≡ first_columns m → table ≡ table_by said text
-table_is revenue cost said text m table e d is =
-    let first = ap (λ (cs : List ℕ). get_or cs 0 0) e in
-    let second = ap (λ (cs : List ℕ). get_or cs 1 0) e in
-    let r = column_is (revenue ∷ cost ∷ []) text m 0 d (omega arith) ∙ ap (cells text) first in
-    let c = column_is (revenue ∷ cost ∷ []) text m 1 d (omega arith) ∙ ap (cells text) second in
-    is ∙ λ i. record { revenue = r i; costs = plain_costs (c i) }
+-- the charges and the prices that are made of the columns of a model are those of its text, whatever is chosen behind them
+charges_are : (revenue : ℕ) (charges : ChargeColumns) (others text : List ℕ) (m : BlocksView) → Denotes (revenue ∷ (charge_list charges ++ others)) text m → first_charges charges m ≡ costs_at charges text
+charges_are revenue (Plain cost) others text m d = ap plain_costs (column_is (revenue ∷ cost ∷ others) text m 1 d (omega arith))
+charges_are revenue (Mill processing mining) others text m d =
+    let p = column_is (revenue ∷ processing ∷ mining ∷ others) text m 1 d (omega arith) in
+    let q = column_is (revenue ∷ processing ∷ mining ∷ others) text m 2 d (omega arith) in
+    λ i. mill_costs (p i) (q i)
+
+pub first_columns_are : (columns : PriceColumns) (others text : List ℕ) (m : BlocksView) → Denotes (columns.revenue ∷ (charge_list columns.charges ++ others)) text m → first_columns columns.charges m ≡ table_at columns text
+first_columns_are columns others text m d =
+    let r = column_is (columns.revenue ∷ (charge_list columns.charges ++ others)) text m 0 d (omega arith) in
+    let c = charges_are columns.revenue columns.charges others text m d in
+    λ i. record { revenue = r i; costs = c i }
+
+-- no other columns are chosen
+pub table_is : (columns : PriceColumns) (text : List ℕ) (m : BlocksView) (table : PricesView) → Denotes (column_list columns) text m → table ≡ first_columns columns.charges m → table ≡ table_at columns text
+table_is columns text m table d is =
+    let alone : column_list columns ≡ columns.revenue ∷ (charge_list columns.charges ++ []) = ap (λ (cs : List ℕ). columns.revenue ∷ cs) (sym (append-nil (charge_list columns.charges))) in
+    is ∙ first_columns_are columns [] text m (subst (λ (cs : List ℕ). Denotes cs text m) alone d)
 
 -- ---- the factor of a header
 
@@ -81,15 +98,30 @@ word_price : (word : List ℕ) (t : Bool) (price : Price) → cond t (Ok Objecti
 word_price word true price h = subst IsPrice (ap (λ (r : Result Price LineFault). result_unwrap_or r price) h) tt
 word_price word false price h = factor_below word (number_below (MOST_FACTOR + 1) word) price refl h
 
-price_bound : (o : Option (List ℕ)) (price : Price) → price_said o ≡ Ok price → IsPrice price
-price_bound (Some word) price h = word_price word (bytes_eq word (codes "OBJECTIVE")) price h
-price_bound None price h = absurd cc
+plain_bound : (o : Option (List ℕ)) (price : Price) → price_said o ≡ Ok price → IsPrice price
+plain_bound (Some word) price h = word_price word (bytes_eq word (codes "OBJECTIVE")) price h
+plain_bound None price h = absurd cc
+
+mill_below : (word : List ℕ) (o : Option ℕ) (price : Price) → number_below (MOST_FACTOR + 1) word ≡ o → or_number (mill_of o) ≡ Ok price → IsPrice price
+mill_below word (Some k) price e h =
+    let same : price_mill.Mill k ≡ price = ap (λ (r : Result Price LineFault). result_unwrap_or r price) h in
+    let k_below = below_limit (MOST_FACTOR + 1) k word e in
+    subst IsPrice same (omega (arith, k_below))
+mill_below word None price e h = absurd cc
+
+mill_bound : (o : Option (List ℕ)) (price : Price) → mill_said o ≡ Ok price → IsPrice price
+mill_bound (Some word) price h = mill_below word (number_below (MOST_FACTOR + 1) word) price refl h
+mill_bound None price h = absurd cc
+
+price_bound : (v : Version) (text : List ℕ) (price : Price) → price_in v text ≡ Ok price → IsPrice price
+price_bound One text price h = plain_bound (value_behind (codes "PRICE") (words_of text)) price h
+price_bound Two text price h = mill_bound (value_behind_both (codes "PRICE") (codes "MILL") (words_of text)) price h
 
 -- the factor of a header that is read is at most 10,000
 pub header_price : (ps : List Piece) (header : Header) → header_of ps ≡ Ok header → IsPrice header.price
 header_price ps header e =
-    let q = joined (read_line version_in 1 (piece_at ps 0)) (read_line (blocks_in None) 2 (piece_at ps 1)) (read_line price_in 3 (piece_at ps 2)) (read_line (group_in None) 4 (piece_at ps 3)) header e in
-    price_bound (value_behind (codes "PRICE") (words_of (piece_at ps 2).text)) header.price (text_read price_in 3 (piece_at ps 2) header.price q.price)
+    let q = joined (read_line version_in 1 (piece_at ps 0)) (read_line (blocks_in None) 2 (piece_at ps 1)) (λ v. read_line (price_in v) 3 (piece_at ps 2)) (read_line (group_in None) 4 (piece_at ps 3)) header e in
+    price_bound q.version (piece_at ps 2).text header.price (text_read (price_in q.version) 3 (piece_at ps 2) header.price q.price)
 
 -- ---- settings and prices
 
@@ -102,71 +134,66 @@ settings_told text (settings_fault.Missing key) within h = absurd h
 settings_told text settings_fault.NoMemory within h = tt
 
 -- the prices were made of the columns of the text
-prices_made : (o : Option (List ℕ)) (revenue cost : ℕ) (said : SettingsView) (m : BlocksView) (table : PricesView) → revenue ∷ cost ∷ [] ≡ price_columns said → IfSome o (λ text. ReadsBlocks (revenue ∷ cost ∷ []) text m)
-    → table ≡ first_columns m → IfSome o (λ text. ReadsPrices said text table)
-prices_made None revenue cost said m table e h is = tt
-prices_made (Some text) revenue cost said m table e h is =
-    let F : List ℕ → Type 0 = λ chosen. blocks.fault_of chosen text ≡ None in
-    record { within = h.0; read = subst F e h.1; is = table_is revenue cost said text m table e h.2 is }
+prices_made : (text : List ℕ) (columns : PriceColumns) (m : BlocksView) (table : PricesView) → ReadsBlocks (column_list columns) text m → table ≡ first_columns columns.charges m → ReadsPrices columns text table
+prices_made text columns m table h is = record { within = h.0; read = h.1; is = table_is columns text m table h.2 is }
 
 -- no prices are made of them
-prices_fail : (text : List ℕ) (revenue cost : ℕ) (said : SettingsView) (m : BlocksView) (fault : EngineFault) → revenue ∷ cost ∷ [] ≡ price_columns said → ReadsBlocks (revenue ∷ cost ∷ []) text m → ModelPricesFail m fault → PricesReadFail said text fault
-prices_fail text revenue cost said m (engine.Prices fault) e h f =
-    let F : List ℕ → Type 0 = λ chosen. blocks.fault_of chosen text ≡ None in
-    let table = table_is revenue cost said text m (first_columns m) e h.2 refl in
+prices_fail : (text : List ℕ) (columns : PriceColumns) (m : BlocksView) (fault : EngineFault) → ReadsBlocks (column_list columns) text m → ModelPricesFail columns.charges m fault → PricesReadFail columns text fault
+prices_fail text columns m (engine.Prices fault) h f =
+    let table = table_is columns text m (first_columns columns.charges m) h.2 refl in
     let S : PricesView → Type 0 = λ t. PricesFaultStands t fault in
-    (h.0, subst F e h.1, subst S table f)
-prices_fail text revenue cost said m engine.Memory e h f = tt
-prices_fail text revenue cost said m engine.Device e h f = tt
-prices_fail text revenue cost said m (engine.Settings p) e h f = absurd f
-prices_fail text revenue cost said m (engine.Blocks p) e h f = absurd f
-prices_fail text revenue cost said m (engine.Upit p) e h f = absurd f
-prices_fail text revenue cost said m (engine.Prec p) e h f = absurd f
-prices_fail text revenue cost said m (engine.Slope p) e h f = absurd f
-prices_fail text revenue cost said m (engine.Model p) e h f = absurd f
-prices_fail text revenue cost said m (engine.Certificate p) e h f = absurd f
-prices_fail text revenue cost said m (engine.Trace p) e h f = absurd f
-prices_fail text revenue cost said m engine.Thread e h f = absurd f
-prices_fail text revenue cost said m engine.Stranger e h f = absurd f
+    (h.0, h.1, subst S table f)
+prices_fail text columns m engine.Memory h f = tt
+prices_fail text columns m engine.Device h f = tt
+prices_fail text columns m (engine.Settings p) h f = absurd f
+prices_fail text columns m (engine.Blocks p) h f = absurd f
+prices_fail text columns m (engine.Upit p) h f = absurd f
+prices_fail text columns m (engine.Prec p) h f = absurd f
+prices_fail text columns m (engine.Slope p) h f = absurd f
+prices_fail text columns m (engine.Model p) h f = absurd f
+prices_fail text columns m (engine.Certificate p) h f = absurd f
+prices_fail text columns m (engine.Trace p) h f = absurd f
+prices_fail text columns m engine.Thread h f = absurd f
+prices_fail text columns m engine.Stranger h f = absurd f
 
 -- what is made of the columns of the text is told of it
-pub prices_told : (o : Option (List ℕ)) (revenue cost : ℕ) (said : SettingsView) (m : BlocksView) (made : Result PricesView EngineFault) → revenue ∷ cost ∷ [] ≡ price_columns said → IfSome o (λ text. ReadsBlocks (revenue ∷ cost ∷ []) text m)
-    → MatchResult made (λ table. table ≡ first_columns m) (ModelPricesFail m) → IfSome o (λ text. MatchResult made (ReadsPrices said text) (PricesReadFail said text))
-prices_told None revenue cost said m made e h is = tt
-prices_told (Some text) revenue cost said m (Ok table) e h is = prices_made (Some text) revenue cost said m table e h is
-prices_told (Some text) revenue cost said m (Err fault) e h f = prices_fail text revenue cost said m fault e h f
+pub prices_told : (o : Option (List ℕ)) (columns : PriceColumns) (m : BlocksView) (made : Result PricesView EngineFault) → IfSome o (λ text. ReadsBlocks (column_list columns) text m)
+    → MatchResult made (λ table. table ≡ first_columns columns.charges m) (ModelPricesFail columns.charges m) → IfSome o (λ text. MatchResult made (ReadsPrices columns text) (PricesReadFail columns text))
+prices_told None columns m made h is = tt
+prices_told (Some text) columns m (Ok table) h is = prices_made text columns m table h is
+prices_told (Some text) columns m (Err fault) h f = prices_fail text columns m fault h f
 
 -- the blocks were not read
-pub blocks_fail : (o : Option (List ℕ)) (revenue cost : ℕ) (said : SettingsView) (fault : EngineFault) → revenue ∷ cost ∷ [] ≡ price_columns said → IfSome o (λ text. BlocksReadFails (revenue ∷ cost ∷ []) text fault) → IfSome o (λ text. PricesReadFail said text fault)
-blocks_fail None revenue cost said fault e h = tt
-blocks_fail (Some text) revenue cost said (engine.Blocks p) e h = subst (λ (chosen : List ℕ). BlocksFails chosen text p) e h
-blocks_fail (Some text) revenue cost said engine.Memory e h = tt
-blocks_fail (Some text) revenue cost said engine.Device e h = tt
-blocks_fail (Some text) revenue cost said (engine.Settings p) e h = absurd h
-blocks_fail (Some text) revenue cost said (engine.Prices p) e h = absurd h
-blocks_fail (Some text) revenue cost said (engine.Upit p) e h = absurd h
-blocks_fail (Some text) revenue cost said (engine.Prec p) e h = absurd h
-blocks_fail (Some text) revenue cost said (engine.Slope p) e h = absurd h
-blocks_fail (Some text) revenue cost said (engine.Model p) e h = absurd h
-blocks_fail (Some text) revenue cost said (engine.Certificate p) e h = absurd h
-blocks_fail (Some text) revenue cost said (engine.Trace p) e h = absurd h
-blocks_fail (Some text) revenue cost said engine.Thread e h = absurd h
-blocks_fail (Some text) revenue cost said engine.Stranger e h = absurd h
+pub blocks_fail : (o : Option (List ℕ)) (columns : PriceColumns) (fault : EngineFault) → IfSome o (λ text. BlocksReadFails (column_list columns) text fault) → IfSome o (λ text. PricesReadFail columns text fault)
+blocks_fail None columns fault h = tt
+blocks_fail (Some text) columns (engine.Blocks p) h = h
+blocks_fail (Some text) columns engine.Memory h = tt
+blocks_fail (Some text) columns engine.Device h = tt
+blocks_fail (Some text) columns (engine.Settings p) h = absurd h
+blocks_fail (Some text) columns (engine.Prices p) h = absurd h
+blocks_fail (Some text) columns (engine.Upit p) h = absurd h
+blocks_fail (Some text) columns (engine.Prec p) h = absurd h
+blocks_fail (Some text) columns (engine.Slope p) h = absurd h
+blocks_fail (Some text) columns (engine.Model p) h = absurd h
+blocks_fail (Some text) columns (engine.Certificate p) h = absurd h
+blocks_fail (Some text) columns (engine.Trace p) h = absurd h
+blocks_fail (Some text) columns engine.Thread h = absurd h
+blocks_fail (Some text) columns engine.Stranger h = absurd h
 
 -- memory is refused
-pub memory_fails : (o : Option (List ℕ)) (said : SettingsView) → IfSome o (λ text. PricesReadFail said text engine.Memory)
-memory_fails None said = tt
-memory_fails (Some text) said = tt
+pub memory_fails : (o : Option (List ℕ)) (columns : PriceColumns) → IfSome o (λ text. PricesReadFail columns text engine.Memory)
+memory_fails None columns = tt
+memory_fails (Some text) columns = tt
 
 -- the texts that price blocks, and the precedence, were read
-pub all_read : (settings text precedence : List ℕ) (said : SettingsView) (table : PricesView) (rests : RestsView) (n : ℕ) → n ≡ blocks_of table → NoneNegative table → first_missing price_keys said ≡ None → ReadsSettingsText settings said → ReadsPrices said text table → ReadsPrec n precedence rests
+pub all_read : (settings text precedence : List ℕ) (said : SettingsView) (table : PricesView) (rests : RestsView) (n : ℕ) → n ≡ blocks_of table → NoneNegative table → first_missing (price_keys said) said ≡ None → ReadsSettingsText settings said → ReadsPrices (columns_said said) text table → ReadsPrec n precedence rests
     → ArePricesRead settings text precedence table rests
 all_read settings text precedence said table rests n e positive whole s t p =
     let known = settings_are settings said s.1 in
     let is : table ≡ table_of settings text = t.is ∙ ap (λ (v : SettingsView). table_by v text) (sym known) in
     let size : blocks_of table ≡ rests.blocks = sym e ∙ sym p.2 in
     let count = sym (length-map-range_with_len (cell text (unwrap_or said.revenue 0)) 0 (blocks.count_of text)) ∙ ap blocks_of (sym t.is) ∙ size in
-    let M : SettingsView → Type 0 = λ v. first_missing price_keys v ≡ None in
+    let M : SettingsView → Type 0 = λ v. first_missing (price_keys v) v ≡ None in
     let C : SettingsView → Type 0 = λ v. blocks.fault_of (price_columns v) text ≡ None in
     let columns : ColumnsKnown settings = record { within = s.0; read = settings_read settings said s.1; said = subst M (sym known) whole } in
     let F : ℕ → Type 0 = λ k. prec.fault_of k precedence ≡ None in

@@ -8,16 +8,17 @@ use Rattle.settings_file.specs.declared.keys.Key.{Key}
 use Rattle.settings_file.specs.declared.faults.SettingsFault.TheVariants as settings_fault
 use Rattle.settings_file.specs.Settings.{SettingsView, first_missing}
 use Rattle.settings_file.proofs.Known.{settings_are, settings_read}
-use Rattle.shells.specs.Prices.{PricesView, PricesFaultStands, NoneNegative, blocks_of, worths_at}
+use Rattle.shells.specs.Prices.{PricesView, PricesFaultStands, NoneNegative, blocks_of, price_of, worths_at}
 use Rattle.engines.specs.declared.judgement.Judgement.{Judgement}
 use Rattle.engines.specs.declared.judgement.Verdict.{Verdict}
 use Rattle.engines.specs.declared.engine_fault.EngineFault.{EngineFault}
 use Rattle.engines.specs.declared.engine_fault.EngineFault.TheVariants as engine
 use Rattle.engines.specs.declared.engine_fault.Problem.TheVariants as problem
 use Rattle.engines.specs.declared.method.Method.{Method}
+use Rattle.engines.specs.declared.priced_inputs.PriceColumns.{PriceColumns}
 use Rattle.ordered_group.specs.declared.groups.Group.{Group}
 use Rattle.engines.specs.BlockTexts.{BlocksFails}
-use Rattle.engines.specs.PricedTexts.{price_keys, price_columns, cell, table_by, table_of, KeysSaid, ColumnsKnown, PricesRead, SettingsFails}
+use Rattle.engines.specs.PricedTexts.{price_keys, columns_said, price_columns, cell, table_by, table_of, KeysSaid, ColumnsKnown, PricesRead, SettingsFails}
 use Rattle.engines.specs.Inputs.{ReadsSettingsText, SettingsReadFails, IsMissing, ReadsPrices, PricesReadFail, ReadsPrec, PrecReadFails, TextReadFails, PricedMineFails}
 use Rattle.engines.specs.Mines.{MineTexts, priced_texts, price_wanted}
 use Rattle.engines.specs.ReadMines.{AreRead, ArePricesRead}
@@ -28,7 +29,7 @@ use Rattle.engines.specs.FaultStands.{Fails}
 use Rattle.engines.specs.Checking.{Checks, SoundIsAccepted, LineFails}
 use Rattle.engines.specs.Solving.{Solves}
 use Rattle.engines.proofs.Answered.{keeps_self, at_fault, text_stands, written, line_failed}
-use Rattle.check_pit.specs.declared.header.Price.TheVariants.{Factor}
+use Rattle.check_pit.specs.declared.header.Price.{Price}
 use Rattle.engines.proofs.Complete.{complete_at}
 use Rattle.engines.proofs.Judged.{read_as}
 use Rattle.engines.proofs.Priced.{all_read, worths_priced}
@@ -89,30 +90,30 @@ settings_answer (Some s) (Some b) None e h = tt
 settings_answer (Some s) (Some b) (Some p) e h = settings_fail s b p e h
 
 -- of the keys that are needed this is the first that is missing
-pub key_missing : (needed : List Key) (s : List ℕ) (said : SettingsView) (key : Key) → ReadsSettingsText s said → first_missing needed said ≡ Some key → SettingsFails needed s (problem.Fault (settings_fault.Missing key))
+pub key_missing : (needed : SettingsView → List Key) (s : List ℕ) (said : SettingsView) (key : Key) → ReadsSettingsText s said → first_missing (needed said) said ≡ Some key → SettingsFails needed s (problem.Fault (settings_fault.Missing key))
 key_missing needed s said key a m =
-    let M : SettingsView → Type 0 = λ v. first_missing needed v ≡ Some key in
+    let M : SettingsView → Type 0 = λ v. first_missing (needed v) v ≡ Some key in
     (a.0, (settings_read s said a.1, subst M (sym (settings_are s said a.1)) m))
 
-missing_at : (s b p : List ℕ) (said : SettingsView) (e : EngineFault) → ReadsSettingsText s said → IsMissing price_keys said e → PricedMineFails s b p e
+missing_at : (s b p : List ℕ) (said : SettingsView) (e : EngineFault) → ReadsSettingsText s said → IsMissing (price_keys said) said e → PricedMineFails s b p e
 missing_at s b p said e a m = subst (λ (f : EngineFault). PricedMineFails s b p f) (sym m.1) (key_missing price_keys s said m.0 a m.2)
 
-pub missing_answer : (o q r : Option (List ℕ)) (said : SettingsView) (e : EngineFault) → IfSome o (λ s. ReadsSettingsText s said) → IsMissing price_keys said e → IfSome o (λ s. IfSome q (λ b. IfSome r (λ p. PricedMineFails s b p e)))
+pub missing_answer : (o q r : Option (List ℕ)) (said : SettingsView) (e : EngineFault) → IfSome o (λ s. ReadsSettingsText s said) → IsMissing (price_keys said) said e → IfSome o (λ s. IfSome q (λ b. IfSome r (λ p. PricedMineFails s b p e)))
 missing_answer None q r said e h m = tt
 missing_answer (Some s) None r said e h m = tt
 missing_answer (Some s) (Some b) None said e h m = tt
 missing_answer (Some s) (Some b) (Some p) said e h m = missing_at s b p said e h m
 
 -- none of the keys that are needed is missing
-pub keys_said : (needed : List Key) (s : List ℕ) (said : SettingsView) → ReadsSettingsText s said → first_missing needed said ≡ None → KeysSaid needed s
+pub keys_said : (needed : SettingsView → List Key) (s : List ℕ) (said : SettingsView) → ReadsSettingsText s said → first_missing (needed said) said ≡ None → KeysSaid needed s
 keys_said needed s said a whole =
-    let M : SettingsView → Type 0 = λ v. first_missing needed v ≡ None in
+    let M : SettingsView → Type 0 = λ v. first_missing (needed v) v ≡ None in
     record { within = a.0; read = settings_read s said a.1; said = subst M (sym (settings_are s said a.1)) whole }
 
-columns_known : (s : List ℕ) (said : SettingsView) → ReadsSettingsText s said → first_missing price_keys said ≡ None → ColumnsKnown s
+columns_known : (s : List ℕ) (said : SettingsView) → ReadsSettingsText s said → first_missing (price_keys said) said ≡ None → ColumnsKnown s
 columns_known s said a whole = keys_said price_keys s said a whole
 
-prices_fail_at : (s b p : List ℕ) (said : SettingsView) (e : EngineFault) → ReadsSettingsText s said → first_missing price_keys said ≡ None → PricesReadFail said b e → PricedMineFails s b p e
+prices_fail_at : (s b p : List ℕ) (said : SettingsView) (e : EngineFault) → ReadsSettingsText s said → first_missing (price_keys said) said ≡ None → PricesReadFail (columns_said said) b e → PricedMineFails s b p e
 prices_fail_at s b p said (engine.Blocks q) a whole h =
     (columns_known s said a whole, subst (λ (v : SettingsView). BlocksFails (price_columns v) b q) (sym (settings_are s said a.1)) h)
 prices_fail_at s b p said (engine.Prices f) a whole h =
@@ -132,14 +133,21 @@ prices_fail_at s b p said (engine.Trace q) a whole h = absurd h
 prices_fail_at s b p said engine.Thread a whole h = absurd h
 prices_fail_at s b p said engine.Stranger a whole h = absurd h
 
-pub prices_answer : (o q r : Option (List ℕ)) (said : SettingsView) (e : EngineFault) → IfSome o (λ s. ReadsSettingsText s said) → first_missing price_keys said ≡ None → IfSome q (λ b. PricesReadFail said b e) → IfSome o (λ s. IfSome q (λ b. IfSome r (λ p. PricedMineFails s b p e)))
+pub prices_answer : (o q r : Option (List ℕ)) (said : SettingsView) (e : EngineFault) → IfSome o (λ s. ReadsSettingsText s said) → first_missing (price_keys said) said ≡ None → IfSome q (λ b. PricesReadFail (columns_said said) b e) → IfSome o (λ s. IfSome q (λ b. IfSome r (λ p. PricedMineFails s b p e)))
 prices_answer None q r said e a whole h = tt
 prices_answer (Some s) None r said e a whole h = tt
 prices_answer (Some s) (Some b) None said e a whole h = tt
 prices_answer (Some s) (Some b) (Some p) said e a whole h = prices_fail_at s b p said e a whole h
 
+-- what is said of the columns is said of those that settings name
+pub prices_said : (q : Option (List ℕ)) (columns : PriceColumns) (said : SettingsView) (table : PricesView) → columns ≡ columns_said said → IfSome q (λ b. ReadsPrices columns b table) → IfSome q (λ b. ReadsPrices (columns_said said) b table)
+prices_said q columns said table e h = subst (λ (cs : PriceColumns). IfSome q (λ b. ReadsPrices cs b table)) e h
+
+pub prices_unsaid : (q : Option (List ℕ)) (columns : PriceColumns) (said : SettingsView) (e : EngineFault) → columns ≡ columns_said said → IfSome q (λ b. PricesReadFail columns b e) → IfSome q (λ b. PricesReadFail (columns_said said) b e)
+prices_unsaid q columns said e same h = subst (λ (cs : PriceColumns). IfSome q (λ b. PricesReadFail cs b e)) same h
+
 -- prices that were read are of the blocks of the text
-priced : (s b : List ℕ) (said : SettingsView) (table : PricesView) (n : ℕ) → n ≡ blocks_of table → NoneNegative table → first_missing price_keys said ≡ None → ReadsSettingsText s said → ReadsPrices said b table → PricesRead s b n
+priced : (s b : List ℕ) (said : SettingsView) (table : PricesView) (n : ℕ) → n ≡ blocks_of table → NoneNegative table → first_missing (price_keys said) said ≡ None → ReadsSettingsText s said → ReadsPrices (columns_said said) b table → PricesRead s b n
 priced s b said table n e positive whole a t =
     let known = sym (settings_are s said a.1) in
     let is : table ≡ table_of s b = t.is ∙ ap (λ (v : SettingsView). table_by v b) known in
@@ -147,7 +155,7 @@ priced s b said table n e positive whole a t =
     let count = sym (length-map-range_with_len (cell b (unwrap_or said.revenue 0)) 0 (blocks.count_of b)) ∙ ap blocks_of (sym t.is) ∙ sym e in
     record { columns = columns_known s said a whole; within = t.within; read = subst C known t.read; count = count; revenues = subst NoneNegative is positive }
 
-prec_fails_at : (s b p : List ℕ) (said : SettingsView) (table : PricesView) (n : ℕ) (e : EngineFault) → n ≡ blocks_of table → NoneNegative table → first_missing price_keys said ≡ None → ReadsSettingsText s said → ReadsPrices said b table → PrecReadFails n p e → PricedMineFails s b p e
+prec_fails_at : (s b p : List ℕ) (said : SettingsView) (table : PricesView) (n : ℕ) (e : EngineFault) → n ≡ blocks_of table → NoneNegative table → first_missing (price_keys said) said ≡ None → ReadsSettingsText s said → ReadsPrices (columns_said said) b table → PrecReadFails n p e → PricedMineFails s b p e
 prec_fails_at s b p said table n (engine.Prec q) size positive whole a t h = (n, priced s b said table n size positive whole a t, h)
 prec_fails_at s b p said table n engine.Memory size positive whole a t h = tt
 prec_fails_at s b p said table n engine.Device size positive whole a t h = tt
@@ -162,14 +170,14 @@ prec_fails_at s b p said table n (engine.Trace q) size positive whole a t h = ab
 prec_fails_at s b p said table n engine.Thread size positive whole a t h = absurd h
 prec_fails_at s b p said table n engine.Stranger size positive whole a t h = absurd h
 
-pub prec_answer : (o q r : Option (List ℕ)) (said : SettingsView) (table : PricesView) (n : ℕ) (e : EngineFault) → n ≡ blocks_of table → NoneNegative table → first_missing price_keys said ≡ None → IfSome o (λ s. ReadsSettingsText s said) → IfSome q (λ b. ReadsPrices said b table) → IfSome r (λ p. PrecReadFails n p e)
+pub prec_answer : (o q r : Option (List ℕ)) (said : SettingsView) (table : PricesView) (n : ℕ) (e : EngineFault) → n ≡ blocks_of table → NoneNegative table → first_missing (price_keys said) said ≡ None → IfSome o (λ s. ReadsSettingsText s said) → IfSome q (λ b. ReadsPrices (columns_said said) b table) → IfSome r (λ p. PrecReadFails n p e)
     → IfSome o (λ s. IfSome q (λ b. IfSome r (λ p. PricedMineFails s b p e)))
 prec_answer None q r said table n e size positive whole a t h = tt
 prec_answer (Some s) None r said table n e size positive whole a t h = tt
 prec_answer (Some s) (Some b) None said table n e size positive whole a t h = tt
 prec_answer (Some s) (Some b) (Some p) said table n e size positive whole a t h = prec_fails_at s b p said table n e size positive whole a t h
 
-pub mine_answer : (o q r : Option (List ℕ)) (said : SettingsView) (table : PricesView) (rests : RestsView) (n : ℕ) → n ≡ blocks_of table → NoneNegative table → first_missing price_keys said ≡ None → IfSome o (λ s. ReadsSettingsText s said) → IfSome q (λ b. ReadsPrices said b table) → IfSome r (λ p. ReadsPrec n p rests)
+pub mine_answer : (o q r : Option (List ℕ)) (said : SettingsView) (table : PricesView) (rests : RestsView) (n : ℕ) → n ≡ blocks_of table → NoneNegative table → first_missing (price_keys said) said ≡ None → IfSome o (λ s. ReadsSettingsText s said) → IfSome q (λ b. ReadsPrices (columns_said said) b table) → IfSome r (λ p. ReadsPrec n p rests)
     → IfSome o (λ s. IfSome q (λ b. IfSome r (λ p. ArePricesRead s b p table rests)))
 mine_answer None q r said table rests n size positive whole a t h = tt
 mine_answer (Some s) None r said table rests n size positive whole a t h = tt
@@ -265,7 +273,10 @@ pub mine_unsolved : (o q r w : Option (List ℕ)) (k : ℕ) (name : Group) (meth
 mine_unsolved o q r w k name method limit e h = under3 o q r (λ s b p. PricedMineFails s b p e) (λ s b p. Solves (priced_texts s b p k) name method limit w w (Err e)) h (λ s b p f. unread_to_solve s b p k name method limit w e f)
 
 -- what holds of any texts of what was read holds of these
-pub solve_answer3 : (o q r old new : Option (List ℕ)) (k named : ℕ) (name : Group) (method : Method) (limit : ℕ) (table : PricesView) (rests : RestsView) (slice : List ℤ) (result : Result Verdict EngineFault) → IfSome o (λ s. IfSome q (λ b. IfSome r (λ p. ArePricesRead s b p table rests))) → named ≡ k → slice ≡ worths_at table k
-    → ((texts : MineTexts) → AreRead texts slice rests → Factor named ≡ price_wanted texts → Solves texts name method limit old new result) → IfSome o (λ s. IfSome q (λ b. IfSome r (λ p. Solves (priced_texts s b p k) name method limit old new result)))
-solve_answer3 o q r old new k named name method limit table rests slice result h e is solves = under3 o q r (λ s b p. ArePricesRead s b p table rests) (λ s b p. Solves (priced_texts s b p k) name method limit old new result) h (λ s b p a.
-    solves (priced_texts s b p k) (read_as (priced_texts s b p k) (worths_at table k) slice rests is (worths_priced s b p table rests k a)) (ap Factor e))
+pub priced_answer : (s b p : List ℕ) (k : ℕ) (price : Price) (table : PricesView) (rests : RestsView) → ArePricesRead s b p table rests → price ≡ price_of table.costs k → price ≡ price_wanted (priced_texts s b p k)
+priced_answer s b p k price table rests a e = e ∙ ap (λ (t : PricesView). price_of t.costs k) a.table
+
+pub solve_answer3 : (o q r old new : Option (List ℕ)) (k : ℕ) (price : Price) (name : Group) (method : Method) (limit : ℕ) (table : PricesView) (rests : RestsView) (slice : List ℤ) (result : Result Verdict EngineFault) → IfSome o (λ s. IfSome q (λ b. IfSome r (λ p. ArePricesRead s b p table rests))) → price ≡ price_of table.costs k → slice ≡ worths_at table k
+    → ((texts : MineTexts) → AreRead texts slice rests → price ≡ price_wanted texts → Solves texts name method limit old new result) → IfSome o (λ s. IfSome q (λ b. IfSome r (λ p. Solves (priced_texts s b p k) name method limit old new result)))
+solve_answer3 o q r old new k price name method limit table rests slice result h e is solves = under3 o q r (λ s b p. ArePricesRead s b p table rests) (λ s b p. Solves (priced_texts s b p k) name method limit old new result) h (λ s b p a.
+    solves (priced_texts s b p k) (read_as (priced_texts s b p k) (worths_at table k) slice rests is (worths_priced s b p table rests k a)) (priced_answer s b p k price table rests a e))

@@ -96,12 +96,12 @@ pairs_fail s b up offsets m engine.Stranger keys are r h = absurd h
 -- where the settings were read
 module _ (o q : Option (List ℕ)) (up : Up) (said : SettingsView) (a : IfSome o (λ s. ReadsSettingsText s said)) where
   -- they list no offsets
-  pub missing_answer : (w : Option (List ℕ)) (e : EngineFault) → IsMissing offset_keys said e → IfSome o (λ s. IfSome q (λ b. GivesSlopes (listed s) b up w w (Err e)))
+  pub missing_answer : (w : Option (List ℕ)) (e : EngineFault) → IsMissing (offset_keys said) said e → IfSome o (λ s. IfSome q (λ b. GivesSlopes (listed s) b up w w (Err e)))
   missing_answer w e m = under2 o q (λ s. ReadsSettingsText s said) (λ b. Unit {0}) (λ s b. GivesSlopes (listed s) b up w w (Err e)) a (anything q) (λ s b r t.
       (subst (λ (f : EngineFault). SlopesFail (listed s) b up f) (sym m.1) (key_missing offset_keys s said m.0 r m.2), unwritten (listed s) b up w e))
 
   -- where they list offsets
-  module _ (xs : List Offset) (h : (xs ≡ listed_offsets said) × (first_missing offset_keys said ≡ None)) where
+  module _ (xs : List Offset) (h : (xs ≡ listed_offsets said) × (first_missing (offset_keys said) said ≡ None)) where
     of_text : (s : List ℕ) → ReadsSettingsText s said → xs ≡ listed_offsets (settings_of s)
     of_text s r = h.0 ∙ ap listed_offsets (sym (settings_are s said r.1))
 

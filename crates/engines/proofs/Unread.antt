@@ -26,9 +26,12 @@ use Rattle.blocks_file.specs.declared.faults.BlocksFault.{BlocksFault}
 use Rattle.settings_file.specs.declared.faults.SettingsFault.{SettingsFault}
 use Rattle.settings_file.specs.declared.faults.SettingsFault.TheVariants as settings_fault
 use Rattle.settings_file.proofs.Known.{no_settings_fault}
+use Rattle.shells.specs.Prices.{AreCharged}
 use Rattle.shells.specs.declared.prices_fault.PricesFault.{PricesFault}
+use Rattle.engines.specs.declared.priced_inputs.ChargeColumns.{ChargeColumns}
+use Rattle.engines.specs.declared.priced_inputs.ChargeColumns.TheVariants.{Plain, Mill}
 use Rattle.shells.specs.declared.prices_fault.PricesFault.TheVariants as prices_fault
-use Rattle.engines.specs.PricedTexts.{price_keys, price_columns, cell, table_of, ColumnsKnown, PricesRead, SettingsFails, PricesFail}
+use Rattle.engines.specs.PricedTexts.{price_keys, columns_said, price_columns, cell, costs_at, table_of, ColumnsKnown, PricesRead, SettingsFails, PricesFail}
 use Rattle.engines.specs.Mines.{MineTexts, mine_texts, priced_texts, precedence_of, ValuesRead, WorthsRead, mine_of, DenoteMine}
 use Rattle.engines.specs.Readings.{block_by, counts_by, Reads}
 use Rattle.engines.specs.FaultStands.{PrecFails, ValuesFail, SettingsFail, BlocksFail, TableFails, IsHeader, ModelFails, HeaderFails, BodyFails, PriceDiffers}
@@ -96,11 +99,15 @@ few_blocks text chosen h =
     few_records records (nat_lt MOST_BLOCKS (length records)) refl (or_second (blocks.long_fault (blocks.lines_in text)) (blocks.many_fault (blocks.lines_in text)) (or_first _ _ h))
 
 -- the columns of a text of blocks have one length, and no revenue is negative
+are_charged : (charges : ChargeColumns) (text : List ℕ) (n : ℕ) → n ≡ blocks.count_of text → AreCharged (costs_at charges text) n
+are_charged (Plain cost) text n e = length-map-range_with_len (cell text cost) 0 (blocks.count_of text) ∙ sym e
+are_charged (Mill processing mining) text n e = (length-map-range_with_len (cell text processing) 0 (blocks.count_of text) ∙ sym e, length-map-range_with_len (cell text mining) 0 (blocks.count_of text) ∙ sym e)
+
 table_stands : (settings text : List ℕ) (n : ℕ) (fault : PricesFault) → PricesRead settings text n → PricesFail settings text fault → ⊥
 table_stands settings text n prices_fault.WrongLength r h =
-    let revenues = length-map-range_with_len (cell text (unwrap_or (settings_of settings).revenue 0)) 0 (blocks.count_of text) in
-    let costs = length-map-range_with_len (cell text (unwrap_or (settings_of settings).cost 0)) 0 (blocks.count_of text) in
-    elim h.stands [ inl uncharged ↦ uncharged (costs ∙ sym revenues) | inr many ↦ omega (arith, many, revenues, few_blocks text (price_columns (settings_of settings)) r.read) ]
+    let said = settings_of settings in
+    let revenues = length-map-range_with_len (cell text (unwrap_or said.revenue 0)) 0 (blocks.count_of text) in
+    elim h.stands [ inl uncharged ↦ uncharged (are_charged (columns_said said).charges text (length (table_of settings text).revenue) revenues) | inr many ↦ omega (arith, many, revenues, few_blocks text (price_columns said) r.read) ]
 table_stands settings text n (prices_fault.NegativeRevenue b) r h =
     let first = h.stands.2 in
     omega (arith, ints, first.negative, r.revenues b first.block)

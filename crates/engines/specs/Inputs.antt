@@ -13,8 +13,10 @@ use Rattle.settings_file.specs.declared.keys.Key.{Key}
 use Rattle.settings_file.specs.declared.faults.SettingsFault.TheVariants as settings_fault
 use Rattle.shells.specs.Prices.{PricesView, PricesFaultStands}
 use Rattle.engines.specs.declared.engine_fault.Problem.TheVariants as problem
+use Rattle.engines.specs.declared.priced_inputs.ChargeColumns.{ChargeColumns}
+use Rattle.engines.specs.declared.priced_inputs.PriceColumns.{PriceColumns}
 use Rattle.engines.specs.Limits.{IsTooLong, IsWithinLimit}
-use Rattle.engines.specs.PricedTexts.{price_keys, price_columns, first_columns, table_by, PricesRead, SettingsFaultStands, SettingsFails, PricedBlocksFail, PricesFail}
+use Rattle.engines.specs.PricedTexts.{price_keys, column_list, first_columns, table_at, PricesRead, SettingsFaultStands, SettingsFails, PricedBlocksFail, PricesFail}
 use Rattle.engines.specs.BlockTexts.{BlocksFails}
 use Rattle.engines.specs.Mines.{ValuesRead}
 use Rattle.engines.specs.FaultStands.{UpitFails, PrecFails}
@@ -61,7 +63,7 @@ ReadsSettingsText text said = IsWithinLimit text × ReadsSettings text (Ok said)
 -- a fault of the text of settings, want of memory or a failing device; that a key is missing is told later
 abbrev pub SettingsReadFails : List ℕ → EngineFault → Type 0
 SettingsReadFails text (engine.Settings problem.InputTooLong) = IsTooLong text
-SettingsReadFails text (engine.Settings (problem.Fault fault)) = IsWithinLimit text × SettingsFaultStands [] text fault
+SettingsReadFails text (engine.Settings (problem.Fault fault)) = IsWithinLimit text × SettingsFaultStands (λ s. []) text fault
 SettingsReadFails text engine.Memory = Unit {0}
 SettingsReadFails text engine.Device = Unit {0}
 SettingsReadFails text _ = ⊥
@@ -70,24 +72,24 @@ SettingsReadFails text _ = ⊥
 abbrev pub IsMissing : List Key → SettingsView → EngineFault → Type 0
 IsMissing needed said fault = (key : Key) × (fault ≡ engine.Settings (problem.Fault (settings_fault.Missing key))) × (first_missing needed said ≡ Some key)
 
--- the prices are those of the text of blocks, of which settings name the columns
-pub record ReadsPrices (said : SettingsView) (text : List ℕ) (table : PricesView) : Type 0 where
+-- the prices are those of the text of blocks, in these columns
+pub record ReadsPrices (columns : PriceColumns) (text : List ℕ) (table : PricesView) : Type 0 where
   pub within : IsWithinLimit text
-  pub read : blocks.fault_of (price_columns said) text ≡ None
-  pub is : table ≡ table_by said text
+  pub read : blocks.fault_of (column_list columns) text ≡ None
+  pub is : table ≡ table_at columns text
 
-abbrev pub PricesReadFail : SettingsView → List ℕ → EngineFault → Type 0
-PricesReadFail said text (engine.Blocks p) = BlocksFails (price_columns said) text p
-PricesReadFail said text (engine.Prices fault) = IsWithinLimit text × (blocks.fault_of (price_columns said) text ≡ None) × PricesFaultStands (table_by said text) fault
-PricesReadFail said text engine.Memory = Unit {0}
-PricesReadFail said text engine.Device = Unit {0}
-PricesReadFail said text _ = ⊥
+abbrev pub PricesReadFail : PriceColumns → List ℕ → EngineFault → Type 0
+PricesReadFail columns text (engine.Blocks p) = BlocksFails (column_list columns) text p
+PricesReadFail columns text (engine.Prices fault) = IsWithinLimit text × (blocks.fault_of (column_list columns) text ≡ None) × PricesFaultStands (table_at columns text) fault
+PricesReadFail columns text engine.Memory = Unit {0}
+PricesReadFail columns text engine.Device = Unit {0}
+PricesReadFail columns text _ = ⊥
 
--- why the first two columns of a model are no prices: want of memory, or they are no table
-abbrev pub ModelPricesFail : BlocksView → EngineFault → Type 0
-ModelPricesFail m (engine.Prices fault) = PricesFaultStands (first_columns m) fault
-ModelPricesFail m engine.Memory = Unit {0}
-ModelPricesFail m _ = ⊥
+-- why the first columns of a model are no prices: want of memory, or they are no table
+abbrev pub ModelPricesFail : ChargeColumns → BlocksView → EngineFault → Type 0
+ModelPricesFail charges m (engine.Prices fault) = PricesFaultStands (first_columns charges m) fault
+ModelPricesFail charges m engine.Memory = Unit {0}
+ModelPricesFail charges m _ = ⊥
 
 -- why the texts of a mine of prices aren't read
 abbrev pub PricedMineFails : List ℕ → List ℕ → List ℕ → EngineFault → Type 0

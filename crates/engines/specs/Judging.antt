@@ -4,7 +4,7 @@ use Rattle.check_pit.specs.Pieces.{pieces_of}
 use Rattle.check_pit.specs.Header.{header_of}
 use Rattle.check_pit.specs.declared.header.Header.{Header}
 use Rattle.check_pit.specs.declared.header.Price.{Price}
-use Rattle.check_pit.specs.declared.header.Price.TheVariants.{Objective, Factor}
+use Rattle.check_pit.specs.declared.header.Price.TheVariants.{Objective, Factor, Mill}
 use Rattle.check_pit.specs.declared.cert_fault.CertFault.{CertFault}
 use Rattle.check_pit.specs.declared.cert_fault.CertFault.TheVariants as cert
 use Rattle.engines.specs.declared.judgement.Judgement.{Judgement}
@@ -19,6 +19,7 @@ use Rattle.engines.specs.FaultStands.{Fails}
 abbrev pub factor_at : Price → ℕ
 factor_at Objective = 0
 factor_at (Factor factor) = factor
+factor_at (Mill factor) = factor
 
 abbrev pub factor_named : Result Header CertFault → ℕ
 factor_named (Ok header) = factor_at header.price

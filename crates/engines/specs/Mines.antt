@@ -5,8 +5,8 @@ use Rattle.closure_net.specs.Mine.{Mine}
 use Rattle.prec_file.specs.Records as prec
 use Rattle.upit_file.specs.Records as upit
 use Rattle.check_pit.specs.declared.header.Price.{Price}
-use Rattle.check_pit.specs.declared.header.Price.TheVariants.{Objective, Factor}
-use Rattle.shells.specs.Prices.{worth_at}
+use Rattle.check_pit.specs.declared.header.Price.TheVariants.{Objective}
+use Rattle.shells.specs.Prices.{price_of, worth_at}
 use Rattle.engines.specs.Limits.{IsWithinLimit}
 use Rattle.engines.specs.PricedTexts.{table_of, PricesRead}
 
@@ -21,10 +21,10 @@ abbrev pub precedence_of : MineTexts → List ℕ
 precedence_of (mine_texts values precedence) = precedence
 precedence_of (priced_texts settings blocks precedence factor) = precedence
 
--- the price that a certificate for these texts names
+-- the price that a certificate for these texts names: by the kind of their table
 abbrev pub price_wanted : MineTexts → Price
 price_wanted (mine_texts values precedence) = Objective
-price_wanted (priced_texts settings blocks precedence factor) = Factor factor
+price_wanted (priced_texts settings blocks precedence factor) = price_of (table_of settings blocks).costs factor
 
 -- what block b is worth, in billionths: by its value in millionths, or by the prices at the factor
 abbrev pub worth_by : MineTexts → ℕ → ℤ

@@ -60,8 +60,8 @@ ListFails listed pattern.NoMemory = ⊥
 ListFails listed fault = ListFaultStands listed fault
 
 -- the keys that settings need to list offsets
-abbrev pub offset_keys : List Key
-offset_keys = Offsets ∷ []
+abbrev pub offset_keys : SettingsView → List Key
+offset_keys s = Offsets ∷ []
 
 -- the offsets that settings list
 abbrev pub listed_offsets : SettingsView → List Offset

@@ -195,6 +195,17 @@ impl From<SettingsFault> for EngineFault {
     }
 }
 
+impl From<PricesFault> for EngineFault {
+    ghost use Rattle.std.specs.Prelude.{◌≡◌};
+    ghost use Rattle.engines.specs.declared.engine_fault.EngineFault.TheVariants as engine;
+
+    ghost from_gives = { λ fault e. e ≡ engine.Prices fault };
+
+    fn from(fault: PricesFault) -> EngineFault {
+        EngineFault::Prices(fault)
+    }
+}
+
 impl From<PatternFault> for EngineFault {
     ghost use Rattle.std.specs.Prelude.{◌≡◌};
     ghost use Rattle.engines.specs.Slopes.{of_pattern};

@@ -21,7 +21,7 @@ use check_pit::{Accepted, CertFault, Header, Price, check, read_certificate, rea
 use closure_net::{Net, laws};
 use ordered_group::{Group, OrderedGroup, Scaled, Worth, WorthSize};
 use prec_file::Rests;
-use shells::{Factor, Prices};
+use shells::Prices;
 use std::alloc::Global;
 use std::thread::Threads;
 use upit_file::Upit;
@@ -40,7 +40,7 @@ pub fn judge(
     let header = header_for(certificate, rests.len())?;
     match header.price {
         Price::Objective => {}
-        Price::Factor(_) => {
+        Price::Factor(_) | Price::Mill(_) => {
             return Err(EngineFault::Certificate(CertificateProblem::WrongPrice));
         }
     }
@@ -63,15 +63,8 @@ pub fn judge_priced<R: Threads + Sync>(
     ensures no_device { ¬ IsErrOf result EngineFault.Device }
 {
     let header = header_for(certificate, rests.len())?;
-    let thousandths = match header.price {
-        Price::Factor(thousandths) => thousandths,
-        Price::Objective => {
-            return Err(EngineFault::Certificate(CertificateProblem::WrongPrice));
-        }
-    };
-    let Some(factor) = Factor::new(thousandths) else {
-        // a header's factor is at most 10,000
-        unreachable!();
+    let Some(factor) = prices.factor_of(header.price) else {
+        return Err(EngineFault::Certificate(CertificateProblem::WrongPrice));
     };
     let nanos = prices.worths_at(rt, alloc, factor)?;
     judge_in(alloc, header.group, nanos.as_slice(), rests, certificate)

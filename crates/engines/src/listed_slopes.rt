@@ -59,8 +59,8 @@ pub fn slopes_from_settings_engine<S: CountedRead, B: CountedRead, W: CountedWri
 // The offsets that settings list.
 fn offsets_in(settings: &Settings) -> Result<&[(i32, i32, i32)], EngineFault>
     ensures offsets { MatchResult result
-        (λ s. (s.now ≡ listed_offsets settings.now) × (first_missing offset_keys settings.now ≡ None))
-        (IsMissing offset_keys settings.now) }
+        (λ s. (s.now ≡ listed_offsets settings.now) × (first_missing (offset_keys settings.now) settings.now ≡ None))
+        (IsMissing (offset_keys settings.now) settings.now) }
     ensures no_device { ¬ IsErrOf result EngineFault.Device }
 {
     match settings.offsets() {

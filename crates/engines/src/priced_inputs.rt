@@ -1,9 +1,10 @@
 //! Reading what prices blocks: settings, and the columns of blocks that they name.
 
-ghost use Rattle.std.specs.Prelude.{◌≡◌, ◌+◌, ◌-◌, ◌^◌, ◌<◌, ◌≤◌, ◌↔◌, [], ◌∷◌, length, None, IfOk, IfSome, MatchResult, IsErrOf};
-ghost use Rattle.settings_file.specs.Settings.{SettingsView, first_missing};
+ghost use Rattle.std.specs.Prelude.{◌≡◌, ◌+◌, ◌-◌, ◌^◌, ◌<◌, ◌↔◌, true, false, [], ◌∷◌, ◌++◌, length, None, IfOk, IfSome, MatchResult, IsErrOf};
+ghost use Rattle.settings_file.specs.Settings.{names_mill, first_missing};
 ghost use Rattle.engines.specs.Limits.{IsWithinLimit};
-ghost use Rattle.engines.specs.PricedTexts.{price_keys, price_columns, values_of, first_columns};
+ghost use Rattle.engines.specs.PricedTexts.{keys_by, charges_by, columns_said, charge_list, column_list, values_of, first_columns};
+ghost use Rattle.engines.specs.BlockTexts.{ReadsBlocks, BlocksReadFails};
 ghost use Rattle.engines.specs.ReadMines.{ArePricesRead};
 ghost use Rattle.engines.specs.Inputs.{ReadsSettingsText, SettingsReadFails, IsMissing, ReadsPrices, PricesReadFail, ModelPricesFail, PricedMineFails};
 
@@ -36,29 +37,88 @@ fn settings_in(alloc: Global, text: &[u8]) -> Result<Settings, EngineFault>
     Ok(read_settings(alloc, text)?)
 }
 
+/// The columns of blocks that have their charges.
+#[derive(Clone, Copy)]
+pub enum ChargeColumns {
+    /// The number of the column of costs.
+    Plain { cost: u32 },
+    /// Where there is a mill: the numbers of the columns of what it costs to process blocks there, and to mine them.
+    Mill { processing: u32, mining: u32 },
+}
+
 /// The columns of blocks that have their prices.
 #[derive(Clone, Copy)]
 pub struct PriceColumns {
     /// The number of the column of revenues.
     pub revenue: u32,
-    /// The number of the column of costs.
-    pub cost: u32,
+    /// The columns of the charges.
+    pub charges: ChargeColumns,
 }
 
-/// The columns of the revenues and of the costs, which every priced model needs.
-pub fn price_columns(settings: &Settings) -> Result<PriceColumns, EngineFault>
+/// The columns of prices that settings name. There is a mill where they name one of its charges.
+///
+/// # Errors
+/// `Settings` with the first key that is missing, of those that the prices need and these others: revenue, cost, the
+/// others; or, where there is a mill, revenue, the others, processing, mining.
+pub fn price_columns(settings: &Settings, others: &[Key]) -> Result<PriceColumns, EngineFault>
     ensures columns { MatchResult result
-        (λ c. (c.revenue ∷ c.cost ∷ [] ≡ price_columns settings.now) × (first_missing price_keys settings.now ≡ None))
-        (IsMissing price_keys settings.now) }
+        (λ columns. (columns ≡ columns_said settings.now) × (first_missing (keys_by (names_mill settings.now) others.now) settings.now ≡ None))
+        (IsMissing (keys_by (names_mill settings.now) others.now) settings.now) }
     ensures no_device { ¬ IsErrOf result EngineFault.Device }
 {
     let Some(revenue) = settings.revenue() else {
         return Err(missing(Key::Revenue));
     };
+    let charges = if settings.names_mill() {
+        mill_columns(settings, others)?
+    } else {
+        cost_column(settings, others)?
+    };
+    Ok(PriceColumns { revenue, charges })
+}
+
+// The column of costs, where the other keys are there too.
+fn cost_column(settings: &Settings, others: &[Key]) -> Result<ChargeColumns, EngineFault>
+    ensures columns { MatchResult result
+        (λ charges. (charges ≡ charges_by false settings.now) × (first_missing (Key.Cost ∷ others.now) settings.now ≡ None))
+        (IsMissing (Key.Cost ∷ others.now) settings.now) }
+    ensures no_device { ¬ IsErrOf result EngineFault.Device }
+{
     let Some(cost) = settings.cost() else {
         return Err(missing(Key::Cost));
     };
-    Ok(PriceColumns { revenue, cost })
+    need(settings, others)?;
+    Ok(ChargeColumns::Plain { cost })
+}
+
+// The columns of a mill's charges, where the other keys are there too.
+fn mill_columns(settings: &Settings, others: &[Key]) -> Result<ChargeColumns, EngineFault>
+    ensures columns { MatchResult result
+        (λ charges. (charges ≡ charges_by true settings.now) × (first_missing (others.now ++ (Key.Processing ∷ Key.Mining ∷ [])) settings.now ≡ None))
+        (IsMissing (others.now ++ (Key.Processing ∷ Key.Mining ∷ [])) settings.now) }
+    ensures no_device { ¬ IsErrOf result EngineFault.Device }
+{
+    need(settings, others)?;
+    let Some(processing) = settings.processing() else {
+        return Err(missing(Key::Processing));
+    };
+    let Some(mining) = settings.mining() else {
+        return Err(missing(Key::Mining));
+    };
+    Ok(ChargeColumns::Mill { processing, mining })
+}
+
+// That settings say something at each of these keys.
+fn need(settings: &Settings, keys: &[Key]) -> Result<(), EngineFault>
+    ensures keys { MatchResult result (λ _. first_missing keys.now settings.now ≡ None) (IsMissing keys.now settings.now) }
+    ensures no_device { ¬ IsErrOf result EngineFault.Device }
+{
+    for key in keys {
+        if !settings.says(*key) {
+            return Err(missing(*key));
+        }
+    }
+    Ok(())
 }
 
 /// The fault of settings without a key that is needed.
@@ -68,38 +128,66 @@ pub fn missing(key: Key) -> EngineFault
     EngineFault::Settings(Problem::Fault(SettingsFault::Missing(key)))
 }
 
-/// The prices of the blocks of a text, by its columns of revenues and of costs.
+/// The prices of the blocks of a text, in these columns.
 pub fn prices_from<R: CountedRead>(
     alloc: Global,
     from: &mut R,
     columns: PriceColumns,
 ) -> Result<Prices, EngineFault>
     requires { R.failed from.old < 2 ^ 64 - 1 }
-    ensures read { (said : SettingsView) → columns.revenue ∷ columns.cost ∷ [] ≡ price_columns said
-        → IfSome (R.remaining from.old) (λ text. MatchResult result (ReadsPrices said text) (PricesReadFail said text)) }
+    ensures read { IfSome (R.remaining from.old) (λ text. MatchResult result (ReadsPrices columns text) (PricesReadFail columns text)) }
     ensures device { IsErrOf result EngineFault.Device ↔ (R.failed from.new ≡ R.failed from.old + 1) }
     ensures kept { ¬ IsErrOf result EngineFault.Device → R.failed from.new ≡ R.failed from.old }
 {
-    let model = blocks_from(alloc, from, &[columns.revenue, columns.cost])?;
-    prices_of(alloc, &model)
+    let model = priced_blocks_from(alloc, from, columns)?;
+    prices_of(alloc, &model, columns.charges)
 }
 
-/// The prices of the blocks of a model: its first chosen column has the revenues, its second one the costs.
+// The blocks of a text with the columns of their prices.
+fn priced_blocks_from<R: CountedRead>(
+    alloc: Global,
+    from: &mut R,
+    columns: PriceColumns,
+) -> Result<BlockModel, EngineFault>
+    requires { R.failed from.old < 2 ^ 64 - 1 }
+    ensures read { IfSome (R.remaining from.old) (λ text. MatchResult result (ReadsBlocks (column_list columns) text) (BlocksReadFails (column_list columns) text)) }
+    ensures columns { IfOk result (λ model. length model.columns ≡ length (column_list columns)) }
+    ensures device { IsErrOf result EngineFault.Device ↔ (R.failed from.new ≡ R.failed from.old + 1) }
+    ensures kept { ¬ IsErrOf result EngineFault.Device → R.failed from.new ≡ R.failed from.old }
+{
+    let revenue = columns.revenue;
+    match columns.charges {
+        ChargeColumns::Plain { cost } => blocks_from(alloc, from, &[revenue, cost]),
+        ChargeColumns::Mill { processing, mining } => {
+            blocks_from(alloc, from, &[revenue, processing, mining])
+        }
+    }
+}
+
+/// The prices of the blocks of a model: its first chosen column has the revenues, and those behind it the charges, of
+/// which the numbers aren't looked at.
 ///
 /// # Errors
 /// `Prices` for a negative revenue. `Memory` where memory is refused.
-pub fn prices_of(alloc: Global, model: &BlockModel) -> Result<Prices, EngineFault>
-    requires { 2 ≤ length model.now.columns }
+pub fn prices_of(
+    alloc: Global,
+    model: &BlockModel,
+    charges: ChargeColumns,
+) -> Result<Prices, EngineFault>
+    requires { length (charge_list charges) < length model.now.columns }
     ensures prices { MatchResult result
-        (λ prices. prices ≡ first_columns model.now)
-        (ModelPricesFail model.now) }
+        (λ prices. prices ≡ first_columns charges model.now)
+        (ModelPricesFail charges model.now) }
     ensures no_device { ¬ IsErrOf result EngineFault.Device }
 {
     let revenue = column_of(alloc, model, 0)?;
-    let cost = column_of(alloc, model, 1)?;
-    match Prices::new(revenue, cost) {
-        Ok(prices) => Ok(prices),
-        Err(fault) => Err(EngineFault::Prices(fault)),
+    let first = column_of(alloc, model, 1)?;
+    match charges {
+        ChargeColumns::Plain { .. } => Ok(Prices::new(revenue, first)?),
+        ChargeColumns::Mill { .. } => {
+            let mining = column_of(alloc, model, 2)?;
+            Ok(Prices::mill(revenue, first, mining)?)
+        }
     }
 }
 
@@ -115,7 +203,7 @@ fn column_of(alloc: Global, model: &BlockModel, i: u32) -> Result<Vec<Micros>, A
     Ok(values)
 }
 
-/// A mine whose blocks have prices: its revenues and costs, and its precedence.
+/// A mine whose blocks have prices: its revenues and charges, and its precedence.
 #[derive(Drop)]
 pub struct PricedMine {
     /// The prices of the blocks.
@@ -145,7 +233,7 @@ pub fn priced_mine_from<S: CountedRead, B: CountedRead, P: CountedRead>(
     ensures kept { ¬ IsErrOf result EngineFault.Device → (S.failed settings.new ≡ S.failed settings.old) × (B.failed blocks.new ≡ B.failed blocks.old) × (P.failed prec.new ≡ P.failed prec.old) }
 {
     let settings = settings_from(alloc, settings)?;
-    let columns = price_columns(&settings)?;
+    let columns = price_columns(&settings, &[])?;
     let prices = prices_from(alloc, blocks, columns)?;
     let rests = rests_from(alloc, prec, prices.len())?;
     Ok(PricedMine { prices, rests })

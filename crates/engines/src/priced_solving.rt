@@ -9,7 +9,6 @@ use crate::engine_fault::EngineFault;
 use crate::judgement::Verdict;
 use crate::priced_inputs::priced_mine_from;
 use crate::solving_engine::solve_mine;
-use check_pit::Price;
 use fixed_worth::{CountedRead, CountedWrite};
 use ordered_group::Group;
 use pseudoflow::Progress;
@@ -65,7 +64,7 @@ pub fn solve_priced_engine<
 {
     let mine = priced_mine_from(alloc, settings, blocks, prec)?;
     let nanos = mine.prices.worths_at(rt, alloc, factor)?;
-    let price = Price::Factor(factor.get());
+    let price = mine.prices.price_at(factor);
     solve_mine(
         rt,
         alloc,

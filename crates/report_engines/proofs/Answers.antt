@@ -10,6 +10,7 @@ use Rattle.engines.specs.declared.engine_fault.EngineFault.{EngineFault}
 use Rattle.engines.specs.declared.engine_fault.EngineFault.TheVariants as engine
 use Rattle.engines.specs.declared.judgement.Verdict.{Verdict}
 use Rattle.engines.specs.declared.method.Method.{Method}
+use Rattle.engines.specs.declared.priced_inputs.ChargeColumns.{ChargeColumns}
 use Rattle.shell_engines.specs.Shells.{NoNetAt}
 use Rattle.shell_engines.proofs.Answering.{texts_unread, unanswered, answered, cut_short}
 use Rattle.report_engines.specs.ReportTexts.{ReportBlocksRead, ReportMineFails}
@@ -20,20 +21,20 @@ use Rattle.report_engines.specs.Internal.{IsReportRead}
 pub mine_unread : (o q r w : Option (List ℕ)) (method : Method) (limit : ℕ) (e : EngineFault) → IfSome o (λ s. IfSome q (λ b. IfSome r (λ p. ReportMineFails s b p e))) → IfSome o (λ s. IfSome q (λ b. IfSome r (λ p. Reports s b p method limit w w (Err e))))
 mine_unread o q r w method limit e h = texts_unread o q r (λ s b p. AnswersReport s b p method limit) ReportMineFails (λ s b p k. ReportBlocksRead s b × NoNetAt s b p k) (λ s b p k f. absurd f) w e h
 
-module _ (o q r : Option (List ℕ)) (prices : PricesView) (rests : RestsView) (factors : List ℕ) (m : BlocksView) (factor : ℕ) (method : Method) (limit : ℕ) (h : IfSome o (λ s. IfSome q (λ b. IfSome r (λ p. IsReportRead s b p prices rests factors m factor)))) where
+module _ (o q r : Option (List ℕ)) (prices : PricesView) (rests : RestsView) (factors : List ℕ) (m : BlocksView) (charges : ChargeColumns) (factor : ℕ) (method : Method) (limit : ℕ) (h : IfSome o (λ s. IfSome q (λ b. IfSome r (λ p. IsReportRead s b p prices rests factors m charges factor)))) where
   -- there is no answer
-  pub no_report : (w : Option (List ℕ)) (e : EngineFault) → ((s b p : List ℕ) → IsReportRead s b p prices rests factors m factor → ReportFails s b p e) → IfSome o (λ s. IfSome q (λ b. IfSome r (λ p. Reports s b p method limit w w (Err e))))
-  no_report = unanswered o q r (λ s b p. AnswersReport s b p method limit) ReportFails (λ s b p. IsReportRead s b p prices rests factors m factor) h
+  pub no_report : (w : Option (List ℕ)) (e : EngineFault) → ((s b p : List ℕ) → IsReportRead s b p prices rests factors m charges factor → ReportFails s b p e) → IfSome o (λ s. IfSome q (λ b. IfSome r (λ p. Reports s b p method limit w w (Err e))))
+  no_report = unanswered o q r (λ s b p. AnswersReport s b p method limit) ReportFails (λ s b p. IsReportRead s b p prices rests factors m charges factor) h
 
-  module _ (verdict : Verdict) (text : List ℕ) (answers : (s b p : List ℕ) → IsReportRead s b p prices rests factors m factor → AnswersReport s b p method limit verdict text) where
+  module _ (verdict : Verdict) (text : List ℕ) (answers : (s b p : List ℕ) → IsReportRead s b p prices rests factors m charges factor → AnswersReport s b p method limit verdict text) where
     no_memory : (old new : Option (List ℕ)) → new ≡ old → IfSome o (λ s. IfSome q (λ b. IfSome r (λ p. Reports s b p method limit old new (Err engine.Memory))))
     no_memory old new same = subst (λ (w : Option (List ℕ)). IfSome o (λ s. IfSome q (λ b. IfSome r (λ p. Reports s b p method limit old w (Err engine.Memory))))) (sym same) (no_report old engine.Memory (λ s b p read. tt))
 
     wholly : (old new : Option (List ℕ)) → Appends old new text → IfSome o (λ s. IfSome q (λ b. IfSome r (λ p. Reports s b p method limit old new (Ok verdict))))
-    wholly old new sent = answered o q r (λ s b p. AnswersReport s b p method limit) ReportFails (λ s b p. IsReportRead s b p prices rests factors m factor) h old new verdict text answers sent
+    wholly old new sent = answered o q r (λ s b p. AnswersReport s b p method limit) ReportFails (λ s b p. IsReportRead s b p prices rests factors m charges factor) h old new verdict text answers sent
 
     partly : (old new : Option (List ℕ)) → ReceivedPrefix old new text → IfSome o (λ s. IfSome q (λ b. IfSome r (λ p. Reports s b p method limit old new (Err engine.Device))))
-    partly old new prefix = cut_short o q r (λ s b p. AnswersReport s b p method limit) ReportFails (λ s b p. IsReportRead s b p prices rests factors m factor) h old new verdict text answers (λ s b p. tt) prefix
+    partly old new prefix = cut_short o q r (λ s b p. AnswersReport s b p method limit) ReportFails (λ s b p. IsReportRead s b p prices rests factors m charges factor) h old new verdict text answers (λ s b p. tt) prefix
 
     -- it was not written whole: memory was refused before anything was, or the device failed
     unsent : (old new : Option (List ℕ)) (e : EngineFault) → ((e ≡ engine.Memory) × (new ≡ old)) ⊎ ((e ≡ engine.Device) × ReceivedPrefix old new text) → IfSome o (λ s. IfSome q (λ b. IfSome r (λ p. Reports s b p method limit old new (Err e))))

@@ -53,19 +53,23 @@ module _ (fewer chosen : List ℕ) (some : AreSomeOf fewer chosen) where
       let p = none_parts (early_fault (lines_in text)) (first_fault (count_of text) chosen [] (lines_in text)) h in
       none_of _ _ p.0 (lines_unfaulted (count_of text) [] (lines_in text) p.1)
 
-none_bad : (s t u : Bool) → (s || (t || (u || false))) ≡ false → (s || (t || false)) ≡ false
-none_bad true t u h = h
-none_bad false true u h = h
-none_bad false false u h = refl
+-- ---- the first of some columns
 
-all_there : (s t u : Bool) → (s && (t && (u && true))) ≡ true → (s && (t && true)) ≡ true
-all_there false t u h = h
-all_there true false u h = h
-all_there true true u h = refl
+any_step : (s a b : Bool) → (a ≡ false → b ≡ false) → (s || a) ≡ false → (s || b) ≡ false
+any_step true a b f h = h
+any_step false a b f h = f h
 
--- the first two columns of three
-pub two_of_three : (a b c : ℕ) → AreSomeOf (a ∷ b ∷ []) (a ∷ b ∷ c ∷ [])
-two_of_three a b c = record {
-  good = λ columns h. none_bad (is_bad columns a) (is_bad columns b) (is_bad columns c) h;
-  there = λ count h. all_there (nat_lt a count) (nat_lt b count) (nat_lt c count) h;
-}
+all_step : (s a b : Bool) → (a ≡ true → b ≡ true) → (s && a) ≡ true → (s && b) ≡ true
+all_step true a b f h = f h
+all_step false a b f h = h
+
+none_in_front : (f : ℕ → Bool) (xs ys : List ℕ) → list_any f (xs ++ ys) ≡ false → list_any f xs ≡ false
+none_in_front f [] ys h = refl
+none_in_front f (x ∷ xs) ys h = any_step (f x) (list_any f (xs ++ ys)) (list_any f xs) (none_in_front f xs ys) h
+
+front_there : (count : ℕ) (xs ys : List ℕ) → are_there (xs ++ ys) count ≡ true → are_there xs count ≡ true
+front_there count [] ys h = refl
+front_there count (x ∷ xs) ys h = all_step (nat_lt x count) (are_there (xs ++ ys) count) (are_there xs count) (front_there count xs ys) h
+
+pub front_of : (xs ys : List ℕ) → AreSomeOf xs (xs ++ ys)
+front_of xs ys = record { good = λ columns h. none_in_front (is_bad columns) xs ys h; there = λ count h. front_there count xs ys h }

@@ -1,4 +1,3 @@
-pub mod Keys
 pub mod Columns
 pub mod SameBlocks
 pub mod FirstShell

@@ -6,22 +6,24 @@ use Rattle.prec_file.specs.Rests.{RestsView}
 use Rattle.settings_file.specs.declared.keys.Key.{Key}
 use Rattle.settings_file.specs.declared.keys.Key.TheVariants.{Tonnes, Factors}
 use Rattle.settings_file.specs.declared.faults.SettingsFault.TheVariants as settings_fault
-use Rattle.settings_file.specs.Settings.{SettingsView, settings_of, first_missing}
-use Rattle.settings_file.proofs.Known.{settings_are, settings_read}
-use Rattle.shells.specs.Prices.{PricesView, plain_costs, PricesFaultStands, NoneNegative, blocks_of}
+use Rattle.settings_file.specs.Settings.{SettingsView, settings_of, names_mill, first_missing}
+use Rattle.settings_file.proofs.Known.{settings_are}
+use Rattle.settings_file.proofs.MissingKeys.{none_missing}
+use Rattle.shells.specs.Prices.{PricesView, PricesFaultStands, NoneNegative, blocks_of}
 use Rattle.engines.specs.declared.engine_fault.EngineFault.{EngineFault}
 use Rattle.engines.specs.declared.engine_fault.EngineFault.TheVariants as engine
 use Rattle.engines.specs.declared.engine_fault.Problem.TheVariants as problem
-use Rattle.engines.specs.PricedTexts.{price_keys, first_columns, table_of}
+use Rattle.engines.specs.PricedTexts.{price_keys, columns_said, price_columns, first_columns, table_at, table_of}
 use Rattle.engines.specs.BlockTexts.{ReadsBlocks, BlocksFails, BlocksReadFails}
 use Rattle.engines.specs.Inputs.{ReadsSettingsText, SettingsReadFails, IsMissing, ReadsPrices, ReadsPrec, PrecReadFails, ModelPricesFail}
-use Rattle.engines.proofs.Priced.{column_is, all_read}
-use Rattle.engines.proofs.PricedAnswers.{prec_answer}
-use Rattle.shell_engines.proofs.Keys.{first_missing-append, first_missing-front}
+use Rattle.engines.proofs.Priced.{first_columns_are, all_read}
+use Rattle.engines.proofs.PriceKeys.{prices_and_others, prices_with_others}
+use Rattle.engines.proofs.PricedAnswers.{key_missing, keys_said, prec_answer}
+use Rattle.shell_engines.specs.SeriesTexts.{series_keys}
 use Rattle.report_engines.specs.ReportTexts.{report_keys, report_columns, ReportBlocksRead, factor_by, ReportMineFails}
-use Rattle.report_engines.specs.Internal.{column_keys, IsSaid, SaidFails, PricedModelFails, IsPricedModel, IsReportRead}
-use Rattle.report_engines.proofs.Keys.{none_missing}
-use Rattle.report_engines.proofs.Columns.{unfaulted, two_of_three}
+use Rattle.report_engines.specs.Internal.{columns_by, report_list, IsSaid, SaidFails, PricedModelFails, IsPricedModel, IsReportRead}
+use Rattle.report_engines.specs.declared.report_inputs.ReportColumns.{ReportColumns}
+use Rattle.report_engines.proofs.Columns.{unfaulted, front_of}
 
 -- ---- settings
 
@@ -49,45 +51,46 @@ pub settings_fail : (o : Option (List ℕ)) (e : EngineFault) → IfSome o (λ s
 settings_fail None e h = tt
 settings_fail (Some s) e h = settings_fail_at s e h
 
-missing_is : (s : List ℕ) (said : SettingsView) (e : EngineFault) (key : Key) → ReadsSettingsText s said → e ≡ engine.Settings (problem.Fault (settings_fault.Missing key)) → first_missing report_keys said ≡ Some key → SaidFails s e
-missing_is s said e key a is m =
-    let M : SettingsView → Type 0 = λ v. first_missing report_keys v ≡ Some key in
-    subst (SaidFails s) (sym is) (a.0, (settings_read s said a.1, subst M (sym (settings_are s said a.1)) m))
+-- a key is missing
+pub key_is_missing : (o : Option (List ℕ)) (said : SettingsView) (e : EngineFault) → IfSome o (λ s. ReadsSettingsText s said) → IsMissing (report_keys said) said e → IfSome o (λ s. SaidFails s e)
+key_is_missing None said e a m = tt
+key_is_missing (Some s) said e a m = subst (SaidFails s) (sym m.1) (key_missing report_keys s said m.0 a m.2)
 
--- a column is missing
-pub column_missing : (o : Option (List ℕ)) (said : SettingsView) (e : EngineFault) → IfSome o (λ s. ReadsSettingsText s said) → IsMissing column_keys said e → IfSome o (λ s. SaidFails s e)
-column_missing None said e a m = tt
-column_missing (Some s) said e a m = missing_is s said e m.0 a m.1 (first_missing-front said column_keys (Factors ∷ []) m.0 m.2)
+pub never : (o : Option Key) (key : Key) → o ≡ None → o ≡ Some key → ⊥
+never o key e f = let z : None ≡ Some key = sym e ∙ f in cc
 
--- the factors are missing, or memory is refused
-pub factors_missing : (o : Option (List ℕ)) (said : SettingsView) (e : EngineFault) → IfSome o (λ s. ReadsSettingsText s said) → first_missing column_keys said ≡ None → (e ≡ engine.Memory) ⊎ IsMissing (Factors ∷ []) said e → IfSome o (λ s. SaidFails s e)
-factors_missing None said e a whole m = tt
-factors_missing (Some s) said e a whole (inl is) = subst (SaidFails s) (sym is) tt
-factors_missing (Some s) said e a whole (inr m) = missing_is s said e m.0 a m.1 (first_missing-append said column_keys (Factors ∷ []) whole ∙ m.2)
+-- none of the keys of prices is missing, nor of the others
+pub prices_known : (said : SettingsView) → first_missing (report_keys said) said ≡ None → first_missing (price_keys said) said ≡ None
+prices_known said whole = (prices_and_others said (names_mill said) (Tonnes ∷ Factors ∷ []) whole).0
 
-pub said_is : (o : Option (List ℕ)) (said : SettingsView) (columns factors : List ℕ) (factor : ℕ) → IfSome o (λ s. ReadsSettingsText s said) → first_missing column_keys said ≡ None → first_missing (Factors ∷ []) said ≡ None
-    → columns ≡ report_columns said → factors ≡ unwrap_or said.factors [] → factor ≡ factor_by said → IfSome o (λ s. IsSaid s columns factors factor)
-said_is None said columns factors factor a whole there c f k = tt
-said_is (Some s) said columns factors factor a whole there c f k =
+pub others_known : (said : SettingsView) → first_missing (report_keys said) said ≡ None → (first_missing (Tonnes ∷ []) said ≡ None) × (first_missing (Factors ∷ []) said ≡ None)
+others_known said whole = none_missing said (Tonnes ∷ []) (Factors ∷ []) (prices_and_others said (names_mill said) (Tonnes ∷ Factors ∷ []) whole).1
+
+-- the keys of a series are among those of a report
+pub series_known : (said : SettingsView) → first_missing (report_keys said) said ≡ None → first_missing (series_keys said) said ≡ None
+series_known said whole = prices_with_others said (names_mill said) (Factors ∷ []) (prices_known said whole) (others_known said whole).1
+
+-- memory is refused: the factors are there
+pub factors_refused : (o : Option (List ℕ)) (said : SettingsView) (e : EngineFault) → first_missing (report_keys said) said ≡ None → (e ≡ engine.Memory) ⊎ IsMissing (Factors ∷ []) said e → IfSome o (λ s. SaidFails s e)
+factors_refused None said e whole m = tt
+factors_refused (Some s) said e whole (inl is) = subst (SaidFails s) (sym is) tt
+factors_refused (Some s) said e whole (inr m) = absurd (never _ m.0 (others_known said whole).1 m.2)
+
+pub said_is : (o : Option (List ℕ)) (said : SettingsView) (columns : ReportColumns) (factors : List ℕ) (factor : ℕ) → IfSome o (λ s. ReadsSettingsText s said) → first_missing (report_keys said) said ≡ None
+    → columns ≡ columns_by said → factors ≡ unwrap_or said.factors [] → factor ≡ factor_by said → IfSome o (λ s. IsSaid s columns factors factor)
+said_is None said columns factors factor a whole c f k = tt
+said_is (Some s) said columns factors factor a whole c f k =
     let same = sym (settings_are s said a.1) in
-    let M : SettingsView → Type 0 = λ v. first_missing report_keys v ≡ None in
     record {
-      keys = record { within = a.0; read = settings_read s said a.1; said = subst M same (first_missing-append said column_keys (Factors ∷ []) whole ∙ there) };
-      columns_are = c ∙ ap report_columns same;
+      keys = keys_said report_keys s said a whole;
+      columns_are = c ∙ ap columns_by same;
       factors_are = f ∙ ap (λ (v : SettingsView). unwrap_or v.factors []) same;
       factor_is = k ∙ ap factor_by same;
     }
 
--- a column is missing where one of prices is, or where tonnes are
-pub price_missing : (said : SettingsView) (e : EngineFault) → IsMissing price_keys said e → IsMissing column_keys said e
-price_missing said e m = (m.0, m.1, first_missing-front said price_keys (Tonnes ∷ []) m.0 m.2)
-
-pub tonnes_missing : (said : SettingsView) (o : Option Key) → first_missing price_keys said ≡ None → first_missing (Tonnes ∷ []) said ≡ o → first_missing column_keys said ≡ o
-tonnes_missing said o whole h = first_missing-append said price_keys (Tonnes ∷ []) whole ∙ h
-
 -- ---- blocks
 
-blocks_fail_at : (columns text : List ℕ) (e : EngineFault) → BlocksReadFails columns text e → PricedModelFails columns text e
+blocks_fail_at : (columns : ReportColumns) (text : List ℕ) (e : EngineFault) → BlocksReadFails (report_list columns) text e → PricedModelFails columns text e
 blocks_fail_at columns text (engine.Blocks q) h = h
 blocks_fail_at columns text engine.Memory h = tt
 blocks_fail_at columns text engine.Device h = tt
@@ -102,11 +105,11 @@ blocks_fail_at columns text (engine.Trace q) h = absurd h
 blocks_fail_at columns text engine.Thread h = absurd h
 blocks_fail_at columns text engine.Stranger h = absurd h
 
-pub blocks_fail : (o : Option (List ℕ)) (columns : List ℕ) (e : EngineFault) → IfSome o (λ text. BlocksReadFails columns text e) → IfSome o (λ text. PricedModelFails columns text e)
+pub blocks_fail : (o : Option (List ℕ)) (columns : ReportColumns) (e : EngineFault) → IfSome o (λ text. BlocksReadFails (report_list columns) text e) → IfSome o (λ text. PricedModelFails columns text e)
 blocks_fail None columns e h = tt
 blocks_fail (Some text) columns e h = blocks_fail_at columns text e h
 
-prices_fail_at : (columns text : List ℕ) (m : BlocksView) (e : EngineFault) → ReadsBlocks columns text m → ModelPricesFail m e → PricedModelFails columns text e
+prices_fail_at : (columns : ReportColumns) (text : List ℕ) (m : BlocksView) (e : EngineFault) → ReadsBlocks (report_list columns) text m → ModelPricesFail columns.prices.charges m e → PricedModelFails columns text e
 prices_fail_at columns text m (engine.Prices fault) r h = (m, r, h)
 prices_fail_at columns text m engine.Memory r h = tt
 prices_fail_at columns text m engine.Device r h = tt
@@ -121,29 +124,25 @@ prices_fail_at columns text m (engine.Trace q) r h = absurd h
 prices_fail_at columns text m engine.Thread r h = absurd h
 prices_fail_at columns text m engine.Stranger r h = absurd h
 
-pub prices_fail : (o : Option (List ℕ)) (columns : List ℕ) (m : BlocksView) (e : EngineFault) → IfSome o (λ text. ReadsBlocks columns text m) → ModelPricesFail m e → IfSome o (λ text. PricedModelFails columns text e)
+pub prices_fail : (o : Option (List ℕ)) (columns : ReportColumns) (m : BlocksView) (e : EngineFault) → IfSome o (λ text. ReadsBlocks (report_list columns) text m) → ModelPricesFail columns.prices.charges m e → IfSome o (λ text. PricedModelFails columns text e)
 prices_fail None columns m e r h = tt
 prices_fail (Some text) columns m e r h = prices_fail_at columns text m e r h
 
 -- ---- the mine
 
-module _ (s t : List ℕ) (columns factors : List ℕ) (factor : ℕ) (said : IsSaid s columns factors factor) where
-  blocks_read : (m : BlocksView) → ReadsBlocks columns t m → ReportBlocksRead s t
-  blocks_read m r = record { keys = said.keys; within = r.0; read = subst (λ (chosen : List ℕ). blocks.fault_of chosen t ≡ None) said.columns_are r.1 }
+module _ (s t : List ℕ) (columns : ReportColumns) (factors : List ℕ) (factor : ℕ) (said : IsSaid s columns factors factor) where
+  blocks_read : (m : BlocksView) → ReadsBlocks (report_list columns) t m → ReportBlocksRead s t
+  blocks_read m r = record { keys = said.keys; within = r.0; read = subst (λ (cs : ReportColumns). blocks.fault_of (report_list cs) t ≡ None) said.columns_are r.1 }
 
-  model_read : (m : BlocksView) → ReadsBlocks columns t m → ReadsBlocks (report_columns (settings_of s)) t m
-  model_read m r = subst (λ (chosen : List ℕ). ReadsBlocks chosen t m) said.columns_are r
+  model_read : (m : BlocksView) → ReadsBlocks (report_list columns) t m → ReadsBlocks (report_columns (settings_of s)) t m
+  model_read m r = subst (λ (cs : ReportColumns). ReadsBlocks (report_list cs) t m) said.columns_are r
 
-  -- the first two columns are those of prices
-  columns_price : (m : BlocksView) → ReadsBlocks columns t m → first_columns m ≡ table_of s t
-  columns_price m r =
-      let d = (model_read m r).2 in
-      let v = column_is (report_columns (settings_of s)) t m 0 d (omega arith) in
-      let c = column_is (report_columns (settings_of s)) t m 1 d (omega arith) in
-      λ i. record { revenue = v i; costs = plain_costs (c i) }
+  -- the first columns are those of prices
+  columns_price : (m : BlocksView) → ReadsBlocks (report_list columns) t m → first_columns columns.prices.charges m ≡ table_of s t
+  columns_price m r = first_columns_are columns.prices (columns.tonnes ∷ []) t m r.2 ∙ ap (λ (cs : ReportColumns). table_at cs.prices t) said.columns_are
 
   model_fails : (p : List ℕ) (e : EngineFault) → PricedModelFails columns t e → ReportMineFails s t p e
-  model_fails p (engine.Blocks q) h = (said.keys, subst (λ (chosen : List ℕ). BlocksFails chosen t q) said.columns_are h)
+  model_fails p (engine.Blocks q) h = (said.keys, subst (λ (cs : ReportColumns). BlocksFails (report_list cs) t q) said.columns_are h)
   model_fails p (engine.Prices fault) h = (blocks_read h.0 h.1, subst (λ (table : PricesView). PricesFaultStands table fault) (columns_price h.0 h.1) h.2)
   model_fails p engine.Memory h = tt
   model_fails p engine.Device h = tt
@@ -160,14 +159,14 @@ module _ (s t : List ℕ) (columns factors : List ℕ) (factor : ℕ) (said : Is
   settings_told : ReadsSettingsText s (settings_of s)
   settings_told = (said.keys.within, said.keys.read)
 
-  columns_known : first_missing price_keys (settings_of s) ≡ None
-  columns_known = (none_missing (settings_of s) price_keys (Tonnes ∷ Factors ∷ []) said.keys.said).0
+  columns_known : first_missing (price_keys (settings_of s)) (settings_of s) ≡ None
+  columns_known = prices_known (settings_of s) said.keys.said
 
-  module _ (m : BlocksView) (prices : PricesView) (r : ReadsBlocks columns t m) (priced : IsPricedModel m prices) where
-    prices_read : ReadsPrices (settings_of s) t prices
+  module _ (m : BlocksView) (prices : PricesView) (r : ReadsBlocks (report_list columns) t m) (priced : IsPricedModel columns.prices.charges m prices) where
+    prices_read : ReadsPrices (columns_said (settings_of s)) t prices
     prices_read = record {
       within = r.0;
-      read = unfaulted _ _ (two_of_three _ _ _) t (model_read m r).1;
+      read = unfaulted _ _ (front_of (price_columns (settings_of s)) (unwrap_or (settings_of s).tonnes 0 ∷ [])) t (model_read m r).1;
       is = priced.prices_are ∙ columns_price m r;
     }
 
@@ -186,15 +185,16 @@ module _ (s t : List ℕ) (columns factors : List ℕ) (factor : ℕ) (said : Is
     prec_fails p n engine.Thread size positive h = absurd h
     prec_fails p n engine.Stranger size positive h = absurd h
 
-    mine_read : (p : List ℕ) (n : ℕ) (rests : RestsView) → n ≡ blocks_of prices → NoneNegative prices → ReadsPrec n p rests → IsReportRead s t p prices rests factors m factor
+    mine_read : (p : List ℕ) (n : ℕ) (rests : RestsView) → n ≡ blocks_of prices → NoneNegative prices → ReadsPrec n p rests → IsReportRead s t p prices rests factors m columns.prices.charges factor
     mine_read p n rests size positive h = record {
       series = record {
         mine = all_read s t p (settings_of s) prices rests n size positive columns_known settings_told prices_read h;
-        keys = first_missing-append (settings_of s) price_keys (Factors ∷ []) columns_known ∙ (none_missing (settings_of s) column_keys (Factors ∷ []) said.keys.said).1;
+        keys = series_known (settings_of s) said.keys.said;
         factors_are = said.factors_are;
       };
       keys = said.keys;
       blocks_are = model_read m r;
+      charges_are = ap (λ (cs : ReportColumns). cs.prices.charges) said.columns_are;
       factor_is = said.factor_is;
     }
 
@@ -221,21 +221,21 @@ said_fails (Some s) None r e h = tt
 said_fails (Some s) (Some b) None e h = tt
 said_fails (Some s) (Some b) (Some p) e h = said_fails_at s b p e h
 
-pub model_unread : (o q r : Option (List ℕ)) (columns factors : List ℕ) (factor : ℕ) (e : EngineFault) → IfSome o (λ s. IsSaid s columns factors factor) → IfSome q (λ b. PricedModelFails columns b e) → IfSome o (λ s. IfSome q (λ b. IfSome r (λ p. ReportMineFails s b p e)))
+pub model_unread : (o q r : Option (List ℕ)) (columns : ReportColumns) (factors : List ℕ) (factor : ℕ) (e : EngineFault) → IfSome o (λ s. IsSaid s columns factors factor) → IfSome q (λ b. PricedModelFails columns b e) → IfSome o (λ s. IfSome q (λ b. IfSome r (λ p. ReportMineFails s b p e)))
 model_unread None q r columns factors factor e a h = tt
 model_unread (Some s) None r columns factors factor e a h = tt
 model_unread (Some s) (Some b) None columns factors factor e a h = tt
 model_unread (Some s) (Some b) (Some p) columns factors factor e a h = model_fails s b columns factors factor a p e h
 
-pub prec_unread : (o q r : Option (List ℕ)) (columns factors : List ℕ) (factor : ℕ) (m : BlocksView) (prices : PricesView) (n : ℕ) (e : EngineFault) → n ≡ blocks_of prices → NoneNegative prices → IsPricedModel m prices
-    → IfSome o (λ s. IsSaid s columns factors factor) → IfSome q (λ b. ReadsBlocks columns b m) → IfSome r (λ p. PrecReadFails n p e) → IfSome o (λ s. IfSome q (λ b. IfSome r (λ p. ReportMineFails s b p e)))
+pub prec_unread : (o q r : Option (List ℕ)) (columns : ReportColumns) (factors : List ℕ) (factor : ℕ) (m : BlocksView) (prices : PricesView) (n : ℕ) (e : EngineFault) → n ≡ blocks_of prices → NoneNegative prices → IsPricedModel columns.prices.charges m prices
+    → IfSome o (λ s. IsSaid s columns factors factor) → IfSome q (λ b. ReadsBlocks (report_list columns) b m) → IfSome r (λ p. PrecReadFails n p e) → IfSome o (λ s. IfSome q (λ b. IfSome r (λ p. ReportMineFails s b p e)))
 prec_unread None q r columns factors factor m prices n e size positive priced a b h = tt
 prec_unread (Some s) None r columns factors factor m prices n e size positive priced a b h = tt
 prec_unread (Some s) (Some t) None columns factors factor m prices n e size positive priced a b h = tt
 prec_unread (Some s) (Some t) (Some p) columns factors factor m prices n e size positive priced a b h = prec_fails s t columns factors factor a m prices b priced p n e size positive h
 
-pub all_are_read : (o q r : Option (List ℕ)) (columns factors : List ℕ) (factor : ℕ) (m : BlocksView) (prices : PricesView) (n : ℕ) (rests : RestsView) → n ≡ blocks_of prices → NoneNegative prices → IsPricedModel m prices
-    → IfSome o (λ s. IsSaid s columns factors factor) → IfSome q (λ b. ReadsBlocks columns b m) → IfSome r (λ p. ReadsPrec n p rests) → IfSome o (λ s. IfSome q (λ b. IfSome r (λ p. IsReportRead s b p prices rests factors m factor)))
+pub all_are_read : (o q r : Option (List ℕ)) (columns : ReportColumns) (factors : List ℕ) (factor : ℕ) (m : BlocksView) (prices : PricesView) (n : ℕ) (rests : RestsView) → n ≡ blocks_of prices → NoneNegative prices → IsPricedModel columns.prices.charges m prices
+    → IfSome o (λ s. IsSaid s columns factors factor) → IfSome q (λ b. ReadsBlocks (report_list columns) b m) → IfSome r (λ p. ReadsPrec n p rests) → IfSome o (λ s. IfSome q (λ b. IfSome r (λ p. IsReportRead s b p prices rests factors m columns.prices.charges factor)))
 all_are_read None q r columns factors factor m prices n rests size positive priced a b h = tt
 all_are_read (Some s) None r columns factors factor m prices n rests size positive priced a b h = tt
 all_are_read (Some s) (Some t) None columns factors factor m prices n rests size positive priced a b h = tt

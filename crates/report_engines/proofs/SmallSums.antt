@@ -1,18 +1,20 @@
 -- Sums of tonnes and of worths don't overflow 128 bits.
 use Rattle.std.proofs.Common.{◌≡◌, ℕ, zero, suc, ◌+◌, ◌*◌, ◌^◌, ◌<◌, ◌≤◌, ℤ, pos, ◌+ℤ◌, ◌-ℤ◌, ◌*ℤ◌, Bool, true, false, cond, [], get_or, sym, ap, ◌∙◌, subst, arith, unsigned_abs, FitsSigned}
-use Rattle.std.specs.Int.{w128}
-use Rattle.std.proofs.lemmas.Int.{ints, fits_signed_from_abs, unsigned_abs-mul}
+use Rattle.std.specs.Int.{w128, int_max}
+use Rattle.std.proofs.lemmas.Int.{ints, clamps, fits_signed_from_abs, unsigned_abs-mul}
 use Rattle.std.proofs.lemmas.Nat.{mul-le}
 use Rattle.std.proofs.lemmas.List.FromFn.{get_or-map-range_with_len, length-map-range_with_len}
 use Rattle.blocks_file.specs.Denotes.{BlocksView}
 use Rattle.fixed_worth.specs.declared.limits.TheConstants.{MOST_BLOCKS, MOST_FACTOR}
 use Rattle.ordered_group.specs.Sets.{worth_in}
-use Rattle.shells.specs.Prices.{PricesView, blocks_of, number_at, worth_at, worths_at}
+use Rattle.shells.specs.Prices.{PricesView, blocks_of, number_at, worth_after, worth_at, worths_at}
 use Rattle.shells.specs.Series.{SeriesView}
-use Rattle.engines.specs.PricedTexts.{values_of}
+use Rattle.engines.specs.declared.priced_inputs.ChargeColumns.{ChargeColumns}
+use Rattle.engines.specs.declared.priced_inputs.ChargeColumns.TheVariants.{Plain, Mill}
+use Rattle.engines.specs.PricedTexts.{values_of, first_charges, first_columns}
 use Rattle.bench_report.specs.Benches.{reported, blocks_at}
 use Rattle.bench_report.specs.FaultStands.{SameLengths, AllSumsFit, SomeSumOverflows}
-use Rattle.report_engines.specs.Internal.{IsSmall, IsPricedModel}
+use Rattle.report_engines.specs.Internal.{tonnes_place, IsSmall, IsPricedModel}
 
 -- the most that an amount of a block can be, either way
 abbrev most : ℕ
@@ -37,6 +39,10 @@ sum_fits v e n j few l h =
 product_bound : (k m : ℕ) (z : ℤ) → k ≤ m → unsigned_abs z ≤ 10 ^ 18 → unsigned_abs (pos k *ℤ z) ≤ m * 10 ^ 18
 product_bound k m z l h = rw (unsigned_abs-mul (pos k) z) (mul-le k (unsigned_abs z) m (10 ^ 18) l h)
 
+-- what is left of what a block earns in the mill or as waste is small, where what is earned and charged is
+mill_bound : (x y z : ℤ) → unsigned_abs x ≤ 10000 * 10 ^ 18 → unsigned_abs y ≤ 1000 * 10 ^ 18 → unsigned_abs z ≤ 1000 * 10 ^ 18 → unsigned_abs (int_max (x -ℤ y) (pos 0) -ℤ z) ≤ most
+mill_bound x y z p q r = omega (arith, ints, clamps, p, q, r)
+
 difference_bound : (x y : ℤ) → unsigned_abs x ≤ 10000 * 10 ^ 18 → unsigned_abs y ≤ 1000 * 10 ^ 18 → unsigned_abs (x -ℤ y) ≤ most
 difference_bound x y p q = omega (arith, ints, p, q)
 
@@ -46,17 +52,23 @@ value_bound m i b h l =
     let at : number_at (values_of m i) b ≡ get_or column b (pos 0) = get_or-map-range_with_len (λ c. get_or column c (pos 0)) 0 m.blocks b b (pos 0) l (omega arith) in
     subst (λ z. unsigned_abs z ≤ 10 ^ 18) (sym at) (h b l)
 
-module _ (m : BlocksView) (prices : PricesView) (p : IsPricedModel m prices) where
+charge_bound : (m : BlocksView) (i b : ℕ) → IsSmall m i → b < m.blocks → unsigned_abs (pos 1000 *ℤ number_at (values_of m i) b) ≤ 1000 * 10 ^ 18
+charge_bound m i b h l = product_bound 1000 1000 (number_at (values_of m i) b) (omega arith) (value_bound m i b h l)
+
+-- what is left of so much that is earned
+left_bound : (charges : ChargeColumns) (m : BlocksView) (b : ℕ) (earned : ℤ) → ((i : ℕ) → i ≤ tonnes_place charges → IsSmall m i) → b < m.blocks → unsigned_abs earned ≤ 10000 * 10 ^ 18 → unsigned_abs (worth_after (first_charges charges m) b earned) ≤ most
+left_bound (Plain cost) m b earned small l h = difference_bound earned (pos 1000 *ℤ number_at (values_of m 1) b) h (charge_bound m 1 b (small 1 (omega arith)) l)
+left_bound (Mill processing mining) m b earned small l h = mill_bound earned (pos 1000 *ℤ number_at (values_of m 1) b) (pos 1000 *ℤ number_at (values_of m 2) b) h (charge_bound m 1 b (small 1 (omega arith)) l) (charge_bound m 2 b (small 2 (omega arith)) l)
+
+module _ (charges : ChargeColumns) (m : BlocksView) (prices : PricesView) (p : IsPricedModel charges m prices) where
   pub priced_size : blocks_of prices ≡ m.blocks
   priced_size = ap blocks_of p.prices_are ∙ length-map-range_with_len (λ b. get_or (get_or m.columns 0 []) b (pos 0)) 0 m.blocks
 
   worth_bound : (k b : ℕ) → k ≤ MOST_FACTOR → b < m.blocks → unsigned_abs (worth_at prices k b) ≤ most
   worth_bound k b few l =
       let revenue = number_at (values_of m 0) b in
-      let cost = number_at (values_of m 1) b in
-      let r = product_bound k 10000 revenue few (value_bound m 0 b p.revenue l) in
-      let c = product_bound 1000 1000 cost (omega arith) (value_bound m 1 b p.cost l) in
-      subst (λ (t : PricesView). unsigned_abs (worth_at t k b) ≤ most) (sym p.prices_are) (difference_bound (pos k *ℤ revenue) (pos 1000 *ℤ cost) r c)
+      let r = product_bound k 10000 revenue few (value_bound m 0 b (p.small 0 (omega arith)) l) in
+      subst (λ (t : PricesView). unsigned_abs (worth_at t k b) ≤ most) (sym p.prices_are) (left_bound charges m b (pos k *ℤ revenue) p.small l r)
 
   worths_bound : (k b : ℕ) → k ≤ MOST_FACTOR → b < m.blocks → unsigned_abs (get_or (worths_at prices k) b (pos 0)) ≤ most
   worths_bound k b few l =
@@ -70,12 +82,12 @@ module _ (m : BlocksView) (prices : PricesView) (p : IsPricedModel m prices) whe
     of_worths = length-map-range_with_len (worth_at prices k) 0 (blocks_of prices) ∙ priced_size;
   }
 
-  pub sums_fit : (series : SeriesView) (k : ℕ) → m.blocks ≤ MOST_BLOCKS → k ≤ MOST_FACTOR → AllSumsFit (reported m series 2 (worths_at prices k))
+  pub sums_fit : (series : SeriesView) (k : ℕ) → m.blocks ≤ MOST_BLOCKS → k ≤ MOST_FACTOR → AllSumsFit (reported m series (tonnes_place charges) (worths_at prices k))
   sums_fit series k few low z shell j l =
-      let r = reported m series 2 (worths_at prices k) in (
-        sum_fits r.tonnes (blocks_at r z shell) m.blocks j few l (λ b k. let small = p.tonnes b k in omega (arith, small)),
+      let r = reported m series (tonnes_place charges) (worths_at prices k) in (
+        sum_fits r.tonnes (blocks_at r z shell) m.blocks j few l (λ b k. let small = p.small (tonnes_place charges) (omega arith) b k in omega (arith, small)),
         sum_fits r.worth (blocks_at r z shell) m.blocks j few l (λ b h. worths_bound k b low h),
       )
 
-  pub none_overflows : (series : SeriesView) (k : ℕ) → m.blocks ≤ MOST_BLOCKS → k ≤ MOST_FACTOR → SomeSumOverflows (reported m series 2 (worths_at prices k)) → ⊥
+  pub none_overflows : (series : SeriesView) (k : ℕ) → m.blocks ≤ MOST_BLOCKS → k ≤ MOST_FACTOR → SomeSumOverflows (reported m series (tonnes_place charges) (worths_at prices k)) → ⊥
   none_overflows series k few low o = o.4 (sums_fit series k few low o.0 o.1 o.2 o.3)

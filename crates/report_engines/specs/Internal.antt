@@ -1,17 +1,17 @@
 -- What only the functions of this crate say to one another.
-use Rattle.std.specs.Prelude.{◌≡◌, ℕ, pos, ◌^◌, ◌<◌, ◌≤◌, unsigned_abs, List, [], ◌∷◌, length, slice_index_or}
+use Rattle.std.specs.Prelude.{◌≡◌, ℕ, pos, ◌^◌, ◌<◌, ◌≤◌, unsigned_abs, List, [], ◌∷◌, ◌++◌, length, slice_index_or, unwrap_or}
 use Rattle.blocks_file.specs.Denotes.{BlocksView}
 use Rattle.prec_file.specs.Rests.{RestsView}
-use Rattle.settings_file.specs.declared.keys.Key.{Key}
-use Rattle.settings_file.specs.declared.keys.Key.TheVariants.{Revenue, Cost, Tonnes}
-use Rattle.settings_file.specs.Settings.{settings_of}
+use Rattle.settings_file.specs.Settings.{SettingsView, settings_of}
 use Rattle.shells.specs.Prices.{PricesView, PricesFaultStands}
 use Rattle.bench_report.specs.Written.{table_text}
 use Rattle.engines.specs.declared.judgement.Verdict.{Verdict}
 use Rattle.engines.specs.declared.judgement.Verdict.TheVariants.{Done, No}
 use Rattle.engines.specs.declared.engine_fault.EngineFault.{EngineFault}
 use Rattle.engines.specs.declared.engine_fault.EngineFault.TheVariants as engine
-use Rattle.engines.specs.PricedTexts.{first_columns, SettingsFails}
+use Rattle.engines.specs.declared.priced_inputs.ChargeColumns.{ChargeColumns}
+use Rattle.engines.specs.declared.priced_inputs.ChargeColumns.TheVariants.{Plain, Mill}
+use Rattle.engines.specs.PricedTexts.{columns_said, column_list, first_columns, SettingsFails}
 use Rattle.engines.specs.BlockTexts.{ReadsBlocks, BlocksFails}
 use Rattle.engines.specs.ReadMines.{of_model}
 use Rattle.shell_engines.specs.declared.no_series.NoSeries.{NoSeries}
@@ -19,38 +19,46 @@ use Rattle.shell_engines.specs.declared.no_series.NoSeries.TheVariants as none
 use Rattle.shell_engines.specs.ShellTable.{IsLineOf}
 use Rattle.shell_engines.specs.Internal.{IsWant}
 use Rattle.shell_engines.specs.SeriesTexts.{factors_said, IsSeriesRead}
+use Rattle.report_engines.specs.declared.report_inputs.ReportColumns.{ReportColumns}
 use Rattle.report_engines.specs.declared.reporting.Outcome.{Outcome}
 use Rattle.report_engines.specs.declared.reporting.Outcome.TheVariants.{Table, NoTable}
 use Rattle.report_engines.specs.ReportTexts.{report_keys, ReportKeysKnown, report_columns, report_factor}
 
--- The prices, the pairs and the factors that were read, the blocks with their places and columns, and the factor of the
--- report are those of the texts.
-pub record IsReportRead (settings blocks precedence : List ℕ) (prices : PricesView) (rests : RestsView) (factors : List ℕ) (model : BlocksView) (factor : ℕ) : Type 0 where
+-- The prices, the pairs and the factors that were read, the blocks with their places and columns, the kind of the charges, and
+-- the factor of the report are those of the texts.
+pub record IsReportRead (settings blocks precedence : List ℕ) (prices : PricesView) (rests : RestsView) (factors : List ℕ) (model : BlocksView) (charges : ChargeColumns) (factor : ℕ) : Type 0 where
   pub series : IsSeriesRead settings blocks precedence prices rests factors
   pub keys : ReportKeysKnown settings
   pub blocks_are : ReadsBlocks (report_columns (settings_of settings)) blocks model
+  pub charges_are : charges ≡ (columns_said (settings_of settings)).charges
   pub factor_is : factor ≡ report_factor settings
 
 -- no value of the column of a model that was chosen as the i-th is above 10^18 millionths either way
 abbrev pub IsSmall : BlocksView → ℕ → Type 0
 IsSmall m i = (b : ℕ) → b < m.blocks → unsigned_abs (slice_index_or (slice_index_or m.columns i []) b (pos 0)) ≤ 10 ^ 18
 
--- The prices are the first two of three columns of a model, and no value of these is large.
-pub record IsPricedModel (m : BlocksView) (prices : PricesView) : Type 0 where
-  pub columns : length m.columns ≡ 3
-  pub prices_are : prices ≡ first_columns m
-  pub revenue : IsSmall m 0
-  pub cost : IsSmall m 1
-  pub tonnes : IsSmall m 2
+-- the place of the tonnes among the columns that are chosen: behind those of prices
+abbrev pub tonnes_place : ChargeColumns → ℕ
+tonnes_place (Plain cost) = 2
+tonnes_place (Mill processing mining) = 3
 
--- the keys of settings that name the columns of a report
-abbrev pub column_keys : List Key
-column_keys = Revenue ∷ Cost ∷ Tonnes ∷ []
+-- The prices are the first columns of a model, one more has tonnes, and no value of these is large.
+pub record IsPricedModel (charges : ChargeColumns) (m : BlocksView) (prices : PricesView) : Type 0 where
+  pub columns : tonnes_place charges < length m.columns
+  pub prices_are : prices ≡ first_columns charges m
+  pub small : (i : ℕ) → i ≤ tonnes_place charges → IsSmall m i
+
+-- the columns that settings name, and their list
+abbrev pub columns_by : SettingsView → ReportColumns
+columns_by s = record { prices = columns_said s; tonnes = unwrap_or s.tonnes 0 }
+
+abbrev pub report_list : ReportColumns → List ℕ
+report_list columns = column_list columns.prices ++ (columns.tonnes ∷ [])
 
 -- The columns, the factors and the factor of the report are those of the text of settings.
-pub record IsSaid (settings : List ℕ) (columns factors : List ℕ) (factor : ℕ) : Type 0 where
+pub record IsSaid (settings : List ℕ) (columns : ReportColumns) (factors : List ℕ) (factor : ℕ) : Type 0 where
   pub keys : ReportKeysKnown settings
-  pub columns_are : columns ≡ report_columns (settings_of settings)
+  pub columns_are : columns ≡ columns_by (settings_of settings)
   pub factors_are : factors ≡ factors_said settings
   pub factor_is : factor ≡ report_factor settings
 
@@ -62,9 +70,9 @@ SaidFails settings engine.Device = Unit {0}
 SaidFails settings _ = ⊥
 
 -- why blocks with these columns, and their prices, aren't read
-abbrev pub PricedModelFails : List ℕ → List ℕ → EngineFault → Type 0
-PricedModelFails columns text (engine.Blocks p) = BlocksFails columns text p
-PricedModelFails columns text (engine.Prices fault) = (m : BlocksView) × ReadsBlocks columns text m × PricesFaultStands (first_columns m) fault
+abbrev pub PricedModelFails : ReportColumns → List ℕ → EngineFault → Type 0
+PricedModelFails columns text (engine.Blocks p) = BlocksFails (report_list columns) text p
+PricedModelFails columns text (engine.Prices fault) = (m : BlocksView) × ReadsBlocks (report_list columns) text m × PricesFaultStands (first_columns columns.prices.charges m) fault
 PricedModelFails columns text engine.Memory = Unit {0}
 PricedModelFails columns text engine.Device = Unit {0}
 PricedModelFails columns text _ = ⊥

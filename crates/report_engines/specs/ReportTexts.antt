@@ -1,32 +1,32 @@
 -- The texts of a mine that is reported: settings that name its prices, its tonnes and the factors, blocks and precedence.
-use Rattle.std.specs.Prelude.{◌≡◌, ℕ, ◌-◌, Bool, List, [], ◌∷◌, length, slice_index_or, None, unwrap_or}
+use Rattle.std.specs.Prelude.{◌≡◌, ℕ, ◌-◌, Bool, List, [], ◌∷◌, ◌++◌, length, slice_index_or, None, unwrap_or}
 use Rattle.std.specs.List.{find}
 use Rattle.blocks_file.specs.Records as blocks
 use Rattle.settings_file.specs.declared.keys.Key.{Key}
-use Rattle.settings_file.specs.declared.keys.Key.TheVariants.{Revenue, Cost, Tonnes, Factors}
-use Rattle.settings_file.specs.Settings.{SettingsView, settings_of}
+use Rattle.settings_file.specs.declared.keys.Key.TheVariants.{Tonnes, Factors}
+use Rattle.settings_file.specs.Settings.{SettingsView, settings_of, names_mill}
 use Rattle.shells.specs.Prices.{PricesFaultStands}
 use Rattle.bench_report.specs.Benches.{ReportedBlocks}
 use Rattle.engines.specs.declared.engine_fault.EngineFault.{EngineFault}
 use Rattle.engines.specs.declared.engine_fault.EngineFault.TheVariants as engine
 use Rattle.engines.specs.Limits.{IsWithinLimit}
 use Rattle.engines.specs.BlockTexts.{BlocksFails}
-use Rattle.engines.specs.PricedTexts.{cell, table_of, KeysSaid, PricesRead, SettingsFails}
+use Rattle.engines.specs.PricedTexts.{keys_by, price_columns, cell, table_of, KeysSaid, PricesRead, SettingsFails}
 use Rattle.engines.specs.Mines.{priced_texts, worth_by}
 use Rattle.engines.specs.FaultStands.{PrecFails}
 use Rattle.shell_engines.specs.SeriesTexts.{factors_said}
 
 -- the keys that a report needs
-abbrev pub report_keys : List Key
-report_keys = Revenue ∷ Cost ∷ Tonnes ∷ Factors ∷ []
+abbrev pub report_keys : SettingsView → List Key
+report_keys s = keys_by (names_mill s) (Tonnes ∷ Factors ∷ [])
 
 -- the text of settings has no fault, and says something at each of these keys
 abbrev pub ReportKeysKnown : List ℕ → Type 0
 ReportKeysKnown settings = KeysSaid report_keys settings
 
--- the columns of the blocks that settings name: revenues, then costs, then tonnes
+-- the columns of the blocks that settings name: those of prices, then tonnes
 abbrev pub report_columns : SettingsView → List ℕ
-report_columns s = unwrap_or s.revenue 0 ∷ unwrap_or s.cost 0 ∷ unwrap_or s.tonnes 0 ∷ []
+report_columns s = price_columns s ++ (unwrap_or s.tonnes 0 ∷ [])
 
 -- The settings name these columns, and the text of blocks has no fault where they are chosen.
 pub record ReportBlocksRead (settings text : List ℕ) : Type 0 where

@@ -4,16 +4,15 @@ ghost use Rattle.std.specs.Prelude.{IfOk, OnOk};
 ghost use Rattle.shells.specs.Prices.{worths_at};
 ghost use Rattle.shells.specs.Series.{IsSeries};
 ghost use Rattle.bench_report.specs.Benches.{reported, IsBenchTable};
-ghost use Rattle.report_engines.specs.Internal.{IsPricedModel};
+ghost use Rattle.report_engines.specs.Internal.{tonnes_place, IsPricedModel};
 
+use crate::report_inputs::tonnes_place;
 use bench_report::{BenchRow, ReportFault, rows};
 use blocks_file::BlockModel;
+use engines::priced_inputs::ChargeColumns;
 use shells::{Factor, Series};
 use std::alloc::{AllocError, Global};
 use std::thread::Threads;
-
-// The place of the tonnes among the chosen columns.
-const TONNES: u32 = 2;
 
 /// The rows of the bench table of a series, with the worths of the blocks at a factor. At most 2^24 blocks have tonnes
 /// and worths that are small beside 128 bits, so that no sum overflows.
@@ -21,11 +20,12 @@ pub fn rows_at(
     rt: &(impl Threads + Sync),
     alloc: Global,
     model: &BlockModel,
+    charges: ChargeColumns,
     series: &Series,
     factor: Factor,
 ) -> Result<Vec<BenchRow>, AllocError>
-    requires { IsPricedModel model.now series.now.prices }
-    ensures rows { IfOk result (λ rows. IsBenchTable (reported model.now series.now 2 (worths_at series.now.prices factor)) rows.items) }
+    requires { IsPricedModel charges model.now series.now.prices }
+    ensures rows { IfOk result (λ rows. IsBenchTable (reported model.now series.now (tonnes_place charges) (worths_at series.now.prices factor)) rows.items) }
     ensures series { OnOk result (IsSeries series.now) }
 {
     // proof: at each factor the blocks with a shell of at most that factor are the best pit
@@ -34,7 +34,13 @@ pub fn rows_at(
     let _blocks = model.len();
     let _thousandths = factor.get();
     let worths = series.prices().worths_at(rt, alloc, factor)?;
-    match rows(alloc, model, series, TONNES, worths.as_slice()) {
+    match rows(
+        alloc,
+        model,
+        series,
+        tonnes_place(charges),
+        worths.as_slice(),
+    ) {
         Ok(rows) => Ok(rows),
         Err(ReportFault::NoMemory) => Err(AllocError),
         Err(ReportFault::WrongModel) => unreachable!(),

@@ -1,18 +1,20 @@
 //! Reading a mine that is reported: its prices, its tonnes and its precedence, and the factors of the settings.
 
-ghost use Rattle.std.specs.Prelude.{◌≡◌, ◌≤◌, ◌+◌, ◌-◌, ◌^◌, ◌<◌, ◌↔◌, ◌∷◌, [], None, length, unwrap_or, IfSome, MatchResult, IsErrOf};
+ghost use Rattle.std.specs.Prelude.{◌≡◌, ◌≤◌, ◌+◌, ◌-◌, ◌^◌, ◌<◌, ◌↔◌, ℕ, [], None, length, unwrap_or, IfOk, IfSome, MatchResult, IsErrOf};
 ghost use Rattle.settings_file.specs.Settings.{first_missing};
 ghost use Rattle.settings_file.specs.Values.{AreFactors};
 ghost use Rattle.shells.specs.Prices.{blocks_of};
 ghost use Rattle.engines.specs.Inputs.{IsMissing};
-ghost use Rattle.engines.specs.BlockTexts.{ReadsBlocks};
-ghost use Rattle.report_engines.specs.ReportTexts.{report_columns, factor_by, ReportMineFails};
-ghost use Rattle.report_engines.specs.Internal.{column_keys, IsSaid, SaidFails, PricedModelFails, IsReportRead, IsSmall, IsPricedModel};
+ghost use Rattle.engines.specs.BlockTexts.{ReadsBlocks, BlocksReadFails};
+ghost use Rattle.report_engines.specs.ReportTexts.{report_keys, factor_by, ReportMineFails};
+ghost use Rattle.report_engines.specs.Internal.{columns_by, report_list, tonnes_place, IsSaid, SaidFails, PricedModelFails, IsReportRead, IsSmall, IsPricedModel};
 
 use blocks_file::BlockModel;
 use engines::EngineFault;
 use engines::inputs::{blocks_from, rests_from};
-use engines::priced_inputs::{missing, price_columns, prices_of, settings_from};
+use engines::priced_inputs::{
+    ChargeColumns, PriceColumns, price_columns, prices_of, settings_from,
+};
 use fixed_worth::CountedRead;
 use settings_file::{Key, Settings};
 use shell_engines::series_inputs::{SeriesMine, factors_of};
@@ -24,37 +26,34 @@ use std::alloc::Global;
 pub struct ReportMine {
     /// Its prices and its precedence, and the factors of its shells.
     pub series: SeriesMine,
-    /// Its blocks, with their revenues, their costs and their tonnes.
+    /// Its blocks, with the columns of their prices and their tonnes.
     pub model: BlockModel,
+    /// The columns of their charges.
+    pub charges: ChargeColumns,
     /// The factor at which blocks are worth what the report says.
     pub factor: Factor,
-    ghost priced: { IsPricedModel model series.prices },
+    ghost priced: { IsPricedModel charges model series.prices },
 }
 
 // The columns of blocks that a report reads.
 #[derive(Clone, Copy)]
 struct ReportColumns {
-    revenue: u32,
-    cost: u32,
+    prices: PriceColumns,
     tonnes: u32,
 }
 
-// The columns that settings name.
+// The columns that settings name, where they say all that a report needs.
 fn columns_of(settings: &Settings) -> Result<ReportColumns, EngineFault>
     ensures columns { MatchResult result
-        (λ c. (c.revenue ∷ c.cost ∷ c.tonnes ∷ [] ≡ report_columns settings.now) × (first_missing column_keys settings.now ≡ None))
-        (IsMissing column_keys settings.now) }
+        (λ columns. (columns ≡ columns_by settings.now) × (first_missing (report_keys settings.now) settings.now ≡ None))
+        (IsMissing (report_keys settings.now) settings.now) }
     ensures no_device { ¬ IsErrOf result EngineFault.Device }
 {
-    let prices = price_columns(settings)?;
+    let prices = price_columns(settings, &[Key::Tonnes, Key::Factors])?;
     let Some(tonnes) = settings.tonnes() else {
-        return Err(missing(Key::Tonnes));
+        unreachable!();
     };
-    Ok(ReportColumns {
-        revenue: prices.revenue,
-        cost: prices.cost,
-        tonnes,
-    })
+    Ok(ReportColumns { prices, tonnes })
 }
 
 // The factor of the report: the one that the settings name, or else the last of the factors.
@@ -85,7 +84,7 @@ struct Said {
 fn said_from<S: CountedRead>(alloc: Global, settings: &mut S) -> Result<Said, EngineFault>
     requires { S.failed settings.old < 2 ^ 64 - 1 }
     ensures read { IfSome (S.remaining settings.old) (λ s. MatchResult result
-        (λ said. IsSaid s (said.columns.revenue ∷ said.columns.cost ∷ said.columns.tonnes ∷ []) said.factors.items said.factor)
+        (λ said. IsSaid s said.columns said.factors.items said.factor)
         (SaidFails s)) }
     ensures device { IsErrOf result EngineFault.Device ↔ (S.failed settings.new ≡ S.failed settings.old + 1) }
     ensures kept { ¬ IsErrOf result EngineFault.Device → S.failed settings.new ≡ S.failed settings.old }
@@ -111,15 +110,59 @@ fn read_column(model: &BlockModel, i: u32)
     }
 }
 
-// Blocks with their columns, and their prices.
+// Reads the columns of a model up to the one at a place.
+fn read_columns(model: &BlockModel, last: u32)
+    requires { last < length model.now.columns }
+    ensures { (i : ℕ) → i ≤ last → IsSmall model.now i }
+{
+    read_column(model, 0);
+    for i in 0..last {
+        read_column(model, i + 1);
+    }
+}
+
+/// The place of the tonnes among the chosen columns of a model: behind those of its prices.
+pub fn tonnes_place(charges: ChargeColumns) -> u32
+    ensures { result ≡ tonnes_place charges }
+{
+    match charges {
+        ChargeColumns::Plain { .. } => 2,
+        ChargeColumns::Mill { .. } => 3,
+    }
+}
+
+// Blocks with the columns of their prices and their tonnes, and these prices.
 #[derive(Drop)]
 struct PricedModel {
     model: BlockModel,
+    charges: ChargeColumns,
     prices: Prices,
-    ghost priced: { IsPricedModel model prices },
+    ghost priced: { IsPricedModel charges model prices },
 }
 
-// The blocks of a text with these columns of revenues, costs and tonnes.
+// The blocks of a text with these columns.
+fn model_from<B: CountedRead>(
+    alloc: Global,
+    blocks: &mut B,
+    columns: ReportColumns,
+) -> Result<BlockModel, EngineFault>
+    requires { B.failed blocks.old < 2 ^ 64 - 1 }
+    ensures read { IfSome (B.remaining blocks.old) (λ text. MatchResult result (ReadsBlocks (report_list columns) text) (BlocksReadFails (report_list columns) text)) }
+    ensures columns { IfOk result (λ model. length model.columns ≡ length (report_list columns)) }
+    ensures device { IsErrOf result EngineFault.Device ↔ (B.failed blocks.new ≡ B.failed blocks.old + 1) }
+    ensures kept { ¬ IsErrOf result EngineFault.Device → B.failed blocks.new ≡ B.failed blocks.old }
+{
+    let ReportColumns { prices, tonnes } = columns;
+    let revenue = prices.revenue;
+    match prices.charges {
+        ChargeColumns::Plain { cost } => blocks_from(alloc, blocks, &[revenue, cost, tonnes]),
+        ChargeColumns::Mill { processing, mining } => {
+            blocks_from(alloc, blocks, &[revenue, processing, mining, tonnes])
+        }
+    }
+}
+
+// The blocks of a text with these columns, and their prices.
 fn priced_model_from<B: CountedRead>(
     alloc: Global,
     blocks: &mut B,
@@ -127,21 +170,21 @@ fn priced_model_from<B: CountedRead>(
 ) -> Result<PricedModel, EngineFault>
     requires { B.failed blocks.old < 2 ^ 64 - 1 }
     ensures read { IfSome (B.remaining blocks.old) (λ text. MatchResult result
-        (λ read. ReadsBlocks (columns.revenue ∷ columns.cost ∷ columns.tonnes ∷ []) text read.model)
-        (PricedModelFails (columns.revenue ∷ columns.cost ∷ columns.tonnes ∷ []) text)) }
+        (λ read. ReadsBlocks (report_list columns) text read.model)
+        (PricedModelFails columns text)) }
+    ensures charges { IfOk result (λ read. read.charges ≡ columns.prices.charges) }
     ensures device { IsErrOf result EngineFault.Device ↔ (B.failed blocks.new ≡ B.failed blocks.old + 1) }
     ensures kept { ¬ IsErrOf result EngineFault.Device → B.failed blocks.new ≡ B.failed blocks.old }
 {
-    let model = blocks_from(
-        alloc,
-        blocks,
-        &[columns.revenue, columns.cost, columns.tonnes],
-    )?;
-    read_column(&model, 0);
-    read_column(&model, 1);
-    read_column(&model, 2);
-    let prices = prices_of(alloc, &model)?;
-    Ok(PricedModel { model, prices })
+    let model = model_from(alloc, blocks, columns)?;
+    let charges = columns.prices.charges;
+    read_columns(&model, tonnes_place(charges));
+    let prices = prices_of(alloc, &model, charges)?;
+    Ok(PricedModel {
+        model,
+        charges,
+        prices,
+    })
 }
 
 /// The mine that settings, blocks and a precedence denote, with its tonnes, the factors of the settings and that of the
@@ -160,7 +203,7 @@ pub fn report_mine_from<S: CountedRead, B: CountedRead, P: CountedRead>(
     requires blocks_room { B.failed blocks.old < 2 ^ 64 - 1 }
     requires prec_room { P.failed prec.old < 2 ^ 64 - 1 }
     ensures read { IfSome (S.remaining settings.old) (λ s. IfSome (B.remaining blocks.old) (λ b. IfSome (P.remaining prec.old) (λ p.
-        MatchResult result (λ mine. IsReportRead s b p mine.series.prices mine.series.rests mine.series.factors.items mine.model mine.factor) (ReportMineFails s b p)))) }
+        MatchResult result (λ mine. IsReportRead s b p mine.series.prices mine.series.rests mine.series.factors.items mine.model mine.charges mine.factor) (ReportMineFails s b p)))) }
     ensures device { IsErrOf result EngineFault.Device → S.failed settings.new + B.failed blocks.new + P.failed prec.new ≡ S.failed settings.old + B.failed blocks.old + P.failed prec.old + 1 }
     ensures kept { ¬ IsErrOf result EngineFault.Device → (S.failed settings.new ≡ S.failed settings.old) × (B.failed blocks.new ≡ B.failed blocks.old) × (P.failed prec.new ≡ P.failed prec.old) }
 {
@@ -175,6 +218,7 @@ pub fn report_mine_from<S: CountedRead, B: CountedRead, P: CountedRead>(
     Ok(ReportMine {
         series,
         model: read.model,
+        charges: read.charges,
         factor: said.factor,
     })
 }

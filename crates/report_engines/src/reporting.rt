@@ -38,7 +38,7 @@ use workers::Gate;
 ///
 /// # Errors
 /// In this order: `Settings` for a fault of this text, or the first of the keys `revenue`, `cost`, `tonnes` and `factors`
-/// that is missing; `Blocks`; `Prices` for a negative revenue; `Prec`; `Model` where at a factor of the settings an amount
+/// that is missing, or of `revenue`, `tonnes`, `factors`, `processing` and `mining` where there is a mill; `Blocks`; `Prices` for a negative revenue; `Prec`; `Model` where at a factor of the settings an amount
 /// of the mine's net doesn't fit. `Memory`, `Thread`, `Stranger` and `Device` as of `solve_engine`.
 ///
 /// Each device must have counted fewer than 2^64 - 1 failures, so that one more can be counted.
@@ -94,7 +94,7 @@ fn outcome_of<R: Threads + Wait + Sync, T: Gate + Progress + SeriesProgress>(
     effort: Effort,
     gate: &T,
 ) -> Result<Outcome, EngineFault>
-    ensures answer { (s b p : List ℕ) → IsReportRead s b p mine.series.prices mine.series.rests mine.series.factors.items mine.model mine.factor → MatchResult result
+    ensures answer { (s b p : List ℕ) → IsReportRead s b p mine.series.prices mine.series.rests mine.series.factors.items mine.model mine.charges mine.factor → MatchResult result
         (λ outcome. AnswersReport s b p effort.method effort.steps (verdict_of outcome) (text_of outcome))
         (λ e. ReportFails s b p e) }
     ensures no_device { ¬ IsErrOf result EngineFault.Device }
@@ -104,10 +104,18 @@ fn outcome_of<R: Threads + Wait + Sync, T: Gate + Progress + SeriesProgress>(
     let ReportMine {
         series,
         model,
+        charges,
         factor,
     } = mine;
     match settle::<Scaled, R, T>(rt, alloc, series, effort, gate) {
-        Ok(shells) => Ok(Outcome::Table(rows_at(rt, alloc, &model, &shells.series, factor)?)),
+        Ok(shells) => Ok(Outcome::Table(rows_at(
+            rt,
+            alloc,
+            &model,
+            charges,
+            &shells.series,
+            factor,
+        )?)),
         Err(none) => no_series(alloc, none),
     }
 }

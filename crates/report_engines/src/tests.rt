@@ -17,14 +17,24 @@ fn reported<R: AllocGlobal + Threads + Wait + Sync>(
     rt: &R,
     settings: &[u8],
 ) -> (Result<Verdict, EngineFault>, Vec<u8>) {
+    reported_of(rt, settings, BLOCKS, PREC)
+}
+
+// The same of these blocks.
+fn reported_of<R: AllocGlobal + Threads + Wait + Sync>(
+    rt: &R,
+    settings: &[u8],
+    blocks: &[u8],
+    prec: &[u8],
+) -> (Result<Verdict, EngineFault>, Vec<u8>) {
     let alloc = rt.alloc();
     let mut out = Counted::new(Vec::new(alloc));
     let answer = report_engine(
         rt,
         alloc,
         &mut Counted::new(settings),
-        &mut Counted::new(BLOCKS),
-        &mut Counted::new(PREC),
+        &mut Counted::new(blocks),
+        &mut Counted::new(prec),
         Effort::new(Method::Auto, 1, 1_000),
         &Unwatched,
         &mut out,
@@ -57,4 +67,13 @@ fn tonnes_are_missing_before_factors(rt: HostRuntime) {
     let missing = EngineFault::Settings(Problem::Fault(SettingsFault::Missing(Key::Tonnes)));
     assert!(rt; answer == Err(missing));
     assert!(rt; text.is_empty());
+}
+
+// At 200 thousandths the block is waste, and at 1,000 it pays for the mill.
+#[test]
+fn a_block_for_the_mill(rt: HostRuntime) {
+    let settings = b"revenue = 0\nprocessing = 1\nmining = 2\ntonnes = 3\nfactors = [200, 1000]\n";
+    let (answer, text) = reported_of(&rt, settings, b"0 0 0 0 10 3 2 7\n", b"");
+    assert!(rt; answer == Ok(Verdict::Done));
+    assert!(rt; text.as_slice() == b"z,shell,blocks,tonnes,worth\n0,1000,1,7,5\n".as_slice());
 }

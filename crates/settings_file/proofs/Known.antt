@@ -1,11 +1,12 @@
 -- A text has one meaning as settings, or one fault.
-use Rattle.std.proofs.Common.{◌≡◌, ℕ, List, Option, Some, None, Result, Ok, Err, refl, sym, ap, ◌∙◌, subst}
+use Rattle.std.proofs.Common.{◌≡◌, ℕ, List, Option, Some, None, Result, Ok, Err, MatchResult, IfErr, refl, sym, ap, ◌∙◌, subst}
 use Rattle.toml.specs.Parse.{parse_document}
 use Rattle.toml.specs.Data.{Members}
 use Rattle.settings_file.specs.declared.keys.Key.{Key}
 use Rattle.settings_file.specs.declared.faults.SettingsFault.{SettingsFault}
 use Rattle.settings_file.specs.declared.faults.SettingsFault.TheVariants.{NotToml, UnknownKey, BadValue, Missing, NoMemory}
-use Rattle.settings_file.specs.Settings.{SettingsView, settings_in, settings_by, said_or_nothing, settings_of, Says, ReadsSettings, AreSettings}
+use Rattle.settings_file.specs.Internal.{IsOfTable}
+use Rattle.settings_file.specs.Settings.{SettingsView, settings_in, settings_by, said_or_nothing, settings_of, IsDocument, Says, ReadsSettings, AreSettings}
 
 -- what was read is what the text says
 pub settings_are : (text : List ℕ) (s : SettingsView) → ReadsSettings text (Ok s) → settings_of text ≡ s
@@ -33,3 +34,13 @@ no_settings_fault text s UnknownKey h ne k = no_fault text s UnknownKey h k
 no_settings_fault text s (BadValue key) h ne k = no_fault text s (BadValue key) h k
 no_settings_fault text s (Missing key) h ne k = k
 no_settings_fault text s NoMemory h ne k = ne refl
+
+-- what is read of the table of a document is what its text says
+pub table_is_text : (text : List ℕ) (ms : Members) (answer : Result SettingsView SettingsFault) → IsDocument text ms
+    → MatchResult answer (λ s. settings_in ms ≡ Ok s) (λ e. ¬ (e ≡ NoMemory) → settings_in ms ≡ Err e) → IfErr answer IsOfTable → ReadsSettings text answer
+table_is_text text ms (Ok s) d h k = (ms, d, h)
+table_is_text text ms (Err NotToml) d h k = absurd k
+table_is_text text ms (Err UnknownKey) d h k = (ms, d, h (λ e. cc))
+table_is_text text ms (Err (BadValue key)) d h k = (ms, d, h (λ e. cc))
+table_is_text text ms (Err (Missing key)) d h k = k
+table_is_text text ms (Err NoMemory) d h k = d.utf8

@@ -1,10 +1,10 @@
 -- What a text says as settings: a TOML document, and what its table has at each key.
-use Rattle.std.specs.Prelude.{◌≡◌, ◌≤◌, ℕ, IfSome, Bool, cond, ℤ, List, [], ◌∷◌, Option, Some, None, is_some, Result, Ok, Err, IsUtf8}
+use Rattle.std.specs.Prelude.{◌≡◌, ◌≤◌, ℕ, ◌||◌, IfSome, Bool, true, cond, ℤ, List, [], ◌∷◌, Option, Some, None, is_some, Result, Ok, Err, IsUtf8}
 use Rattle.toml.specs.Parse.{parse_document}
 use Rattle.toml.specs.Data.{Data, Members, get_member}
 use Rattle.fixed_worth.specs.declared.limits.TheConstants.{MOST_FACTOR}
 use Rattle.settings_file.specs.declared.keys.Key.{Key}
-use Rattle.settings_file.specs.declared.keys.Key.TheVariants.{Revenue, Cost, Tonnes, Factors, Report, Offsets}
+use Rattle.settings_file.specs.declared.keys.Key.TheVariants.{Revenue, Cost, Tonnes, Factors, Report, Offsets, Processing, Mining}
 use Rattle.settings_file.specs.declared.faults.SettingsFault.{SettingsFault}
 use Rattle.settings_file.specs.declared.faults.SettingsFault.TheVariants.{NotToml, UnknownKey, BadValue, Missing, NoMemory}
 use Rattle.settings_file.specs.Keys.{key_name, all_known}
@@ -18,6 +18,8 @@ pub record SettingsView : Type 0 where
   pub factors : Option (List ℕ)
   pub report : Option ℕ
   pub offsets : Option (List (ℤ × ℤ × ℤ))
+  pub processing : Option ℕ
+  pub mining : Option ℕ
 
 -- What is known of settings that were read: columns are numbered from 0 to 65,535, and factors are from 0 to 10,000.
 pub record IsSettings (s : SettingsView) : Type 0 where
@@ -26,6 +28,8 @@ pub record IsSettings (s : SettingsView) : Type 0 where
   pub tonnes : IfSome s.tonnes (λ column. column ≤ 65535)
   pub factors : IfSome s.factors AreFactors
   pub report : IfSome s.report (λ factor. factor ≤ MOST_FACTOR)
+  pub processing : IfSome s.processing (λ column. column ≤ 65535)
+  pub mining : IfSome s.mining (λ column. column ≤ 65535)
 
 -- What a table says at a key whose value has to read so: a missing key says nothing, and a value that doesn't read is bad.
 abbrev pub or_bad : {V : Type 0} → Key → Option V → Result (Option V) SettingsFault
@@ -39,21 +43,36 @@ said key reads (Some d) = or_bad key (reads d)
 abbrev pub said_at : {V : Type 0} → Key → (Data → Option V) → Members → Result (Option V) SettingsFault
 said_at key reads ms = said key reads (get_member (key_name key) ms)
 
+-- whether a table names a charge of a mill, be its value what it may
+abbrev pub has_mill : Members → Bool
+has_mill ms = is_some (get_member (key_name Processing) ms) || is_some (get_member (key_name Mining) ms)
+
+-- A mill's charges stand in place of costs: beside them a column of costs is a bad value.
+abbrev pub beside_mill : Bool → Option ℕ → Result (Option ℕ) SettingsFault
+beside_mill true (Some column) = Err (BadValue Cost)
+beside_mill _ o = Ok o
+
 -- The first fault, or what the next step says.
 abbrev pub then_with : {A B : Type 0} → Result A SettingsFault → (A → Result B SettingsFault) → Result B SettingsFault
 then_with (Ok x) next = next x
 then_with (Err e) next = Err e
 
+-- what a table says at the key of costs
+abbrev pub cost_in : Members → Result (Option ℕ) SettingsFault
+cost_in ms = then_with (said_at Cost (whole_within 65535) ms) (beside_mill (has_mill ms))
+
 -- The value of each key, or the first key, in this order, whose value is bad.
 abbrev pub values_in : Members → Result SettingsView SettingsFault
 values_in ms =
     then_with (said_at Revenue (whole_within 65535) ms) (λ revenue.
-    then_with (said_at Cost (whole_within 65535) ms) (λ cost.
+    then_with (cost_in ms) (λ cost.
     then_with (said_at Tonnes (whole_within 65535) ms) (λ tonnes.
     then_with (said_at Factors factors_of ms) (λ factors.
     then_with (said_at Report (whole_within MOST_FACTOR) ms) (λ report.
     then_with (said_at Offsets offsets_of ms) (λ offsets.
-    Ok (record { revenue = revenue; cost = cost; tonnes = tonnes; factors = factors; report = report; offsets = offsets })))))))
+    then_with (said_at Processing (whole_within 65535) ms) (λ processing.
+    then_with (said_at Mining (whole_within 65535) ms) (λ mining.
+    Ok (record { revenue = revenue; cost = cost; tonnes = tonnes; factors = factors; report = report; offsets = offsets; processing = processing; mining = mining })))))))))
 
 -- A name that is no key comes before all bad values.
 abbrev pub settings_in : Members → Result SettingsView SettingsFault
@@ -80,7 +99,7 @@ ReadsSettings text (Err fault) = Says text (λ ms. settings_in ms ≡ Err fault)
 -- what settings say, or nothing at any key where there is a fault
 abbrev pub said_or_nothing : Result SettingsView SettingsFault → SettingsView
 said_or_nothing (Ok s) = s
-said_or_nothing (Err e) = record { revenue = None; cost = None; tonnes = None; factors = None; report = None; offsets = None }
+said_or_nothing (Err e) = record { revenue = None; cost = None; tonnes = None; factors = None; report = None; offsets = None; processing = None; mining = None }
 
 abbrev pub settings_by : Option Members → SettingsView
 settings_by (Some ms) = said_or_nothing (settings_in ms)
@@ -102,6 +121,12 @@ is_said s Tonnes = is_some s.tonnes
 is_said s Factors = is_some s.factors
 is_said s Report = is_some s.report
 is_said s Offsets = is_some s.offsets
+is_said s Processing = is_some s.processing
+is_said s Mining = is_some s.mining
+
+-- whether settings name a charge of a mill
+abbrev pub names_mill : SettingsView → Bool
+names_mill s = is_said s Processing || is_said s Mining
 
 -- the first of these keys at which there is nothing
 abbrev pub first_missing : List Key → SettingsView → Option Key

@@ -18,6 +18,10 @@ pub enum Key {
     Report,
     /// The offsets of a slope.
     Offsets,
+    /// The column of what it costs to process a block in the mill.
+    Processing,
+    /// The column of what it costs to mine a block, wherever it goes.
+    Mining,
 }
 
 impl Key {
@@ -32,11 +36,13 @@ impl Key {
             Key::Factors => "factors",
             Key::Report => "report",
             Key::Offsets => "offsets",
+            Key::Processing => "processing",
+            Key::Mining => "mining",
         }
     }
 }
 
-// Whether a text is a key's name. One `||` over all six leaves a goal that the search gives up on.
+// Whether a text is a key's name. One `||` over all of them leaves a goal that the search gives up on.
 pub(crate) fn is_key(text: &str) -> bool
     ensures { result ≡ is_known text.now }
 {
@@ -56,6 +62,12 @@ pub(crate) fn is_key(text: &str) -> bool
         return true;
     }
     if text == "offsets" {
+        return true;
+    }
+    if text == "processing" {
+        return true;
+    }
+    if text == "mining" {
         return true;
     }
     false

@@ -1,5 +1,5 @@
-//! Reads settings: the TOML text that says which columns of a block model hold revenue, cost and tonnes, at which
-//! factors shells are drawn, and which offsets a slope has.
+//! Reads settings: the TOML text that says which columns of a block model hold revenue, cost and tonnes, or a mill's
+//! charges in place of cost, at which factors shells are drawn, and which offsets a slope has.
 //!
 //! It stands on the kit's `toml`, which parses the text into a table of values, and on `fixed_worth` for the limits.
 //!

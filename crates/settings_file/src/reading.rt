@@ -1,12 +1,12 @@
 //! Reading a text.
 
-ghost use Rattle.std.specs.Prelude.{◌≡◌, ◌⊎◌, Ok, Err, IfOk, IfErr, IfSome, MatchResult, option_map};
+ghost use Rattle.std.specs.Prelude.{◌≡◌, ◌≤◌, ◌⊎◌, Ok, Err, IfOk, IfErr, IfSome, MatchResult, option_map, is_some};
+ghost use Rattle.toml.specs.Data.{get_member};
 ghost use Rattle.toml.specs.View.{table_view};
-ghost use Rattle.settings_file.specs.Keys.{all_known};
+ghost use Rattle.settings_file.specs.Keys.{key_name, all_known};
 ghost use Rattle.settings_file.specs.Values.{factors_of, offsets_of, AreFactors};
-ghost use Rattle.settings_file.specs.declared.keys.Key.{Key};
-ghost use Rattle.settings_file.specs.Internal.{IsGoodUpToFactors};
-ghost use Rattle.settings_file.specs.Settings.{said_at, settings_in, ReadsSettings};
+ghost use Rattle.settings_file.specs.Internal.{IsGoodUpToFactors, IsOfTable};
+ghost use Rattle.settings_file.specs.Settings.{said_at, has_mill, cost_in, settings_in, ReadsSettings};
 
 use crate::arrays::{factors_in, offsets_in};
 use crate::faults::SettingsFault;
@@ -27,6 +27,33 @@ fn has_only_keys(table: &Table) -> bool
         }
     }
     true
+}
+
+// Whether the table has something at a key.
+fn has_key(table: &Table, key: Key) -> bool
+    ensures { result ≡ is_some (get_member (key_name key) (table_view table.now)) }
+{
+    table.get(key.name()).is_some()
+}
+
+// Whether the table names a charge of a mill.
+fn has_mill(table: &Table) -> bool
+    ensures { result ≡ has_mill (table_view table.now) }
+{
+    has_key(table, Key::Processing) || has_key(table, Key::Mining)
+}
+
+// The column of costs of the table, which doesn't stand beside a mill's charges.
+fn cost_at(table: &Table) -> Result<Option<u32>, SettingsFault>
+    ensures value { result ≡ cost_in (table_view table.now) }
+    ensures bound { IfOk result (λ o. IfSome o (λ n. n ≤ 65535)) }
+    ensures fault { IfErr result (λ e. e ≡ SettingsFault.BadValue Key.Cost) }
+{
+    let cost = number_at(table, Key::Cost, MOST_COLUMN)?;
+    if cost.is_some() && has_mill(table) {
+        return Err(SettingsFault::BadValue(Key::Cost));
+    }
+    Ok(cost)
 }
 
 // The factors of the table.
@@ -70,25 +97,30 @@ fn settings_of(alloc: Global, table: &Table) -> Result<Settings, SettingsFault>
         (λ s. settings_in (table_view table.now) ≡ Ok s)
         (λ e. ¬ (e ≡ SettingsFault.NoMemory) → settings_in (table_view table.now) ≡ Err e) }
     ensures early { IfErr result (λ e. e ≡ SettingsFault.NoMemory → IsGoodUpToFactors (table_view table.now)) }
-    ensures present { IfErr result (λ e. (key : Key) → ¬ (e ≡ SettingsFault.Missing key)) }
+    ensures kind { IfErr result IsOfTable }
 {
     if !has_only_keys(table) {
         return Err(SettingsFault::UnknownKey);
     }
     let revenue = number_at(table, Key::Revenue, MOST_COLUMN)?;
-    let cost = number_at(table, Key::Cost, MOST_COLUMN)?;
+    let cost = cost_at(table)?;
     let tonnes = number_at(table, Key::Tonnes, MOST_COLUMN)?;
     let factors = factors_at(alloc, table)?;
     let report = number_at(table, Key::Report, MOST_FACTOR)?;
     let offsets = offsets_at(alloc, table)?;
-    Ok(Settings::of(revenue, cost, tonnes, factors, report, offsets))
+    let processing = number_at(table, Key::Processing, MOST_COLUMN)?;
+    let mining = number_at(table, Key::Mining, MOST_COLUMN)?;
+    Ok(Settings::of(
+        revenue, cost, tonnes, factors, report, offsets, processing, mining,
+    ))
 }
 
 /// What a text says as settings.
 ///
 /// # Errors
 /// In this order: `NotToml` where the text is no TOML document, `UnknownKey` where a name of its table is no key, and
-/// `BadValue` with the first key whose value has a wrong kind or is out of its range; or `NoMemory` where memory is
+/// `BadValue` with the first key whose value has a wrong kind or is out of its range, where costs stand beside a mill's
+/// charges as the value of costs; or `NoMemory` where memory is
 /// refused. Never `Missing`.
 pub fn read_settings(alloc: Global, bytes: &[u8]) -> Result<Settings, SettingsFault>
     ensures { ReadsSettings bytes.now result }

@@ -2,8 +2,9 @@
 
 ghost use Rattle.std.specs.Prelude.{◌≡◌, ◌≤◌, IfSome, option_map};
 ghost use Rattle.settings_file.specs.Values.{AreFactors};
-ghost use Rattle.settings_file.specs.Settings.{SettingsView, IsSettings};
+ghost use Rattle.settings_file.specs.Settings.{SettingsView, IsSettings, is_said, names_mill};
 
+use crate::keys::Key;
 use fixed_worth::MOST_FACTOR;
 use std::marker::Model;
 
@@ -16,6 +17,8 @@ pub struct Settings {
     factors: Option<Vec<u32>>,
     report: Option<u32>,
     offsets: Option<Vec<(i32, i32, i32)>>,
+    processing: Option<u32>,
+    mining: Option<u32>,
 }
 
 impl Model for Settings {
@@ -24,9 +27,9 @@ impl Model for Settings {
 
     ghost Value = { SettingsView };
 
-    ghost view = { λ s. record { revenue = s.revenue; cost = s.cost; tonnes = s.tonnes; factors = option_map (λ v. v.items) s.factors; report = s.report; offsets = option_map (λ v. v.items) s.offsets } };
+    ghost view = { λ s. record { revenue = s.revenue; cost = s.cost; tonnes = s.tonnes; factors = option_map (λ v. v.items) s.factors; report = s.report; offsets = option_map (λ v. v.items) s.offsets; processing = s.processing; mining = s.mining } };
 
-    ghost invariant = { λ s. IsSettings (record { revenue = s.revenue; cost = s.cost; tonnes = s.tonnes; factors = option_map (λ v. v.items) s.factors; report = s.report; offsets = option_map (λ v. v.items) s.offsets }) };
+    ghost invariant = { λ s. IsSettings (record { revenue = s.revenue; cost = s.cost; tonnes = s.tonnes; factors = option_map (λ v. v.items) s.factors; report = s.report; offsets = option_map (λ v. v.items) s.offsets; processing = s.processing; mining = s.mining }) };
 }
 
 impl Settings {
@@ -37,13 +40,17 @@ impl Settings {
         factors: Option<Vec<u32>>,
         report: Option<u32>,
         offsets: Option<Vec<(i32, i32, i32)>>,
+        processing: Option<u32>,
+        mining: Option<u32>,
     ) -> Settings
         requires revenue { IfSome revenue (λ column. column ≤ 65535) }
         requires cost { IfSome cost (λ column. column ≤ 65535) }
         requires tonnes { IfSome tonnes (λ column. column ≤ 65535) }
         requires factors { IfSome factors (λ v. AreFactors v.items) }
         requires report { IfSome report (λ factor. factor ≤ MOST_FACTOR) }
-        ensures { result ≡ record { revenue = revenue; cost = cost; tonnes = tonnes; factors = option_map (λ v. v.items) factors; report = report; offsets = option_map (λ v. v.items) offsets } }
+        requires processing { IfSome processing (λ column. column ≤ 65535) }
+        requires mining { IfSome mining (λ column. column ≤ 65535) }
+        ensures { result ≡ record { revenue = revenue; cost = cost; tonnes = tonnes; factors = option_map (λ v. v.items) factors; report = report; offsets = option_map (λ v. v.items) offsets; processing = processing; mining = mining } }
     {
         Settings {
             revenue,
@@ -52,6 +59,8 @@ impl Settings {
             factors,
             report,
             offsets,
+            processing,
+            mining,
         }
     }
 
@@ -63,7 +72,7 @@ impl Settings {
         self.revenue
     }
 
-    /// The number of the column of costs.
+    /// The number of the column of costs. Settings that were read name none beside a mill's charges.
     pub fn cost(&self) -> Option<u32>
         ensures value { result ≡ self.now.cost }
         ensures bound { IfSome result (λ column. column ≤ 65535) }
@@ -105,6 +114,45 @@ impl Settings {
         match &self.offsets {
             Some(offsets) => Some(offsets.as_slice()),
             None => None,
+        }
+    }
+
+    /// The number of the column of what it costs to process blocks in the mill.
+    pub fn processing(&self) -> Option<u32>
+        ensures value { result ≡ self.now.processing }
+        ensures bound { IfSome result (λ column. column ≤ 65535) }
+    {
+        self.processing
+    }
+
+    /// The number of the column of what it costs to mine blocks, wherever they go.
+    pub fn mining(&self) -> Option<u32>
+        ensures value { result ≡ self.now.mining }
+        ensures bound { IfSome result (λ column. column ≤ 65535) }
+    {
+        self.mining
+    }
+
+    /// Whether a charge of a mill is named: processing or mining.
+    pub fn names_mill(&self) -> bool
+        ensures { result ≡ names_mill self.now }
+    {
+        self.says(Key::Processing) || self.says(Key::Mining)
+    }
+
+    /// Whether something is said at a key.
+    pub fn says(&self, key: Key) -> bool
+        ensures { result ≡ is_said self.now key }
+    {
+        match key {
+            Key::Revenue => self.revenue.is_some(),
+            Key::Cost => self.cost.is_some(),
+            Key::Tonnes => self.tonnes.is_some(),
+            Key::Factors => self.factors.is_some(),
+            Key::Report => self.report.is_some(),
+            Key::Offsets => self.offsets.is_some(),
+            Key::Processing => self.processing.is_some(),
+            Key::Mining => self.mining.is_some(),
         }
     }
 }

@@ -37,7 +37,44 @@ fn no_key(rt: HostRuntime) -> Result<(), Fail> {
     assert!(rt; settings.revenue().is_none() && settings.cost().is_none());
     assert!(rt; settings.tonnes().is_none() && settings.factors().is_none());
     assert!(rt; settings.report().is_none() && settings.offsets().is_none());
+    assert!(rt; settings.processing().is_none() && settings.mining().is_none());
+    assert!(rt; !settings.names_mill());
     Ok(())
+}
+
+#[test]
+fn keys_of_a_mill(rt: HostRuntime) -> Result<(), Fail> {
+    let text = b"revenue = 0\nprocessing = 1\nmining = 65535";
+    let settings = read_settings(rt.alloc(), text).ok().ok_or("read")?;
+    assert_eq!(rt; settings.processing(), Some(1));
+    assert_eq!(rt; settings.mining(), Some(65_535));
+    assert!(rt; settings.names_mill() && settings.cost().is_none());
+    assert!(rt; settings.says(Key::Mining) && !settings.says(Key::Tonnes));
+    Ok(())
+}
+
+#[test]
+fn costs_beside_a_mill(rt: HostRuntime) {
+    let bad = Some(SettingsFault::BadValue(Key::Cost));
+    let rows: [(&[u8], Option<SettingsFault>); 7] = [
+        (b"cost = 1\nmining = 1", bad),
+        (b"revenue = 0\nprocessing = 1\ncost = 2", bad),
+        (b"mining = -1\ncost = 1", bad),
+        (
+            b"revenue = -1\ncost = 1\nmining = 1",
+            Some(SettingsFault::BadValue(Key::Revenue)),
+        ),
+        (
+            b"processing = -1\nmining = 65536",
+            Some(SettingsFault::BadValue(Key::Processing)),
+        ),
+        (
+            b"mining = 65536\noffsets = 1",
+            Some(SettingsFault::BadValue(Key::Offsets)),
+        ),
+        (b"mining = 1", None),
+    ];
+    have_their_faults(&rt, rt.alloc(), &rows);
 }
 
 #[test]
@@ -61,8 +98,8 @@ fn no_documents(rt: HostRuntime) {
 fn unknown_keys(rt: HostRuntime) {
     let rows: [(&[u8], Option<SettingsFault>); 6] = [
         (b"colour = 1", Some(SettingsFault::UnknownKey)),
-        (b"processing = 1", Some(SettingsFault::UnknownKey)),
-        (b"mining = 1", Some(SettingsFault::UnknownKey)),
+        (b"process = 1", Some(SettingsFault::UnknownKey)),
+        (b"minings = 1", Some(SettingsFault::UnknownKey)),
         (b"Revenue = 1", Some(SettingsFault::UnknownKey)),
         (b"revenue = -1\nzoo = 1", Some(SettingsFault::UnknownKey)),
         (b"[[a.b]]", Some(SettingsFault::UnknownKey)),
@@ -201,6 +238,11 @@ fn printed_faults(rt: HostRuntime) -> Result<(), Fail> {
         (SettingsFault::Missing(Key::Factors), "Missing(factors)"),
         (SettingsFault::BadValue(Key::Report), "BadValue(report)"),
         (SettingsFault::BadValue(Key::Offsets), "BadValue(offsets)"),
+        (
+            SettingsFault::Missing(Key::Processing),
+            "Missing(processing)",
+        ),
+        (SettingsFault::Missing(Key::Mining), "Missing(mining)"),
         (SettingsFault::NoMemory, "NoMemory"),
     ];
     for (fault, text) in rows {

@@ -1,4 +1,3 @@
-pub mod Keys
 pub mod Readings
 pub mod Nets
 pub mod Growing

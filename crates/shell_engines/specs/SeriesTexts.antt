@@ -2,22 +2,22 @@
 use Rattle.std.specs.Prelude.{◌≡◌, ℕ, List, [], ◌∷◌, Some, None, unwrap_or}
 use Rattle.prec_file.specs.Rests.{RestsView}
 use Rattle.settings_file.specs.declared.keys.Key.{Key}
-use Rattle.settings_file.specs.declared.keys.Key.TheVariants.{Revenue, Cost, Factors}
-use Rattle.settings_file.specs.Settings.{settings_of, first_missing}
+use Rattle.settings_file.specs.declared.keys.Key.TheVariants.{Factors}
+use Rattle.settings_file.specs.Settings.{SettingsView, settings_of, names_mill, first_missing}
 use Rattle.shells.specs.Prices.{PricesView}
 use Rattle.engines.specs.declared.engine_fault.EngineFault.{EngineFault}
 use Rattle.engines.specs.declared.engine_fault.EngineFault.TheVariants as engine
-use Rattle.engines.specs.PricedTexts.{SettingsFails, PricedBlocksFail, PricesFail, PricesRead}
+use Rattle.engines.specs.PricedTexts.{keys_by, SettingsFails, PricedBlocksFail, PricesFail, PricesRead}
 use Rattle.engines.specs.FaultStands.{PrecFails}
 use Rattle.engines.specs.ReadMines.{ArePricesRead}
 
 -- the keys that a series of shells needs
-abbrev pub series_keys : List Key
-series_keys = Revenue ∷ Cost ∷ Factors ∷ []
+abbrev pub series_keys : SettingsView → List Key
+series_keys s = keys_by (names_mill s) (Factors ∷ [])
 
 -- the settings have all of them
 abbrev pub KeysKnown : List ℕ → Type 0
-KeysKnown settings = first_missing series_keys (settings_of settings) ≡ None
+KeysKnown settings = first_missing (series_keys (settings_of settings)) (settings_of settings) ≡ None
 
 -- the factors of the settings, in thousandths
 abbrev pub factors_said : List ℕ → List ℕ

@@ -80,7 +80,7 @@ pub fn series_mine_from<S: CountedRead, B: CountedRead, P: CountedRead>(
     ensures kept { ¬ IsErrOf result EngineFault.Device → (S.failed settings.new ≡ S.failed settings.old) × (B.failed blocks.new ≡ B.failed blocks.old) × (P.failed prec.new ≡ P.failed prec.old) }
 {
     let settings = settings_from(alloc, settings)?;
-    let columns = price_columns(&settings)?;
+    let columns = price_columns(&settings, &[Key::Factors])?;
     let factors = factors_of(alloc, &settings)?;
     let prices = prices_from(alloc, blocks, columns)?;
     let rests = rests_from(alloc, prec, prices.len())?;

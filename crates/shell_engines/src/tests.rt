@@ -89,9 +89,11 @@ fn a_factor_that_is_not_settled_leaves_nothing_written(rt: HostRuntime) {
 
 #[test]
 fn factors_are_needed(rt: HostRuntime) {
-    let settings = b"revenue = 0\ncost = 1\n";
-    let (answer, text, _told) = drawn(&rt, settings, Effort::new(Method::Auto, 1, 1_000));
     let missing = EngineFault::Settings(Problem::Fault(SettingsFault::Missing(Key::Factors)));
-    assert!(rt; answer == Err(missing));
-    assert!(rt; text.is_empty());
+    let texts: [&[u8]; 2] = [b"revenue = 0\ncost = 1\n", b"revenue = 0\nprocessing = 1\n"];
+    for settings in texts {
+        let (answer, text, _told) = drawn(&rt, settings, Effort::new(Method::Auto, 1, 1_000));
+        assert!(rt; answer == Err(missing));
+        assert!(rt; text.is_empty());
+    }
 }

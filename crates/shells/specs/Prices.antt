@@ -3,6 +3,8 @@ use Rattle.std.specs.Prelude.{◌≡◌, ℕ, ◌<◌, ◌≤◌, ℤ, pos, ◌*
 use Rattle.std.specs.Int.{int_max}
 use Rattle.std.specs.List.{range_with_len}
 use Rattle.fixed_worth.specs.declared.limits.TheConstants.{MOST_BLOCKS}
+use Rattle.check_pit.specs.declared.header.Price.{Price}
+use Rattle.check_pit.specs.declared.header.Price.TheVariants.{Factor, Mill}
 use Rattle.shells.specs.declared.prices_fault.PricesFault.{PricesFault}
 use Rattle.shells.specs.declared.prices_fault.PricesFault.TheVariants.{WrongLength, NegativeRevenue}
 
@@ -34,6 +36,11 @@ worth_after (mill_costs processing mining) b earned = int_max (earned -ℤ pos 1
 -- what block b is worth at so many thousandths of its revenue, in billionths
 abbrev pub worth_at : PricesView → ℕ → ℕ → ℤ
 worth_at table k b = worth_after table.costs b (pos k *ℤ number_at table.revenue b)
+
+-- the price that a certificate names at so many thousandths of the revenues
+abbrev pub price_of : CostsView → ℕ → Price
+price_of (plain_costs cost) k = Factor k
+price_of (mill_costs processing mining) k = Mill k
 
 -- the worths of all blocks, in their order
 abbrev pub worths_at : PricesView → ℕ → List ℤ

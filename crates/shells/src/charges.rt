@@ -2,9 +2,11 @@
 
 ghost use Rattle.std.specs.Prelude.{◌≡◌, ◌<◌, ◌≤◌, ◌^◌, ◌*◌, ◌+◌, pos, ◌*ℤ◌, ◌-ℤ◌, ◌↔◌, unsigned_abs, IsTrue};
 ghost use Rattle.std.specs.Int.{int_max};
-ghost use Rattle.shells.specs.Prices.{AreCharged, worth_after};
+ghost use Rattle.check_pit.specs.ReadBack.{IsPrice};
+ghost use Rattle.shells.specs.Prices.{AreCharged, price_of, worth_after};
 ghost use Rattle.shells.specs.Internal.{shown_costs};
 
+use check_pit::Price;
 use fixed_worth::{MOST_FACTOR, Micros};
 
 /// What is charged for each block.
@@ -67,6 +69,18 @@ impl Costs {
             Costs::Mill { processing, mining } => {
                 processing.len() == blocks && mining.len() == blocks
             }
+        }
+    }
+
+    // The price that certificates at so many thousandths name.
+    pub(crate) fn price_at(&self, thousandths: u32) -> Price
+        requires { thousandths ≤ MOST_FACTOR }
+        ensures is { result ≡ price_of (shown_costs self.now) thousandths }
+        ensures bound { IsPrice result }
+    {
+        match self {
+            Costs::Plain(_) => Price::Factor(thousandths),
+            Costs::Mill { .. } => Price::Mill(thousandths),
         }
     }
 

@@ -1,13 +1,15 @@
 //! Tables of prices.
 
-ghost use Rattle.std.specs.Prelude.{◌≡◌, ◌<◌, ◌≤◌, ◌≤ℤ◌, ℕ, pos, length, IfOk, MatchOption, MatchResult};
-ghost use Rattle.shells.specs.Prices.{plain_costs, mill_costs, blocks_of, worth_at, worths_at, number_at, IsTable, IsFirstNegative, PricesFaultStands};
+ghost use Rattle.std.specs.Prelude.{◌≡◌, ◌≢◌, ◌<◌, ◌≤◌, ◌≤ℤ◌, ℕ, pos, length, IfOk, MatchOption, MatchResult};
+ghost use Rattle.check_pit.specs.ReadBack.{IsPrice};
+ghost use Rattle.shells.specs.Prices.{plain_costs, mill_costs, blocks_of, price_of, worth_at, worths_at, number_at, IsTable, IsFirstNegative, PricesFaultStands};
 ghost use Rattle.shells.specs.Internal.{shown_costs};
 
 use crate::charges::{Costs, thousandths_of};
 use crate::prices_fault::PricesFault;
 use crate::thousandths::Factor;
-use fixed_worth::{MOST_BLOCKS, Micros};
+use check_pit::Price;
+use fixed_worth::{MOST_BLOCKS, MOST_FACTOR, Micros};
 use rayon::prelude::*;
 use std::alloc::{AllocError, Global};
 use std::marker::Model;
@@ -97,6 +99,25 @@ impl Prices {
         ensures table { IsTable self.now }
     {
         self.revenue.len() as u32
+    }
+
+    /// The price that certificates over this table name at a factor: one of a mill where blocks may go to it.
+    pub fn price_at(&self, factor: Factor) -> Price
+        ensures is { result ≡ price_of self.now.costs factor }
+        ensures bound { IsPrice result }
+    {
+        self.costs.price_at(factor.get())
+    }
+
+    /// The factor that a certificate's price names over this table: none where it is a price of another kind of model.
+    pub fn factor_of(&self, price: Price) -> Option<Factor>
+        ensures { MatchOption result ((k : ℕ) → k ≤ MOST_FACTOR → price ≢ price_of self.now.costs k) (λ factor. price ≡ price_of self.now.costs factor) }
+    {
+        match (&self.costs, price) {
+            (Costs::Plain(_), Price::Factor(thousandths)) => Factor::new(thousandths),
+            (Costs::Mill { .. }, Price::Mill(thousandths)) => Factor::new(thousandths),
+            _ => None,
+        }
     }
 
     /// What block b is worth at a factor, in billionths: the factor times its revenue, less its cost. Where there is a

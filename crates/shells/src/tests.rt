@@ -1,7 +1,7 @@
 //! Three blocks at three prices, and a series that is full.
 
 use crate::{Factor, Prices, PricesFault, Series, SeriesFault};
-use check_pit::{Accepted, check};
+use check_pit::{Accepted, Price, check};
 use closure_net::{Carried, Flow, Net, Pit};
 use fixed_worth::Micros;
 use ordered_group::WorthSize;
@@ -219,6 +219,58 @@ fn a_block_goes_to_the_mill_or_to_waste(rt: HostRuntime) -> Result<(), Fail> {
     }
     let short = Prices::mill(column(alloc, &[1])?, column(alloc, &[1])?, Vec::new(alloc));
     assert!(rt; short.err() == Some(PricesFault::WrongLength));
+    let negative = Prices::mill(
+        column(alloc, &[-1])?,
+        column(alloc, &[0])?,
+        column(alloc, &[0])?,
+    );
+    assert!(rt; negative.err() == Some(PricesFault::NegativeRevenue(0)));
+    Ok(())
+}
+
+// Mined for what each block of the other table costs, and never worth milling.
+fn waste(alloc: Global) -> Result<Prices, Fail> {
+    let revenue = column(alloc, &[0, 0, 0])?;
+    let processing = column(alloc, &[1, 1, 1])?;
+    let mining = column(alloc, &[1, 1, 1])?;
+    match Prices::mill(revenue, processing, mining) {
+        Ok(prices) => Ok(prices),
+        Err(_) => Err(Fail::from("prices")),
+    }
+}
+
+// Equal worths are the same model, whatever table they come from.
+#[test]
+fn a_pit_over_a_table_of_another_kind_is_added(rt: HostRuntime) -> Result<(), Fail> {
+    let alloc = rt.alloc();
+    let mut series = opened(alloc, prices(alloc, &[0, 0, 0], &[1, 1, 1])?)?;
+    let net = net_at(&rt, alloc, &waste(alloc)?, 300)?;
+    let pit = pit_of(alloc, &[])?;
+    let flow = through(alloc, WorthSize { nanos: 0, size: 0 })?;
+    match check(&net, &pit, &flow) {
+        Ok(accepted) => assert!(rt; refusal(&mut series, 700, &accepted).is_none()),
+        Err(_) => return Err(Fail::from("refused")),
+    }
+    assert!(rt; series.factors() == [700].as_slice());
+    Ok(())
+}
+
+#[test]
+fn a_table_says_what_its_certificates_name(rt: HostRuntime) -> Result<(), Fail> {
+    let alloc = rt.alloc();
+    let factor = Factor::new(200).ok_or("factor")?;
+    let plain = prices(alloc, &[1], &[1])?;
+    let mill = waste(alloc)?;
+    assert!(rt; plain.price_at(factor) == Price::Factor(200));
+    assert!(rt; mill.price_at(factor) == Price::Mill(200));
+    assert!(rt; plain.factor_of(Price::Factor(200)) == Some(factor));
+    assert!(rt; mill.factor_of(Price::Mill(200)) == Some(factor));
+    for price in [Price::Objective, Price::Mill(200)] {
+        assert!(rt; plain.factor_of(price).is_none());
+    }
+    for price in [Price::Objective, Price::Factor(200)] {
+        assert!(rt; mill.factor_of(price).is_none());
+    }
     Ok(())
 }
 

@@ -47,3 +47,7 @@ returns-in_err-mine-clause-complete g c =
 pub returns-in_err-write_judgement-clause-complete : goal.returns-in_err-write_judgement-clause-complete
 returns-in_err-write_judgement-clause-complete g c =
     complete4 (g.S.Read.remaining c.args.settings.now) (g.B.Read.remaining c.args.blocks.now) (g.P.Read.remaining c.args.prec.now) (g.C.Read.remaining c.args.certificate.now) (g.W.Write.contents c.args.out.now) (g.W.Write.contents c.write_judgement.new.out) _ (returns-in_err-write_judgement-clause-answer g c)
+
+pub returns-in_err-text-clause-complete : goal.returns-in_err-text-clause-complete
+returns-in_err-text-clause-complete g c =
+    complete4 (g.S.Read.remaining c.args.settings.now) (g.B.Read.remaining c.args.blocks.now) (g.P.Read.remaining c.args.prec.now) (g.C.Read.remaining c.args.certificate.now) (g.W.Write.contents c.args.out.now) (g.W.Write.contents c.args.out.now) _ (returns-in_err-text-clause-answer g c)

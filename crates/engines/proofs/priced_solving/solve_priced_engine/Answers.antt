@@ -11,5 +11,5 @@ returns-in_err-mine-clause-answer g c =
 
 pub returns-clause-answer : goal.returns-clause-answer
 returns-clause-answer g c =
-    solve_answer3 (g.S.Read.remaining c.args.settings.now) (g.B.Read.remaining c.args.blocks.now) (g.P.Read.remaining c.args.prec.now) (g.W.Write.contents c.args.out.now) (g.W.Write.contents c.solve_mine.new.out) c.args.factor c.get.result c.args.group c.args.effort.method c.args.effort.steps c.in_ok-mine.mine.prices c.in_ok-mine.mine.rests c.as_slice.result.now c.solve_mine.result
-    c.in_ok-mine.ensures.read c.get.ensures.value (c.as_slice.ensures.value ∙ c.in_ok-nanos.ensures) c.solve_mine.ensures.answer
+    solve_answer3 (g.S.Read.remaining c.args.settings.now) (g.B.Read.remaining c.args.blocks.now) (g.P.Read.remaining c.args.prec.now) (g.W.Write.contents c.args.out.now) (g.W.Write.contents c.solve_mine.new.out) c.args.factor c.price_at-price.result c.args.group c.args.effort.method c.args.effort.steps c.in_ok-mine.mine.prices c.in_ok-mine.mine.rests c.as_slice.result.now c.solve_mine.result
+    c.in_ok-mine.ensures.read c.price_at-price.ensures.is (c.as_slice.ensures.value ∙ c.in_ok-nanos.ensures) c.solve_mine.ensures.answer
