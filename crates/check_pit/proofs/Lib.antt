@@ -3,9 +3,13 @@ pub mod Amounts
 pub mod Duality
 pub mod Going
 pub mod Heads
+pub mod HeldBytes
+pub mod HeldLines
 pub mod Lacks
 pub mod LineOrder
 pub mod Order
+pub mod LineFlows
+pub mod LineSums
 pub mod Over
 pub mod Puts
 pub mod ReadBack

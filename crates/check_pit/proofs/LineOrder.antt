@@ -129,7 +129,7 @@ found gives (m ∷ ms) x = found_at gives x m ms (gives m) refl (λ y. found giv
 abbrev pub Tells : (BodyLine → Type 0) → (BodyLine → Bool) → Type 0
 Tells P gives = (a b : BodyLine) → P a → P b → gives a ≡ true → gives b ≡ true → Above a b → ⊥
 
-none_gives : (gives : BodyLine → Bool) (ms : List BodyLine) (x : Amount) → ((m : BodyLine) → Has m ms → gives m ≡ true → ⊥) → given gives x ms ≡ x
+pub none_gives : (gives : BodyLine → Bool) (ms : List BodyLine) (x : Amount) → ((m : BodyLine) → Has m ms → gives m ≡ true → ⊥) → given gives x ms ≡ x
 none_gives gives ms x f = elim (found gives ms x) [ inl e ↦ e | inr y ↦ absurd (f y.line y.held y.so) ]
 
 pub given_by : (P : BodyLine → Type 0) (gives : BodyLine → Bool) (previous : Option BodyLine) (ls : List BodyLine) (x : Amount) (l : BodyLine) → Tells P gives → InOrder P previous ls → Has l ls → gives l ≡ true → given gives x ls ≡ amount_of l

@@ -62,19 +62,19 @@ rest_so x l h = let q = rest_kind l.kind (eqb x.0 l.block && eqb x.1 l.other) h 
 not_rest : (l : BodyLine) (k : LineKind) → l.kind ≡ k → is_rest k ≡ false → is_rest l.kind ≡ false
 not_rest l k e f = ap is_rest e ∙ f
 
-tells_source : (n : ℕ) (has : ℕ → ℕ → Bool) (b : ℕ) → Tells (Proper n has) (gives_source b)
+pub tells_source : (n : ℕ) (has : ℕ → ℕ → Bool) (b : ℕ) → Tells (Proper n has) (gives_source b)
 tells_source n has b l m p q g h above =
     let x = source_so b l g in
     let y = source_so b m h in
     same_key l m (x.0 ∙ sym y.0) (x.1 ∙ sym y.1) (p.other (not_rest l Source x.0 refl) ∙ sym (q.other (not_rest m Source y.0 refl))) above
 
-tells_sink : (n : ℕ) (has : ℕ → ℕ → Bool) (b : ℕ) → Tells (Proper n has) (gives_sink b)
+pub tells_sink : (n : ℕ) (has : ℕ → ℕ → Bool) (b : ℕ) → Tells (Proper n has) (gives_sink b)
 tells_sink n has b l m p q g h above =
     let x = sink_so b l g in
     let y = sink_so b m h in
     same_key l m (x.0 ∙ sym y.0) (x.1 ∙ sym y.1) (p.other (not_rest l Sink x.0 refl) ∙ sym (q.other (not_rest m Sink y.0 refl))) above
 
-tells_rest : (n : ℕ) (has : ℕ → ℕ → Bool) (r : ℕ × ℕ) → Tells (Proper n has) (gives_rest r)
+pub tells_rest : (n : ℕ) (has : ℕ → ℕ → Bool) (r : ℕ × ℕ) → Tells (Proper n has) (gives_rest r)
 tells_rest n has r l m p q g h above =
     let x = rest_so r l g in
     let y = rest_so r m h in

@@ -9,7 +9,12 @@ pub mod FaultText
 pub mod Fits
 pub mod Gathered
 pub mod Header
+pub mod LineLaws
+pub mod LineSums
 pub mod Pieces
 pub mod ReadBack
 pub mod Written
+pub mod StreamBytes
+pub mod StreamLines
+pub mod StreamView
 pub mod Tightness

@@ -1,6 +1,7 @@
 //! Laws, each the contract of a function that does nothing.
 
 ghost use Rattle.check_pit.specs.Duality.{WeakDuality};
+ghost use Rattle.check_pit.specs.LineLaws.{LineSumsTell};
 ghost use Rattle.check_pit.specs.Tightness.{RefusedForSizeOnly};
 
 /// A closed set that sums to what the source could still give by some flow is a greatest closed set,
@@ -13,4 +14,10 @@ pub fn tight_closed_set_is_greatest()
 /// no other fault holds of it, in whatever order a check looks for them.
 pub fn tight_closed_pit_is_refused_for_size_only()
     ensures { RefusedForSizeOnly }
+{}
+
+/// What is summed while the lines of a certificate are read, balance by balance, tells of its flow whether each block is
+/// balanced and whether the pit is tight by it.
+pub fn line_sums_tell_flow()
+    ensures { LineSumsTell }
 {}

@@ -22,6 +22,9 @@ mod lines_of_body;
 mod piece_reader;
 mod pit_fault;
 pub mod reading;
+mod stream_bytes;
+pub mod stream_fault;
+pub mod stream_lines;
 mod sums;
 mod writing;
 
@@ -39,3 +42,5 @@ mod certificate_tests;
 mod check_tests;
 #[cfg(test)]
 mod scaled_tests;
+#[cfg(test)]
+mod stream_tests;

@@ -1,0 +1,27 @@
+-- A part of a buffer that loses its first bytes, or gets more behind it.
+use Rattle.std.proofs.Common.{◌≡◌, ℕ, ◌+◌, ◌-◌, ◌≤◌, List, ◌++◌, length, take, drop, slice_range, Option, refl, sym, ap, ◌∙◌, arith, subst, length-take, length-take-le, length-drop, drop-drop}
+use Rattle.std.proofs.lemmas.List.{drop-take}
+use Rattle.std.proofs.Math.Seq.{take-add}
+use Rattle.std.specs.Io.KnownBytes.{Consumes}
+use Rattle.check_pit.specs.StreamBytes.{ReadBehind}
+
+-- the first n bytes of a part are passed
+pub passed : (xs ys : List ℕ) (a e n : ℕ) → slice_range xs a e ≡ ys → n ≤ length ys → slice_range xs (a + n) e ≡ drop n ys
+passed xs ys a e n is h =
+    let size : length (take (e - a) (drop a xs)) ≡ length ys = ap length is in
+    let inside : n ≤ e - a = omega (arith, size, h, length-take (e - a) (drop a xs)) in
+    let whole : n + (e - (a + n)) ≡ e - a = omega (arith, inside) in
+    ap (take (e - (a + n))) (sym (drop-drop n a xs))
+    ∙ sym (drop-take n (e - (a + n)) (drop a xs))
+    ∙ ap (λ k. drop n (take k (drop a xs))) whole
+    ∙ ap (drop n) is
+
+-- n bytes are read behind the first h, which are what was held
+pub read_more : (remaining left : Option (List ℕ)) (buffer held : List ℕ) (h n : ℕ) → take h buffer ≡ held → h + n ≤ length buffer → Consumes remaining left (take n (drop h buffer)) → ReadBehind remaining left held (slice_range buffer 0 (h + n)) n
+read_more remaining left buffer held h n is inside given =
+    record {
+      bytes = take n (drop h buffer);
+      given = given;
+      count = length-take-le n (drop h buffer) (omega (arith, inside, length-drop h buffer));
+      behind = ap (λ k. take k buffer) (let e : h + n - 0 ≡ h + n = omega arith in e) ∙ take-add h n buffer ∙ ap (λ l. l ++ take n (drop h buffer)) is;
+    }

@@ -1,0 +1,148 @@
+-- What is summed line by line is what is summed over the flow and the pit that lines in order say.
+use Rattle.std.proofs.Common.{◌≡◌, ◌≢◌, ℕ, zero, suc, get_or, ◌+◌, ◌<◌, Bool, true, false, cond, eqb, ltb, inl, inr, List, [], ◌∷◌, length, map, Option, Some, None, refl, sym, ap, ◌∙◌, subst, arith}
+use Rattle.std.specs.Prelude.{◌&&◌}
+use Rattle.std.proofs.lemmas.Int.{ints}
+use Rattle.std.proofs.lemmas.Bool.{eqb-true, eq-eqb, ne_eqb}
+use Rattle.std.proofs.lemmas.Bool.Decides.{nat_tests}
+use Rattle.ordered_group.specs.Amount.{Amount, zero_amount, plus, minus, Amount_eq}
+use Rattle.ordered_group.specs.Sums.{total, where_so}
+use Rattle.ordered_group.proofs.Totals.{plus-zero_left, where_so-zero, where_so-plus, total-same, total-plus, total-minus, total-zero, total-none, total-one, total_changed}
+use Rattle.prec_file.specs.Rests.{IsRising}
+use Rattle.prec_file.proofs.Pairs.{is_pair, tells_pair, pair_told}
+use Rattle.check_pit.specs.declared.lines_of_body.LineKind.{LineKind}
+use Rattle.check_pit.specs.declared.lines_of_body.LineKind.TheVariants.{Pit, Source, Rest, Sink, End}
+use Rattle.check_pit.specs.declared.lines_of_body.BodyLine.{BodyLine}
+use Rattle.check_pit.specs.BodyLines.{is_of_model}
+use Rattle.check_pit.specs.Certificate.{has_pair, amount_of, given, gives_source, gives_rest, gives_sink, is_source, is_rest, is_sink}
+use Rattle.check_pit.specs.LineSums.{brings_by, balance_of, source_by, source_sum}
+use Rattle.check_pit.proofs.Additions.{one_place}
+use Rattle.check_pit.proofs.Order.{InOrder}
+use Rattle.check_pit.proofs.LineOrder.{Has, has_good, all_above, Tells, none_gives, Proper}
+use Rattle.check_pit.proofs.SameLines.{tells_source, tells_sink, tells_rest}
+
+-- the amounts of the lines that give
+abbrev pub sum_giving : (BodyLine → Bool) → List BodyLine → Amount
+sum_giving gives [] = zero_amount
+sum_giving gives (l ∷ ls) = plus (where_so (gives l) (amount_of l)) (sum_giving gives ls)
+
+given_on : (P : BodyLine → Type 0) (gives : BodyLine → Bool) (m : BodyLine) (ms : List BodyLine) (t : Bool) → gives m ≡ t → Tells P gives → P m → InOrder P (Some m) ms → sum_giving gives ms ≡ given gives zero_amount ms
+    → plus (where_so t (amount_of m)) (sum_giving gives ms) ≡ given gives (cond t (amount_of m) zero_amount) ms
+given_on P gives m ms true e t p o ih =
+    let none : (x : Amount) → given gives x ms ≡ x = λ x. none_gives gives ms x (λ k i j. t m k p (has_good P (Some m) ms o k i) e j (all_above P m ms o k i)) in
+    let rest : sum_giving gives ms ≡ zero_amount = ih ∙ none zero_amount in
+    let w = ap (λ (x : Amount). x.w) rest in
+    let c = ap (λ (x : Amount). x.c) rest in
+    Amount_eq _ _ (omega (arith, ints, w)) (omega (arith, ints, c)) ∙ sym (none (amount_of m))
+given_on P gives m ms false e t p o ih = plus-zero_left (sum_giving gives ms) ∙ ih
+
+-- of lines in order one at most gives, and its amount is the sum
+pub sum_given : (P : BodyLine → Type 0) (gives : BodyLine → Bool) (previous : Option BodyLine) (ls : List BodyLine) → Tells P gives → InOrder P previous ls → sum_giving gives ls ≡ given gives zero_amount ls
+sum_given P gives previous [] t o = refl
+sum_given P gives previous (m ∷ ms) t o = given_on P gives m ms (gives m) refl t o.1 o.2 (sum_given P gives (Some m) ms t o.2)
+
+-- A sum over blocks or pairs, of sums over lines, is a sum over lines.
+pub exchanged : (gives : ℕ → BodyLine → Bool) (e : ℕ → Bool) (at : BodyLine → Amount) (m : ℕ) (ls : List BodyLine) → ((l : BodyLine) → Has l ls → total (λ k. where_so (e k) (where_so (gives k l) (amount_of l))) m ≡ at l) → (sum : List BodyLine → Amount) → sum [] ≡ zero_amount
+    → ((l : BodyLine) (ks : List BodyLine) → sum (l ∷ ks) ≡ plus (at l) (sum ks)) → total (λ k. where_so (e k) (sum_giving (gives k) ls)) m ≡ sum ls
+exchanged gives e at m [] f sum none more =
+    total-same (λ k. where_so (e k) zero_amount) (λ k. zero_amount) m (λ k h. where_so-zero (e k)) ∙ total-zero m ∙ sym none
+exchanged gives e at m (l ∷ ls) f sum none more =
+    let split = total-same (λ k. where_so (e k) (plus (where_so (gives k l) (amount_of l)) (sum_giving (gives k) ls))) (λ k. plus (where_so (e k) (where_so (gives k l) (amount_of l))) (where_so (e k) (sum_giving (gives k) ls))) m
+    (λ k h. where_so-plus (e k) (where_so (gives k l) (amount_of l)) (sum_giving (gives k) ls)) in
+    let ih = exchanged gives e at m ls (λ k h. f k (inr h)) sum none more in
+    split ∙ total-plus (λ k. where_so (e k) (where_so (gives k l) (amount_of l))) (λ k. where_so (e k) (sum_giving (gives k) ls)) m
+    ∙ ap (λ (x : Amount). plus x (total (λ k. where_so (e k) (sum_giving (gives k) ls)) m)) (f l (inl refl))
+    ∙ ap (plus (at l)) ih
+    ∙ sym (more l ls)
+
+-- What one line gives, summed over all blocks: at its own block alone.
+source_line : (kind : LineKind) (c n : ℕ) (x : Amount) → c < n → total (λ b. where_so true (where_so (is_source kind && (eqb c b)) x)) n ≡ source_by kind x
+source_line Pit c n x h = total-zero n
+source_line Source c n x h = total-one (λ b. true) c x n h
+source_line Rest c n x h = total-zero n
+source_line Sink c n x h = total-zero n
+source_line End c n x h = total-zero n
+
+-- what the SOURCE lines give, summed over the blocks
+pub sources_of_lines : (n : ℕ) (ls : List BodyLine) → ((l : BodyLine) → Has l ls → l.block < n) → total (λ b. sum_giving (gives_source b) ls) n ≡ source_sum ls
+sources_of_lines n ls f = exchanged gives_source (λ b. true) (λ l. source_by l.kind (amount_of l)) n ls (λ l h. source_line l.kind l.block n (amount_of l) (f l h)) source_sum refl (λ l ks. refl)
+
+-- the place of a pair that is there
+pair_at_head : (b p : ℕ) (q : ℕ × ℕ) (qs : List (ℕ × ℕ)) (t : Bool) → is_pair b p q ≡ t → has_pair (q ∷ qs) b p ≡ true → (has_pair qs b p ≡ true → (j : ℕ) × (j < length qs) × (get_or qs j (0, 0) ≡ (b, p))) → (j : ℕ) × (j < length (q ∷ qs)) × (get_or (q ∷ qs) j (0, 0) ≡ (b, p))
+pair_at_head b p q qs true e h ih = (zero, omega arith, pair_told b p q e)
+pair_at_head b p q qs false e h ih = let r = ih (rw e at h) in (suc r.0, omega (arith, r.1), r.2)
+
+pub pair_place : (b p : ℕ) (qs : List (ℕ × ℕ)) → has_pair qs b p ≡ true → (j : ℕ) × (j < length qs) × (get_or qs j (0, 0) ≡ (b, p))
+pair_place b p [] h = absurd (let z : false ≡ true = h in cc)
+pair_place b p (q ∷ qs) h = pair_at_head b p q qs (is_pair b p q) refl h (pair_place b p qs)
+
+-- a pair that stands at j is told from the others by its place
+told_by_place : (b p : ℕ) (ps : List (ℕ × ℕ)) (j k : ℕ) → IsRising ps → j < length ps → get_or ps j (0, 0) ≡ (b, p) → k < length ps → (t u : Bool) → eqb j k ≡ t → is_pair b p (get_or ps k (0, 0)) ≡ u → is_pair b p (get_or ps k (0, 0)) ≡ eqb j k
+told_by_place b p ps j k r h e l true true v w = w ∙ sym v
+told_by_place b p ps j k r h e l false false v w = w ∙ sym v
+told_by_place b p ps j k r h e l true false v w =
+    let same : j ≡ k = eqb-true j k v in
+    let here : is_pair b p (get_or ps k (0, 0)) ≡ true = tells_pair b p (get_or ps k (0, 0)) (ap (λ (i : ℕ). get_or ps i (0, 0)) (sym same) ∙ e) in
+    absurd (let z : true ≡ false = sym here ∙ w in cc)
+told_by_place b p ps j k r h e l false true v w =
+    let same : j ≡ k = one_place ps j k (b, p) r h l e (pair_told b p (get_or ps k (0, 0)) w) (ltb j k) (ltb k j) refl refl in
+    absurd (let z : true ≡ false = sym (eq-eqb j k same) ∙ v in cc)
+
+-- an amount of a line at one end of its pair, where that is a REST line
+abbrev pub end_by : LineKind → ℕ → ℕ → Amount → Amount
+end_by Pit c b x = zero_amount
+end_by Source c b x = zero_amount
+end_by Rest c b x = where_so (eqb c b) x
+end_by Sink c b x = zero_amount
+end_by End c b x = zero_amount
+
+abbrev pub end_sum : (BodyLine → ℕ) → ℕ → List BodyLine → Amount
+end_sum end b [] = zero_amount
+end_sum end b (l ∷ ls) = plus (end_by l.kind (end l) b (amount_of l)) (end_sum end b ls)
+
+none_at_ends : (end : ℕ × ℕ → ℕ) (b : ℕ) (ps : List (ℕ × ℕ)) (m : ℕ) → total (λ k. where_so (eqb (end (get_or ps k (0, 0))) b) zero_amount) m ≡ zero_amount
+none_at_ends end b ps m = total-none _ m (λ k h. where_so-zero (eqb (end (get_or ps k (0, 0))) b))
+
+-- what one line carries, summed over the pairs with an end at b: over its own pair alone
+rest_line : (kind : LineKind) (end : ℕ × ℕ → ℕ) (b c p : ℕ) (ps : List (ℕ × ℕ)) (line : BodyLine) (x : Amount) → IsRising ps → line.block ≡ c → line.other ≡ p → is_of_model (has_pair ps) kind line ≡ true
+    → total (λ k. where_so (eqb (end (get_or ps k (0, 0))) b) (where_so (is_rest kind && is_pair c p (get_or ps k (0, 0))) x)) (length ps) ≡ end_by kind (end (c, p)) b x
+rest_line Pit end b c p ps line x r e f h = none_at_ends end b ps (length ps)
+rest_line Source end b c p ps line x r e f h = none_at_ends end b ps (length ps)
+rest_line Rest end b c p ps line x r e f h =
+    let j = pair_place c p ps (ap (λ (i : ℕ). has_pair ps i p) (sym e) ∙ ap (has_pair ps line.block) (sym f) ∙ h) in
+    total-same _ (λ k. where_so (eqb (end (get_or ps k (0, 0))) b) (where_so (eqb j.0 k) x)) (length ps)
+    (λ k l. ap (λ (t : Bool). where_so (eqb (end (get_or ps k (0, 0))) b) (where_so t x)) (told_by_place c p ps j.0 k r j.1 j.2 l (eqb j.0 k) (is_pair c p (get_or ps k (0, 0))) refl refl))
+    ∙ total-one (λ k. eqb (end (get_or ps k (0, 0))) b) j.0 x (length ps) j.1
+    ∙ ap (λ (q : ℕ × ℕ). where_so (eqb (end q) b) x) j.2
+rest_line Sink end b c p ps line x r e f h = none_at_ends end b ps (length ps)
+rest_line End end b c p ps line x r e f h = none_at_ends end b ps (length ps)
+
+-- what the REST lines carry, summed over the pairs with an end at b
+pub ends_of_lines : (end : ℕ × ℕ → ℕ) (b : ℕ) (ps : List (ℕ × ℕ)) (ls : List BodyLine) → IsRising ps → ((l : BodyLine) → Has l ls → is_of_model (has_pair ps) l.kind l ≡ true)
+    → total (λ k. where_so (eqb (end (get_or ps k (0, 0))) b) (sum_giving (gives_rest (get_or ps k (0, 0))) ls)) (length ps) ≡ end_sum (λ l. end (l.block, l.other)) b ls
+ends_of_lines end b ps ls r f =
+    exchanged (λ k. gives_rest (get_or ps k (0, 0))) (λ k. eqb (end (get_or ps k (0, 0))) b) (λ l. end_by l.kind (end (l.block, l.other)) b (amount_of l)) (length ps) ls
+    (λ l h. rest_line l.kind end b l.block l.other ps l (amount_of l) r refl refl (f l h)) (end_sum (λ l. end (l.block, l.other)) b) refl (λ l ks. refl)
+
+-- the balance of one line
+one_balance : (kind : LineKind) (l : BodyLine) (b : ℕ) → brings_by kind l b
+    ≡ minus (plus (where_so (is_source kind && (eqb l.block b)) (amount_of l)) (end_by kind l.other b (amount_of l))) (plus (where_so (is_sink kind && (eqb l.block b)) (amount_of l)) (end_by kind l.block b (amount_of l)))
+one_balance Pit l b = refl
+one_balance Source l b = let x = where_so (eqb l.block b) (amount_of l) in Amount_eq _ _ (omega (arith, ints)) (omega (arith, ints))
+one_balance Rest l b = let x = where_so (eqb l.other b) (amount_of l) in let y = where_so (eqb l.block b) (amount_of l) in Amount_eq _ _ (omega (arith, ints)) (omega (arith, ints))
+one_balance Sink l b = let x = where_so (eqb l.block b) (amount_of l) in Amount_eq _ _ (omega (arith, ints)) (omega (arith, ints))
+one_balance End l b = refl
+
+joined : (p s i t o s' i' t' o' q : Amount) → p ≡ minus (plus s i) (plus t o) → q ≡ minus (plus s' i') (plus t' o') → plus p q ≡ minus (plus (plus s s') (plus i i')) (plus (plus t t') (plus o o'))
+joined p s i t o s' i' t' o' q e f =
+    let ew = ap (λ (x : Amount). x.w) e in
+    let ec = ap (λ (x : Amount). x.c) e in
+    let fw = ap (λ (x : Amount). x.w) f in
+    let fc = ap (λ (x : Amount). x.c) f in
+    Amount_eq _ _ (omega (arith, ints, ew, fw)) (omega (arith, ints, ec, fc))
+
+-- the balance of b by lines: what SOURCE lines and REST lines bring, less what SINK lines and REST lines take
+pub balance_is : (ls : List BodyLine) (b : ℕ) → balance_of ls b ≡ minus (plus (sum_giving (gives_source b) ls) (end_sum (λ l. l.other) b ls)) (plus (sum_giving (gives_sink b) ls) (end_sum (λ l. l.block) b ls))
+balance_is [] b = refl
+balance_is (l ∷ ls) b =
+    joined (brings_by l.kind l b) (where_so (is_source l.kind && (eqb l.block b)) (amount_of l)) (end_by l.kind l.other b (amount_of l)) (where_so (is_sink l.kind && (eqb l.block b)) (amount_of l)) (end_by l.kind l.block b (amount_of l))
+    (sum_giving (gives_source b) ls) (end_sum (λ m. m.other) b ls) (sum_giving (gives_sink b) ls) (end_sum (λ m. m.block) b ls) (balance_of ls b) (one_balance l.kind l b) (balance_is ls b)

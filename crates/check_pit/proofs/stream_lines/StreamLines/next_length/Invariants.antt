@@ -1,0 +1,10 @@
+use Rattle.std.proofs.Common.{◌≡◌, ◌+◌, ◌-◌}
+use Rattle.check_pit.specs.declared.stream_lines.TheConstants.{MOST_BYTES}
+use Rattle.check_pit.specs.StreamLines.{Reads}
+use Rattle.check_pit.proofs.stream_lines.StreamLines.next_length.Given as goal
+
+abbrev pub invariant-loop-self : goal.invariant-loop-self
+invariant-loop-self g l = record { reads : Reads g.R.Read.remaining l.initial.self l.self; kept : g.R.CountedRead.failed l.self.from ≡ g.R.CountedRead.failed l.initial.self.from }
+
+abbrev pub decreases-loop-self : goal.decreases-loop-self
+decreases-loop-self g l = MOST_BYTES + 1 - l.self.taken

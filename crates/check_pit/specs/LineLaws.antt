@@ -1,0 +1,23 @@
+-- What sums over the lines of a faultless text say of its flow.
+use Rattle.std.specs.Prelude.{◌≡◌, ◌↔◌, ℕ, ◌<◌, Bool, List, length, None}
+use Rattle.ordered_group.specs.Amount.{zero_amount}
+use Rattle.prec_file.specs.Rests.{IsRests}
+use Rattle.closure_net.specs.Network.{NetView, FlowFits, holds_of}
+use Rattle.closure_net.specs.Flows.{Balanced, IsTight}
+use Rattle.check_pit.specs.declared.lines_of_body.BodyLine.{BodyLine}
+use Rattle.check_pit.specs.Pieces.{Piece}
+use Rattle.check_pit.specs.BodyLines.{body_fault, lines_in}
+use Rattle.check_pit.specs.Certificate.{Denotes, has_pair, pit_of}
+use Rattle.check_pit.specs.Checks.{NoneBelowZero, AllWithin}
+use Rattle.check_pit.specs.LineSums.{balance_of, worth_of_blocks, left_to_give, flow_of, KeepLimits}
+
+-- the lines denote this flow; and of it the sums over the lines tell whether a block is balanced and the pit tight
+pub record LinesTell (net : NetView) (ls : List BodyLine) : Type 0 where
+  pub denotes : Denotes (length net.worths) net.pairs ls (pit_of ls) (flow_of (length net.worths) net.pairs ls)
+  pub balanced : (b : ℕ) → b < length net.worths → Balanced net (flow_of (length net.worths) net.pairs ls) b ↔ (balance_of ls b ≡ zero_amount)
+  pub tight : IsTight net (flow_of (length net.worths) net.pairs ls) (holds_of (pit_of ls)) ↔ (worth_of_blocks net.worths (pit_of ls) ≡ left_to_give net.worths ls)
+  pub limits : KeepLimits net.worths ls → NoneBelowZero (flow_of (length net.worths) net.pairs ls) × AllWithin net (flow_of (length net.worths) net.pairs ls)
+
+-- so it is for the lines behind the header of every text without a fault
+abbrev pub LineSumsTell : Type 0
+LineSumsTell = (counts : Bool) (net : NetView) (number : ℕ) (ps : List Piece) → IsRests (record { blocks = length net.worths; pairs = net.pairs }) → body_fault counts (length net.worths) (has_pair net.pairs) None number ps ≡ None → LinesTell net (lines_in counts (length net.worths) ps)
