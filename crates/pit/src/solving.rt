@@ -34,18 +34,32 @@ pub fn solve_mine<
             group,
             effort,
             trace,
-        } => match mine {
-            MineAsked::Values { upit } => {
-                solve_files(rt, words, upit, group, effort, trace, watch)
-            }
-            MineAsked::Prices {
-                settings,
-                blocks,
-                factor,
-            } => solve_priced_files(
-                rt, words, settings, blocks, factor, group, effort, trace, watch,
-            ),
-        },
+        } => solve_by_method(rt, words, mine, group, effort, trace, watch),
+    }
+}
+
+// Solves it by a method, and writes the trace that is asked for.
+fn solve_by_method<
+    R: Files + Print + Eprint + Threads + Wait + Sync + AllocGlobal,
+    T: Gate + Progress,
+>(
+    rt: &R,
+    words: SolveWords<'_>,
+    mine: MineAsked<'_>,
+    group: Group,
+    effort: Effort,
+    trace: Option<TraceAsked<'_>>,
+    watch: &T,
+) -> Result<Verdict, EngineFault> {
+    match mine {
+        MineAsked::Values { upit } => solve_files(rt, words, upit, group, effort, trace, watch),
+        MineAsked::Prices {
+            settings,
+            blocks,
+            factor,
+        } => solve_priced_files(
+            rt, words, settings, blocks, factor, group, effort, trace, watch,
+        ),
     }
 }
 
