@@ -26,8 +26,8 @@ use fixed_worth::Counted;
 use progress::Meter;
 use slopes_words::{pattern_asked, up_asked};
 use solve_words::{factor_asked, group_asked};
-use solving::solve_mine;
-use solving_asked::{mine_asked, solving_asked};
+use solving::{solve_prices, solve_values};
+use solving_asked::solving_asked;
 use std::process::ExitCode;
 use std::rt::{Clock, Env, Files};
 use std::sync::Wait;
@@ -102,14 +102,27 @@ fn solve<R: Files + Print + Eprint + Clock + Threads + Wait + Sync + AllocGlobal
         Ok(solving) => solving,
         Err(wrong) => return refused(rt, wrong),
     };
-    let mine = match mine_asked(words) {
-        Ok(mine) => mine,
-        Err(wrong) => return refused(rt, wrong),
-    };
-    let verdict = if words.progress {
-        solve_mine(rt, words, mine, solving, &Meter::new(rt, solving.steps()))?
-    } else {
-        solve_mine(rt, words, mine, solving, &Unwatched)?
+    let verdict = match words.model {
+        ModelWords::Values { upit } => {
+            if words.progress {
+                let meter = Meter::new(rt, solving.steps());
+                solve_values(rt, words, upit, solving, &meter)?
+            } else {
+                solve_values(rt, words, upit, solving, &Unwatched)?
+            }
+        }
+        ModelWords::Prices { settings, blocks } => {
+            let factor = match factor_asked(Commanded::Solve, words.factor) {
+                Ok(factor) => factor,
+                Err(wrong) => return refused(rt, wrong),
+            };
+            if words.progress {
+                let meter = Meter::new(rt, solving.steps());
+                solve_prices(rt, words, settings, blocks, factor, solving, &meter)?
+            } else {
+                solve_prices(rt, words, settings, blocks, factor, solving, &Unwatched)?
+            }
+        }
     };
     Ok(Ending::Answered(verdict))
 }

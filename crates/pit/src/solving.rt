@@ -2,7 +2,7 @@
 
 use crate::files::{file, made_file};
 use crate::solve_words::TraceAsked;
-use crate::solving_asked::{MineAsked, SolvingAsked};
+use crate::solving_asked::SolvingAsked;
 use crate::told::output;
 use audit_engines::{solve_traced_engine, solve_traced_priced_engine};
 use command_line::SolveWords;
@@ -17,89 +17,101 @@ use std::thread::Threads;
 use word_engines::{WordEffort, solve_priced_words_engine, solve_words_engine};
 use workers::Gate;
 
-/// Solves a mine as it is asked for.
-pub fn solve_mine<
+/// Solves the mine of files of values and of precedence as it is asked for.
+pub fn solve_values<
     R: Files + Print + Eprint + Threads + Wait + Sync + AllocGlobal,
     T: Gate + Progress,
 >(
     rt: &R,
     words: SolveWords<'_>,
-    mine: MineAsked<'_>,
+    upit: &str,
     solving: SolvingAsked<'_>,
     watch: &T,
 ) -> Result<Verdict, EngineFault> {
     match solving {
-        SolvingAsked::ByWords(effort) => solve_by_words(rt, words, mine, effort, watch),
+        SolvingAsked::ByWords(effort) => words_files(rt, words, upit, effort, watch),
         SolvingAsked::ByMethod {
             group,
             effort,
             trace,
-        } => solve_by_method(rt, words, mine, group, effort, trace, watch),
+        } => solve_files(rt, words, upit, group, effort, trace, watch),
     }
 }
 
-// Solves it by a method, and writes the trace that is asked for.
-fn solve_by_method<
+/// Solves the mine of files of settings, blocks and precedence, at a factor, as it is asked for.
+pub fn solve_prices<
     R: Files + Print + Eprint + Threads + Wait + Sync + AllocGlobal,
     T: Gate + Progress,
 >(
     rt: &R,
     words: SolveWords<'_>,
-    mine: MineAsked<'_>,
-    group: Group,
-    effort: Effort,
-    trace: Option<TraceAsked<'_>>,
+    settings: &str,
+    blocks: &str,
+    factor: Factor,
+    solving: SolvingAsked<'_>,
     watch: &T,
 ) -> Result<Verdict, EngineFault> {
-    match mine {
-        MineAsked::Values { upit } => solve_files(rt, words, upit, group, effort, trace, watch),
-        MineAsked::Prices {
-            settings,
-            blocks,
-            factor,
+    match solving {
+        SolvingAsked::ByWords(effort) => {
+            words_priced_files(rt, words, settings, blocks, factor, effort, watch)
+        }
+        SolvingAsked::ByMethod {
+            group,
+            effort,
+            trace,
         } => solve_priced_files(
             rt, words, settings, blocks, factor, group, effort, trace, watch,
         ),
     }
 }
 
-// Solves it by a run without a lock.
-fn solve_by_words<R: Files + Print + Eprint + Threads + Wait + Sync + AllocGlobal, T: Gate>(
+// Solves the mine of values by a run without a lock.
+fn words_files<R: Files + Print + Eprint + Threads + Wait + Sync + AllocGlobal, T: Gate>(
     rt: &R,
     words: SolveWords<'_>,
-    mine: MineAsked<'_>,
+    upit: &str,
     effort: WordEffort,
     watch: &T,
 ) -> Result<Verdict, EngineFault> {
-    let alloc = rt.alloc();
     let mut prec = file(rt, words.verbose, words.prec)?;
-    match mine {
-        MineAsked::Values { upit } => {
-            let mut upit = file(rt, words.verbose, upit)?;
-            let mut out = Counted::new(output(rt, words.verbose));
-            solve_words_engine(rt, alloc, &mut upit, &mut prec, effort, watch, &mut out)
-        }
-        MineAsked::Prices {
-            settings,
-            blocks,
-            factor,
-        } => {
-            let mut settings = file(rt, words.verbose, settings)?;
-            let mut blocks = file(rt, words.verbose, blocks)?;
-            let mut out = Counted::new(output(rt, words.verbose));
-            solve_priced_words_engine(
-                rt,
-                alloc,
-                &mut settings,
-                &mut blocks,
-                &mut prec,
-                factor,
-                effort,
-                watch,
-                &mut out,
-            )
-        }
-    }
+    let mut upit = file(rt, words.verbose, upit)?;
+    let mut out = Counted::new(output(rt, words.verbose));
+    solve_words_engine(
+        rt,
+        rt.alloc(),
+        &mut upit,
+        &mut prec,
+        effort,
+        watch,
+        &mut out,
+    )
+}
+
+// Solves the mine of prices by a run without a lock.
+fn words_priced_files<R: Files + Print + Eprint + Threads + Wait + Sync + AllocGlobal, T: Gate>(
+    rt: &R,
+    words: SolveWords<'_>,
+    settings: &str,
+    blocks: &str,
+    factor: Factor,
+    effort: WordEffort,
+    watch: &T,
+) -> Result<Verdict, EngineFault> {
+    let mut prec = file(rt, words.verbose, words.prec)?;
+    let mut settings = file(rt, words.verbose, settings)?;
+    let mut blocks = file(rt, words.verbose, blocks)?;
+    let mut out = Counted::new(output(rt, words.verbose));
+    solve_priced_words_engine(
+        rt,
+        rt.alloc(),
+        &mut settings,
+        &mut blocks,
+        &mut prec,
+        factor,
+        effort,
+        watch,
+        &mut out,
+    )
 }
 
 // Solves the mine of files of values and of precedence, and writes the trace that is asked for.

@@ -1,31 +1,11 @@
-//! Which mine `solve` is to solve and how, by its words, or the word that names nothing that there is.
+//! How `solve` is to solve a mine, by its words, or the word that names nothing that there is.
 
 use crate::effort_words::{effort_by_words, effort_to_solve};
-use crate::solve_words::{TraceAsked, asks_for_words, factor_asked, group_asked, trace_asked};
-use command_line::{Commanded, ModelWords, NamedOption, SolveWords, WrongWord};
+use crate::solve_words::{TraceAsked, asks_for_words, group_asked, trace_asked};
+use command_line::{Commanded, NamedOption, SolveWords, WrongWord};
 use engines::Effort;
 use ordered_group::Group;
-use shells::Factor;
 use word_engines::WordEffort;
-
-/// A mine that is to be solved.
-#[derive(Clone, Copy)]
-pub enum MineAsked<'a> {
-    /// The values of its blocks.
-    Values {
-        /// The file.
-        upit: &'a str,
-    },
-    /// Blocks with prices, at a factor.
-    Prices {
-        /// The file of settings.
-        settings: &'a str,
-        /// The file of blocks.
-        blocks: &'a str,
-        /// The factor.
-        factor: Factor,
-    },
-}
 
 /// How it is to be solved.
 #[derive(Clone, Copy)]
@@ -50,18 +30,6 @@ impl<'a> SolvingAsked<'a> {
             SolvingAsked::ByMethod { effort, .. } => effort.steps,
             SolvingAsked::ByWords(effort) => effort.steps,
         }
-    }
-}
-
-/// The mine of the words.
-pub fn mine_asked<'a>(words: SolveWords<'a>) -> Result<MineAsked<'a>, WrongWord<'a>> {
-    match words.model {
-        ModelWords::Values { upit } => Ok(MineAsked::Values { upit }),
-        ModelWords::Prices { settings, blocks } => Ok(MineAsked::Prices {
-            settings,
-            blocks,
-            factor: factor_asked(Commanded::Solve, words.factor)?,
-        }),
     }
 }
 
