@@ -59,15 +59,18 @@ fn drawn<R: AllocGlobal + Threads + Wait + Sync>(
     (answer, out.into_inner(), told.sum.load(Ordering::SeqCst))
 }
 
+// While one worker waits for a processor the other goes round its blocks, each look a turn: no small limit will do.
+const MANY_TURNS: u64 = 1_000_000_000;
+
 #[test]
 fn two_shells_by_every_engine(rt: HostRuntime) {
     let settings = b"revenue = 0\ncost = 1\ntonnes = 2\nfactors = [500, 1000]\n";
     let efforts = [
         Effort::new(Method::PushRelabel, 1, 1_000),
-        Effort::new(Method::PushRelabel, 2, 1_000_000),
+        Effort::new(Method::PushRelabel, 2, MANY_TURNS),
         Effort::new(Method::Pseudoflow, 1, 1_000),
         Effort::new(Method::Pseudoflow, 3, 1_000),
-        Effort::new(Method::Auto, 2, 1_000),
+        Effort::new(Method::Auto, 2, MANY_TURNS),
     ];
     for effort in efforts {
         let (answer, text, told) = drawn(&rt, settings, effort);
