@@ -18,6 +18,8 @@ ROWS = (
     "check/prices_in_full",
     "solve/two_ore_blocks_share_one_waste_block_by_one_worker",
     "solve/one_block_by_two_workers_at_its_tenth_step",
+    "solve/words_ore_only_pays_its_waste",
+    "solve/words_ore_only_pays_its_waste_by_two_workers",
     "solve/trace_of_a_settled_run",
     "replay/two_ore_blocks_over_one_waste_block",
     "slopes/nine",

@@ -109,13 +109,8 @@ pub fn group_option<'a>(alloc: Global) -> Arg<'a> {
 }
 
 /// The option that names the engine which makes the flow.
-pub fn method_option<'a>(alloc: Global) -> Arg<'a> {
-    named_option(
-        alloc,
-        "method",
-        "METHOD",
-        "Which engine makes the flow: auto (the default), pseudoflow or push-relabel",
-    )
+pub fn method_option<'a>(alloc: Global, help: &'a str) -> Arg<'a> {
+    named_option(alloc, "method", "METHOD", help)
 }
 
 /// The option that bounds a run.

@@ -36,7 +36,9 @@ const METHODS: &str = "Which engine makes the flow: auto (the default), pseudofl
 
   auto          the push-relabel machine for a mine of at most 1000 blocks, and pseudoflow where a number of its run doesn't fit; for more blocks pseudoflow, and the machine where that gives no flow that proves a pit; the machine alone where --steps is given
   pseudoflow    highest-label pseudoflow alone, for as many factors at a time as there are workers; UNSETTLED where it gives up
-  push-relabel  the push-relabel machine alone, with as many threads as there are workers";
+  push-relabel  the push-relabel machine alone, with as many threads as there are workers
+
+One worker or two of the machine run without a lock, and under one where a number of that run doesn't fit a word; more workers share a lock. The pits are the same.";
 
 /// The options of such a command; the help says what its settings have.
 pub fn with_series<'a>(
@@ -48,7 +50,11 @@ pub fn with_series<'a>(
         .arg(file_option(alloc, "prec", PREC_HELP))?
         .arg(file_option(alloc, "blocks", PRICED_BLOCKS_HELP))?
         .arg(file_option(alloc, "settings", settings_help))?
-        .arg(method_option(alloc).long_help(METHODS))?
+        .arg(method_option(
+            alloc,
+            "Which engine makes the flow: auto (the default), pseudoflow or push-relabel",
+        )
+        .long_help(METHODS))?
         .arg(steps_option(alloc))?
         .arg(workers_option(
             alloc,

@@ -18,7 +18,8 @@ With --trace the push-relabel machine makes the flow, and each of its steps is w
 Methods:
   auto          the push-relabel machine for a mine of at most 1000 blocks, and pseudoflow where a number of its run doesn't fit; for more blocks pseudoflow, and the machine where that gives no flow that proves a pit; the machine alone where --workers or --steps is given
   pseudoflow    highest-label pseudoflow alone: quick on mines of millions of blocks; UNSETTLED where it gives up
-  push-relabel  the push-relabel machine alone: each step is proved, and it is slow beyond some thousand blocks";
+  push-relabel  the push-relabel machine alone: each step is proved, and it is slow beyond some thousand blocks
+  words         the same machine without a lock: one or two workers share its state in words of 64 bits, and each step is one operation on one word; in amounts of the group scaled, which is the default here, and without --trace";
 
 /// The words of a request to solve: the files, and where they were given the factor, the method, the kind of amount, the steps, the
 /// workers, the trace and its room, and whether progress is shown and it is told why a file failed.
@@ -49,7 +50,11 @@ pub fn solve_command<'a>(alloc: Global) -> Result<Command<'a>, AllocError> {
 
 // The options that say how it is solved.
 fn with_kinds<'a>(alloc: Global, command: Command<'a>) -> Result<Command<'a>, AllocError> {
-    command.arg(method_option(alloc))?.arg(group_option(alloc))
+    let methods =
+        "Which engine makes the flow: auto (the default), pseudoflow, push-relabel or words";
+    command
+        .arg(method_option(alloc, methods))?
+        .arg(group_option(alloc))
 }
 
 // The options that bound the run or show it.
@@ -58,7 +63,7 @@ fn with_limits<'a>(alloc: Global, command: Command<'a>) -> Result<Command<'a>, A
         .arg(steps_option(alloc))?
         .arg(workers_option(
             alloc,
-            "The threads of the push-relabel machine, from 1 to 64 (1 by default); they share one lock",
+            "The threads of the push-relabel machine, from 1 to 64 (1 by default); they share one lock, or of --method words 1 or 2 without a lock",
         ))?
         .arg(progress_option(
             alloc,
@@ -74,7 +79,7 @@ fn with_trace<'a>(alloc: Global, command: Command<'a>) -> Result<Command<'a>, Al
             alloc,
             "trace",
             "FILE",
-            "Writes each step of the push-relabel machine's run to this file; not with --method pseudoflow",
+            "Writes each step of the push-relabel machine's run to this file; not with --method pseudoflow or words",
         ))?
         .arg(named_option(
             alloc,

@@ -45,6 +45,10 @@ pub enum NamedOption {
     Room,
     /// `--method` where `--trace` is given.
     TracedMethod,
+    /// `--group` where `--method words` is given.
+    GroupOfWords,
+    /// `--workers` where `--method words` is given.
+    WorkersOfWords,
 }
 
 /// A word that names nothing that its option takes. Which words those are is decided above, where they are read.
@@ -68,7 +72,7 @@ pub fn declined_for(alloc: Global, wrong: WrongWord<'_>) -> Declined {
 
 fn error_for(alloc: Global, wrong: WrongWord<'_>) -> Result<Error, AllocError> {
     let shown = shown(wrong.option);
-    let taken = taken(wrong.option);
+    let taken = taken(wrong.command, wrong.option);
     let word = wrong.word;
     let text = format!(in alloc; "invalid value '{word}' for '{shown}': {taken}")?;
     let mut command = command_of(alloc, wrong.command)?;
@@ -93,25 +97,35 @@ fn shown(option: NamedOption) -> &'static str {
         NamedOption::Up => "--up <WAY>",
         NamedOption::Factor => "--factor <FACTOR>",
         NamedOption::Method | NamedOption::TracedMethod => "--method <METHOD>",
-        NamedOption::Group => "--group <GROUP>",
+        NamedOption::Group | NamedOption::GroupOfWords => "--group <GROUP>",
         NamedOption::Steps => "--steps <STEPS>",
-        NamedOption::Workers => "--workers <WORKERS>",
+        NamedOption::Workers | NamedOption::WorkersOfWords => "--workers <WORKERS>",
         NamedOption::Room => "--room <ROOM>",
     }
 }
 
 // What the option takes.
-fn taken(option: NamedOption) -> &'static str {
+fn taken(command: Commanded, option: NamedOption) -> &'static str {
     match option {
         NamedOption::Pattern =>
             "five, nine, cone:LEVELS:RUN:RISE with each number from 1 to 1000, or settings",
         NamedOption::Up => "plus or minus",
         NamedOption::Factor => "a whole number from 0 to 10000",
-        NamedOption::Method => "auto, pseudoflow or push-relabel",
+        NamedOption::Method => methods(command),
         NamedOption::Group => "pair, scaled or worth",
         NamedOption::Steps => "a whole number from 1 to 1099511627776",
         NamedOption::Workers => "a whole number from 1 to 64",
         NamedOption::Room => "a whole number from 1 to 16777216",
         NamedOption::TracedMethod => "auto or push-relabel where --trace is given",
+        NamedOption::GroupOfWords => "scaled where --method words is given",
+        NamedOption::WorkersOfWords => "1 or 2 where --method words is given",
+    }
+}
+
+// The methods that a command takes.
+fn methods(command: Commanded) -> &'static str {
+    match command {
+        Commanded::Solve => "auto, pseudoflow, push-relabel or words",
+        _ => "auto, pseudoflow or push-relabel",
     }
 }

@@ -4,6 +4,7 @@ ghost use Rattle.std.specs.Prelude.{◌≤◌, IfOk};
 
 use command_line::{Commanded, NamedOption, SeriesWords, SolveWords, WrongWord};
 use engines::{Effort, Method, method_named, steps_named, workers_named};
+use word_engines::WordEffort;
 use workers::MOST_WORKERS;
 
 // The most steps of a run, where no word says.
@@ -29,6 +30,23 @@ pub fn effort_to_solve<'a>(words: SolveWords<'a>) -> Result<Effort, WrongWord<'a
         workers: words.workers,
     };
     effort_asked(words, limits_are_given)
+}
+
+/// How much a run of `solve` without a lock may use: it has one worker or two.
+pub fn effort_by_words<'a>(words: SolveWords<'a>) -> Result<WordEffort, WrongWord<'a>> {
+    let asked = EffortWords {
+        command: Commanded::Solve,
+        method: None,
+        steps: words.steps,
+        workers: words.workers,
+    };
+    let workers = workers_asked(asked)?;
+    let steps = steps_asked(asked)?;
+    WordEffort::new(workers, steps).ok_or(WrongWord {
+        command: Commanded::Solve,
+        option: NamedOption::WorkersOfWords,
+        word: words.workers.unwrap_or(""),
+    })
 }
 
 /// How `shells` and `report` solve the mine at each factor. Workers are of use to both engines here, so that steps alone

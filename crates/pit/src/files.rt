@@ -3,15 +3,11 @@
 ghost use Rattle.std.specs.Prelude.{◌≡◌, IfOk};
 ghost use Rattle.engines.specs.Slopes.{IsChoice};
 
-use crate::solve_words::TraceAsked;
 use crate::told::{Told, made, opened, output};
-use audit_engines::{solve_traced_engine, solve_traced_priced_engine};
-use command_line::{
-    CheckWords, ModelWords, ReplayWords, SeriesCommand, SeriesWords, SlopesWords, SolveWords,
-};
+use command_line::{CheckWords, ModelWords, ReplayWords, SeriesCommand, SeriesWords, SlopesWords};
 use engines::{
     Effort, EngineFault, PatternChoice, Verdict, check_engine, check_priced_engine, slopes_engine,
-    slopes_from_settings_engine, solve_engine, solve_priced_engine,
+    slopes_from_settings_engine,
 };
 use fixed_worth::Counted;
 use ordered_group::Group;
@@ -55,85 +51,6 @@ pub fn check_files<R: Files + Print + Eprint + Threads + Sync + AllocGlobal>(
             )
         }
     }
-}
-
-/// Solves the mine of files of values and of precedence, and writes the trace that is asked for.
-pub fn solve_files<
-    R: Files + Print + Eprint + Threads + Wait + Sync + AllocGlobal,
-    T: Gate + Progress,
->(
-    rt: &R,
-    words: SolveWords<'_>,
-    upit: &str,
-    group: Group,
-    effort: Effort,
-    asked: Option<TraceAsked<'_>>,
-    watch: &T,
-) -> Result<Verdict, EngineFault> {
-    let mut prec = file(rt, words.verbose, words.prec)?;
-    let mut upit = file(rt, words.verbose, upit)?;
-    let mut out = Counted::new(output(rt, words.verbose));
-    let alloc = rt.alloc();
-    let Some(asked) = asked else {
-        return solve_engine(
-            rt, alloc, &mut upit, &mut prec, group, effort, watch, &mut out,
-        );
-    };
-    let mut trace = made_file(rt, words.verbose, asked.file)?;
-    solve_traced_engine(
-        rt, alloc, &mut upit, &mut prec, group, effort, asked.room, watch, &mut trace, &mut out,
-    )
-}
-
-/// Solves the mine of files of settings, blocks and precedence, at a factor, and writes the trace that is asked for.
-pub fn solve_priced_files<
-    R: Files + Print + Eprint + Threads + Wait + Sync + AllocGlobal,
-    T: Gate + Progress,
->(
-    rt: &R,
-    words: SolveWords<'_>,
-    settings: &str,
-    blocks: &str,
-    factor: Factor,
-    group: Group,
-    effort: Effort,
-    asked: Option<TraceAsked<'_>>,
-    watch: &T,
-) -> Result<Verdict, EngineFault> {
-    let mut prec = file(rt, words.verbose, words.prec)?;
-    let mut settings = file(rt, words.verbose, settings)?;
-    let mut blocks = file(rt, words.verbose, blocks)?;
-    let mut out = Counted::new(output(rt, words.verbose));
-    let alloc = rt.alloc();
-    let Some(asked) = asked else {
-        return solve_priced_engine(
-            rt,
-            alloc,
-            &mut settings,
-            &mut blocks,
-            &mut prec,
-            factor,
-            group,
-            effort,
-            watch,
-            &mut out,
-        );
-    };
-    let mut trace = made_file(rt, words.verbose, asked.file)?;
-    solve_traced_priced_engine(
-        rt,
-        alloc,
-        &mut settings,
-        &mut blocks,
-        &mut prec,
-        factor,
-        group,
-        effort,
-        asked.room,
-        watch,
-        &mut trace,
-        &mut out,
-    )
 }
 
 /// Repeats a run over the mine of files of values and of precedence from the file of its trace.
@@ -245,8 +162,8 @@ pub fn listed_slopes_files<R: Files + Print + Eprint + AllocGlobal>(
     slopes_from_settings_engine(rt.alloc(), &mut settings, &mut blocks, up, &mut out)
 }
 
-// A file whose failures are counted.
-fn file<'a, R: Files + Eprint>(
+/// A file whose failures are counted.
+pub fn file<'a, R: Files + Eprint>(
     rt: &'a R,
     verbose: bool,
     name: &'a str,
@@ -259,8 +176,8 @@ fn file<'a, R: Files + Eprint>(
     }
 }
 
-// A new file, or an emptied one, whose failures are counted.
-fn made_file<'a, R: Files + Eprint>(
+/// A new file, or an emptied one, whose failures are counted.
+pub fn made_file<'a, R: Files + Eprint>(
     rt: &'a R,
     verbose: bool,
     name: &'a str,

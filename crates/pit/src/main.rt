@@ -9,22 +9,25 @@ mod files;
 mod progress;
 mod slopes_words;
 mod solve_words;
+mod solving;
+mod solving_asked;
 mod told;
 
 use command_line::{
     Commanded, Declined, ModelWords, OffsetsWords, ReplayWords, Request, SeriesWords, SlopesWords,
     SolveWords, WrongWord, declined_for, request_of,
 };
-use effort_words::{effort_for_series, effort_to_solve};
+use effort_words::effort_for_series;
 use engines::{EngineFault, Unwatched, Verdict, status, stored_check, write_fault};
 use files::{
     check_files, listed_slopes_files, replay_files, replay_priced_files, series_files, slopes_file,
-    solve_files, solve_priced_files,
 };
 use fixed_worth::Counted;
 use progress::Meter;
 use slopes_words::{pattern_asked, up_asked};
-use solve_words::{factor_asked, group_asked, trace_asked};
+use solve_words::{factor_asked, group_asked};
+use solving::{solve_prices, solve_values};
+use solving_asked::solving_asked;
 use std::process::ExitCode;
 use std::rt::{Clock, Env, Files};
 use std::sync::Wait;
@@ -90,51 +93,38 @@ fn answer<R: Files + Print + Eprint + Clock + Threads + Wait + Sync + AllocGloba
     }
 }
 
-// Solves the mine of two files, and tells how far it is where that is asked for.
+// Solves a mine, and tells how far it is where that is asked for.
 fn solve<R: Files + Print + Eprint + Clock + Threads + Wait + Sync + AllocGlobal>(
     rt: &R,
     words: SolveWords<'_>,
 ) -> Result<Ending, EngineFault> {
-    let group = match group_asked(Commanded::Solve, words.group) {
-        Ok(group) => group,
+    let solving = match solving_asked(words) {
+        Ok(solving) => solving,
         Err(wrong) => return refused(rt, wrong),
     };
-    let effort = match effort_to_solve(words) {
-        Ok(effort) => effort,
-        Err(wrong) => return refused(rt, wrong),
-    };
-    let trace = match trace_asked(words) {
-        Ok(trace) => trace,
-        Err(wrong) => return refused(rt, wrong),
-    };
-    match words.model {
+    let verdict = match words.model {
         ModelWords::Values { upit } => {
-            let verdict = if words.progress {
-                let meter = Meter::new(rt, effort.steps);
-                solve_files(rt, words, upit, group, effort, trace, &meter)?
+            if words.progress {
+                let meter = Meter::new(rt, solving.steps());
+                solve_values(rt, words, upit, solving, &meter)?
             } else {
-                solve_files(rt, words, upit, group, effort, trace, &Unwatched)?
-            };
-            Ok(Ending::Answered(verdict))
+                solve_values(rt, words, upit, solving, &Unwatched)?
+            }
         }
         ModelWords::Prices { settings, blocks } => {
             let factor = match factor_asked(Commanded::Solve, words.factor) {
                 Ok(factor) => factor,
                 Err(wrong) => return refused(rt, wrong),
             };
-            let verdict = if words.progress {
-                let meter = Meter::new(rt, effort.steps);
-                solve_priced_files(
-                    rt, words, settings, blocks, factor, group, effort, trace, &meter,
-                )?
+            if words.progress {
+                let meter = Meter::new(rt, solving.steps());
+                solve_prices(rt, words, settings, blocks, factor, solving, &meter)?
             } else {
-                solve_priced_files(
-                    rt, words, settings, blocks, factor, group, effort, trace, &Unwatched,
-                )?
-            };
-            Ok(Ending::Answered(verdict))
+                solve_prices(rt, words, settings, blocks, factor, solving, &Unwatched)?
+            }
         }
-    }
+    };
+    Ok(Ending::Answered(verdict))
 }
 
 // Repeats a run over the mine of files from its trace.

@@ -5,6 +5,7 @@ use command_line::{Commanded, NamedOption, SolveWords, WrongWord};
 use engines::{Method, factor_named, group_named, method_named};
 use ordered_group::Group;
 use shells::Factor;
+use word_engines::names_words;
 
 /// What amounts count: worth and size, where no word says.
 pub fn group_asked<'a>(command: Commanded, word: Option<&'a str>) -> Result<Group, WrongWord<'a>> {
@@ -16,6 +17,11 @@ pub fn group_asked<'a>(command: Commanded, word: Option<&'a str>) -> Result<Grou
         }),
         None => Ok(Group::Pair),
     }
+}
+
+/// Whether the word of a method asks for a run without a lock.
+pub fn asks_for_words(method: &str) -> bool {
+    names_words(method.as_bytes())
 }
 
 /// The factor of a priced model.

@@ -1,0 +1,191 @@
+//! The engines of `solve` on files: all files are opened before any is read.
+
+use crate::files::{file, made_file};
+use crate::solve_words::TraceAsked;
+use crate::solving_asked::SolvingAsked;
+use crate::told::output;
+use audit_engines::{solve_traced_engine, solve_traced_priced_engine};
+use command_line::SolveWords;
+use engines::{Effort, EngineFault, Verdict, solve_engine, solve_priced_engine};
+use fixed_worth::Counted;
+use ordered_group::Group;
+use pseudoflow::Progress;
+use shells::Factor;
+use std::rt::Files;
+use std::sync::Wait;
+use std::thread::Threads;
+use word_engines::{WordEffort, solve_priced_words_engine, solve_words_engine};
+use workers::Gate;
+
+/// Solves the mine of files of values and of precedence as it is asked for.
+pub fn solve_values<
+    R: Files + Print + Eprint + Threads + Wait + Sync + AllocGlobal,
+    T: Gate + Progress,
+>(
+    rt: &R,
+    words: SolveWords<'_>,
+    upit: &str,
+    solving: SolvingAsked<'_>,
+    watch: &T,
+) -> Result<Verdict, EngineFault> {
+    match solving {
+        SolvingAsked::ByWords(effort) => words_files(rt, words, upit, effort, watch),
+        SolvingAsked::ByMethod {
+            group,
+            effort,
+            trace,
+        } => solve_files(rt, words, upit, group, effort, trace, watch),
+    }
+}
+
+/// Solves the mine of files of settings, blocks and precedence, at a factor, as it is asked for.
+pub fn solve_prices<
+    R: Files + Print + Eprint + Threads + Wait + Sync + AllocGlobal,
+    T: Gate + Progress,
+>(
+    rt: &R,
+    words: SolveWords<'_>,
+    settings: &str,
+    blocks: &str,
+    factor: Factor,
+    solving: SolvingAsked<'_>,
+    watch: &T,
+) -> Result<Verdict, EngineFault> {
+    match solving {
+        SolvingAsked::ByWords(effort) => {
+            words_priced_files(rt, words, settings, blocks, factor, effort, watch)
+        }
+        SolvingAsked::ByMethod {
+            group,
+            effort,
+            trace,
+        } => solve_priced_files(
+            rt, words, settings, blocks, factor, group, effort, trace, watch,
+        ),
+    }
+}
+
+// Solves the mine of values by a run without a lock.
+fn words_files<R: Files + Print + Eprint + Threads + Wait + Sync + AllocGlobal, T: Gate>(
+    rt: &R,
+    words: SolveWords<'_>,
+    upit: &str,
+    effort: WordEffort,
+    watch: &T,
+) -> Result<Verdict, EngineFault> {
+    let mut prec = file(rt, words.verbose, words.prec)?;
+    let mut upit = file(rt, words.verbose, upit)?;
+    let mut out = Counted::new(output(rt, words.verbose));
+    solve_words_engine(
+        rt,
+        rt.alloc(),
+        &mut upit,
+        &mut prec,
+        effort,
+        watch,
+        &mut out,
+    )
+}
+
+// Solves the mine of prices by a run without a lock.
+fn words_priced_files<R: Files + Print + Eprint + Threads + Wait + Sync + AllocGlobal, T: Gate>(
+    rt: &R,
+    words: SolveWords<'_>,
+    settings: &str,
+    blocks: &str,
+    factor: Factor,
+    effort: WordEffort,
+    watch: &T,
+) -> Result<Verdict, EngineFault> {
+    let mut prec = file(rt, words.verbose, words.prec)?;
+    let mut settings = file(rt, words.verbose, settings)?;
+    let mut blocks = file(rt, words.verbose, blocks)?;
+    let mut out = Counted::new(output(rt, words.verbose));
+    solve_priced_words_engine(
+        rt,
+        rt.alloc(),
+        &mut settings,
+        &mut blocks,
+        &mut prec,
+        factor,
+        effort,
+        watch,
+        &mut out,
+    )
+}
+
+// Solves the mine of files of values and of precedence, and writes the trace that is asked for.
+fn solve_files<R: Files + Print + Eprint + Threads + Wait + Sync + AllocGlobal, T: Gate + Progress>(
+    rt: &R,
+    words: SolveWords<'_>,
+    upit: &str,
+    group: Group,
+    effort: Effort,
+    asked: Option<TraceAsked<'_>>,
+    watch: &T,
+) -> Result<Verdict, EngineFault> {
+    let mut prec = file(rt, words.verbose, words.prec)?;
+    let mut upit = file(rt, words.verbose, upit)?;
+    let mut out = Counted::new(output(rt, words.verbose));
+    let alloc = rt.alloc();
+    let Some(asked) = asked else {
+        return solve_engine(
+            rt, alloc, &mut upit, &mut prec, group, effort, watch, &mut out,
+        );
+    };
+    let mut trace = made_file(rt, words.verbose, asked.file)?;
+    solve_traced_engine(
+        rt, alloc, &mut upit, &mut prec, group, effort, asked.room, watch, &mut trace, &mut out,
+    )
+}
+
+// Solves the mine of files of settings, blocks and precedence, at a factor, and writes the trace that is asked for.
+fn solve_priced_files<
+    R: Files + Print + Eprint + Threads + Wait + Sync + AllocGlobal,
+    T: Gate + Progress,
+>(
+    rt: &R,
+    words: SolveWords<'_>,
+    settings: &str,
+    blocks: &str,
+    factor: Factor,
+    group: Group,
+    effort: Effort,
+    asked: Option<TraceAsked<'_>>,
+    watch: &T,
+) -> Result<Verdict, EngineFault> {
+    let mut prec = file(rt, words.verbose, words.prec)?;
+    let mut settings = file(rt, words.verbose, settings)?;
+    let mut blocks = file(rt, words.verbose, blocks)?;
+    let mut out = Counted::new(output(rt, words.verbose));
+    let alloc = rt.alloc();
+    let Some(asked) = asked else {
+        return solve_priced_engine(
+            rt,
+            alloc,
+            &mut settings,
+            &mut blocks,
+            &mut prec,
+            factor,
+            group,
+            effort,
+            watch,
+            &mut out,
+        );
+    };
+    let mut trace = made_file(rt, words.verbose, asked.file)?;
+    solve_traced_priced_engine(
+        rt,
+        alloc,
+        &mut settings,
+        &mut blocks,
+        &mut prec,
+        factor,
+        group,
+        effort,
+        asked.room,
+        watch,
+        &mut trace,
+        &mut out,
+    )
+}

@@ -1,0 +1,68 @@
+//! How `solve` is to solve a mine, by its words, or the word that names nothing that there is.
+
+use crate::effort_words::{effort_by_words, effort_to_solve};
+use crate::solve_words::{TraceAsked, asks_for_words, group_asked, trace_asked};
+use command_line::{Commanded, NamedOption, SolveWords, WrongWord};
+use engines::Effort;
+use ordered_group::Group;
+use word_engines::WordEffort;
+
+/// How it is to be solved.
+#[derive(Clone, Copy)]
+pub enum SolvingAsked<'a> {
+    /// By the method of an effort.
+    ByMethod {
+        /// What amounts count.
+        group: Group,
+        /// The method, the workers and the steps.
+        effort: Effort,
+        /// The trace, where one is asked for.
+        trace: Option<TraceAsked<'a>>,
+    },
+    /// By a run without a lock.
+    ByWords(WordEffort),
+}
+
+impl<'a> SolvingAsked<'a> {
+    /// The most steps.
+    pub fn steps(self) -> u64 {
+        match self {
+            SolvingAsked::ByMethod { effort, .. } => effort.steps,
+            SolvingAsked::ByWords(effort) => effort.steps,
+        }
+    }
+}
+
+/// How the words say that it is solved.
+pub fn solving_asked<'a>(words: SolveWords<'a>) -> Result<SolvingAsked<'a>, WrongWord<'a>> {
+    let group = group_asked(Commanded::Solve, words.group)?;
+    match words.method {
+        Some(method) if asks_for_words(method) => words_asked(words, method, group),
+        _ => Ok(SolvingAsked::ByMethod {
+            group,
+            effort: effort_to_solve(words)?,
+            trace: trace_asked(words)?,
+        }),
+    }
+}
+
+// A run without a lock: it has amounts of one group, and no trace.
+fn words_asked<'a>(
+    words: SolveWords<'a>,
+    method: &'a str,
+    group: Group,
+) -> Result<SolvingAsked<'a>, WrongWord<'a>> {
+    match words.group {
+        Some(word) if group != Group::Scaled => Err(wrong(NamedOption::GroupOfWords, word)),
+        _ if words.trace.is_some() => Err(wrong(NamedOption::TracedMethod, method)),
+        _ => Ok(SolvingAsked::ByWords(effort_by_words(words)?)),
+    }
+}
+
+fn wrong<'a>(option: NamedOption, word: &'a str) -> WrongWord<'a> {
+    WrongWord {
+        command: Commanded::Solve,
+        option,
+        word,
+    }
+}
