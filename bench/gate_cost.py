@@ -5,7 +5,8 @@
 
 Prints what the command prints, and then a row per crate: its lines and edits, and the seconds of its proof, of the same
 once more with its tests, and of its edits. The processes are looked at every half second, so what a process does in its
-last moments isn't counted: the sum is some percent below the whole, which the last line gives.
+last moments isn't counted: the sum is some percent below the whole, which the last line gives. What others run beside it isn't
+counted either.
 """
 import os
 import resource
@@ -57,15 +58,19 @@ class Watcher(threading.Thread):
     def __init__(self):
         super().__init__(daemon=True)
         self.tasks, self.seconds, self.is_over = {}, {}, False
+        self.own = {os.getpid()}  # this process and those below it; who is seen with a parent that isn't one never is
 
     def look(self):
         found = processes()
-        for pid, (parent, seconds, began) in found.items():
+        for pid in sorted(found):
+            parent, seconds, began = found[pid]
             key = pid, began
             if key not in self.tasks:
-                task = task_of(pid)
                 above = found.get(parent)
-                self.tasks[key] = task or (self.tasks.get((parent, above[2])) if above else None)
+                self.tasks[key] = None
+                if parent in self.own:
+                    self.own.add(pid)
+                    self.tasks[key] = task_of(pid) or (self.tasks.get((parent, above[2])) if above else None)
             if self.tasks[key]:
                 self.seconds[key] = seconds
 
