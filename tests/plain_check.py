@@ -52,15 +52,20 @@ def worths_of_values(text):
     return [values.get(b, 0) for b in range(blocks)]
 
 
-def worths_of_prices(settings, text, factor):
-    """The worth of each block of a `.blocks` text at a factor in thousandths, in billionths."""
+def worths_of_prices(settings, text, factor, is_mill):
+    """The worth of each block of a `.blocks` text at a factor in thousandths, in billionths, by costs or by a mill's charges."""
     try:
         said = tomllib.loads(settings.decode())
     except (ValueError, RecursionError) as why:
         raise Unread(why) from None
     columns = {whole(fields[0]): fields[4:] for fields in records(text)}
-    revenue, cost = said["revenue"], said["cost"]
-    return [factor * millionths(columns[b][revenue]) - 1000 * millionths(columns[b][cost]) for b in range(len(columns))]
+
+    def of(b, key):
+        return millionths(columns[b][said[key]])
+
+    if is_mill:
+        return [max(factor * of(b, "revenue") - 1000 * of(b, "processing"), 0) - 1000 * of(b, "mining") for b in range(len(columns))]
+    return [factor * of(b, "revenue") - 1000 * of(b, "cost") for b in range(len(columns))]
 
 
 def predecessors(text):
@@ -71,12 +76,12 @@ def predecessors(text):
 def verdict(files, certificate):
     """Whether the certificate's pit is closed, how many blocks it has, and its worth, exactly."""
     lines = [line.split() for line in certificate.decode().split("\n")]
-    price = next(line[1] for line in lines if line[:1] == ["PRICE"])
+    price = next(line[1:] for line in lines if line[:1] == ["PRICE"])
     pit = {int(line[1]) for line in lines if line[:1] == ["PIT"]}
-    if price == "OBJECTIVE":
+    if price == ["OBJECTIVE"]:
         worths = worths_of_values(files["upit"])
     else:
-        worths = worths_of_prices(files["settings"], files["blocks"], int(price))
+        worths = worths_of_prices(files["settings"], files["blocks"], int(price[-1]), price[0] == "MILL")
     is_closed = all(predecessors(files["prec"]).get(b, set()) <= pit for b in pit)
     return is_closed, len(pit), Fraction(sum(worths[b] for b in pit), 10**9)
 
