@@ -1,4 +1,5 @@
 pub mod Additions
+pub mod Beginnings
 pub mod Amounts
 pub mod Duality
 pub mod Going
@@ -6,6 +7,7 @@ pub mod Heads
 pub mod HeldBytes
 pub mod HeldLines
 pub mod Lacks
+pub mod NextLines
 pub mod LineOrder
 pub mod Order
 pub mod LineFlows

@@ -14,6 +14,7 @@ pub mod LineSums
 pub mod Pieces
 pub mod ReadBack
 pub mod Written
+pub mod StreamBody
 pub mod StreamBytes
 pub mod StreamLines
 pub mod StreamView

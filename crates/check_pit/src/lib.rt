@@ -22,6 +22,7 @@ mod lines_of_body;
 mod piece_reader;
 mod pit_fault;
 pub mod reading;
+mod stream_body;
 mod stream_bytes;
 pub mod stream_fault;
 pub mod stream_lines;
