@@ -7,7 +7,7 @@ use Rattle.check_pit.specs.Pieces.{Piece, onto_piece, pieces_of, piece_at, no_li
 use Rattle.check_pit.specs.BodyLines.{line_of, is_end, is_of_model, may_follow, next_line, end_fault, fault_from, body_fault, lines_in, lines_from}
 use Rattle.check_pit.specs.Certificate.{has_pair}
 use Rattle.check_pit.specs.StreamLines.{IsLine}
-use Rattle.check_pit.specs.StreamBody.{held_piece}
+use Rattle.check_pit.specs.TakenLines.{held_piece}
 use Rattle.check_pit.proofs.Going.{text_read, sound}
 use Rattle.check_pit.proofs.HeldLines.{line_held}
 use Rattle.check_pit.proofs.Order.{InOrder, Good, Met, met}

@@ -20,7 +20,7 @@ use Rattle.check_pit.specs.BodyLines.{line_of, is_of_model, may_follow, in_order
 use Rattle.check_pit.specs.Certificate.{has_pair}
 use Rattle.check_pit.specs.StreamView.{LineView}
 use Rattle.check_pit.specs.StreamLines.{IsLine, NoLine}
-use Rattle.check_pit.specs.StreamBody.{held_piece, NoNextLine}
+use Rattle.check_pit.specs.TakenLines.{held_piece, NoNextLine}
 use Rattle.check_pit.proofs.Additions.{absent, present}
 use Rattle.check_pit.proofs.Beginnings.{no_line_next}
 use Rattle.check_pit.proofs.HeldLines.{line_held}
@@ -61,37 +61,48 @@ next_whole counts n has previous k text h =
     (bind_whole (read_line (line_of counts n) k p) (in_order previous k) (read_whole_line counts n k text h) (λ l. order_whole previous k l (may_follow previous l) refl))
     (λ l. model_whole has k l (is_of_model has l.kind l) refl)
 
--- A fault of the line that is held, whatever follows it.
-stays : {R : Type 0} (left : Option (List ℕ)) (counts : Bool) (n : ℕ) (pairs : List (ℕ × ℕ)) (previous : Option BodyLine) (s : LineView R) (e : CertFault) → (e ≡ fault.Truncated → ⊥)
-    → ((future : List ℕ) → next_line counts n (has_pair pairs) previous (s.number + 1) (piece_at (pieces_of (s.held ++ future)) 0) ≡ Err e) → NoNextLine left counts n pairs previous s (Cert e)
-stays left counts n pairs previous s fault.Truncated f h = absurd (f refl)
-stays left counts n pairs previous s (fault.Text k) f h = h
-stays left counts n pairs previous s (fault.Number k) f h = h
-stays left counts n pairs previous s (fault.OutOfOrder k) f h = h
-stays left counts n pairs previous s (fault.UnknownPair k) f h = h
-stays left counts n pairs previous s fault.NoMemory f h = h
+-- What f makes of a piece: the fault of one that is no line, and of a line never that it is cut off.
+pub record ReadsLines {A : Type 0} (f : ℕ → Piece → Result A CertFault) : Type 0 where
+  pub none : (k : ℕ) (p : Piece) (e : CertFault) → no_line k p ≡ Some e → f k p ≡ Err e
+  pub whole : (k : ℕ) (text : List ℕ) → length text ≤ LINE_BYTES → IsCut (f k (record { text = text; ended = true })) → ⊥
 
-pub line_wrong : {R : Type 0} (left : Option (List ℕ)) (counts : Bool) (n : ℕ) (pairs : List (ℕ × ℕ)) (previous : Option BodyLine) (s : LineView R) (count : ℕ) (e : CertFault) → IsLine s.held count
-    → next_line counts n (has_pair pairs) previous (s.number + 1) (held_piece count s.held) ≡ Err e → NoNextLine left counts n pairs previous s (Cert e)
-line_wrong left counts n pairs previous s count e h bad =
-    let has : ℕ → ℕ → Bool = has_pair pairs in
+read_none : {A : Type 0} (f : List ℕ → Result A LineFault) (k : ℕ) (p : Piece) (e : CertFault) → no_line k p ≡ Some e → read_line f k p ≡ Err e
+read_none f k p e h = rw h refl
+
+pub line_reads : {A : Type 0} (f : List ℕ → Result A LineFault) → ReadsLines (read_line f)
+line_reads f = record { none = read_none f; whole = λ k text h e. in_line_whole k (f text) (sym (ap (λ (o : Option CertFault). unless_fault o (in_line k (f text))) (no_fault k text h)) ∙ e) }
+
+pub next_reads : (counts : Bool) (n : ℕ) (has : ℕ → ℕ → Bool) (previous : Option BodyLine) → ReadsLines (next_line counts n has previous)
+next_reads counts n has previous = record { none = no_line_next counts n has previous; whole = next_whole counts n has previous }
+
+-- A fault of the line that is held, whatever follows it.
+stays : {R A : Type 0} (left : Option (List ℕ)) (f : ℕ → Piece → Result A CertFault) (s : LineView R) (e : CertFault) → (e ≡ fault.Truncated → ⊥) → ((future : List ℕ) → f (s.number + 1) (piece_at (pieces_of (s.held ++ future)) 0) ≡ Err e) → NoNextLine left f s (Cert e)
+stays left f s fault.Truncated g h = absurd (g refl)
+stays left f s (fault.Text k) g h = h
+stays left f s (fault.Number k) g h = h
+stays left f s (fault.OutOfOrder k) g h = h
+stays left f s (fault.UnknownPair k) g h = h
+stays left f s fault.NoMemory g h = h
+
+pub line_wrong : {R A : Type 0} (left : Option (List ℕ)) (f : ℕ → Piece → Result A CertFault) (s : LineView R) (count : ℕ) (e : CertFault) → ReadsLines f → IsLine s.held count → f (s.number + 1) (held_piece count s.held) ≡ Err e → NoNextLine left f s (Cert e)
+line_wrong left f s count e r h bad =
     let size : length (take count s.held) ≡ count = length-take-le count s.held (let i = h.inside in omega (arith, i)) in
     let short : length (take count s.held) ≤ LINE_BYTES = let i = h.short in omega (arith, size, i) in
-    stays left counts n pairs previous s e
-    (λ cut. next_whole counts n has previous (s.number + 1) (take count s.held) short (bad ∙ ap (λ (x : CertFault). Err x) cut))
-    (λ future. ap (λ (ps : List Piece). next_line counts n has previous (s.number + 1) (piece_at ps 0)) (line_held s.held count h.ends future) ∙ bad)
+    stays left f s e
+    (λ cut. r.whole (s.number + 1) (take count s.held) short (bad ∙ ap (λ (x : CertFault). Err x) cut))
+    (λ future. ap (λ (ps : List Piece). f (s.number + 1) (piece_at ps 0)) (line_held s.held count h.ends future) ∙ bad)
 
 -- No line is there.
-pub no_next : {R : Type 0} (left : Option (List ℕ)) (counts : Bool) (n : ℕ) (pairs : List (ℕ × ℕ)) (previous : Option BodyLine) (s : LineView R) (e : StreamFault) → NoLine left s e → NoNextLine left counts n pairs previous s e
-no_next left counts n pairs previous s Device h = tt
-no_next left counts n pairs previous s InputTooLong h = h
-no_next left counts n pairs previous s (Cert fault.Truncated) h = (h.0, h.1, no_line_next counts n (has_pair pairs) previous (s.number + 1) (piece_at (pieces_of s.held) 0) fault.Truncated h.2)
-no_next left counts n pairs previous s (Cert (fault.Text k)) h = λ future. no_line_next counts n (has_pair pairs) previous (s.number + 1) (piece_at (pieces_of (s.held ++ future)) 0) (fault.Text k) (h future)
-no_next left counts n pairs previous s (Cert (fault.Number k)) h = λ future. no_line_next counts n (has_pair pairs) previous (s.number + 1) (piece_at (pieces_of (s.held ++ future)) 0) (fault.Number k) (h future)
-no_next left counts n pairs previous s (Cert (fault.OutOfOrder k)) h = λ future. no_line_next counts n (has_pair pairs) previous (s.number + 1) (piece_at (pieces_of (s.held ++ future)) 0) (fault.OutOfOrder k) (h future)
-no_next left counts n pairs previous s (Cert (fault.UnknownPair k)) h = λ future. no_line_next counts n (has_pair pairs) previous (s.number + 1) (piece_at (pieces_of (s.held ++ future)) 0) (fault.UnknownPair k) (h future)
-no_next left counts n pairs previous s (Cert fault.NoMemory) h = λ future. no_line_next counts n (has_pair pairs) previous (s.number + 1) (piece_at (pieces_of (s.held ++ future)) 0) fault.NoMemory (h future)
-no_next left counts n pairs previous s (Pit e) h = absurd h
+pub no_next : {R A : Type 0} (left : Option (List ℕ)) (f : ℕ → Piece → Result A CertFault) (s : LineView R) (e : StreamFault) → ReadsLines f → NoLine left s e → NoNextLine left f s e
+no_next left f s Device r h = tt
+no_next left f s InputTooLong r h = h
+no_next left f s (Cert fault.Truncated) r h = (h.0, h.1, r.none (s.number + 1) (piece_at (pieces_of s.held) 0) fault.Truncated h.2)
+no_next left f s (Cert (fault.Text k)) r h = λ future. r.none (s.number + 1) (piece_at (pieces_of (s.held ++ future)) 0) (fault.Text k) (h future)
+no_next left f s (Cert (fault.Number k)) r h = λ future. r.none (s.number + 1) (piece_at (pieces_of (s.held ++ future)) 0) (fault.Number k) (h future)
+no_next left f s (Cert (fault.OutOfOrder k)) r h = λ future. r.none (s.number + 1) (piece_at (pieces_of (s.held ++ future)) 0) (fault.OutOfOrder k) (h future)
+no_next left f s (Cert (fault.UnknownPair k)) r h = λ future. r.none (s.number + 1) (piece_at (pieces_of (s.held ++ future)) 0) (fault.UnknownPair k) (h future)
+no_next left f s (Cert fault.NoMemory) r h = λ future. r.none (s.number + 1) (piece_at (pieces_of (s.held ++ future)) 0) fault.NoMemory (h future)
+no_next left f s (Pit e) r h = absurd h
 
 -- Whether a pair was found among the model's.
 pub found_or_not : (pairs : List (ℕ × ℕ)) (b p : ℕ) (o : Option ℕ) → MatchOption o (Contains pairs (b, p) → ⊥) (λ k. (k < length pairs) × (get_or pairs k (0, 0) ≡ (b, p))) → is_some o ≡ has_pair pairs b p

@@ -14,8 +14,8 @@ pub mod LineSums
 pub mod Pieces
 pub mod ReadBack
 pub mod Written
-pub mod StreamBody
 pub mod StreamBytes
 pub mod StreamLines
 pub mod StreamView
+pub mod TakenLines
 pub mod Tightness

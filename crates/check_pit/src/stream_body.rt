@@ -4,8 +4,8 @@ ghost use Rattle.std.specs.Prelude.{◌≡◌, ◌+◌, ◌-◌, ◌^◌, ◌<�
 ghost use Rattle.fixed_worth.specs.declared.limits.TheConstants.{LINE_BYTES};
 ghost use Rattle.check_pit.specs.BodyLines as spec;
 ghost use Rattle.check_pit.specs.Certificate.{has_pair};
-ghost use Rattle.check_pit.specs.StreamLines.{Reads};
-ghost use Rattle.check_pit.specs.StreamBody.{TakesLine, NoNextLine};
+ghost use Rattle.check_pit.specs.StreamLines.{IsLine};
+ghost use Rattle.check_pit.specs.TakenLines.{TakesLine, LacksLine, NoNextLine, held_piece};
 
 use crate::cert_fault::CertFault;
 use crate::header_lines::in_line;
@@ -60,8 +60,8 @@ pub fn next_line<R: CountedRead>(
 ) -> Result<BodyLine, StreamFault>
     requires { R.failed lines.old.from < 2 ^ 64 - 1 }
     ensures line { MatchResult result
-        (λ line. TakesLine R.remaining counts rests.now.blocks rests.now.pairs previous lines.old lines.new line)
-        (λ e. Reads R.remaining lines.old lines.new × NoNextLine (R.remaining lines.new.from) counts rests.now.blocks rests.now.pairs previous lines.new e) }
+        (λ line. TakesLine R.remaining (spec.next_line counts rests.now.blocks (has_pair rests.now.pairs) previous) lines.old lines.new line)
+        (λ e. LacksLine R.remaining (spec.next_line counts rests.now.blocks (has_pair rests.now.pairs) previous) lines.old lines.new e) }
     ensures device { IsErrOf result StreamFault.Device → R.failed lines.new.from ≡ R.failed lines.old.from + 1 }
     ensures kept { ¬ IsErrOf result StreamFault.Device → R.failed lines.new.from ≡ R.failed lines.old.from }
 {
