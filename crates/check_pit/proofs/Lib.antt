@@ -19,6 +19,7 @@ pub mod Readable
 pub mod SameLines
 pub mod Spelling
 pub mod Splits
+pub mod StreamHeads
 pub mod Texts
 pub mod ValueLines
 pub mod Verdicts

@@ -1,6 +1,7 @@
 -- Why a stream gives no further line.
-use Rattle.std.proofs.Common.{◌≡◌, ℕ, get_or, ◌+◌, ◌<◌, ◌≤◌, Bool, true, false, cond, ltb, List, ◌++◌, length, take, drop, Option, Some, None, Result, Ok, Err, refl, sym, ap, ◌∙◌, arith}
-use Rattle.std.specs.Prelude.{unwrap_or, Contains, MatchOption}
+use Rattle.std.proofs.Common.{◌≡◌, ℕ, get_or, ◌+◌, ◌<◌, ◌≤◌, Bool, true, false, cond, ltb, List, [], ◌++◌, length, take, drop, Option, Some, None, Result, Ok, Err, refl, sym, ap, ◌∙◌, subst, arith, append-nil}
+use Rattle.std.specs.Prelude.{unwrap_or, Contains, MatchOption, MatchResult}
+use Rattle.std.specs.Io.KnownBytes.{Consumes}
 use Rattle.std.specs.Option.{is_some}
 use Rattle.std.specs.Result.{result_err}
 use Rattle.std.proofs.lemmas.List.{length-take-le}
@@ -12,6 +13,7 @@ use Rattle.check_pit.specs.declared.cert_fault.LineFault.{LineFault}
 use Rattle.check_pit.specs.declared.cert_fault.LineFault.TheVariants.{Text, Number}
 use Rattle.check_pit.specs.declared.lines_of_body.LineKind.TheVariants.{Rest}
 use Rattle.check_pit.specs.declared.lines_of_body.BodyLine.{BodyLine}
+use Rattle.check_pit.specs.declared.pit_fault.PitFault.{PitFault}
 use Rattle.check_pit.specs.declared.stream_fault.StreamFault.{StreamFault}
 use Rattle.check_pit.specs.declared.stream_fault.StreamFault.TheVariants.{Device, InputTooLong, Cert, Pit}
 use Rattle.check_pit.specs.Pieces.{Piece, pieces_of, piece_at, no_line, in_line, unless_fault, read_line}
@@ -19,8 +21,8 @@ use Rattle.check_pit.specs.Header.{◌>>=◌}
 use Rattle.check_pit.specs.BodyLines.{line_of, is_of_model, may_follow, in_order, in_model, line_behind, next_line}
 use Rattle.check_pit.specs.Certificate.{has_pair}
 use Rattle.check_pit.specs.StreamView.{LineView}
-use Rattle.check_pit.specs.StreamLines.{IsLine, NoLine}
-use Rattle.check_pit.specs.TakenLines.{held_piece, NoNextLine}
+use Rattle.check_pit.specs.StreamLines.{Reads, ReadsBytes, IsLine, NoLine}
+use Rattle.check_pit.specs.TakenLines.{held_piece, PassesLine, GoesBehind, TakesLine, LacksLine, FaultIs, NoNextLine}
 use Rattle.check_pit.proofs.Additions.{absent, present}
 use Rattle.check_pit.proofs.Beginnings.{no_line_next}
 use Rattle.check_pit.proofs.HeldLines.{line_held}
@@ -96,13 +98,63 @@ line_wrong left f s count e r h bad =
 pub no_next : {R A : Type 0} (left : Option (List ℕ)) (f : ℕ → Piece → Result A CertFault) (s : LineView R) (e : StreamFault) → ReadsLines f → NoLine left s e → NoNextLine left f s e
 no_next left f s Device r h = tt
 no_next left f s InputTooLong r h = h
-no_next left f s (Cert fault.Truncated) r h = (h.0, h.1, r.none (s.number + 1) (piece_at (pieces_of s.held) 0) fault.Truncated h.2)
+no_next left f s (Cert fault.Truncated) r h = (h.0, h.1, ap (λ (t : List ℕ). f (s.number + 1) (piece_at (pieces_of t) 0)) (append-nil s.held) ∙ r.none (s.number + 1) (piece_at (pieces_of s.held) 0) fault.Truncated h.2)
 no_next left f s (Cert (fault.Text k)) r h = λ future. r.none (s.number + 1) (piece_at (pieces_of (s.held ++ future)) 0) (fault.Text k) (h future)
 no_next left f s (Cert (fault.Number k)) r h = λ future. r.none (s.number + 1) (piece_at (pieces_of (s.held ++ future)) 0) (fault.Number k) (h future)
 no_next left f s (Cert (fault.OutOfOrder k)) r h = λ future. r.none (s.number + 1) (piece_at (pieces_of (s.held ++ future)) 0) (fault.OutOfOrder k) (h future)
 no_next left f s (Cert (fault.UnknownPair k)) r h = λ future. r.none (s.number + 1) (piece_at (pieces_of (s.held ++ future)) 0) (fault.UnknownPair k) (h future)
 no_next left f s (Cert fault.NoMemory) r h = λ future. r.none (s.number + 1) (piece_at (pieces_of (s.held ++ future)) 0) fault.NoMemory (h future)
 no_next left f s (Pit e) r h = absurd h
+
+-- A fault of one thing, as one of another.
+pub fault_as : (left : Option (List ℕ)) (taken : ℕ) (has had : List ℕ → CertFault → Type 0) (p q : PitFault → Type 0) (e : StreamFault) → ((future : List ℕ) (x : CertFault) → has future x → had future x) → ((x : PitFault) → p x → q x) → FaultIs left taken has p e → FaultIs left taken had q e
+fault_as left taken has had p q Device f g h = tt
+fault_as left taken has had p q InputTooLong f g h = h
+fault_as left taken has had p q (Cert fault.Truncated) f g h = (h.0, h.1, f [] fault.Truncated h.2)
+fault_as left taken has had p q (Cert (fault.Text k)) f g h = λ future. f future (fault.Text k) (h future)
+fault_as left taken has had p q (Cert (fault.Number k)) f g h = λ future. f future (fault.Number k) (h future)
+fault_as left taken has had p q (Cert (fault.OutOfOrder k)) f g h = λ future. f future (fault.OutOfOrder k) (h future)
+fault_as left taken has had p q (Cert (fault.UnknownPair k)) f g h = λ future. f future (fault.UnknownPair k) (h future)
+fault_as left taken has had p q (Cert fault.NoMemory) f g h = λ future. f future fault.NoMemory (h future)
+fault_as left taken has had p q (Pit e) f g h = g e h
+
+-- A line that was passed, or not.
+pub passes : {R : Type 0} (remaining : R → Option (List ℕ)) (before mid later : LineView R) (count : ℕ) (m : Reads remaining before mid) → IsLine mid.held count → GoesBehind count mid later → PassesLine remaining before later m.0 count
+passes {R = R} remaining before mid later count m h b =
+    let r = m.1 in
+    record {
+      given = subst (λ (x : R). Consumes (remaining before.from) (remaining x) m.0) (sym b.from) r.given;
+      line = subst (λ (t : List ℕ). IsLine t count) r.held h;
+      held = b.held ∙ ap (drop (count + 1)) r.held;
+      taken = b.taken ∙ r.taken;
+      number = b.number ∙ ap (λ (k : ℕ). k + 1) r.number;
+    }
+
+-- What a line gives, as the line of its text.
+gives : {A : Type 0} (f : List ℕ → Result A LineFault) (held text : List ℕ) (count k : ℕ) → IsLine held count → text ≡ take count held → in_line k (f text) ≡ read_line f k (held_piece count held)
+gives f held text count k h e =
+    let size : length (take count held) ≡ count = length-take-le count held (let i = h.inside in omega (arith, i)) in
+    let short : length (take count held) ≤ LINE_BYTES = let i = h.short in omega (arith, size, i) in
+    ap (λ (t : List ℕ). in_line k (f t)) e ∙ sym (ap (λ (o : Option CertFault). unless_fault o (in_line k (f (take count held)))) (no_fault k (take count held) short))
+
+abbrev pub PassedWhere : {R A : Type 0} → LineView R → LineView R → ℕ → Result A StreamFault → Result A CertFault → Type 0
+PassedWhere before later count result read = MatchResult read (λ x. (result ≡ Ok x) × GoesBehind count before later) (λ e. (result ≡ Err (Cert e)) × (later ≡ before))
+
+given_by : {R A : Type 0} (remaining : R → Option (List ℕ)) (f : List ℕ → Result A LineFault) (before mid later : LineView R) (count : ℕ) (result : Result A StreamFault) (read : Result A CertFault) (m : Reads remaining before mid) → IsLine mid.held count
+    → read_line f (mid.number + 1) (held_piece count mid.held) ≡ read → PassedWhere mid later count result read → MatchResult result (λ x. TakesLine remaining (read_line f) before later x) (λ e. LacksLine remaining (read_line f) before later e)
+given_by {R = R} {A = A} remaining f before mid later count result (Ok x) m h e p =
+    let r = m.1 in
+    let here : read_line f (before.number + 1) (held_piece count (before.held ++ m.0)) ≡ Ok x = ap (λ (k : ℕ). read_line f (k + 1) (held_piece count (before.held ++ m.0))) (sym r.number) ∙ ap (λ (t : List ℕ). read_line f (mid.number + 1) (held_piece count t)) (sym r.held) ∙ e in
+    subst (λ (y : Result A StreamFault). MatchResult y (λ x. TakesLine remaining (read_line f) before later x) (λ e. LacksLine remaining (read_line f) before later e)) (sym p.0)
+    (m.0, count, passes remaining before mid later count m h p.1, here)
+given_by {R = R} {A = A} remaining f before mid later count result (Err x) m h e p =
+    subst (λ (y : Result A StreamFault). MatchResult y (λ x. TakesLine remaining (read_line f) before later x) (λ e. LacksLine remaining (read_line f) before later e)) (sym p.0)
+    (subst (λ (s : LineView R). LacksLine remaining (read_line f) before s (Cert x)) (sym p.1) (m, line_wrong (remaining mid.from) (read_line f) mid count x (line_reads f) h e))
+
+pub line_given : {R A : Type 0} (remaining : R → Option (List ℕ)) (f : List ℕ → Result A LineFault) (before mid later : LineView R) (count number : ℕ) (text : List ℕ) (result : Result A StreamFault) (read : Result A CertFault) → Reads remaining before mid → IsLine mid.held count
+    → number ≡ mid.number → text ≡ take count mid.held → read ≡ in_line (number + 1) (f text) → PassedWhere mid later count result read → MatchResult result (λ x. TakesLine remaining (read_line f) before later x) (λ e. LacksLine remaining (read_line f) before later e)
+line_given remaining f before mid later count number text result read m h k t e p =
+    given_by remaining f before mid later count result read m h (sym (e ∙ ap (λ (j : ℕ). in_line (j + 1) (f text)) k ∙ gives f mid.held text count (mid.number + 1) h t)) p
 
 -- Whether a pair was found among the model's.
 pub found_or_not : (pairs : List (ℕ × ℕ)) (b p : ℕ) (o : Option ℕ) → MatchOption o (Contains pairs (b, p) → ⊥) (λ k. (k < length pairs) × (get_or pairs k (0, 0) ≡ (b, p))) → is_some o ≡ has_pair pairs b p

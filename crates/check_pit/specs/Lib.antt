@@ -15,6 +15,7 @@ pub mod Pieces
 pub mod ReadBack
 pub mod Written
 pub mod StreamBytes
+pub mod StreamHeaders
 pub mod StreamLines
 pub mod StreamView
 pub mod TakenLines

@@ -24,6 +24,7 @@ mod pit_fault;
 pub mod reading;
 mod stream_body;
 mod stream_bytes;
+mod stream_header;
 pub mod stream_fault;
 pub mod stream_lines;
 mod sums;
