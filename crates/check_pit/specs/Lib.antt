@@ -1,6 +1,7 @@
 pub mod Accepted
 pub mod Balances
 pub mod BodyLines
+pub mod CertStreams
 pub mod Certificate
 pub mod Checks
 pub mod Closing

@@ -11,6 +11,7 @@
 mod accepted;
 mod body_reader;
 mod cert_fault;
+mod cert_stream;
 mod certificate;
 mod checking;
 mod closing;
@@ -24,14 +25,15 @@ mod pit_fault;
 pub mod reading;
 mod stream_body;
 mod stream_bytes;
-mod stream_header;
 pub mod stream_fault;
+mod stream_header;
 pub mod stream_lines;
 mod sums;
 mod writing;
 
 pub use accepted::Accepted;
 pub use cert_fault::CertFault;
+pub use cert_stream::CertStream;
 pub use certificate::{Certificate, read_certificate};
 pub use checking::check;
 pub use header::{Header, Price};
