@@ -12,7 +12,9 @@ pub mod Header
 pub mod LineLaws
 pub mod LineSums
 pub mod Pieces
+pub mod PitLists
 pub mod ReadBack
+pub mod Rooms
 pub mod Written
 pub mod StreamBytes
 pub mod StreamLines

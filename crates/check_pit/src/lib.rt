@@ -21,7 +21,9 @@ pub mod laws;
 mod lines_of_body;
 mod piece_reader;
 mod pit_fault;
+mod pit_list;
 pub mod reading;
+mod room;
 mod stream_bytes;
 pub mod stream_fault;
 pub mod stream_lines;
@@ -34,6 +36,7 @@ pub use certificate::{Certificate, read_certificate};
 pub use checking::check;
 pub use header::{Header, Price};
 pub use pit_fault::PitFault;
+pub use room::Room;
 pub use writing::write_certificate;
 
 #[cfg(test)]
