@@ -14,6 +14,8 @@ pub mod Over
 pub mod Puts
 pub mod ReadBack
 pub mod Readable
+pub mod RoomLines
+pub mod RoomSums
 pub mod SameLines
 pub mod Spelling
 pub mod Splits

@@ -25,6 +25,10 @@ pub record RoomView : Type 0 where
 abbrev pub with_balance : ℕ → Amount → RoomView → RoomView
 with_balance b x room = record { balances = slice_set room.balances b x; blocks = room.blocks; space = room.space; is_pit = room.is_pit; worth = room.worth; left = room.left }
 
+-- the room with another amount that the source could still give
+abbrev pub with_left : Amount → RoomView → RoomView
+with_left x room = record { balances = room.balances; blocks = room.blocks; space = room.space; is_pit = room.is_pit; worth = room.worth; left = x }
+
 -- the room has a balance for each block of the net, and space for each, unless its blocks are a pit already
 pub record IsRoomFor (net : NetView) (room : RoomView) : Type 0 where
   pub size : length room.balances ≡ length net.worths

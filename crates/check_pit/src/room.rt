@@ -8,7 +8,7 @@ ghost use Rattle.closure_net.specs.Network.{IsAscending};
 ghost use Rattle.check_pit.specs.declared.lines_of_body.LineKind.TheVariants as kind;
 ghost use Rattle.check_pit.specs.Certificate.{amount_of};
 ghost use Rattle.check_pit.specs.LineSums.{keeps_by};
-ghost use Rattle.check_pit.specs.Rooms.{IsRoomFor, AreSumsOf, MayPut, WithLine, SumOverflowsWith, RefusedWhere, PutsLine, RefusesLine, with_balance};
+ghost use Rattle.check_pit.specs.Rooms.{IsRoomFor, AreSumsOf, MayPut, WithLine, SumOverflowsWith, RefusedWhere, PutsLine, RefusesLine, with_balance, with_left};
 
 use crate::gathering::amount;
 use crate::lines_of_body::{BodyLine, LineKind};
@@ -54,12 +54,14 @@ fn positive_total<G: OrderedGroup>(net: &Net<G>) -> G
     sum
 }
 
-// The amount, which must not be negative.
-fn not_negative<G: OrderedGroup>(amount: G) -> Result<G, PitFault>
+// The amount of a line, which must not be negative.
+fn not_negative<G: OrderedGroup>(line: &BodyLine) -> Result<G, PitFault>
+    requires { (G.counts ≡ true) ⊎ (line.now.count ≡ pos 0) }
     ensures { MatchResult result
-        (λ x. (x ≡ amount) × AtMost zero_amount (G.parts_of amount))
-        (λ e. (e ≡ PitFault.Negative) × ¬ (AtMost zero_amount (G.parts_of amount))) }
+        (λ x. (G.parts_of x ≡ amount_of line.now) × AtMost zero_amount (amount_of line.now))
+        (λ e. (e ≡ PitFault.Negative) × ¬ (AtMost zero_amount (amount_of line.now))) }
 {
+    let amount: G = amount(line);
     if at_most(G::zero(), amount) {
         Ok(amount)
     } else {
@@ -82,7 +84,7 @@ impl<G: OrderedGroup> Room<G> {
 
     fn clear_balances(&mut self)
         ensures size { length self.new.balances ≡ length self.old.balances }
-        ensures zero { (b : ℕ) → amount_at self.new.balances b ≡ zero_amount }
+        ensures zero { (b : ℕ) → b < length self.old.balances → amount_at self.new.balances b ≡ zero_amount }
     {
         for b in 0..self.balances.len() {
             self.balances[b] = G::zero();
@@ -126,6 +128,16 @@ impl<G: OrderedGroup> Room<G> {
         Ok(())
     }
 
+    // Takes from what the source could still give.
+    fn give(&mut self, amount: G) -> Result<(), PitFault>
+        ensures { let difference = minus self.old.left (G.parts_of amount) in MatchResult result
+            (λ _. self.new ≡ with_left difference self.old)
+            (λ e. (e ≡ PitFault.TooLarge) × (self.new ≡ self.old) × ¬ (FitsPair difference)) }
+    {
+        self.left = self.left.try_sub(amount).ok_or(PitFault::TooLarge)?;
+        Ok(())
+    }
+
     fn put_block(&mut self, net: &Net<G>, line: &BodyLine) -> Result<(), PitFault>
         requires kind { line.now.kind ≡ kind.Pit }
         requires may { MayPut net.now self.old line.now }
@@ -149,13 +161,12 @@ impl<G: OrderedGroup> Room<G> {
             (λ _. WithLine net.now line.now self.old self.new × keeps_by kind.Source net.now.worths line.now)
             (λ e. RefusedWhere net.now line.now (SumOverflowsWith net.now self.old line.now) e) }
     {
-        let amount = not_negative(amount(line))?;
+        let amount: G = not_negative(line)?;
         if !at_most(amount, net.positive(line.block)) {
             return Err(PitFault::OverCapacity(line.block));
         }
         self.add(line.block, amount)?;
-        self.left = self.left.try_sub(amount).ok_or(PitFault::TooLarge)?;
-        Ok(())
+        self.give(amount)
     }
 
     fn put_rest(&mut self, net: &Net<G>, line: &BodyLine) -> Result<(), PitFault>
@@ -167,7 +178,7 @@ impl<G: OrderedGroup> Room<G> {
             (λ _. WithLine net.now line.now self.old self.new × keeps_by kind.Rest net.now.worths line.now)
             (λ e. RefusedWhere net.now line.now (SumOverflowsWith net.now self.old line.now) e) }
     {
-        let amount = not_negative(amount(line))?;
+        let amount: G = not_negative(line)?;
         if line.block != line.other {
             self.take(line.block, amount)?;
             self.add(line.other, amount)?;
@@ -184,7 +195,7 @@ impl<G: OrderedGroup> Room<G> {
             (λ _. WithLine net.now line.now self.old self.new × keeps_by kind.Sink net.now.worths line.now)
             (λ e. RefusedWhere net.now line.now (SumOverflowsWith net.now self.old line.now) e) }
     {
-        let amount = not_negative(amount(line))?;
+        let amount: G = not_negative(line)?;
         if !at_most(amount, net.negative(line.block)) {
             return Err(PitFault::OverCapacity(line.block));
         }
@@ -237,7 +248,12 @@ impl<G: OrderedGroup> Room<G> {
             ((b : ℕ) → b < length net.now.worths → amount_at self.now.balances b ≡ zero_amount)
             (λ b. IsFirstNot (λ k. amount_at self.now.balances k ≡ zero_amount) (length net.now.worths) b) }
     {
-        (0..net.len()).find(|b| !is_zero(self.balances[*b as usize]))
+        for b in 0..net.len() {
+            if !is_zero(self.balances[b as usize]) {
+                return Some(b);
+            }
+        }
+        None
     }
 
     // Whether the pit is worth what the source could still give.
