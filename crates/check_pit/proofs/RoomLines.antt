@@ -1,6 +1,6 @@
 -- What comes of putting a line of each kind into a room.
 use Rattle.std.proofs.Common.{◌≡◌, ◌≢◌, ℕ, get_or, set, ◌+◌, ◌<◌, ◌≤◌, Bool, true, false, eqb, inl, inr, List, [], ◌∷◌, ◌++◌, length, refl, sym, ap, ◌∙◌, subst, arith, Result, Ok, Err, MatchResult, get_or-set_other}
-use Rattle.std.specs.Result.{IsOk}
+use Rattle.std.specs.Prelude.{IfOk, IfErr}
 use Rattle.std.proofs.lemmas.List.{length-append}
 use Rattle.std.proofs.Math.Seq.{get_or-append_seam}
 use Rattle.std.proofs.lemmas.Int.{ints}
@@ -17,8 +17,8 @@ use Rattle.check_pit.specs.declared.lines_of_body.LineKind.TheVariants.{Pit, Sou
 use Rattle.check_pit.specs.declared.lines_of_body.BodyLine.{BodyLine}
 use Rattle.check_pit.specs.Certificate.{amount_of}
 use Rattle.check_pit.specs.LineSums.{keeps_by}
-use Rattle.check_pit.specs.Rooms.{RoomView, MayPut, TakesBlock, WithLine, SumOverflowsWith, RefusedWhere, with_balance, with_left}
-use Rattle.check_pit.proofs.RoomSums.{with_source, with_sink, with_rest}
+use Rattle.check_pit.specs.Rooms.{RoomView, MayPut, TakesBlock, WithLine, SumOverflowsWith, RefusedWhere, PutsLine, RefusesLine, with_balance, with_left}
+use Rattle.check_pit.proofs.RoomSums.{puts_line, refuses_line, with_source, with_sink, with_rest}
 
 -- ---- space for a block that stands behind those before it
 
@@ -26,7 +26,9 @@ pub space_for : (xs : List ℕ) (b n s : ℕ) → IsAscending (xs ++ b ∷ []) �
 space_for xs b n s a h k =
     let size : length (xs ++ b ∷ []) ≡ length xs + 1 = length-append xs (b ∷ []) in
     let last : get_or (xs ++ b ∷ []) (length xs) 0 ≡ b = get_or-append_seam xs b [] 0 in
-    let far : get_or (xs ++ b ∷ []) 0 0 + length xs ≤ get_or (xs ++ b ∷ []) (length xs) 0 = apart_by_places (xs ++ b ∷ []) a 0 (length xs) (omega (arith, size)) in
+    let same : 0 + length xs ≡ length xs = omega arith in
+    let far : get_or (xs ++ b ∷ []) 0 0 + length xs ≤ get_or (xs ++ b ∷ []) (length xs) 0 =
+    subst (λ (i : ℕ). get_or (xs ++ b ∷ []) 0 0 + length xs ≤ get_or (xs ++ b ∷ []) i 0) same (apart_by_places (xs ++ b ∷ []) a 0 (length xs) (omega (arith, size))) in
     omega (arith, far, last, h, k)
 
 pub block_space : (net : NetView) (room : RoomView) (line : BodyLine) → line.kind ≡ Pit → MayPut net room line → length room.blocks < room.space
@@ -93,3 +95,13 @@ pub sink_put : {U : Type 0} (net : NetView) (l : BodyLine) (before later : RoomV
     → MatchResult r (λ _. WithLine net l before later × keeps_by Sink net.worths l) (λ e. RefusedWhere net l (SumOverflowsWith net before l) e)
 sink_put net l before later x (Ok u) is h s e k w = (with_sink net l before later x is (omega (arith, h, s)) e w, k)
 sink_put net l before later x (Err d) is h s e k w = subst (λ (f : PitFault). RefusedWhere net l (SumOverflowsWith net before l) f) (sym w.0) (sink_over net l before x is h e k w.2)
+
+-- ---- a line behind those whose sums the room has
+
+pub puts_ok : {U : Type 0} (K : Type 0) (net : NetView) (l : BodyLine) (before later : RoomView) (r : Result U PitFault) → MatchResult r (λ _. WithLine net l before later × K) (λ e. RefusedWhere net l (SumOverflowsWith net before l) e) → IfOk r (λ _. PutsLine net l before later)
+puts_ok K net l before later (Ok u) h = puts_line net l before later h.0
+puts_ok K net l before later (Err e) h = tt
+
+pub puts_err : {U : Type 0} (K : Type 0) (net : NetView) (l : BodyLine) (before later : RoomView) (r : Result U PitFault) → MatchResult r (λ _. WithLine net l before later × K) (λ e. RefusedWhere net l (SumOverflowsWith net before l) e) → IfErr r (λ e. RefusesLine net l before e)
+puts_err K net l before later (Ok u) h = tt
+puts_err K net l before later (Err e) h = refuses_line net l before e h
