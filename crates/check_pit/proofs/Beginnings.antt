@@ -127,7 +127,7 @@ pub ends_more : (counts : Bool) (n : ℕ) (pairs : List (ℕ × ℕ)) (body left
 ends_more counts n pairs body left number ls e h future = e.fault future ∙ more_pieces left future number h
 
 -- A faulty line.
-wrong_at : (counts : Bool) (n : ℕ) (has : ℕ → ℕ → Bool) (previous : Option BodyLine) (number : ℕ) (ps : List Piece) (e : CertFault) → next_line counts n has previous (number + 1) (piece_at ps 0) ≡ Err e → body_fault counts n has previous number ps ≡ Some e
+pub wrong_at : (counts : Bool) (n : ℕ) (has : ℕ → ℕ → Bool) (previous : Option BodyLine) (number : ℕ) (ps : List Piece) (e : CertFault) → next_line counts n has previous (number + 1) (piece_at ps 0) ≡ Err e → body_fault counts n has previous number ps ≡ Some e
 wrong_at counts n has previous number [] e h = cc
 wrong_at counts n has previous number (p ∷ ps) e h = ap (fault_from (end_fault (number + 1) ps) (λ l. body_fault counts n has (Some l) (number + 1) ps)) h
 

@@ -16,10 +16,13 @@ pub mod Over
 pub mod Puts
 pub mod ReadBack
 pub mod Readable
+pub mod RoomLines
+pub mod RoomSums
 pub mod SameLines
 pub mod Spelling
 pub mod Splits
 pub mod StreamHeads
+pub mod StreamReadings
 pub mod Texts
 pub mod ValueLines
 pub mod Verdicts

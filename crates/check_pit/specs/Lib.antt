@@ -13,9 +13,12 @@ pub mod Header
 pub mod LineLaws
 pub mod LineSums
 pub mod Pieces
+pub mod PitLists
 pub mod ReadBack
+pub mod Rooms
 pub mod Written
 pub mod StreamBytes
+pub mod StreamChecks
 pub mod StreamHeaders
 pub mod StreamLines
 pub mod StreamView

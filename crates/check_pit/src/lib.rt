@@ -22,9 +22,12 @@ pub mod laws;
 mod lines_of_body;
 mod piece_reader;
 mod pit_fault;
+mod pit_list;
 pub mod reading;
+mod room;
 mod stream_body;
 mod stream_bytes;
+mod stream_checking;
 pub mod stream_fault;
 mod stream_header;
 pub mod stream_lines;
@@ -38,6 +41,7 @@ pub use certificate::{Certificate, read_certificate};
 pub use checking::check;
 pub use header::{Header, Price};
 pub use pit_fault::PitFault;
+pub use room::Room;
 pub use writing::write_certificate;
 
 #[cfg(test)]
