@@ -23,6 +23,7 @@ pub mod Spelling
 pub mod Splits
 pub mod StreamHeads
 pub mod StreamReadings
+pub mod StreamRooms
 pub mod Texts
 pub mod ValueLines
 pub mod Verdicts

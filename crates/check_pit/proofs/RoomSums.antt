@@ -38,7 +38,7 @@ left_more ws ls l =
     let all = total (λ b. positive (amount_at ws b)) (length ws) in
     ap (minus all) (sources_more ls l) ∙ taken_twice all (source_sum ls) (source_by l.kind (amount_of l))
 
-block_first : (k : LineKind) (b : ℕ) (xs ys : List ℕ) → block_if_pit k b (xs ++ ys) ≡ block_if_pit k b xs ++ ys
+pub block_first : (k : LineKind) (b : ℕ) (xs ys : List ℕ) → block_if_pit k b (xs ++ ys) ≡ block_if_pit k b xs ++ ys
 block_first Pit b xs ys = refl
 block_first Source b xs ys = refl
 block_first Rest b xs ys = refl

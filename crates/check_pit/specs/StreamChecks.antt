@@ -76,7 +76,7 @@ RefusesSome counts net body e = (ls : List BodyLine) × (l : BodyLine) × LinesB
 pub record HasPit (counts : Bool) (net : NetView) (body pit : List ℕ) : Type 0 where
   pub lines : List BodyLine
   pub begin : LinesBegin counts net body lines
-  pub pit : pit ≡ pit_of lines
+  pub same : pit ≡ pit_of lines
   pub all : (future : List ℕ) → fault_of_body counts net (body ++ future) ≡ None → pit_of (lines_of_body counts net (body ++ future)) ≡ pit
 
 -- Why a certificate doesn't prove its pit. A fault of a line is that of the first faulty one; the pit is not closed, whatever
@@ -108,7 +108,7 @@ pub record ClosesPit (net : NetView) (previous : Option BodyLine) (kind : LineKi
   pub blocks : later.blocks ≡ before.blocks
   pub worth : later.worth ≡ before.worth
   pub left : later.left ≡ before.left
-  pub is_pit : later.is_pit ≡ cond (is_behind_pits previous) true (not (is_pit kind))
+  pub made : later.is_pit ≡ cond (is_behind_pits previous) true (not (is_pit kind))
   pub space : later.is_pit ≡ false → later.space ≡ before.space
   pub closed : is_behind_pits previous ≡ false → is_pit kind ≡ false → IsClosed net.pairs (holds_of later.blocks)
 

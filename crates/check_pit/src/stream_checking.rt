@@ -1,10 +1,10 @@
 //! The check of the lines of a stream, one after another.
 
-ghost use Rattle.std.specs.Prelude.{◌≡◌, ℕ, ◌+◌, ◌-◌, ◌^◌, ◌<◌, ◌++◌, true, false, not, cond, List, length, IsErrOf, MatchResult};
+ghost use Rattle.std.specs.Prelude.{◌≡◌, ℕ, ◌+◌, ◌-◌, ◌^◌, ◌<◌, ◌++◌, true, false, not, cond, List, length, IfOk, IsErrOf, MatchResult};
 ghost use Rattle.ordered_group.specs.Amount.{zero_amount};
 ghost use Rattle.ordered_group.specs.Sums.{amount_at};
 ghost use Rattle.closure_net.specs.Network.{IsAscending, holds_of};
-ghost use Rattle.closure_net.specs.Closure.{group_worth};
+ghost use Rattle.closure_net.specs.Closure.{IsGreatest, group_worth};
 ghost use Rattle.check_pit.specs.declared.stream_fault.StreamFault.TheVariants as fault;
 ghost use Rattle.check_pit.specs.BodyLines as line;
 ghost use Rattle.check_pit.specs.Certificate.{has_pair};
@@ -114,5 +114,51 @@ fn check_end<R: CountedRead, G: OrderedGroup>(
     match settle(net, room) {
         Ok(()) => Ok(()),
         Err(fault) => Err(StreamFault::Pit(fault)),
+    }
+}
+
+/// Checks the lines behind the header, up to the end of the text.
+///
+/// # Errors
+/// The first of these: the fault of a line, when it is read; `NotClosed` at the first line behind the PIT lines; `Negative`,
+/// `OverCapacity` and `TooLarge` of a line; behind END `Unbalanced` and `NotTight`.
+pub fn check_lines<R: CountedRead, G: OrderedGroup>(
+    lines: &mut StreamLines<R>,
+    net: &Net<G>,
+    room: &mut Room<G>,
+) -> Result<(), StreamFault>
+    requires count { R.failed lines.old.from < 2 ^ 64 - 1 }
+    requires behind { lines.old.number ≡ 4 }
+    requires size { length room.old.balances ≡ length net.now.worths }
+    ensures size { length room.new.balances ≡ length room.old.balances }
+    ensures checked { (bytes : List ℕ) × ReadsOn R.remaining lines.old lines.new bytes × MatchResult result
+        (λ _. BodyProves (R.remaining lines.new.from) lines.new.taken G.counts net.now (lines.old.held ++ bytes) room.new.blocks)
+        (λ e. BodyFails (R.remaining lines.new.from) lines.new.taken G.counts net.now (lines.old.held ++ bytes) e) }
+    ensures pit { IfOk result (λ _. room.new.is_pit ≡ true) }
+    ensures worth { IfOk result (λ _. room.new.worth ≡ group_worth net.now.worths (holds_of room.new.blocks)) }
+    ensures greatest { IfOk result (λ _. IsGreatest net.now (holds_of room.new.blocks)) }
+    ensures device { IsErrOf result StreamFault.Device → R.failed lines.new.from ≡ R.failed lines.old.from + 1 }
+    ensures kept { ¬ IsErrOf result StreamFault.Device → R.failed lines.new.from ≡ R.failed lines.old.from }
+{
+    if room.begin(net).is_err() {
+        return Err(StreamFault::Cert(CertFault::NoMemory));
+    }
+    // proof: the pairs of a net are in order, and of its blocks
+    let _worths = net.worths();
+    let mut previous: Option<BodyLine> = None;
+    loop {
+        // proof: fewer than 2^63 lines were passed
+        let _number = lines.number();
+        let line = line_for(lines, net, previous)?;
+        if let Err(fault) = close_pit(net, room, previous, line.kind) {
+            return Err(StreamFault::Pit(fault));
+        }
+        if is_end(line.kind) {
+            return check_end(lines, net, room);
+        }
+        if let Err(fault) = room.put(net, &line) {
+            return Err(StreamFault::Pit(fault));
+        }
+        previous = Some(line);
     }
 }

@@ -1,3 +1,3 @@
 use Rattle.std.proofs.Common.{rules}
-use Rattle.check_pit.proofs.StreamReadings.{reading_begins}
+use Rattle.check_pit.proofs.StreamRooms.{summed_begins}
 use Rattle.check_pit.proofs.stream_checking.close_pit.Goals as goal
