@@ -21,7 +21,7 @@ use Rattle.check_pit.specs.TakenLines.{held_piece, PassesLine, TakesLine, LacksL
 use Rattle.check_pit.specs.StreamChecks.{ReadsOn, fault_of_body, lines_of_body, LinesBegin, IsWhole, BodyRefused, BodyFails}
 use Rattle.check_pit.proofs.Going.{always}
 use Rattle.check_pit.proofs.Order.{Met, met}
-use Rattle.check_pit.proofs.Beginnings.{BeginsWith, begins, reads_on, takes_line, Ends, takes_end, ends_on, ends_whole, ends_more, wrong_at}
+use Rattle.check_pit.proofs.Beginnings.{BeginsWith, begins, reads_on, takes_line, Ends, takes_end, ends_on, ends_whole, wrong_at}
 use Rattle.check_pit.proofs.NextLines.{fault_as}
 
 -- Bytes that were read one after another.
@@ -131,10 +131,6 @@ reading_lacks remaining counts net start now later previous bytes ls e r l =
           (λ future x w. always x (s.begins.same_fault future ∙ wrong_at counts (length net.worths) (has_pair net.pairs) previous later.number (pieces_of (later.held ++ future)) x w))
           (λ x z. absurd z) l.1,
     )
-
--- Something stands behind END.
-pub ended_more : {R : Type 0} (remaining : R → Option (List ℕ)) (counts : Bool) (net : NetView) (start now : LineView R) (bytes : List ℕ) (ls : List BodyLine) → Ended remaining counts net start now bytes ls → 0 < length now.held → Fails remaining counts net start now (Cert (fault.Text (now.number + 1)))
-ended_more remaining counts net start now bytes ls r h = (bytes, r.read, ends_more counts (length net.worths) net.pairs (start.held ++ bytes) now.held now.number ls r.ends h)
 
 pub lines_begin : {R : Type 0} (remaining : R → Option (List ℕ)) (counts : Bool) (net : NetView) (start now : LineView R) (previous : Option BodyLine) (bytes : List ℕ) (ls : List BodyLine) → Reading remaining counts net start now previous bytes ls → LinesBegin counts net (start.held ++ bytes) ls
 lines_begin remaining counts net start now previous bytes ls r = λ future. (lines_in counts (length net.worths) (pieces_of (now.held ++ future)), r.begins.lines future)

@@ -1,7 +1,8 @@
 -- The sums of a check of a stream, line after line.
-use Rattle.std.proofs.Common.{◌≡◌, ℕ, zero, suc, get_or, ◌+◌, ◌<◌, ◌≤◌, Bool, true, false, cond, not, eqb, List, [], ◌∷◌, ◌++◌, length, Option, Some, None, refl, sym, ap, ◌∙◌, subst, arith, append-nil, append_assoc}
+use Rattle.std.proofs.Common.{◌≡◌, ℕ, zero, suc, get_or, ◌+◌, ◌<◌, ◌≤◌, Bool, true, false, cond, not, eqb, List, [], ◌∷◌, ◌++◌, length, Option, Some, None, Result, Ok, Err, refl, sym, ap, ◌∙◌, subst, arith, append-nil, append_assoc}
 use Rattle.std.specs.Ordering.{nat_cmp, ordering_then, is_lt}
 use Rattle.std.specs.declared.cmp.Ordering.{Ordering}
+use Rattle.std.specs.Prelude.{IfOk, MatchResult}
 use Rattle.std.specs.List.{All}
 use Rattle.std.specs.Io.KnownBytes.{IsAtEnd}
 use Rattle.std.proofs.lemmas.List.Elements.{All-append}
@@ -30,6 +31,7 @@ use Rattle.check_pit.specs.LineSums.{balance_of, worth_of_blocks, left_to_give, 
 use Rattle.check_pit.specs.LineLaws.{LinesTell}
 use Rattle.check_pit.specs.Rooms.{RoomView, IsRoomFor, AreSumsOf, TakesBlock, MayPut, LineRefused, PutsLine, RefusesLine}
 use Rattle.check_pit.specs.StreamView.{LineView}
+use Rattle.check_pit.specs.StreamLines.{Reads}
 use Rattle.check_pit.specs.TakenLines.{TakesLine, FaultIs}
 use Rattle.check_pit.specs.StreamChecks.{is_pit, is_behind_pits, ReadsOn, fault_of_body, lines_of_body, flow_by, LinesBegin, IsWhole, RefusesSome, HasPit, BodyRefused, BodyFails, BodyProves, ClosesPit, IsOpenPit, AreZero, SumsSettle, SumsFail, IsDone, EndFails}
 use Rattle.check_pit.proofs.Going.{Sound, Counted, sound, text_read}
@@ -37,8 +39,8 @@ use Rattle.check_pit.proofs.Order.{InOrder, Good, Met, stands_in_order, later_pi
 use Rattle.check_pit.proofs.LineSums.{pair_place}
 use Rattle.check_pit.proofs.LineFlows.{worth_is, sums_tell}
 use Rattle.check_pit.proofs.RoomSums.{block_first, pit_more}
-use Rattle.check_pit.proofs.Beginnings.{BeginsWith}
-use Rattle.check_pit.proofs.StreamReadings.{Reading, Ended, MetNext, next_of, Fails, line_met, reading_on, reading_ends, reading_lacks, lines_begin, ended_begin, ended_more, ended_whole}
+use Rattle.check_pit.proofs.Beginnings.{BeginsWith, ends_more}
+use Rattle.check_pit.proofs.StreamReadings.{Reading, Ended, MetNext, next_of, Fails, line_met, reading_on, reading_ends, reading_lacks, lines_begin, ended_begin, ended_stops, ended_whole}
 
 -- What the room has of the lines so far.
 pub record Summed (net : NetView) (previous : Option BodyLine) (room : RoomView) (ls : List BodyLine) : Type 0 where
@@ -299,16 +301,17 @@ fails_at left taken counts net body room pit_fault.NotTight t w s h =
     (w, λ b l. balance_zero net room ls b t s l (h.0 b l), λ f. h.1 (s.worth ∙ t.tight.0 f ∙ sym s.left))
 fails_at left taken counts net body room pit_fault.TooLarge t w s h = absurd h
 
-pub end_fails : {R : Type 0} (remaining : R → Option (List ℕ)) (counts : Bool) (net : NetView) (start now : LineView R) (bytes : List ℕ) (ls : List BodyLine) (room : RoomView) (e : StreamFault) → IsRests (record { blocks = length net.worths; pairs = net.pairs }) → Ended remaining counts net start now bytes ls → AreSumsOf net ls room
-    → EndFails (remaining now.from) net room now e → Fails remaining counts net start now e
-end_fails remaining counts net start now bytes ls room stream.Device r q a h = (bytes, q.read, tt)
-end_fails remaining counts net start now bytes ls room stream.InputTooLong r q a h = (bytes, q.read, h)
-end_fails remaining counts net start now bytes ls room (stream.Cert e) r q a h = subst (λ (x : CertFault). Fails remaining counts net start now (stream.Cert x)) (sym h.0) (ended_more remaining counts net start now bytes ls q h.1)
+end_fails : {R : Type 0} (remaining : R → Option (List ℕ)) (counts : Bool) (net : NetView) (start now : LineView R) (bytes : List ℕ) (ls : List BodyLine) (room : RoomView) (e : StreamFault) → IsRests (record { blocks = length net.worths; pairs = net.pairs }) → Ended remaining counts net start now bytes ls → AreSumsOf net ls room
+    → EndFails (remaining now.from) net room now e → BodyFails (remaining now.from) now.taken counts net (start.held ++ bytes) e
+end_fails remaining counts net start now bytes ls room stream.Device r q a h = tt
+end_fails remaining counts net start now bytes ls room stream.InputTooLong r q a h = h
+end_fails remaining counts net start now bytes ls room (stream.Cert e) r q a h =
+    subst (λ (x : CertFault). BodyFails (remaining now.from) now.taken counts net (start.held ++ bytes) (stream.Cert x)) (sym h.0) (ends_more counts (length net.worths) net.pairs (start.held ++ bytes) now.held now.number ls q.ends h.1)
 end_fails remaining counts net start now bytes ls room (stream.Pit e) r q a h =
     let d = h.0 in
     let w = ended_whole remaining counts net start now bytes ls q d.ends d.none d.few in
     let body = start.held ++ bytes in
-    (bytes, q.read, fails_at (remaining now.from) now.taken counts net body room e (tells counts net body r w.0.none) w.0 (subst (λ (xs : List BodyLine). AreSumsOf net xs room) (sym w.1) a) h.1)
+    fails_at (remaining now.from) now.taken counts net body room e (tells counts net body r w.0.none) w.0 (subst (λ (xs : List BodyLine). AreSumsOf net xs room) (sym w.1) a) h.1
 
 -- The pit of an accepted body is a greatest closed set, and the room has what it is worth.
 pub accepted_worth : (left : Option (List ℕ)) (taken : ℕ) (counts : Bool) (net : NetView) (body pit : List ℕ) → BodyProves left taken counts net body pit → group_worth net.worths (holds_of pit) ≡ worth_of_blocks net.worths pit
@@ -318,3 +321,42 @@ accepted_worth left taken counts net body pit p =
 
 pub accepted_greatest : (left : Option (List ℕ)) (taken : ℕ) (counts : Bool) (net : NetView) (body pit : List ℕ) → IsRests (record { blocks = length net.worths; pairs = net.pairs }) → BodyProves left taken counts net body pit → IsGreatest net (holds_of pit)
 accepted_greatest left taken counts net body pit r p = greatest_from_tight net (flow_by net (lines_of_body counts net body)) (holds_of pit) r.known p.proves.is_flow p.proves.closed p.proves.tight
+
+-- What a check answers.
+pub record Answered {R T : Type 0} (remaining : R → Option (List ℕ)) (counts : Bool) (net : NetView) (start later : LineView R) (room : RoomView) (result : Result T StreamFault) : Type 0 where
+  pub checked : (bytes : List ℕ) × ReadsOn remaining start later bytes × MatchResult result (λ x. BodyProves (remaining later.from) later.taken counts net (start.held ++ bytes) room.blocks) (λ e. BodyFails (remaining later.from) later.taken counts net (start.held ++ bytes) e)
+  pub worth : IfOk result (λ x. room.worth ≡ group_worth net.worths (holds_of room.blocks))
+  pub greatest : IfOk result (λ x. IsGreatest net (holds_of room.blocks))
+
+answered_at : {R T : Type 0} (remaining : R → Option (List ℕ)) (counts : Bool) (net : NetView) (start later : LineView R) (bytes : List ℕ) (ls : List BodyLine) (room : RoomView) (result : Result T StreamFault) → IsRests (record { blocks = length net.worths; pairs = net.pairs }) → Ended remaining counts net start later bytes ls → AllRead net room ls
+    → MatchResult result (λ x. IsDone (remaining later.from) later × SumsSettle net room) (λ e. EndFails (remaining later.from) net room later e) → Answered remaining counts net start later room result
+answered_at remaining counts net start later bytes ls room (Ok x) r q a h =
+    let d = h.0 in
+    let body = start.held ++ bytes in
+    let w = ended_whole remaining counts net start later bytes ls q d.ends d.none d.few in
+    let proves = proves_at (remaining later.from) later.taken counts net body room ls r w.0 w.1 a h.1 in
+    record {
+      checked = (bytes, q.read, proves);
+      worth = a.sums.worth ∙ sym (ap (worth_of_blocks net.worths) a.sums.blocks) ∙ sym (accepted_worth (remaining later.from) later.taken counts net body room.blocks proves);
+      greatest = accepted_greatest (remaining later.from) later.taken counts net body room.blocks r proves;
+    }
+answered_at remaining counts net start later bytes ls room (Err e) r q a h = record {
+  checked = (bytes, q.read, end_fails remaining counts net start later bytes ls room e r q a.sums h);
+  worth = tt;
+  greatest = tt;
+}
+
+end_kind : (kind : LineKind) → is_end kind ≡ true → is_pit kind ≡ false
+end_kind Pit h = absurd (let z : false ≡ true = h in cc)
+end_kind Source h = refl
+end_kind Rest h = refl
+end_kind Sink h = refl
+end_kind End h = refl
+
+pub end_answered : {R T : Type 0} (remaining : R → Option (List ℕ)) (counts : Bool) (net : NetView) (start now mid later : LineView R) (previous : Option BodyLine) (bytes : List ℕ) (ls : List BodyLine) (line : BodyLine) (before room : RoomView) (result : Result T StreamFault) → IsRests (record { blocks = length net.worths; pairs = net.pairs })
+    → Reading remaining counts net start now previous bytes ls → Summed net previous before ls → ClosesPit net previous line.kind before room → TakesLine remaining (next_of counts net previous) now mid line → is_end line.kind ≡ true → Reads remaining mid later
+    → MatchResult result (λ x. IsDone (remaining later.from) later × SumsSettle net room) (λ e. EndFails (remaining later.from) net room later e) → Answered remaining counts net start later room result
+end_answered remaining counts net start now mid later previous bytes ls line before room result r q s c t e m h =
+    let ended = ended_stops remaining counts net start mid later (bytes ++ t.0) m.0 ls (reading_ends remaining counts net start now mid previous bytes ls line q t e) m.1 in
+    let all : AllRead net room ls = record { sums = sums_closed net previous line.kind before room ls s c; limits = s.limits; closed = closed_now net previous line.kind before room ls s c (end_kind line.kind e) } in
+    answered_at remaining counts net start later ((bytes ++ t.0) ++ m.0) ls room result r ended all h

@@ -140,9 +140,9 @@ pub fn check_lines<R: CountedRead, G: OrderedGroup>(
     ensures device { IsErrOf result StreamFault.Device → R.failed lines.new.from ≡ R.failed lines.old.from + 1 }
     ensures kept { ¬ IsErrOf result StreamFault.Device → R.failed lines.new.from ≡ R.failed lines.old.from }
 {
-    if room.begin(net).is_err() {
+    let Ok(()) = room.begin(net) else {
         return Err(StreamFault::Cert(CertFault::NoMemory));
-    }
+    };
     // proof: the pairs of a net are in order, and of its blocks
     let _worths = net.worths();
     let mut previous: Option<BodyLine> = None;
