@@ -36,7 +36,7 @@ mod writing;
 
 pub use accepted::Accepted;
 pub use cert_fault::CertFault;
-pub use cert_stream::CertStream;
+pub use cert_stream::{CertStream, check_stream};
 pub use certificate::{Certificate, read_certificate};
 pub use checking::check;
 pub use header::{Header, Price};
