@@ -16,6 +16,7 @@ pub mod Over
 pub mod Puts
 pub mod ReadBack
 pub mod Readable
+pub mod RoomEnds
 pub mod RoomLines
 pub mod RoomSums
 pub mod SameLines

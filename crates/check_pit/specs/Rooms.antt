@@ -1,15 +1,18 @@
 -- The sums that a check makes while it reads lines.
-use Rattle.std.specs.Prelude.{◌≡◌, ℕ, ◌<◌, ◌≤◌, Bool, false, ◌⊎◌, List, [], ◌∷◌, ◌++◌, length, slice_set}
+use Rattle.std.specs.Prelude.{◌≡◌, ◌↔◌, ℕ, ◌<◌, ◌≤◌, Bool, false, IsTrue, ◌⊎◌, List, [], ◌∷◌, ◌++◌, length, slice_set}
 use Rattle.ordered_group.specs.Amount.{Amount, zero_amount, plus, minus, AtMost, FitsPair, positive, negative}
 use Rattle.ordered_group.specs.Sums.{amount_at}
-use Rattle.closure_net.specs.Network.{NetView, IsAscending}
+use Rattle.prec_file.specs.Rests.{IsFirstNot}
+use Rattle.closure_net.specs.Network.{NetView, IsAscending, holds_of}
+use Rattle.closure_net.specs.Flows.{Balanced, IsTight}
 use Rattle.check_pit.specs.declared.pit_fault.PitFault.{PitFault}
 use Rattle.check_pit.specs.declared.pit_fault.PitFault.TheVariants.{WrongSize, NotClosed, Negative, OverCapacity, Unbalanced, NotTight, TooLarge}
 use Rattle.check_pit.specs.declared.lines_of_body.LineKind.{LineKind}
 use Rattle.check_pit.specs.declared.lines_of_body.LineKind.TheVariants.{Pit, Source, Rest, Sink, End}
 use Rattle.check_pit.specs.declared.lines_of_body.BodyLine.{BodyLine}
 use Rattle.check_pit.specs.Certificate.{block_if_pit, pit_of, amount_of}
-use Rattle.check_pit.specs.LineSums.{brings_by, balance_of, source_by, worth_of_blocks, left_to_give, keeps_by, SomeLineSumOverflows}
+use Rattle.check_pit.specs.LineSums.{brings_by, balance_of, source_by, worth_of_blocks, left_to_give, flow_of, keeps_by, SomeLineSumOverflows}
+use Rattle.check_pit.specs.LineLaws.{LinesTell}
 
 -- a balance for each block; the blocks of the pit so far, how many there is space for, and whether they are a pit already,
 -- to which no block comes any more; what they are worth; and what the source could still give
@@ -112,3 +115,11 @@ PutsLine net l before later = (ls : List BodyLine) → AreSumsOf net ls before �
 -- where the room had the sums over some lines, one more is refused behind them
 abbrev pub RefusesLine : NetView → BodyLine → RoomView → PitFault → Type 0
 RefusesLine net l before e = (ls : List BodyLine) → AreSumsOf net ls before → LineRefused net ls l e
+
+-- where the room has the sums over lines that tell of a flow, this is the first block that the flow doesn't balance
+abbrev pub IsFirstUnbalanced : NetView → RoomView → ℕ → Type 0
+IsFirstUnbalanced net room b = (ls : List BodyLine) → LinesTell net ls → AreSumsOf net ls room → IsFirstNot (Balanced net (flow_of (length net.worths) net.pairs ls)) (length net.worths) b
+
+-- where it has them, whether the pit is tight by that flow
+abbrev pub TellsTight : NetView → RoomView → Bool → Type 0
+TellsTight net room t = (ls : List BodyLine) → LinesTell net ls → AreSumsOf net ls room → IsTrue t ↔ IsTight net (flow_of (length net.worths) net.pairs ls) (holds_of (pit_of ls))

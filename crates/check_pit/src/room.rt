@@ -1,14 +1,15 @@
 //! The sums of a check while lines are read.
 
-ghost use Rattle.std.specs.Prelude.{◌≡◌, ◌↔◌, ℕ, ◌<◌, ◌⊎◌, true, false, IsTrue, pos, [], length, IfOk, IfErr, MatchOption, MatchResult};
+ghost use Rattle.std.specs.Prelude.{◌≡◌, ◌↔◌, ℕ, ◌<◌, ◌⊎◌, true, false, IsTrue, pos, List, [], length, IfOk, IfErr, IfSome, MatchOption, MatchResult};
 ghost use Rattle.ordered_group.specs.Amount.{zero_amount, plus, minus, positive, AtMost, FitsPair};
 ghost use Rattle.ordered_group.specs.Sums.{total, amount_at};
 ghost use Rattle.prec_file.specs.Rests.{IsFirstNot};
-ghost use Rattle.closure_net.specs.Network.{IsAscending};
+ghost use Rattle.closure_net.specs.Network.{NetView, IsAscending};
 ghost use Rattle.check_pit.specs.declared.lines_of_body.LineKind.TheVariants as kind;
+ghost use Rattle.check_pit.specs.declared.lines_of_body.BodyLine.{BodyLine as LineView};
 ghost use Rattle.check_pit.specs.Certificate.{amount_of};
 ghost use Rattle.check_pit.specs.LineSums.{keeps_by};
-ghost use Rattle.check_pit.specs.Rooms.{IsRoomFor, AreSumsOf, MayPut, WithLine, SumOverflowsWith, RefusedWhere, PutsLine, RefusesLine, with_balance, with_left};
+ghost use Rattle.check_pit.specs.Rooms.{IsRoomFor, AreSumsOf, MayPut, WithLine, SumOverflowsWith, RefusedWhere, PutsLine, RefusesLine, with_balance, with_left, IsFirstUnbalanced, TellsTight};
 
 use crate::gathering::amount;
 use crate::lines_of_body::{BodyLine, LineKind};
@@ -225,10 +226,10 @@ impl<G: OrderedGroup> Room<G> {
     pub(crate) fn make_pit(&mut self)
         requires open { self.old.is_pit ≡ false }
         requires ascending { IsAscending self.old.blocks }
-        ensures size { length self.new.balances ≡ length self.old.balances }
         ensures made { self.new.is_pit ≡ true }
         ensures blocks { self.new.blocks ≡ self.old.blocks }
-        ensures sums { let before = self.old in let later = self.new in (later.balances ≡ before.balances) × (later.worth ≡ before.worth) × (later.left ≡ before.left) }
+        ensures balances { self.new.balances ≡ self.old.balances }
+        ensures sums { (net : NetView) (ls : List LineView) → AreSumsOf net ls self.old → AreSumsOf net ls self.new }
     {
         self.pit.make_pit();
     }
@@ -244,9 +245,10 @@ impl<G: OrderedGroup> Room<G> {
     // The first block of the net whose balance is not zero.
     pub(crate) fn first_unbalanced(&self, net: &Net<G>) -> Option<u32>
         requires { length self.now.balances ≡ length net.now.worths }
-        ensures { MatchOption result
+        ensures is { MatchOption result
             ((b : ℕ) → b < length net.now.worths → amount_at self.now.balances b ≡ zero_amount)
             (λ b. IsFirstNot (λ k. amount_at self.now.balances k ≡ zero_amount) (length net.now.worths) b) }
+        ensures flow { IfSome result (λ b. IsFirstUnbalanced net.now self.now b) }
     {
         for b in 0..net.len() {
             if !is_zero(self.balances[b as usize]) {
@@ -258,7 +260,8 @@ impl<G: OrderedGroup> Room<G> {
 
     // Whether the pit is worth what the source could still give.
     pub(crate) fn is_tight(&self) -> bool
-        ensures { IsTrue result ↔ (self.now.worth ≡ self.now.left) }
+        ensures is { IsTrue result ↔ (self.now.worth ≡ self.now.left) }
+        ensures flow { (net : NetView) → TellsTight net self.now result }
     {
         same(self.worth, self.left)
     }
