@@ -82,23 +82,8 @@ made_at kind k false e f = refl
 made_now : (net : NetView) (previous : Option BodyLine) (line : BodyLine) (before later : RoomView) → may_follow previous line ≡ true → ClosesPit net previous line.kind before later → later.is_pit ≡ not (is_pit line.kind)
 made_now net previous line before later m c = c.made ∙ made_at line.kind line.kind (is_behind_pits previous) refl (λ e. pit_behind previous line m e)
 
-open_before : (t u : Bool) → cond t true u ≡ false → t ≡ false
-open_before true u h = h
-open_before false u h = refl
-
-pub sums_closed : (net : NetView) (previous : Option BodyLine) (kind : LineKind) (before later : RoomView) (ls : List BodyLine) → Summed net previous before ls → ClosesPit net previous kind before later → AreSumsOf net ls later
-sums_closed net previous kind before later ls s c =
-    let a = s.sums in
-    record {
-      fits = record {
-        size = ap length c.balances ∙ a.fits.size;
-        space = λ h. subst (λ (k : ℕ). length net.worths ≤ k) (sym (c.space h)) (a.fits.space (s.made ∙ open_before (is_behind_pits previous) (not (is_pit kind)) (sym c.made ∙ h)));
-      };
-      balances = λ b h. ap (λ (xs : List Amount). amount_at xs b) c.balances ∙ a.balances b h;
-      blocks = c.blocks ∙ a.blocks;
-      worth = c.worth ∙ a.worth;
-      left = c.left ∙ a.left;
-    }
+sums_closed : (net : NetView) (previous : Option BodyLine) (kind : LineKind) (before later : RoomView) (ls : List BodyLine) → Summed net previous before ls → ClosesPit net previous kind before later → AreSumsOf net ls later
+sums_closed net previous kind before later ls s c = c.sums ls s.sums
 
 closed_at : (net : NetView) (previous : Option BodyLine) (kind : LineKind) (before later : RoomView) (ls : List BodyLine) (t : Bool) → is_behind_pits previous ≡ t → Summed net previous before ls → ClosesPit net previous kind before later → is_pit kind ≡ false → IsClosed net.pairs (holds_of (pit_of ls))
 closed_at net previous kind before later ls true e s c f = s.closed e

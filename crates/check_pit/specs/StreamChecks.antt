@@ -24,7 +24,7 @@ use Rattle.check_pit.specs.Certificate.{Denotes, UnlessMemory, has_pair, pit_of}
 use Rattle.check_pit.specs.Checks.{ProvesPit}
 use Rattle.check_pit.specs.Closing.{IsFirstOpen}
 use Rattle.check_pit.specs.LineSums.{flow_of}
-use Rattle.check_pit.specs.Rooms.{RoomView, LineRefused}
+use Rattle.check_pit.specs.Rooms.{RoomView, AreSumsOf, LineRefused}
 use Rattle.check_pit.specs.StreamView.{LineView}
 use Rattle.check_pit.specs.TakenLines.{FaultIs}
 
@@ -102,14 +102,11 @@ pub record BodyProves (left : Option (List ℕ)) (taken : ℕ) (counts : Bool) (
   pub denotes : Denotes (length net.worths) net.pairs (lines_of_body counts net body) pit (flow_by net (lines_of_body counts net body))
   pub proves : ProvesPit net (flow_by net (lines_of_body counts net body)) pit
 
--- the blocks of the room are a pit once a line other than PIT is read, and nothing else is changed
+-- the blocks of the room are a pit once a line other than PIT is read, and its sums are the same
 pub record ClosesPit (net : NetView) (previous : Option BodyLine) (kind : LineKind) (before later : RoomView) : Type 0 where
-  pub balances : later.balances ≡ before.balances
+  pub sums : (ls : List BodyLine) → AreSumsOf net ls before → AreSumsOf net ls later
   pub blocks : later.blocks ≡ before.blocks
-  pub worth : later.worth ≡ before.worth
-  pub left : later.left ≡ before.left
   pub made : later.is_pit ≡ cond (is_behind_pits previous) true (not (is_pit kind))
-  pub space : later.is_pit ≡ false → later.space ≡ before.space
   pub closed : is_behind_pits previous ≡ false → is_pit kind ≡ false → IsClosed net.pairs (holds_of later.blocks)
 
 -- the pit isn't closed, and a line of this kind, other than PIT, was read
