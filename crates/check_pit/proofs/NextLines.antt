@@ -1,5 +1,5 @@
 -- Why a stream gives no further line.
-use Rattle.std.proofs.Common.{◌≡◌, ℕ, get_or, ◌+◌, ◌<◌, ◌≤◌, Bool, true, false, cond, ltb, List, [], ◌++◌, length, take, drop, Option, Some, None, Result, Ok, Err, refl, sym, ap, ◌∙◌, subst, arith, append-nil}
+use Rattle.std.proofs.Common.{◌≡◌, ℕ, get_or, ◌+◌, ◌<◌, ◌≤◌, Bool, true, false, ltb, List, [], ◌++◌, length, take, drop, Option, Some, None, Result, Ok, Err, refl, sym, ap, ◌∙◌, subst, arith, append-nil}
 use Rattle.std.specs.Prelude.{unwrap_or, Contains, MatchOption, MatchResult}
 use Rattle.std.specs.Io.KnownBytes.{Consumes}
 use Rattle.std.specs.Option.{is_some}
@@ -21,7 +21,7 @@ use Rattle.check_pit.specs.Header.{◌>>=◌}
 use Rattle.check_pit.specs.BodyLines.{line_of, is_of_model, may_follow, in_order, in_model, line_behind, next_line}
 use Rattle.check_pit.specs.Certificate.{has_pair}
 use Rattle.check_pit.specs.StreamView.{LineView}
-use Rattle.check_pit.specs.StreamLines.{Reads, ReadsBytes, IsLine, NoLine}
+use Rattle.check_pit.specs.StreamLines.{Reads, IsLine, NoLine}
 use Rattle.check_pit.specs.TakenLines.{held_piece, PassesLine, GoesBehind, TakesLine, LacksLine, FaultIs, NoNextLine}
 use Rattle.check_pit.proofs.Additions.{absent, present}
 use Rattle.check_pit.proofs.Beginnings.{no_line_next}

@@ -1,11 +1,10 @@
 -- The first lines of a stream, one after another, whatever follows them.
-use Rattle.std.proofs.Common.{◌≡◌, ℕ, ◌+◌, List, [], ◌∷◌, ◌++◌, length, drop, Option, Result, Ok, Err, refl, sym, ap, ◌∙◌, subst, arith, append-nil, append_assoc}
+use Rattle.std.proofs.Common.{◌≡◌, ℕ, ◌+◌, List, [], ◌∷◌, ◌++◌, length, drop, Option, Result, Ok, Err, refl, sym, ap, ◌∙◌, arith, append-nil, append_assoc}
 use Rattle.std.specs.Prelude.{None}
 use Rattle.std.specs.Io.KnownBytes.{Consumes}
 use Rattle.std.proofs.KnownBytes.{Consumes-nil, Consumes-trans}
 use Rattle.std.proofs.lemmas.List.{length-append}
 use Rattle.ordered_group.specs.declared.groups.Group.{Group}
-use Rattle.check_pit.specs.declared.header.Header.{Header}
 use Rattle.check_pit.specs.declared.header.Price.{Price}
 use Rattle.check_pit.specs.declared.header.Version.{Version}
 use Rattle.check_pit.specs.declared.cert_fault.CertFault.{CertFault}
@@ -14,7 +13,7 @@ use Rattle.check_pit.specs.Pieces.{Piece, pieces_of, piece_at, read_line}
 use Rattle.check_pit.specs.Header.{header_of, version_in, blocks_in, price_in, group_in}
 use Rattle.check_pit.specs.Written.{header_with}
 use Rattle.check_pit.specs.StreamView.{LineView}
-use Rattle.check_pit.specs.StreamLines.{Reads, ReadsBytes}
+use Rattle.check_pit.specs.StreamLines.{ReadsBytes}
 use Rattle.check_pit.specs.TakenLines.{held_piece, PassesLine, TakesLine, LacksLine, NoPitFault}
 use Rattle.check_pit.specs.StreamHeaders.{GivesHeader, LacksHeader}
 use Rattle.check_pit.proofs.HeaderLines.{all_ok}

@@ -1,23 +1,19 @@
 -- Reading the body of a stream, line after line.
-use Rattle.std.proofs.Common.{◌≡◌, ℕ, ◌+◌, ◌<◌, ◌≤◌, Bool, true, false, cond, not, List, [], ◌∷◌, ◌++◌, length, take, drop, Option, Some, None, Result, Ok, Err, refl, sym, ap, ◌∙◌, subst, arith, append-nil, append_assoc}
-use Rattle.std.specs.Io.KnownBytes.{Consumes, IsAtEnd}
+use Rattle.std.proofs.Common.{◌≡◌, ℕ, ◌+◌, ◌≤◌, Bool, true, false, List, [], ◌∷◌, ◌++◌, length, drop, Option, Some, None, Result, Err, refl, sym, ◌∙◌, subst, arith, append-nil, append_assoc}
+use Rattle.std.specs.Io.KnownBytes.{IsAtEnd}
 use Rattle.std.proofs.KnownBytes.{Consumes-nil, Consumes-trans}
 use Rattle.std.proofs.lemmas.List.{length-append}
-use Rattle.prec_file.specs.Rests.{IsRests}
 use Rattle.closure_net.specs.Network.{NetView}
 use Rattle.check_pit.specs.declared.cert_fault.CertFault.{CertFault}
-use Rattle.check_pit.specs.declared.cert_fault.CertFault.TheVariants as fault
-use Rattle.check_pit.specs.declared.pit_fault.PitFault.{PitFault}
 use Rattle.check_pit.specs.declared.stream_fault.StreamFault.{StreamFault}
-use Rattle.check_pit.specs.declared.stream_fault.StreamFault.TheVariants.{Device, InputTooLong, Cert, Pit}
 use Rattle.check_pit.specs.declared.stream_lines.TheConstants.{MOST_BYTES}
 use Rattle.check_pit.specs.declared.lines_of_body.BodyLine.{BodyLine}
 use Rattle.check_pit.specs.Pieces.{Piece, pieces_of, piece_at}
-use Rattle.check_pit.specs.BodyLines.{is_end, is_of_model, may_follow, next_line, body_fault, lines_in}
+use Rattle.check_pit.specs.BodyLines.{is_end, next_line, lines_in}
 use Rattle.check_pit.specs.Certificate.{UnlessMemory, has_pair}
 use Rattle.check_pit.specs.StreamView.{LineView}
-use Rattle.check_pit.specs.StreamLines.{Reads, ReadsBytes, IsLine}
-use Rattle.check_pit.specs.TakenLines.{held_piece, PassesLine, TakesLine, LacksLine, FaultIs, NoPitFault}
+use Rattle.check_pit.specs.StreamLines.{ReadsBytes}
+use Rattle.check_pit.specs.TakenLines.{held_piece, PassesLine, TakesLine, LacksLine, NoPitFault}
 use Rattle.check_pit.specs.StreamChecks.{ReadsOn, fault_of_body, lines_of_body, LinesBegin, IsWhole, BodyRefused, BodyFails}
 use Rattle.check_pit.proofs.Going.{always}
 use Rattle.check_pit.proofs.Order.{Met, met}

@@ -1,46 +1,43 @@
 -- The sums of a check of a stream, line after line.
-use Rattle.std.proofs.Common.{◌≡◌, ℕ, zero, suc, get_or, ◌+◌, ◌<◌, ◌≤◌, Bool, true, false, cond, not, eqb, List, [], ◌∷◌, ◌++◌, length, Option, Some, None, Result, Ok, Err, refl, sym, ap, ◌∙◌, subst, arith, append-nil, append_assoc}
+use Rattle.std.proofs.Common.{◌≡◌, ℕ, zero, suc, ◌<◌, Bool, true, false, cond, not, List, [], ◌∷◌, ◌++◌, length, Option, Some, None, Result, Ok, Err, refl, sym, ap, ◌∙◌, subst, arith, append-nil}
 use Rattle.std.specs.Ordering.{nat_cmp, ordering_then, is_lt}
 use Rattle.std.specs.declared.cmp.Ordering.{Ordering}
 use Rattle.std.specs.Prelude.{IfOk, MatchResult}
 use Rattle.std.specs.List.{All}
-use Rattle.std.specs.Io.KnownBytes.{IsAtEnd}
 use Rattle.std.proofs.lemmas.List.Elements.{All-append}
-use Rattle.ordered_group.specs.Amount.{Amount, zero_amount}
+use Rattle.ordered_group.specs.Amount.{zero_amount}
 use Rattle.ordered_group.specs.Sums.{amount_at}
-use Rattle.prec_file.specs.Rests.{IsRests, IsFirstNot}
-use Rattle.closure_net.specs.Network.{NetView, FlowFits, IsAscending, holds_of}
+use Rattle.prec_file.specs.Rests.{IsRests}
+use Rattle.closure_net.specs.Network.{NetView, IsAscending, holds_of}
 use Rattle.closure_net.specs.Closure.{IsClosed, IsGreatest, group_worth}
-use Rattle.closure_net.specs.Flows.{Balanced, IsFlow, IsTight}
+use Rattle.closure_net.specs.Flows.{Balanced}
 use Rattle.closure_net.proofs.Duality.{greatest_from_tight}
 use Rattle.check_pit.specs.declared.cert_fault.CertFault.{CertFault}
-use Rattle.check_pit.specs.declared.cert_fault.CertFault.TheVariants as fault
 use Rattle.check_pit.specs.declared.pit_fault.PitFault.{PitFault}
 use Rattle.check_pit.specs.declared.pit_fault.PitFault.TheVariants as pit_fault
 use Rattle.check_pit.specs.declared.stream_fault.StreamFault.{StreamFault}
 use Rattle.check_pit.specs.declared.stream_fault.StreamFault.TheVariants as stream
-use Rattle.check_pit.specs.declared.stream_lines.TheConstants.{MOST_BYTES}
 use Rattle.check_pit.specs.declared.lines_of_body.LineKind.{LineKind}
 use Rattle.check_pit.specs.declared.lines_of_body.LineKind.TheVariants.{Pit, Source, Rest, Sink, End}
 use Rattle.check_pit.specs.declared.lines_of_body.BodyLine.{BodyLine}
 use Rattle.check_pit.specs.Pieces.{pieces_of}
-use Rattle.check_pit.specs.BodyLines.{rank, line_of, is_end, is_of_model, is_above, may_follow, body_fault, lines_in}
+use Rattle.check_pit.specs.BodyLines.{rank, line_of, is_end, is_of_model, may_follow, body_fault, lines_in}
 use Rattle.check_pit.specs.Certificate.{has_pair, pit_of, block_if_pit}
-use Rattle.check_pit.specs.Checks.{IsOfNet, ProvesPit, NoneBelowZero, AllWithin}
-use Rattle.check_pit.specs.LineSums.{balance_of, worth_of_blocks, left_to_give, keeps_by, KeepLimits}
+use Rattle.check_pit.specs.Checks.{ProvesPit}
+use Rattle.check_pit.specs.LineSums.{worth_of_blocks, keeps_by, KeepLimits}
 use Rattle.check_pit.specs.LineLaws.{LinesTell}
-use Rattle.check_pit.specs.Rooms.{RoomView, IsRoomFor, AreSumsOf, TakesBlock, MayPut, LineRefused, PutsLine, RefusesLine}
+use Rattle.check_pit.specs.Rooms.{RoomView, AreSumsOf, TakesBlock, MayPut, LineRefused, PutsLine, RefusesLine}
 use Rattle.check_pit.specs.StreamView.{LineView}
 use Rattle.check_pit.specs.StreamLines.{Reads}
-use Rattle.check_pit.specs.TakenLines.{TakesLine, FaultIs}
-use Rattle.check_pit.specs.StreamChecks.{is_pit, is_behind_pits, ReadsOn, fault_of_body, lines_of_body, flow_by, LinesBegin, IsWhole, RefusesSome, HasPit, BodyRefused, BodyFails, BodyProves, ClosesPit, IsOpenPit, AreZero, SumsSettle, SumsFail, IsDone, EndFails}
-use Rattle.check_pit.proofs.Going.{Sound, Counted, sound, text_read}
-use Rattle.check_pit.proofs.Order.{InOrder, Good, Met, stands_in_order, later_pits, ascending, known}
+use Rattle.check_pit.specs.TakenLines.{TakesLine}
+use Rattle.check_pit.specs.StreamChecks.{is_pit, is_behind_pits, ReadsOn, fault_of_body, lines_of_body, flow_by, LinesBegin, IsWhole, HasPit, BodyRefused, BodyFails, BodyProves, ClosesPit, IsOpenPit, SumsSettle, SumsFail, IsDone, EndFails}
+use Rattle.check_pit.proofs.Going.{Sound, sound, text_read}
+use Rattle.check_pit.proofs.Order.{InOrder, Good, stands_in_order, later_pits, ascending, known}
 use Rattle.check_pit.proofs.LineSums.{pair_place}
 use Rattle.check_pit.proofs.LineFlows.{worth_is, sums_tell}
 use Rattle.check_pit.proofs.RoomSums.{block_first, pit_more}
-use Rattle.check_pit.proofs.Beginnings.{BeginsWith, ends_more}
-use Rattle.check_pit.proofs.StreamReadings.{Reading, Ended, MetNext, next_of, Fails, line_met, reading_on, reading_ends, reading_lacks, lines_begin, ended_begin, ended_stops, ended_whole}
+use Rattle.check_pit.proofs.Beginnings.{ends_more}
+use Rattle.check_pit.proofs.StreamReadings.{Reading, Ended, MetNext, next_of, Fails, line_met, reading_on, reading_ends, lines_begin, ended_begin, ended_stops, ended_whole}
 
 -- What the room has of the lines so far.
 pub record Summed (net : NetView) (previous : Option BodyLine) (room : RoomView) (ls : List BodyLine) : Type 0 where

@@ -1,8 +1,8 @@
-use Rattle.std.proofs.Common.{rules, ◌≡◌, ◌+◌, true, ℕ, List, sym, ap, ◌∙◌}
+use Rattle.std.proofs.Common.{◌+◌, true, ℕ, List, sym, ap, ◌∙◌}
 use Rattle.check_pit.specs.BodyLines.{next_line}
 use Rattle.check_pit.specs.Certificate.{has_pair}
 use Rattle.check_pit.specs.TakenLines.{held_piece}
-use Rattle.check_pit.proofs.NextLines.{line_wrong, no_next, next_reads}
+use Rattle.check_pit.proofs.NextLines.{line_wrong, next_reads}
 use Rattle.check_pit.proofs.stream_body.next_line.Goals as goal
 
 pub returns-in-Err-clause-line : goal.returns-in-Err-clause-line

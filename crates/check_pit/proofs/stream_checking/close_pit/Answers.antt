@@ -1,3 +1,0 @@
-use Rattle.std.proofs.Common.{rules}
-use Rattle.check_pit.proofs.StreamRooms.{summed_begins}
-use Rattle.check_pit.proofs.stream_checking.close_pit.Goals as goal

@@ -1,7 +1,7 @@
 use Rattle.std.proofs.Common.{None, ap, ◌+◌, ◌∙◌}
 use Rattle.check_pit.specs.Pieces.{in_line}
 use Rattle.check_pit.specs.Header.{blocks_in}
-use Rattle.check_pit.proofs.NextLines.{no_next, line_reads, line_given}
+use Rattle.check_pit.proofs.NextLines.{line_given}
 use Rattle.check_pit.proofs.stream_header.read_blocks.Goals as goal
 
 pub returns-clause-line : goal.returns-clause-line

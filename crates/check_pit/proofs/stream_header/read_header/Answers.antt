@@ -1,5 +1,5 @@
 use Rattle.std.proofs.Common.{rules}
-use Rattle.check_pit.proofs.StreamHeads.{Two, lacks_first, lacks_second, lacks_third, lacks_fourth, gives_header}
+use Rattle.check_pit.proofs.StreamHeads.{Two, lacks_second, lacks_third, lacks_fourth, gives_header}
 use Rattle.check_pit.proofs.stream_header.read_header.Goals as goal
 
 pub returns-in_err-blocks-clause-header : goal.returns-in_err-blocks-clause-header
