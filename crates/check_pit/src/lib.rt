@@ -47,6 +47,8 @@ pub use writing::write_certificate;
 #[cfg(test)]
 mod certificate_tests;
 #[cfg(test)]
+mod check_stream_tests;
+#[cfg(test)]
 mod check_tests;
 #[cfg(test)]
 mod scaled_tests;
