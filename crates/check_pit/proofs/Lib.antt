@@ -25,6 +25,7 @@ pub mod Splits
 pub mod StreamHeads
 pub mod StreamReadings
 pub mod StreamRooms
+pub mod StreamTexts
 pub mod Texts
 pub mod ValueLines
 pub mod Verdicts

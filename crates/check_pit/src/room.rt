@@ -83,6 +83,13 @@ impl<G: OrderedGroup> Room<G> {
         })
     }
 
+    /// Whether the room is one for nets with as many blocks as this one.
+    pub fn is_for(&self, net: &Net<G>) -> bool
+        ensures { IsTrue result ↔ (length self.now.balances ≡ length net.now.worths) }
+    {
+        self.balances.len() == net.len() as usize
+    }
+
     fn clear_balances(&mut self)
         ensures size { length self.new.balances ≡ length self.old.balances }
         ensures zero { (b : ℕ) → b < length self.old.balances → amount_at self.new.balances b ≡ zero_amount }
