@@ -1,4 +1,5 @@
 pub mod Additions
+pub mod Beginnings
 pub mod Amounts
 pub mod Duality
 pub mod Going
@@ -6,6 +7,7 @@ pub mod Heads
 pub mod HeldBytes
 pub mod HeldLines
 pub mod Lacks
+pub mod NextLines
 pub mod LineOrder
 pub mod Order
 pub mod LineFlows
@@ -14,9 +16,16 @@ pub mod Over
 pub mod Puts
 pub mod ReadBack
 pub mod Readable
+pub mod RoomEnds
+pub mod RoomLines
+pub mod RoomSums
 pub mod SameLines
 pub mod Spelling
 pub mod Splits
+pub mod StreamHeads
+pub mod StreamReadings
+pub mod StreamRooms
+pub mod StreamTexts
 pub mod Texts
 pub mod ValueLines
 pub mod Verdicts

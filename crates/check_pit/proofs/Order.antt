@@ -124,7 +124,7 @@ later counts n l m bs Rest e s t a ih i h = let z = ih i h in let y : Rest ≡ P
 later counts n l m bs Sink e s t a ih i h = let z = ih i h in let y : Sink ≡ Pit = sym e ∙ z.0 in absurd cc
 later counts n l m bs End e s t a ih i h = let z = ih i h in let y : End ≡ Pit = sym e ∙ z.0 in absurd cc
 
-later_pits : (counts : Bool) (n : ℕ) (has : ℕ → ℕ → Bool) (l : BodyLine) (ls : List BodyLine) → Sound counts n l → InOrder (Good counts n has) (Some l) ls → (i : ℕ) → i < length (pit_of ls) → (l.kind ≡ Pit) × (l.block < get_or (pit_of ls) i 0)
+pub later_pits : (counts : Bool) (n : ℕ) (has : ℕ → ℕ → Bool) (l : BodyLine) (ls : List BodyLine) → Sound counts n l → InOrder (Good counts n has) (Some l) ls → (i : ℕ) → i < length (pit_of ls) → (l.kind ≡ Pit) × (l.block < get_or (pit_of ls) i 0)
 later_pits counts n has l [] s o i h = absurd (omega arith)
 later_pits counts n has l (m ∷ ms) s o i h = later counts n l m (pit_of ms) m.kind refl s o.1.sound o.0 (later_pits counts n has m ms o.1.sound o.2) i h
 

@@ -1,6 +1,7 @@
 pub mod Accepted
 pub mod Balances
 pub mod BodyLines
+pub mod CertStreams
 pub mod Certificate
 pub mod Checks
 pub mod Closing
@@ -12,9 +13,14 @@ pub mod Header
 pub mod LineLaws
 pub mod LineSums
 pub mod Pieces
+pub mod PitLists
 pub mod ReadBack
+pub mod Rooms
 pub mod Written
 pub mod StreamBytes
+pub mod StreamChecks
+pub mod StreamHeaders
 pub mod StreamLines
 pub mod StreamView
+pub mod TakenLines
 pub mod Tightness

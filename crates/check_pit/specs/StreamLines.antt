@@ -1,5 +1,5 @@
 -- What is read of a stream of lines.
-use Rattle.std.specs.Prelude.{◌≡◌, ℕ, ◌+◌, ◌<◌, ◌≤◌, ◌==◌, Bool, true, false, List, [], ◌++◌, length, position, Option, Some, None}
+use Rattle.std.specs.Prelude.{◌≡◌, ℕ, ◌+◌, ◌<◌, ◌≤◌, ◌==◌, Bool, true, false, List, [], ◌++◌, length, position, Option, Some}
 use Rattle.std.specs.Io.KnownBytes.{Consumes, IsAtEnd}
 use Rattle.fixed_worth.specs.declared.limits.TheConstants.{LINE_BYTES}
 use Rattle.check_pit.specs.declared.cert_fault.CertFault.{CertFault}
@@ -49,3 +49,10 @@ MoreOrEnd left before later false = IsAtEnd left × (later.held ≡ before.held)
 abbrev pub DoneOrNot : {R : Type 0} → Option (List ℕ) → LineView R → Bool → Type 0
 DoneOrNot left s true = IsAtEnd left × (s.held ≡ []) × (s.taken ≤ MOST_BYTES)
 DoneOrNot left s false = 0 < length s.held
+
+-- why it isn't known whether the text ends here: a read failed, or more bytes were read than a stream may give
+abbrev pub NotDone : {R : Type 0} → LineView R → StreamFault → Type 0
+NotDone s Device = Unit {0}
+NotDone s InputTooLong = MOST_BYTES < s.taken
+NotDone s (Cert e) = ⊥
+NotDone s (Pit e) = ⊥

@@ -13,7 +13,8 @@ use crate::piece_reader::Pieces;
 use ordered_group::OrderedGroup;
 use prec_file::Rests;
 
-fn is_end(kind: LineKind) -> bool
+/// Whether a line is the last one.
+pub fn is_end(kind: LineKind) -> bool
     ensures { result ≡ spec.is_end kind }
 {
     matches!(kind, LineKind::End)

@@ -44,7 +44,7 @@ pub fn counts<G: OrderedGroup>() -> bool
 }
 
 // The amount of a line.
-fn amount<G: OrderedGroup>(line: &BodyLine) -> G
+pub(crate) fn amount<G: OrderedGroup>(line: &BodyLine) -> G
     requires { (G.counts ≡ true) ⊎ (line.now.count ≡ pos 0) }
     ensures { G.parts_of result ≡ amount_of line.now }
 {

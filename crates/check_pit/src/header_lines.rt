@@ -71,7 +71,8 @@ fn or_number<T>(read: Option<T>) -> Result<T, LineFault>
     read.ok_or(LineFault::Number)
 }
 
-fn version_in(text: &[u8]) -> Result<Version, LineFault>
+/// The version of a text, by its first line.
+pub fn version_in(text: &[u8]) -> Result<Version, LineFault>
     ensures { result ≡ spec.version_in text.now }
 {
     if text == VERSION_ONE {
@@ -97,7 +98,8 @@ fn wanted_blocks(wanted: Option<Wanted>, read: Option<u32>) -> Option<u32>
     }
 }
 
-fn blocks_in(wanted: Option<Wanted>, text: &[u8]) -> Result<u32, LineFault>
+/// The number of blocks that a line says, which may have to be the one that is wanted.
+pub fn blocks_in(wanted: Option<Wanted>, text: &[u8]) -> Result<u32, LineFault>
     ensures { result ≡ spec.blocks_in wanted text.now }
 {
     let word = value_behind(BLOCKS, text).ok_or(LineFault::Text)?;
@@ -136,7 +138,8 @@ fn mill_price_in(text: &[u8]) -> Result<Price, LineFault>
     or_number(mill_of(number_below(MOST_FACTOR + 1, word)))
 }
 
-fn price_in(version: Version, text: &[u8]) -> Result<Price, LineFault>
+/// The price that a line says in a text of the version.
+pub fn price_in(version: Version, text: &[u8]) -> Result<Price, LineFault>
     ensures { result ≡ spec.price_in version text.now }
 {
     match version {
@@ -158,7 +161,8 @@ fn wanted_group(wanted: Option<Wanted>, group: Group) -> Result<Group, LineFault
     }
 }
 
-fn group_in(wanted: Option<Wanted>, text: &[u8]) -> Result<Group, LineFault>
+/// The group that a line names, which may have to be the one that is wanted.
+pub fn group_in(wanted: Option<Wanted>, text: &[u8]) -> Result<Group, LineFault>
     ensures { result ≡ spec.group_in wanted text.now }
 {
     let word = value_behind(GROUP, text).ok_or(LineFault::Text)?;

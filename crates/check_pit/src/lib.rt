@@ -11,6 +11,7 @@
 mod accepted;
 mod body_reader;
 mod cert_fault;
+mod cert_stream;
 mod certificate;
 mod checking;
 mod closing;
@@ -21,23 +22,32 @@ pub mod laws;
 mod lines_of_body;
 mod piece_reader;
 mod pit_fault;
+mod pit_list;
 pub mod reading;
+mod room;
+mod stream_body;
 mod stream_bytes;
+mod stream_checking;
 pub mod stream_fault;
+mod stream_header;
 pub mod stream_lines;
 mod sums;
 mod writing;
 
 pub use accepted::Accepted;
 pub use cert_fault::CertFault;
+pub use cert_stream::{CertStream, check_stream};
 pub use certificate::{Certificate, read_certificate};
 pub use checking::check;
 pub use header::{Header, Price};
 pub use pit_fault::PitFault;
+pub use room::Room;
 pub use writing::write_certificate;
 
 #[cfg(test)]
 mod certificate_tests;
+#[cfg(test)]
+mod check_stream_tests;
 #[cfg(test)]
 mod check_tests;
 #[cfg(test)]

@@ -152,7 +152,7 @@ fn end_line(mut words: Words) -> Result<BodyLine, LineFault>
 }
 
 /// The line that a text is, for n blocks and a group with or without counts.
-fn line_of(counts: bool, n: u32, text: &[u8]) -> Result<BodyLine, LineFault>
+pub fn line_of(counts: bool, n: u32, text: &[u8]) -> Result<BodyLine, LineFault>
     ensures { result ≡ spec.line_of counts n text.now }
 {
     let mut words = Words::new(text);
@@ -172,7 +172,8 @@ fn is_above(previous: &BodyLine, line: &BodyLine) -> bool
     (previous.kind, previous.block, previous.other) < (line.kind, line.block, line.other)
 }
 
-fn may_follow(previous: Option<BodyLine>, line: &BodyLine) -> bool
+/// Whether a line may stand behind another one, or first.
+pub fn may_follow(previous: Option<BodyLine>, line: &BodyLine) -> bool
     ensures { result ≡ spec.may_follow previous line.now }
 {
     match previous {

@@ -6,7 +6,7 @@
 ghost use Rattle.std.specs.Prelude.{◌≡◌, ℕ, ◌+◌, ◌^◌, ◌-◌, ◌<◌, ◌≤◌, [], length, drop, take, IfOk, IfErr, IsErrOf, MatchResult};
 ghost use Rattle.fixed_worth.specs.declared.limits.TheConstants.{LINE_BYTES};
 ghost use Rattle.check_pit.specs.declared.stream_lines.TheConstants.{MOST_BYTES};
-ghost use Rattle.check_pit.specs.StreamLines.{Reads, IsLine, NoLine, MoreOrEnd, DoneOrNot};
+ghost use Rattle.check_pit.specs.StreamLines.{Reads, IsLine, NoLine, MoreOrEnd, DoneOrNot, NotDone};
 
 use crate::cert_fault::CertFault;
 use crate::stream_bytes::StreamBytes;
@@ -137,7 +137,7 @@ impl<R: CountedRead> StreamLines<R> {
     pub fn is_done(&mut self) -> Result<bool, StreamFault>
         requires { R.failed self.old.from < 2 ^ 64 - 1 }
         ensures reads { Reads R.remaining self.old self.new }
-        ensures done { MatchResult result (λ done. DoneOrNot (R.remaining self.new.from) self.new done) (λ e. NoLine (R.remaining self.new.from) self.new e) }
+        ensures done { MatchResult result (λ done. DoneOrNot (R.remaining self.new.from) self.new done) (λ e. NotDone self.new e) }
         ensures device { IsErrOf result StreamFault.Device → R.failed self.new.from ≡ R.failed self.old.from + 1 }
         ensures kept { ¬ IsErrOf result StreamFault.Device → R.failed self.new.from ≡ R.failed self.old.from }
     {

@@ -1,0 +1,165 @@
+-- Why a stream gives no further line.
+use Rattle.std.proofs.Common.{◌≡◌, ℕ, get_or, ◌+◌, ◌<◌, ◌≤◌, Bool, true, false, ltb, List, [], ◌++◌, length, take, drop, Option, Some, None, Result, Ok, Err, refl, sym, ap, ◌∙◌, subst, arith, append-nil}
+use Rattle.std.specs.Prelude.{unwrap_or, Contains, MatchOption, MatchResult}
+use Rattle.std.specs.Io.KnownBytes.{Consumes}
+use Rattle.std.specs.Option.{is_some}
+use Rattle.std.specs.Result.{result_err}
+use Rattle.std.proofs.lemmas.List.{length-take-le}
+use Rattle.std.proofs.lemmas.Bool.Decides.{nat_tests}
+use Rattle.fixed_worth.specs.declared.limits.TheConstants.{LINE_BYTES}
+use Rattle.check_pit.specs.declared.cert_fault.CertFault.{CertFault}
+use Rattle.check_pit.specs.declared.cert_fault.CertFault.TheVariants as fault
+use Rattle.check_pit.specs.declared.cert_fault.LineFault.{LineFault}
+use Rattle.check_pit.specs.declared.cert_fault.LineFault.TheVariants.{Text, Number}
+use Rattle.check_pit.specs.declared.lines_of_body.LineKind.TheVariants.{Rest}
+use Rattle.check_pit.specs.declared.lines_of_body.BodyLine.{BodyLine}
+use Rattle.check_pit.specs.declared.pit_fault.PitFault.{PitFault}
+use Rattle.check_pit.specs.declared.stream_fault.StreamFault.{StreamFault}
+use Rattle.check_pit.specs.declared.stream_fault.StreamFault.TheVariants.{Device, InputTooLong, Cert, Pit}
+use Rattle.check_pit.specs.Pieces.{Piece, pieces_of, piece_at, no_line, in_line, unless_fault, read_line}
+use Rattle.check_pit.specs.Header.{◌>>=◌}
+use Rattle.check_pit.specs.BodyLines.{line_of, is_of_model, may_follow, in_order, in_model, line_behind, next_line}
+use Rattle.check_pit.specs.Certificate.{has_pair}
+use Rattle.check_pit.specs.StreamView.{LineView}
+use Rattle.check_pit.specs.StreamLines.{Reads, IsLine, NoLine}
+use Rattle.check_pit.specs.TakenLines.{held_piece, PassesLine, GoesBehind, TakesLine, LacksLine, FaultIs, NoNextLine}
+use Rattle.check_pit.proofs.Additions.{absent, present}
+use Rattle.check_pit.proofs.Beginnings.{no_line_next}
+use Rattle.check_pit.proofs.HeldLines.{line_held}
+
+-- Only a piece that is no line is cut off.
+abbrev IsCut : {A : Type 0} → Result A CertFault → Type 0
+IsCut r = r ≡ Err fault.Truncated
+
+in_line_whole : {A : Type 0} (k : ℕ) (r : Result A LineFault) → IsCut (in_line k r) → ⊥
+in_line_whole k (Ok a) h = cc
+in_line_whole k (Err Text) h = cc
+in_line_whole k (Err Number) h = cc
+
+bind_whole : {A B : Type 0} (r : Result A CertFault) (f : A → Result B CertFault) → (IsCut r → ⊥) → ((a : A) → IsCut (f a) → ⊥) → IsCut (r >>= f) → ⊥
+bind_whole (Ok a) f g h e = h a e
+bind_whole {B = B} (Err x) f g h e = g (ap (λ (r : Result B CertFault). Err (unwrap_or (result_err r) x)) e)
+
+order_whole : (previous : Option BodyLine) (k : ℕ) (line : BodyLine) (t : Bool) → may_follow previous line ≡ t → IsCut (in_order previous k line) → ⊥
+order_whole previous k line true e h = let z = rw e at h in cc
+order_whole previous k line false e h = let z = rw e at h in cc
+
+model_whole : (has : ℕ → ℕ → Bool) (k : ℕ) (line : BodyLine) (t : Bool) → is_of_model has line.kind line ≡ t → IsCut (in_model has k line) → ⊥
+model_whole has k line true e h = let z = rw e at h in cc
+model_whole has k line false e h = let z = rw e at h in cc
+
+no_fault : (k : ℕ) (text : List ℕ) → length text ≤ LINE_BYTES → no_line k (record { text = text; ended = true }) ≡ None
+no_fault k text h =
+    let t : ltb LINE_BYTES (length text) ≡ false = grind (arith, nat_tests) in
+    rw t refl
+
+read_whole_line : (counts : Bool) (n k : ℕ) (text : List ℕ) → length text ≤ LINE_BYTES → IsCut (read_line (line_of counts n) k (record { text = text; ended = true })) → ⊥
+read_whole_line counts n k text h e = in_line_whole k (line_of counts n text) (sym (ap (λ (o : Option CertFault). unless_fault o (in_line k (line_of counts n text))) (no_fault k text h)) ∙ e)
+
+next_whole : (counts : Bool) (n : ℕ) (has : ℕ → ℕ → Bool) (previous : Option BodyLine) (k : ℕ) (text : List ℕ) → length text ≤ LINE_BYTES → IsCut (next_line counts n has previous k (record { text = text; ended = true })) → ⊥
+next_whole counts n has previous k text h =
+    let p : Piece = record { text = text; ended = true } in
+    bind_whole (line_behind counts n previous k p) (in_model has k)
+    (bind_whole (read_line (line_of counts n) k p) (in_order previous k) (read_whole_line counts n k text h) (λ l. order_whole previous k l (may_follow previous l) refl))
+    (λ l. model_whole has k l (is_of_model has l.kind l) refl)
+
+-- What f makes of a piece: the fault of one that is no line, and of a line never that it is cut off.
+pub record ReadsLines {A : Type 0} (f : ℕ → Piece → Result A CertFault) : Type 0 where
+  pub none : (k : ℕ) (p : Piece) (e : CertFault) → no_line k p ≡ Some e → f k p ≡ Err e
+  pub whole : (k : ℕ) (text : List ℕ) → length text ≤ LINE_BYTES → IsCut (f k (record { text = text; ended = true })) → ⊥
+
+read_none : {A : Type 0} (f : List ℕ → Result A LineFault) (k : ℕ) (p : Piece) (e : CertFault) → no_line k p ≡ Some e → read_line f k p ≡ Err e
+read_none f k p e h = rw h refl
+
+pub line_reads : {A : Type 0} (f : List ℕ → Result A LineFault) → ReadsLines (read_line f)
+line_reads f = record { none = read_none f; whole = λ k text h e. in_line_whole k (f text) (sym (ap (λ (o : Option CertFault). unless_fault o (in_line k (f text))) (no_fault k text h)) ∙ e) }
+
+pub next_reads : (counts : Bool) (n : ℕ) (has : ℕ → ℕ → Bool) (previous : Option BodyLine) → ReadsLines (next_line counts n has previous)
+next_reads counts n has previous = record { none = no_line_next counts n has previous; whole = next_whole counts n has previous }
+
+-- A fault of the line that is held, whatever follows it.
+stays : {R A : Type 0} (left : Option (List ℕ)) (f : ℕ → Piece → Result A CertFault) (s : LineView R) (e : CertFault) → (e ≡ fault.Truncated → ⊥) → ((future : List ℕ) → f (s.number + 1) (piece_at (pieces_of (s.held ++ future)) 0) ≡ Err e) → NoNextLine left f s (Cert e)
+stays left f s fault.Truncated g h = absurd (g refl)
+stays left f s (fault.Text k) g h = h
+stays left f s (fault.Number k) g h = h
+stays left f s (fault.OutOfOrder k) g h = h
+stays left f s (fault.UnknownPair k) g h = h
+stays left f s fault.NoMemory g h = h
+
+pub line_wrong : {R A : Type 0} (left : Option (List ℕ)) (f : ℕ → Piece → Result A CertFault) (s : LineView R) (count : ℕ) (e : CertFault) → ReadsLines f → IsLine s.held count → f (s.number + 1) (held_piece count s.held) ≡ Err e → NoNextLine left f s (Cert e)
+line_wrong left f s count e r h bad =
+    let size : length (take count s.held) ≡ count = length-take-le count s.held (let i = h.inside in omega (arith, i)) in
+    let short : length (take count s.held) ≤ LINE_BYTES = let i = h.short in omega (arith, size, i) in
+    stays left f s e
+    (λ cut. r.whole (s.number + 1) (take count s.held) short (bad ∙ ap (λ (x : CertFault). Err x) cut))
+    (λ future. ap (λ (ps : List Piece). f (s.number + 1) (piece_at ps 0)) (line_held s.held count h.ends future) ∙ bad)
+
+-- No line is there.
+pub no_next : {R A : Type 0} (left : Option (List ℕ)) (f : ℕ → Piece → Result A CertFault) (s : LineView R) (e : StreamFault) → ReadsLines f → NoLine left s e → NoNextLine left f s e
+no_next left f s Device r h = tt
+no_next left f s InputTooLong r h = h
+no_next left f s (Cert fault.Truncated) r h = (h.0, h.1, ap (λ (t : List ℕ). f (s.number + 1) (piece_at (pieces_of t) 0)) (append-nil s.held) ∙ r.none (s.number + 1) (piece_at (pieces_of s.held) 0) fault.Truncated h.2)
+no_next left f s (Cert (fault.Text k)) r h = λ future. r.none (s.number + 1) (piece_at (pieces_of (s.held ++ future)) 0) (fault.Text k) (h future)
+no_next left f s (Cert (fault.Number k)) r h = λ future. r.none (s.number + 1) (piece_at (pieces_of (s.held ++ future)) 0) (fault.Number k) (h future)
+no_next left f s (Cert (fault.OutOfOrder k)) r h = λ future. r.none (s.number + 1) (piece_at (pieces_of (s.held ++ future)) 0) (fault.OutOfOrder k) (h future)
+no_next left f s (Cert (fault.UnknownPair k)) r h = λ future. r.none (s.number + 1) (piece_at (pieces_of (s.held ++ future)) 0) (fault.UnknownPair k) (h future)
+no_next left f s (Cert fault.NoMemory) r h = λ future. r.none (s.number + 1) (piece_at (pieces_of (s.held ++ future)) 0) fault.NoMemory (h future)
+no_next left f s (Pit e) r h = absurd h
+
+-- A fault of one thing, as one of another.
+pub fault_as : (left : Option (List ℕ)) (taken : ℕ) (has had : List ℕ → CertFault → Type 0) (p q : PitFault → Type 0) (e : StreamFault) → ((future : List ℕ) (x : CertFault) → has future x → had future x) → ((x : PitFault) → p x → q x) → FaultIs left taken has p e → FaultIs left taken had q e
+fault_as left taken has had p q Device f g h = tt
+fault_as left taken has had p q InputTooLong f g h = h
+fault_as left taken has had p q (Cert fault.Truncated) f g h = (h.0, h.1, f [] fault.Truncated h.2)
+fault_as left taken has had p q (Cert (fault.Text k)) f g h = λ future. f future (fault.Text k) (h future)
+fault_as left taken has had p q (Cert (fault.Number k)) f g h = λ future. f future (fault.Number k) (h future)
+fault_as left taken has had p q (Cert (fault.OutOfOrder k)) f g h = λ future. f future (fault.OutOfOrder k) (h future)
+fault_as left taken has had p q (Cert (fault.UnknownPair k)) f g h = λ future. f future (fault.UnknownPair k) (h future)
+fault_as left taken has had p q (Cert fault.NoMemory) f g h = λ future. f future fault.NoMemory (h future)
+fault_as left taken has had p q (Pit e) f g h = g e h
+
+-- A line that was passed, or not.
+pub passes : {R : Type 0} (remaining : R → Option (List ℕ)) (before mid later : LineView R) (count : ℕ) (m : Reads remaining before mid) → IsLine mid.held count → GoesBehind count mid later → PassesLine remaining before later m.0 count
+passes {R = R} remaining before mid later count m h b =
+    let r = m.1 in
+    record {
+      given = subst (λ (x : R). Consumes (remaining before.from) (remaining x) m.0) (sym b.from) r.given;
+      line = subst (λ (t : List ℕ). IsLine t count) r.held h;
+      held = b.held ∙ ap (drop (count + 1)) r.held;
+      taken = b.taken ∙ r.taken;
+      number = b.number ∙ ap (λ (k : ℕ). k + 1) r.number;
+    }
+
+-- What a line gives, as the line of its text.
+gives : {A : Type 0} (f : List ℕ → Result A LineFault) (held text : List ℕ) (count k : ℕ) → IsLine held count → text ≡ take count held → in_line k (f text) ≡ read_line f k (held_piece count held)
+gives f held text count k h e =
+    let size : length (take count held) ≡ count = length-take-le count held (let i = h.inside in omega (arith, i)) in
+    let short : length (take count held) ≤ LINE_BYTES = let i = h.short in omega (arith, size, i) in
+    ap (λ (t : List ℕ). in_line k (f t)) e ∙ sym (ap (λ (o : Option CertFault). unless_fault o (in_line k (f (take count held)))) (no_fault k (take count held) short))
+
+abbrev pub PassedWhere : {R A : Type 0} → LineView R → LineView R → ℕ → Result A StreamFault → Result A CertFault → Type 0
+PassedWhere before later count result read = MatchResult read (λ x. (result ≡ Ok x) × GoesBehind count before later) (λ e. (result ≡ Err (Cert e)) × (later ≡ before))
+
+given_by : {R A : Type 0} (remaining : R → Option (List ℕ)) (f : List ℕ → Result A LineFault) (before mid later : LineView R) (count : ℕ) (result : Result A StreamFault) (read : Result A CertFault) (m : Reads remaining before mid) → IsLine mid.held count
+    → read_line f (mid.number + 1) (held_piece count mid.held) ≡ read → PassedWhere mid later count result read → MatchResult result (λ x. TakesLine remaining (read_line f) before later x) (λ e. LacksLine remaining (read_line f) before later e)
+given_by {R = R} {A = A} remaining f before mid later count result (Ok x) m h e p =
+    let r = m.1 in
+    let here : read_line f (before.number + 1) (held_piece count (before.held ++ m.0)) ≡ Ok x = ap (λ (k : ℕ). read_line f (k + 1) (held_piece count (before.held ++ m.0))) (sym r.number) ∙ ap (λ (t : List ℕ). read_line f (mid.number + 1) (held_piece count t)) (sym r.held) ∙ e in
+    subst (λ (y : Result A StreamFault). MatchResult y (λ x. TakesLine remaining (read_line f) before later x) (λ e. LacksLine remaining (read_line f) before later e)) (sym p.0)
+    (m.0, count, passes remaining before mid later count m h p.1, here)
+given_by {R = R} {A = A} remaining f before mid later count result (Err x) m h e p =
+    subst (λ (y : Result A StreamFault). MatchResult y (λ x. TakesLine remaining (read_line f) before later x) (λ e. LacksLine remaining (read_line f) before later e)) (sym p.0)
+    (subst (λ (s : LineView R). LacksLine remaining (read_line f) before s (Cert x)) (sym p.1) (m, line_wrong (remaining mid.from) (read_line f) mid count x (line_reads f) h e))
+
+pub line_given : {R A : Type 0} (remaining : R → Option (List ℕ)) (f : List ℕ → Result A LineFault) (before mid later : LineView R) (count number : ℕ) (text : List ℕ) (result : Result A StreamFault) (read : Result A CertFault) → Reads remaining before mid → IsLine mid.held count
+    → number ≡ mid.number → text ≡ take count mid.held → read ≡ in_line (number + 1) (f text) → PassedWhere mid later count result read → MatchResult result (λ x. TakesLine remaining (read_line f) before later x) (λ e. LacksLine remaining (read_line f) before later e)
+line_given remaining f before mid later count number text result read m h k t e p =
+    given_by remaining f before mid later count result read m h (sym (e ∙ ap (λ (j : ℕ). in_line (j + 1) (f text)) k ∙ gives f mid.held text count (mid.number + 1) h t)) p
+
+-- Whether a pair was found among the model's.
+pub found_or_not : (pairs : List (ℕ × ℕ)) (b p : ℕ) (o : Option ℕ) → MatchOption o (Contains pairs (b, p) → ⊥) (λ k. (k < length pairs) × (get_or pairs k (0, 0) ≡ (b, p))) → is_some o ≡ has_pair pairs b p
+found_or_not pairs b p (Some k) h = sym (present b p pairs k h.0 h.1)
+found_or_not pairs b p None h = sym (absent b p pairs h)
+
+pub rest_of_model : (has : ℕ → ℕ → Bool) (line : BodyLine) (t : Bool) → line.kind ≡ Rest → t ≡ has line.block line.other → t ≡ is_of_model has line.kind line
+rest_of_model has line t e h = rw e h

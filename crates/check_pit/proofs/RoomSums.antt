@@ -1,0 +1,220 @@
+-- The sums of a room, with one line more.
+use Rattle.std.proofs.Common.{◌≡◌, ◌≢◌, ℕ, zero, suc, get_or, set, ◌+◌, ◌⊎◌, ◌<◌, ◌≤◌, Bool, true, false, cond, eqb, inl, inr, List, [], ◌∷◌, ◌++◌, length, map, refl, sym, ap, ◌∙◌, subst, arith, append-nil, Option, Some, None, get_or-set_same, get_or-set_other}
+use Rattle.std.proofs.lemmas.Int.{ints}
+use Rattle.std.proofs.lemmas.List.{length-map, length-set, map-set}
+use Rattle.std.proofs.lemmas.Bool.{cases_eq, eqb-true, eqb-false, eq-eqb, ne_eqb}
+use Rattle.ordered_group.specs.Amount.{Amount, zero_amount, plus, minus, AtMost, FitsPair, positive, negative, Amount_eq}
+use Rattle.ordered_group.specs.Sums.{total, where_so, amount_at}
+use Rattle.ordered_group.proofs.Totals.{plus-zero_left, plus-zero_right, plus-assoc}
+use Rattle.ordered_group.proofs.Steps.{fits_same}
+use Rattle.closure_net.specs.Network.{NetView, IsAscending}
+use Rattle.closure_net.proofs.Ascending.{apart_by_places}
+use Rattle.check_pit.specs.declared.pit_fault.PitFault.{PitFault}
+use Rattle.check_pit.specs.declared.pit_fault.PitFault.TheVariants.{WrongSize, NotClosed, Negative, OverCapacity, Unbalanced, NotTight, TooLarge}
+use Rattle.check_pit.specs.declared.lines_of_body.LineKind.{LineKind}
+use Rattle.check_pit.specs.declared.lines_of_body.LineKind.TheVariants.{Pit, Source, Rest, Sink, End}
+use Rattle.check_pit.specs.declared.lines_of_body.BodyLine.{BodyLine}
+use Rattle.check_pit.specs.Certificate.{block_if_pit, pit_of, amount_of}
+use Rattle.check_pit.specs.LineSums.{brings_by, balance_of, source_by, source_sum, worth_of_blocks, left_to_give, keeps_by, SomeLineSumOverflows}
+use Rattle.std.specs.Option.{is_some}
+use Rattle.check_pit.specs.PitLists.{blocks_of}
+use Rattle.check_pit.specs.Rooms.{RoomView, IsRoomFor, AreSumsOf, MayPut, WithLine, SumOverflowsWith, RefusedWhere, LineRefused, PutsLine, RefusesLine, with_balance, with_left}
+
+-- ---- the sums over some lines, and over one more
+
+pub balance_more : (ls : List BodyLine) (l : BodyLine) (b : ℕ) → balance_of (ls ++ l ∷ []) b ≡ plus (balance_of ls b) (brings_by l.kind l b)
+balance_more [] l b = plus-zero_right (brings_by l.kind l b) ∙ sym (plus-zero_left (brings_by l.kind l b))
+balance_more (m ∷ ms) l b = ap (plus (brings_by m.kind m b)) (balance_more ms l b) ∙ sym (plus-assoc (brings_by m.kind m b) (balance_of ms b) (brings_by l.kind l b))
+
+pub sources_more : (ls : List BodyLine) (l : BodyLine) → source_sum (ls ++ l ∷ []) ≡ plus (source_sum ls) (source_by l.kind (amount_of l))
+sources_more [] l = plus-zero_right (source_by l.kind (amount_of l)) ∙ sym (plus-zero_left (source_by l.kind (amount_of l)))
+sources_more (m ∷ ms) l = ap (plus (source_by m.kind (amount_of m))) (sources_more ms l) ∙ sym (plus-assoc (source_by m.kind (amount_of m)) (source_sum ms) (source_by l.kind (amount_of l)))
+
+taken_twice : (t x y : Amount) → minus t (plus x y) ≡ minus (minus t x) y
+taken_twice t x y = Amount_eq _ _ (omega (arith, ints)) (omega (arith, ints))
+
+pub left_more : (ws : List Amount) (ls : List BodyLine) (l : BodyLine) → left_to_give ws (ls ++ l ∷ []) ≡ minus (left_to_give ws ls) (source_by l.kind (amount_of l))
+left_more ws ls l =
+    let all = total (λ b. positive (amount_at ws b)) (length ws) in
+    ap (minus all) (sources_more ls l) ∙ taken_twice all (source_sum ls) (source_by l.kind (amount_of l))
+
+pub block_first : (k : LineKind) (b : ℕ) (xs ys : List ℕ) → block_if_pit k b (xs ++ ys) ≡ block_if_pit k b xs ++ ys
+block_first Pit b xs ys = refl
+block_first Source b xs ys = refl
+block_first Rest b xs ys = refl
+block_first Sink b xs ys = refl
+block_first End b xs ys = refl
+
+pub pit_more : (ls : List BodyLine) (l : BodyLine) → pit_of (ls ++ l ∷ []) ≡ pit_of ls ++ block_if_pit l.kind l.block []
+pit_more [] l = refl
+pit_more (m ∷ ms) l = ap (block_if_pit m.kind m.block) (pit_more ms l) ∙ block_first m.kind m.block (pit_of ms) (block_if_pit l.kind l.block [])
+
+pub worth_more : (ws : List Amount) (bs cs : List ℕ) → worth_of_blocks ws (bs ++ cs) ≡ plus (worth_of_blocks ws bs) (worth_of_blocks ws cs)
+worth_more ws [] cs = sym (plus-zero_left (worth_of_blocks ws cs))
+worth_more ws (b ∷ bs) cs = ap (plus (amount_at ws b)) (worth_more ws bs cs) ∙ sym (plus-assoc (amount_at ws b) (worth_of_blocks ws bs) (worth_of_blocks ws cs))
+
+worth_with : (ws : List Amount) (ls : List BodyLine) (l : BodyLine) → worth_of_blocks ws (pit_of (ls ++ l ∷ [])) ≡ plus (worth_of_blocks ws (pit_of ls)) (worth_of_blocks ws (block_if_pit l.kind l.block []))
+worth_with ws ls l = ap (worth_of_blocks ws) (pit_more ls l) ∙ worth_more ws (pit_of ls) (block_if_pit l.kind l.block [])
+
+-- ---- a line that is put, and one that is refused, behind the lines whose sums the room has
+
+fits_still : (net : NetView) (l : BodyLine) (before later : RoomView) → WithLine net l before later → IsRoomFor net before → IsRoomFor net later
+fits_still net l before later w f = record {
+  size = w.size ∙ f.size;
+  space = λ h. subst (λ (s : ℕ). length net.worths ≤ s) (sym w.space) (f.space (sym w.is_pit ∙ h));
+}
+
+pub puts_line : (net : NetView) (l : BodyLine) (before later : RoomView) → WithLine net l before later → PutsLine net l before later
+puts_line net l before later w = λ ls s. record {
+  fits = fits_still net l before later w s.fits;
+  balances = λ b h. w.balances b h ∙ ap (λ (x : Amount). plus x (brings_by l.kind l b)) (s.balances b h) ∙ sym (balance_more ls l b);
+  blocks = w.blocks ∙ ap (λ (xs : List ℕ). xs ++ block_if_pit l.kind l.block []) s.blocks ∙ sym (pit_more ls l);
+  worth = w.worth ∙ ap (λ (x : Amount). plus x (worth_of_blocks net.worths (block_if_pit l.kind l.block []))) s.worth ∙ sym (worth_with net.worths ls l);
+  left = w.left ∙ ap (λ (x : Amount). minus x (source_by l.kind (amount_of l))) s.left ∙ sym (left_more net.worths ls l);
+}
+
+overflows : (net : NetView) (ls : List BodyLine) (l : BodyLine) (room : RoomView) → AreSumsOf net ls room → SumOverflowsWith net room l → SomeLineSumOverflows net (ls ++ l ∷ [])
+overflows net ls l room s (inl h) = inl (h.0, h.1, λ f. h.2 (fits_same _ _ (ap (λ (x : Amount). plus x (brings_by l.kind l h.0)) (s.balances h.0 h.1) ∙ sym (balance_more ls l h.0)) f))
+overflows net ls l room s (inr (inl h)) = inr (inl (λ f. h (fits_same _ _ (ap (λ (x : Amount). plus x (worth_of_blocks net.worths (block_if_pit l.kind l.block []))) s.worth ∙ sym (worth_with net.worths ls l)) f)))
+overflows net ls l room s (inr (inr h)) = inr (inr (λ f. h (fits_same _ _ (ap (λ (x : Amount). minus x (source_by l.kind (amount_of l))) s.left ∙ sym (left_more net.worths ls l)) f)))
+
+refused_more : (net : NetView) (l : BodyLine) (P Q : Type 0) → (P → Q) → (e : PitFault) → RefusedWhere net l P e → RefusedWhere net l Q e
+refused_more net l P Q f Negative h = h
+refused_more net l P Q f (OverCapacity b) h = h
+refused_more net l P Q f TooLarge h = (h.0, f h.1)
+refused_more net l P Q f WrongSize h = absurd h
+refused_more net l P Q f (NotClosed b p) h = absurd h
+refused_more net l P Q f (Unbalanced b) h = absurd h
+refused_more net l P Q f NotTight h = absurd h
+
+pub refuses_line : (net : NetView) (l : BodyLine) (room : RoomView) (e : PitFault) → RefusedWhere net l (SumOverflowsWith net room l) e → RefusesLine net l room e
+refuses_line net l room e h = λ ls s. refused_more net l (SumOverflowsWith net room l) (SomeLineSumOverflows net (ls ++ l ∷ [])) (overflows net ls l room s) e h
+
+-- ---- one balance changed
+
+added_at : (xs : List Amount) (b k : ℕ) (x : Amount) (t : Bool) → b < length xs → eqb b k ≡ t → amount_at (set xs b (plus (amount_at xs b) x)) k ≡ plus (amount_at xs k) (where_so t x)
+added_at xs b k x true h e =
+    subst (λ (i : ℕ). amount_at (set xs b (plus (amount_at xs b) x)) i ≡ plus (amount_at xs i) x) (eqb-true b k e) (get_or-set_same xs b (plus (amount_at xs b) x) zero_amount h)
+added_at xs b k x false h e = get_or-set_other xs b k (plus (amount_at xs b) x) zero_amount (λ d. eqb-false b k e (sym d)) ∙ sym (plus-zero_right (amount_at xs k))
+
+less_as_more : (y x : Amount) → minus y x ≡ plus y (minus zero_amount x)
+less_as_more y x = Amount_eq _ _ (omega (arith, ints)) (omega (arith, ints))
+
+taken_at : (xs : List Amount) (b k : ℕ) (x : Amount) (t : Bool) → b < length xs → eqb b k ≡ t → amount_at (set xs b (minus (amount_at xs b) x)) k ≡ plus (amount_at xs k) (minus zero_amount (where_so t x))
+taken_at xs b k x true h e =
+    subst (λ (i : ℕ). amount_at (set xs b (minus (amount_at xs b) x)) i ≡ plus (amount_at xs i) (minus zero_amount x)) (eqb-true b k e) (get_or-set_same xs b (minus (amount_at xs b) x) zero_amount h ∙ less_as_more (amount_at xs b) x)
+taken_at xs b k x false h e = get_or-set_other xs b k (minus (amount_at xs b) x) zero_amount (λ d. eqb-false b k e (sym d)) ∙ sym (plus-zero_right (amount_at xs k))
+
+moved : (y u v : Amount) → plus (plus y (minus zero_amount u)) v ≡ plus y (minus v u)
+moved y u v = Amount_eq _ _ (omega (arith, ints)) (omega (arith, ints))
+
+none_moved : (y u : Amount) → y ≡ plus y (minus u u)
+none_moved y u = Amount_eq _ _ (omega (arith, ints)) (omega (arith, ints))
+
+none_taken : (y : Amount) → y ≡ minus y zero_amount
+none_taken y = Amount_eq _ _ (omega (arith, ints)) (omega (arith, ints))
+
+-- ---- what lines of each kind bring
+
+pub with_source : (net : NetView) (l : BodyLine) (before mid later : RoomView) (x : Amount) → l.kind ≡ Source → l.block < length before.balances → x ≡ amount_of l
+    → mid ≡ with_balance l.block (plus (amount_at before.balances l.block) x) before → later ≡ with_left (minus mid.left x) mid → WithLine net l before later
+with_source net l before mid later x is h e m w =
+    let now : later ≡ with_left (minus before.left (amount_of l)) (with_balance l.block (plus (amount_at before.balances l.block) (amount_of l)) before) =
+    w ∙ ap (λ (r : RoomView). with_left (minus r.left x) r) m ∙ ap (λ (y : Amount). with_left (minus before.left y) (with_balance l.block (plus (amount_at before.balances l.block) y) before)) e in
+    subst (λ (r : RoomView). WithLine net l before r) (sym now) (record {
+      size = length-set before.balances l.block _;
+      balances = λ b i. rw is (added_at before.balances l.block b (amount_of l) (eqb l.block b) h refl);
+      blocks = rw is (sym (append-nil before.blocks));
+      space = refl;
+      is_pit = refl;
+      worth = rw is (sym (plus-zero_right before.worth));
+      left = rw is refl;
+    })
+
+pub with_sink : (net : NetView) (l : BodyLine) (before later : RoomView) (x : Amount) → l.kind ≡ Sink → l.block < length before.balances → x ≡ amount_of l
+    → later ≡ with_balance l.block (minus (amount_at before.balances l.block) x) before → WithLine net l before later
+with_sink net l before later x is h e w =
+    let now : later ≡ with_balance l.block (minus (amount_at before.balances l.block) (amount_of l)) before = w ∙ ap (λ (y : Amount). with_balance l.block (minus (amount_at before.balances l.block) y) before) e in
+    subst (λ (r : RoomView). WithLine net l before r) (sym now) (record {
+      size = length-set before.balances l.block _;
+      balances = λ b i. rw is (taken_at before.balances l.block b (amount_of l) (eqb l.block b) h refl);
+      blocks = rw is (sym (append-nil before.blocks));
+      space = refl;
+      is_pit = refl;
+      worth = rw is (sym (plus-zero_right before.worth));
+      left = rw is (none_taken before.left);
+    })
+
+pub with_rest : (net : NetView) (l : BodyLine) (before mid later : RoomView) (x : Amount) → l.kind ≡ Rest → l.block < length before.balances → l.other < length before.balances → x ≡ amount_of l
+    → mid ≡ with_balance l.block (minus (amount_at before.balances l.block) x) before → later ≡ with_balance l.other (plus (amount_at mid.balances l.other) x) mid → WithLine net l before later
+with_rest net l before mid later x is h i e m w =
+    let y = amount_of l in
+    let between : List Amount = set before.balances l.block (minus (amount_at before.balances l.block) y) in
+    let size : length between ≡ length before.balances = length-set before.balances l.block _ in
+    let now : later ≡ with_balance l.other (plus (amount_at between l.other) y) (with_balance l.block (minus (amount_at before.balances l.block) y) before) =
+    w ∙ ap (λ (r : RoomView). with_balance l.other (plus (amount_at r.balances l.other) x) r) m
+    ∙ ap (λ (z : Amount). with_balance l.other (plus (amount_at (set before.balances l.block (minus (amount_at before.balances l.block) z)) l.other) z) (with_balance l.block (minus (amount_at before.balances l.block) z) before)) e in
+    subst (λ (r : RoomView). WithLine net l before r) (sym now) (record {
+      size = length-set between l.other _ ∙ size;
+      balances = λ b j. rw is (added_at between l.other b y (eqb l.other b) (omega (arith, i, size)) refl
+          ∙ ap (λ (z : Amount). plus z (where_so (eqb l.other b) y)) (taken_at before.balances l.block b y (eqb l.block b) h refl)
+          ∙ moved (amount_at before.balances b) (where_so (eqb l.block b) y) (where_so (eqb l.other b) y));
+      blocks = rw is (sym (append-nil before.blocks));
+      space = refl;
+      is_pit = refl;
+      worth = rw is (sym (plus-zero_right before.worth));
+      left = rw is (none_taken before.left);
+    })
+
+-- an amount from a block to itself
+pub with_none : (net : NetView) (l : BodyLine) (room : RoomView) → l.kind ≡ Rest → l.block ≡ l.other → WithLine net l room room
+with_none net l room is e = record {
+  size = refl;
+  balances = λ b j. rw is (none_moved (amount_at room.balances b) (where_so (eqb l.other b) (amount_of l)) ∙ ap (λ (i : ℕ). plus (amount_at room.balances b) (minus (where_so (eqb l.other b) (amount_of l)) (where_so (eqb i b) (amount_of l)))) (sym e));
+  blocks = rw is (sym (append-nil room.blocks));
+  space = refl;
+  is_pit = refl;
+  worth = rw is (sym (plus-zero_right room.worth));
+  left = rw is (none_taken room.left);
+}
+
+-- ---- the list of a pit that is not made yet
+
+pub blocks_open : (bs : List ℕ) (p : Option (List ℕ)) → is_some p ≡ false → blocks_of bs p ≡ bs
+blocks_open bs None h = refl
+blocks_open bs (Some pit) h = absurd (let z : true ≡ false = h in cc)
+
+-- ---- fields of a room changed in place
+
+pub balance_set : {X : Type 0} (f : X → Amount) (xs : List X) (bs : List ℕ) (s : ℕ) (p : Bool) (w r : Amount) (b : ℕ) (x : X) (y : Amount) (room : RoomView) → record { balances = map f xs; blocks = bs; space = s; is_pit = p; worth = w; left = r } ≡ room
+    → f x ≡ y → record { balances = map f (set xs b x); blocks = bs; space = s; is_pit = p; worth = w; left = r } ≡ with_balance b y room
+balance_set f xs bs s p w r b x y room is e =
+    ap (λ (ys : List Amount). record { balances = ys; blocks = bs; space = s; is_pit = p; worth = w; left = r }) (map-set f xs b x)
+    ∙ ap (λ (z : Amount). record { balances = set (map f xs) b z; blocks = bs; space = s; is_pit = p; worth = w; left = r }) e
+    ∙ ap (with_balance b y) is
+
+-- the last line brings nothing
+pub with_end : (net : NetView) (l : BodyLine) (room : RoomView) → l.kind ≡ End → WithLine net l room room
+with_end net l room is = record {
+  size = refl;
+  balances = λ b j. rw is (sym (plus-zero_right (amount_at room.balances b)));
+  blocks = rw is (sym (append-nil room.blocks));
+  space = refl;
+  is_pit = refl;
+  worth = rw is (sym (plus-zero_right room.worth));
+  left = rw is (none_taken room.left);
+}
+
+-- balances that are made zero one after another
+pub cleared_size : {X : Type 0} (xs : List X) (b : ℕ) (x : X) (n : ℕ) → length xs ≡ n → length (set xs b x) ≡ n
+cleared_size xs b x n e = length-set xs b x ∙ e
+
+cleared_at : {X : Type 0} (f : X → Amount) (xs : List X) (b k : ℕ) (x : X) → b < length xs → f x ≡ zero_amount → ((k : ℕ) → k < b → amount_at (map f xs) k ≡ zero_amount) → k < suc b → (k ≡ b) ⊎ (k ≢ b) → amount_at (map f (set xs b x)) k ≡ zero_amount
+cleared_at f xs b k x h z i l (inl e) =
+    ap (λ (ys : List Amount). amount_at ys k) (map-set f xs b x)
+    ∙ subst (λ (j : ℕ). amount_at (set (map f xs) b (f x)) j ≡ f x) (sym e) (get_or-set_same (map f xs) b (f x) zero_amount (omega (arith, h, length-map xs f))) ∙ z
+cleared_at f xs b k x h z i l (inr d) =
+    ap (λ (ys : List Amount). amount_at ys k) (map-set f xs b x) ∙ get_or-set_other (map f xs) b k (f x) zero_amount d ∙ i k (let j : k ≢ b = d in omega arith)
+
+pub cleared_more : {X : Type 0} (f : X → Amount) (xs : List X) (b : ℕ) (x : X) → b < length xs → f x ≡ zero_amount → ((k : ℕ) → k < b → amount_at (map f xs) k ≡ zero_amount) → (k : ℕ) → k < b + 1 → amount_at (map f (set xs b x)) k ≡ zero_amount
+cleared_more f xs b x h z i k l = cleared_at f xs b k x h z i (omega arith) (cases_eq k b)

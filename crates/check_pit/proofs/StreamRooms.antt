@@ -1,0 +1,344 @@
+-- The sums of a check of a stream, line after line.
+use Rattle.std.proofs.Common.{◌≡◌, ℕ, zero, suc, ◌<◌, Bool, true, false, cond, not, List, [], ◌∷◌, ◌++◌, length, Option, Some, None, Result, Ok, Err, refl, sym, ap, ◌∙◌, subst, arith, append-nil}
+use Rattle.std.specs.Ordering.{nat_cmp, ordering_then, is_lt}
+use Rattle.std.specs.declared.cmp.Ordering.{Ordering}
+use Rattle.std.specs.Prelude.{IfOk, MatchResult}
+use Rattle.std.specs.List.{All}
+use Rattle.std.proofs.lemmas.List.Elements.{All-append}
+use Rattle.ordered_group.specs.Amount.{zero_amount}
+use Rattle.ordered_group.specs.Sums.{amount_at}
+use Rattle.prec_file.specs.Rests.{IsRests}
+use Rattle.closure_net.specs.Network.{NetView, IsAscending, holds_of}
+use Rattle.closure_net.specs.Closure.{IsClosed, IsGreatest, group_worth}
+use Rattle.closure_net.specs.Flows.{Balanced}
+use Rattle.closure_net.proofs.Duality.{greatest_from_tight}
+use Rattle.check_pit.specs.declared.cert_fault.CertFault.{CertFault}
+use Rattle.check_pit.specs.declared.pit_fault.PitFault.{PitFault}
+use Rattle.check_pit.specs.declared.pit_fault.PitFault.TheVariants as pit_fault
+use Rattle.check_pit.specs.declared.stream_fault.StreamFault.{StreamFault}
+use Rattle.check_pit.specs.declared.stream_fault.StreamFault.TheVariants as stream
+use Rattle.check_pit.specs.declared.lines_of_body.LineKind.{LineKind}
+use Rattle.check_pit.specs.declared.lines_of_body.LineKind.TheVariants.{Pit, Source, Rest, Sink, End}
+use Rattle.check_pit.specs.declared.lines_of_body.BodyLine.{BodyLine}
+use Rattle.check_pit.specs.Pieces.{pieces_of}
+use Rattle.check_pit.specs.BodyLines.{rank, line_of, is_end, is_of_model, may_follow, body_fault, lines_in}
+use Rattle.check_pit.specs.Certificate.{has_pair, pit_of, block_if_pit}
+use Rattle.check_pit.specs.Checks.{ProvesPit}
+use Rattle.check_pit.specs.LineSums.{worth_of_blocks, keeps_by, KeepLimits}
+use Rattle.check_pit.specs.LineLaws.{LinesTell}
+use Rattle.check_pit.specs.Rooms.{RoomView, AreSumsOf, TakesBlock, MayPut, LineRefused, PutsLine, RefusesLine}
+use Rattle.check_pit.specs.StreamView.{LineView}
+use Rattle.check_pit.specs.StreamLines.{Reads}
+use Rattle.check_pit.specs.TakenLines.{TakesLine}
+use Rattle.check_pit.specs.StreamChecks.{is_pit, is_behind_pits, ReadsOn, fault_of_body, lines_of_body, flow_by, LinesBegin, IsWhole, HasPit, BodyRefused, BodyFails, BodyProves, ClosesPit, IsOpenPit, SumsSettle, SumsFail, IsDone, EndFails}
+use Rattle.check_pit.proofs.Going.{Sound, sound, text_read}
+use Rattle.check_pit.proofs.Order.{InOrder, Good, stands_in_order, later_pits, ascending, known}
+use Rattle.check_pit.proofs.LineSums.{pair_place}
+use Rattle.check_pit.proofs.LineFlows.{worth_is, sums_tell}
+use Rattle.check_pit.proofs.RoomSums.{block_first, pit_more}
+use Rattle.check_pit.proofs.Beginnings.{ends_more}
+use Rattle.check_pit.proofs.StreamReadings.{Reading, Ended, MetNext, next_of, Fails, line_met, reading_on, reading_ends, lines_begin, ended_begin, ended_stops, ended_whole}
+
+-- What the room has of the lines so far.
+pub record Summed (net : NetView) (previous : Option BodyLine) (room : RoomView) (ls : List BodyLine) : Type 0 where
+  pub sums : AreSumsOf net ls room
+  pub limits : KeepLimits net.worths ls
+  pub made : room.is_pit ≡ is_behind_pits previous
+  pub closed : is_behind_pits previous ≡ true → IsClosed net.pairs (holds_of (pit_of ls))
+
+pub summed_begins : (net : NetView) (room : RoomView) → AreSumsOf net [] room → room.is_pit ≡ false → Summed net None room []
+summed_begins net room s o = record { sums = s; limits = λ k d h. absurd (omega arith); made = o; closed = λ h. absurd (let z : false ≡ true = h in cc) }
+
+-- A line that is met has what the room asks for.
+pub met_sound : (counts : Bool) (net : NetView) (previous : Option BodyLine) (line : BodyLine) → MetNext counts net previous line → Sound counts (length net.worths) line
+met_sound counts net previous line m = sound counts (length net.worths) m.1.text line (text_read (line_of counts (length net.worths)) m.0 m.1 line m.2.read)
+
+-- A PIT line stands behind PIT lines alone.
+kind_behind : (kind : LineKind) (o : Ordering) → is_lt (ordering_then (nat_cmp (rank kind) 0) o) ≡ true → not (is_pit kind) ≡ false
+kind_behind Pit o h = refl
+kind_behind Source o h = absurd cc
+kind_behind Rest o h = absurd cc
+kind_behind Sink o h = absurd cc
+kind_behind End o h = absurd cc
+
+pit_behind : (previous : Option BodyLine) (line : BodyLine) → may_follow previous line ≡ true → line.kind ≡ Pit → is_behind_pits previous ≡ false
+pit_behind None line h e = refl
+pit_behind (Some p) line h e =
+    kind_behind p.kind (ordering_then (nat_cmp p.block line.block) (nat_cmp p.other line.other))
+    (subst (λ (k : LineKind). is_lt (ordering_then (nat_cmp (rank p.kind) (rank k)) (ordering_then (nat_cmp p.block line.block) (nat_cmp p.other line.other))) ≡ true) e h)
+
+made_at : (kind k : LineKind) (t : Bool) → kind ≡ k → (kind ≡ Pit → t ≡ false) → cond t true (not (is_pit k)) ≡ not (is_pit k)
+made_at kind Pit true e f = absurd (let z : true ≡ false = f e in cc)
+made_at kind Source true e f = refl
+made_at kind Rest true e f = refl
+made_at kind Sink true e f = refl
+made_at kind End true e f = refl
+made_at kind k false e f = refl
+
+-- Behind a line of this kind the blocks of the room are a pit or not.
+made_now : (net : NetView) (previous : Option BodyLine) (line : BodyLine) (before later : RoomView) → may_follow previous line ≡ true → ClosesPit net previous line.kind before later → later.is_pit ≡ not (is_pit line.kind)
+made_now net previous line before later m c = c.made ∙ made_at line.kind line.kind (is_behind_pits previous) refl (λ e. pit_behind previous line m e)
+
+sums_closed : (net : NetView) (previous : Option BodyLine) (kind : LineKind) (before later : RoomView) (ls : List BodyLine) → Summed net previous before ls → ClosesPit net previous kind before later → AreSumsOf net ls later
+sums_closed net previous kind before later ls s c = c.sums ls s.sums
+
+closed_at : (net : NetView) (previous : Option BodyLine) (kind : LineKind) (before later : RoomView) (ls : List BodyLine) (t : Bool) → is_behind_pits previous ≡ t → Summed net previous before ls → ClosesPit net previous kind before later → is_pit kind ≡ false → IsClosed net.pairs (holds_of (pit_of ls))
+closed_at net previous kind before later ls true e s c f = s.closed e
+closed_at net previous kind before later ls false e s c f = subst (λ (bs : List ℕ). IsClosed net.pairs (holds_of bs)) (c.blocks ∙ s.sums.blocks) (c.closed e f)
+
+pub closed_now : (net : NetView) (previous : Option BodyLine) (kind : LineKind) (before later : RoomView) (ls : List BodyLine) → Summed net previous before ls → ClosesPit net previous kind before later → is_pit kind ≡ false → IsClosed net.pairs (holds_of (pit_of ls))
+closed_now net previous kind before later ls s c f = closed_at net previous kind before later ls (is_behind_pits previous) refl s c f
+
+-- The blocks of the lines so far ascend.
+pub blocks_ascend : {R : Type 0} (remaining : R → Option (List ℕ)) (counts : Bool) (net : NetView) (start now : LineView R) (previous : Option BodyLine) (bytes : List ℕ) (ls : List BodyLine) (room : RoomView) → Reading remaining counts net start now previous bytes ls → Summed net previous room ls → IsAscending room.blocks
+blocks_ascend remaining counts net start now previous bytes ls room r s = subst IsAscending (sym s.sums.blocks) (ascending counts (length net.worths) (has_pair net.pairs) None ls r.begins.order)
+
+rest_has : (has : ℕ → ℕ → Bool) (line : BodyLine) → is_of_model has line.kind line ≡ true → line.kind ≡ Rest → has line.block line.other ≡ true
+rest_has has line h e = rw e at h
+
+other_known : (net : NetView) (line : BodyLine) → IsRests (record { blocks = length net.worths; pairs = net.pairs }) → is_of_model (has_pair net.pairs) line.kind line ≡ true → line.kind ≡ Rest → line.other < length net.worths
+other_known net line r m e =
+    let q = pair_place line.block line.other net.pairs (rest_has (has_pair net.pairs) line m e) in
+    let both = r.known q.0 (0, 0) q.1 in
+    subst (λ (p : ℕ × ℕ). p.1 < length net.worths) q.2 both.1
+
+takes_at : (net : NetView) (line : BodyLine) (room : RoomView) (ls : List BodyLine) (kind : LineKind) → line.kind ≡ kind → room.is_pit ≡ not (is_pit kind) → room.blocks ≡ pit_of ls → IsAscending (pit_of (ls ++ line ∷ [])) → TakesBlock kind room line.block
+takes_at net line room ls Pit e m b a = (m, subst IsAscending (pit_more ls line ∙ ap (λ (k : LineKind). pit_of ls ++ block_if_pit k line.block []) e ∙ ap (λ (bs : List ℕ). bs ++ line.block ∷ []) (sym b)) a)
+takes_at net line room ls Source e m b a = tt
+takes_at net line room ls Rest e m b a = tt
+takes_at net line room ls Sink e m b a = tt
+takes_at net line room ls End e m b a = tt
+
+pub may_put : (counts : Bool) (net : NetView) (previous : Option BodyLine) (line : BodyLine) (before later : RoomView) (ls : List BodyLine) → IsRests (record { blocks = length net.worths; pairs = net.pairs }) → Summed net previous before ls → ClosesPit net previous line.kind before later → MetNext counts net previous line
+    → is_end line.kind ≡ false → InOrder (Good counts (length net.worths) (has_pair net.pairs)) None (ls ++ line ∷ []) → MayPut net later line
+may_put counts net previous line before later ls r s c m e o =
+    let a = sums_closed net previous line.kind before later ls s c in
+    record {
+      fits = a.fits;
+      block = (met_sound counts net previous line m).block e;
+      other = other_known net line r m.2.of_model;
+      takes = takes_at net line later ls line.kind refl (made_now net previous line before later m.2.follows c) a.blocks (ascending counts (length net.worths) (has_pair net.pairs) None (ls ++ line ∷ []) o);
+    }
+
+no_block : (kind : LineKind) (b : ℕ) → is_pit kind ≡ false → block_if_pit kind b [] ≡ []
+no_block Pit b h = absurd (let z : true ≡ false = h in cc)
+no_block Source b h = refl
+no_block Rest b h = refl
+no_block Sink b h = refl
+no_block End b h = refl
+
+pub same_pit : (ls : List BodyLine) (line : BodyLine) → is_pit line.kind ≡ false → pit_of (ls ++ line ∷ []) ≡ pit_of ls
+same_pit ls line h = pit_more ls line ∙ ap (λ (bs : List ℕ). pit_of ls ++ bs) (no_block line.kind line.block h) ∙ append-nil (pit_of ls)
+
+not_true : (t : Bool) → not t ≡ true → t ≡ false
+not_true true h = absurd (let z : false ≡ true = h in cc)
+not_true false h = refl
+
+one_kept : (net : NetView) (line : BodyLine) → keeps_by line.kind net.worths line → All (λ l. keeps_by l.kind net.worths l) (line ∷ [])
+one_kept net line h zero d i = h
+one_kept net line h (suc k) d i = absurd (omega arith)
+
+-- One line on.
+pub summed_on : (counts : Bool) (net : NetView) (previous : Option BodyLine) (line : BodyLine) (before mid later : RoomView) (ls : List BodyLine) → Summed net previous before ls → ClosesPit net previous line.kind before mid → MetNext counts net previous line
+    → PutsLine net line mid later → keeps_by line.kind net.worths line → later.is_pit ≡ mid.is_pit → Summed net (Some line) later (ls ++ line ∷ [])
+summed_on counts net previous line before mid later ls s c m p k i = record {
+  sums = p ls (sums_closed net previous line.kind before mid ls s c);
+  limits = All-append (λ l. keeps_by l.kind net.worths l) ls (line ∷ []) s.limits (one_kept net line k);
+  made = i ∙ made_now net previous line before mid m.2.follows c;
+  closed = λ h. let f = not_true (is_pit line.kind) h in subst (λ (bs : List ℕ). IsClosed net.pairs (holds_of bs)) (sym (same_pit ls line f)) (closed_now net previous line.kind before mid ls s c f);
+}
+
+-- A line that is refused.
+pub refused_as : (left : Option (List ℕ)) (taken : ℕ) (counts : Bool) (net : NetView) (body : List ℕ) (ls : List BodyLine) (line : BodyLine) (e : PitFault) → LinesBegin counts net body (ls ++ line ∷ []) → LineRefused net ls line e → BodyRefused left taken counts net body e
+refused_as left taken counts net body ls line pit_fault.WrongSize b h = absurd h
+refused_as left taken counts net body ls line (pit_fault.NotClosed x y) b h = absurd h
+refused_as left taken counts net body ls line pit_fault.Negative b h = (ls, line, b, h)
+refused_as left taken counts net body ls line (pit_fault.OverCapacity x) b h = (ls, line, b, h)
+refused_as left taken counts net body ls line (pit_fault.Unbalanced x) b h = absurd h
+refused_as left taken counts net body ls line pit_fault.NotTight b h = absurd h
+refused_as left taken counts net body ls line pit_fault.TooLarge b h = (ls, line, b, h)
+
+pub line_refused : {R : Type 0} (remaining : R → Option (List ℕ)) (counts : Bool) (net : NetView) (start now later : LineView R) (previous : Option BodyLine) (bytes : List ℕ) (ls : List BodyLine) (line : BodyLine) (before mid : RoomView) (e : PitFault) → Reading remaining counts net start now previous bytes ls
+    → Summed net previous before ls → ClosesPit net previous line.kind before mid → TakesLine remaining (next_of counts net previous) now later line → is_end line.kind ≡ false → RefusesLine net line mid e → Fails remaining counts net start later (stream.Pit e)
+line_refused remaining counts net start now later previous bytes ls line before mid e r s c t f h =
+    let q = reading_on remaining counts net start now later previous bytes ls line r t f in (
+      bytes ++ t.0,
+      q.read,
+      refused_as (remaining later.from) later.taken counts net (start.held ++ (bytes ++ t.0)) ls line e (lines_begin remaining counts net start later (Some line) (bytes ++ t.0) (ls ++ line ∷ []) q) (h ls (sums_closed net previous line.kind before mid ls s c)),
+    )
+
+-- The pit isn't closed: behind a line that is none of its own, no other names a block.
+pit_append : (xs ys : List BodyLine) → pit_of (xs ++ ys) ≡ pit_of xs ++ pit_of ys
+pit_append [] ys = refl
+pit_append (x ∷ xs) ys = ap (block_if_pit x.kind x.block) (pit_append xs ys) ∙ block_first x.kind x.block (pit_of xs) (pit_of ys)
+
+no_pits : (bs : List ℕ) → ((i : ℕ) → i < length bs → ⊥) → bs ≡ []
+no_pits [] h = refl
+no_pits (b ∷ bs) h = absurd (h 0 (omega arith))
+
+pit_kind : (kind : LineKind) → kind ≡ Pit → is_pit kind ≡ false → ⊥
+pit_kind kind e f = let z : true ≡ false = sym (ap is_pit e) ∙ f in cc
+
+none_later : (counts : Bool) (net : NetView) (line : BodyLine) (k : ℕ) (left : List ℕ) → Sound counts (length net.worths) line → is_pit line.kind ≡ false → body_fault counts (length net.worths) (has_pair net.pairs) (Some line) k (pieces_of left) ≡ None → pit_of (lines_in counts (length net.worths) (pieces_of left)) ≡ []
+none_later counts net line k left s f h =
+    let n = length net.worths in
+    let has : ℕ → ℕ → Bool = has_pair net.pairs in
+    let rest = lines_in counts n (pieces_of left) in
+    no_pits (pit_of rest) (λ i l. pit_kind line.kind (later_pits counts n has line rest s (stands_in_order counts n has (Some line) k (pieces_of left) h) i l).0 f)
+
+pit_on : {R : Type 0} (remaining : R → Option (List ℕ)) (counts : Bool) (net : NetView) (start later : LineView R) (bytes : List ℕ) (ls : List BodyLine) (line : BodyLine) → Reading remaining counts net start later (Some line) bytes (ls ++ line ∷ []) → Sound counts (length net.worths) line → is_pit line.kind ≡ false
+    → HasPit counts net (start.held ++ bytes) (pit_of ls)
+pit_on remaining counts net start later bytes ls line q s f =
+    let n = length net.worths in
+    record {
+      lines = ls ++ line ∷ [];
+      begin = lines_begin remaining counts net start later (Some line) bytes (ls ++ line ∷ []) q;
+      same = sym (same_pit ls line f);
+      all = λ future h.
+          let none = none_later counts net line later.number (later.held ++ future) s f (sym (q.begins.same_fault future) ∙ h) in
+          ap pit_of (q.begins.lines future) ∙ pit_append (ls ++ line ∷ []) (lines_in counts n (pieces_of (later.held ++ future))) ∙ ap (λ (bs : List ℕ). pit_of (ls ++ line ∷ []) ++ bs) none ∙ append-nil (pit_of (ls ++ line ∷ [])) ∙ same_pit ls line f;
+    }
+
+pit_at_end : {R : Type 0} (remaining : R → Option (List ℕ)) (counts : Bool) (net : NetView) (start later : LineView R) (bytes : List ℕ) (ls : List BodyLine) → Ended remaining counts net start later bytes ls → HasPit counts net (start.held ++ bytes) (pit_of ls)
+pit_at_end remaining counts net start later bytes ls q = record { lines = ls; begin = ended_begin remaining counts net start later bytes ls q; same = refl; all = λ future h. ap pit_of (q.ends.lines future) }
+
+open_as : (left : Option (List ℕ)) (taken : ℕ) (counts : Bool) (net : NetView) (body pit : List ℕ) (kind : LineKind) (e : PitFault) → (is_pit kind ≡ false → HasPit counts net body pit) → IsOpenPit net kind pit e → BodyRefused left taken counts net body e
+open_as left taken counts net body pit kind pit_fault.WrongSize p h = absurd h
+open_as left taken counts net body pit kind (pit_fault.NotClosed x y) p h = (pit, p h.0, h.1)
+open_as left taken counts net body pit kind pit_fault.Negative p h = absurd h
+open_as left taken counts net body pit kind (pit_fault.OverCapacity x) p h = absurd h
+open_as left taken counts net body pit kind (pit_fault.Unbalanced x) p h = absurd h
+open_as left taken counts net body pit kind pit_fault.NotTight p h = absurd h
+open_as left taken counts net body pit kind pit_fault.TooLarge p h = absurd h
+
+open_at : {R : Type 0} (remaining : R → Option (List ℕ)) (counts : Bool) (net : NetView) (start now later : LineView R) (previous : Option BodyLine) (bytes : List ℕ) (ls : List BodyLine) (line : BodyLine) (e : PitFault) (t : Bool) → is_end line.kind ≡ t → Reading remaining counts net start now previous bytes ls
+    → TakesLine remaining (next_of counts net previous) now later line → IsOpenPit net line.kind (pit_of ls) e → Fails remaining counts net start later (stream.Pit e)
+open_at remaining counts net start now later previous bytes ls line e true i r t h =
+    let q = reading_ends remaining counts net start now later previous bytes ls line r t i in
+    (bytes ++ t.0, q.read, open_as (remaining later.from) later.taken counts net (start.held ++ (bytes ++ t.0)) (pit_of ls) line.kind e (λ f. pit_at_end remaining counts net start later (bytes ++ t.0) ls q) h)
+open_at remaining counts net start now later previous bytes ls line e false i r t h =
+    let q = reading_on remaining counts net start now later previous bytes ls line r t i in
+    let s = met_sound counts net previous line (line_met remaining counts net now later previous line t) in
+    (bytes ++ t.0, q.read, open_as (remaining later.from) later.taken counts net (start.held ++ (bytes ++ t.0)) (pit_of ls) line.kind e (λ f. pit_on remaining counts net start later (bytes ++ t.0) ls line q s f) h)
+
+pub pit_open : {R : Type 0} (remaining : R → Option (List ℕ)) (counts : Bool) (net : NetView) (start now later : LineView R) (previous : Option BodyLine) (bytes : List ℕ) (ls : List BodyLine) (line : BodyLine) (before : RoomView) (e : PitFault) → Reading remaining counts net start now previous bytes ls
+    → Summed net previous before ls → TakesLine remaining (next_of counts net previous) now later line → IsOpenPit net line.kind before.blocks e → Fails remaining counts net start later (stream.Pit e)
+pit_open remaining counts net start now later previous bytes ls line before e r s t h =
+    open_at remaining counts net start now later previous bytes ls line e (is_end line.kind) refl r t (subst (λ (bs : List ℕ). IsOpenPit net line.kind bs e) s.sums.blocks h)
+
+-- All lines were read.
+pub record AllRead (net : NetView) (room : RoomView) (ls : List BodyLine) : Type 0 where
+  pub sums : AreSumsOf net ls room
+  pub limits : KeepLimits net.worths ls
+  pub closed : IsClosed net.pairs (holds_of (pit_of ls))
+
+tells : (counts : Bool) (net : NetView) (body : List ℕ) → IsRests (record { blocks = length net.worths; pairs = net.pairs }) → fault_of_body counts net body ≡ None → LinesTell net (lines_of_body counts net body)
+tells counts net body r h = sums_tell counts net 4 (pieces_of body) r h
+
+balance_zero : (net : NetView) (room : RoomView) (ls : List BodyLine) (b : ℕ) → LinesTell net ls → AreSumsOf net ls room → b < length net.worths → amount_at room.balances b ≡ zero_amount → Balanced net (flow_by net ls) b
+balance_zero net room ls b t s h z = (t.balanced b h).1 (sym (s.balances b h) ∙ z)
+
+balance_not : (net : NetView) (room : RoomView) (ls : List BodyLine) (b : ℕ) → LinesTell net ls → AreSumsOf net ls room → b < length net.worths → (amount_at room.balances b ≡ zero_amount → ⊥) → Balanced net (flow_by net ls) b → ⊥
+balance_not net room ls b t s h z f = z (s.balances b h ∙ (t.balanced b h).0 f)
+
+settled : (counts : Bool) (net : NetView) (room : RoomView) (ls : List BodyLine) (order : InOrder (Good counts (length net.worths) (has_pair net.pairs)) None ls) → LinesTell net ls → AllRead net room ls → SumsSettle net room → ProvesPit net (flow_by net ls) (pit_of ls)
+settled counts net room ls o t a s =
+    let l = t.limits a.limits in
+    let c = t.denotes.covers in
+    record {
+      of_net = known counts (length net.worths) (has_pair net.pairs) None ls o;
+      is_flow = record {
+        fits = record { source = c.sources; rest = c.rests; sink = c.sinks };
+        source = l.0.source;
+        rest = l.0.rest;
+        sink = l.0.sink;
+        capacity = l.1;
+        balance = λ b h. balance_zero net room ls b t a.sums h (s.zero b h);
+      };
+      closed = a.closed;
+      tight = t.tight.1 (sym a.sums.worth ∙ s.tight ∙ a.sums.left);
+    }
+
+-- The lines prove the pit.
+pub proves_at : (left : Option (List ℕ)) (taken : ℕ) (counts : Bool) (net : NetView) (body : List ℕ) (room : RoomView) (ls : List BodyLine) → IsRests (record { blocks = length net.worths; pairs = net.pairs }) → IsWhole left taken counts net body → lines_of_body counts net body ≡ ls → AllRead net room ls → SumsSettle net room
+    → BodyProves left taken counts net body room.blocks
+proves_at left taken counts net body room ls r w same a s =
+    let all = lines_of_body counts net body in
+    let here : AllRead net room all = subst (AllRead net room) (sym same) a in
+    let order = stands_in_order counts (length net.worths) (has_pair net.pairs) None 4 (pieces_of body) w.none in
+    let t = tells counts net body r w.none in
+    subst (BodyProves left taken counts net body) (sym here.sums.blocks) (record { whole = w; denotes = t.denotes; proves = settled counts net room all order t here s })
+
+-- They don't.
+fails_at : (left : Option (List ℕ)) (taken : ℕ) (counts : Bool) (net : NetView) (body : List ℕ) (room : RoomView) (e : PitFault) → LinesTell net (lines_of_body counts net body) → IsWhole left taken counts net body → AreSumsOf net (lines_of_body counts net body) room → SumsFail net room e → BodyRefused left taken counts net body e
+fails_at left taken counts net body room pit_fault.WrongSize t w s h = absurd h
+fails_at left taken counts net body room (pit_fault.NotClosed x y) t w s h = absurd h
+fails_at left taken counts net body room pit_fault.Negative t w s h = absurd h
+fails_at left taken counts net body room (pit_fault.OverCapacity x) t w s h = absurd h
+fails_at left taken counts net body room (pit_fault.Unbalanced b) t w s h =
+    let ls = lines_of_body counts net body in
+    (w, (h.0, λ k l. balance_zero net room ls k t s (let i = h.0 in omega (arith, l, i)) (h.1 k l), balance_not net room ls b t s h.0 h.2))
+fails_at left taken counts net body room pit_fault.NotTight t w s h =
+    let ls = lines_of_body counts net body in
+    (w, λ b l. balance_zero net room ls b t s l (h.0 b l), λ f. h.1 (s.worth ∙ t.tight.0 f ∙ sym s.left))
+fails_at left taken counts net body room pit_fault.TooLarge t w s h = absurd h
+
+end_fails : {R : Type 0} (remaining : R → Option (List ℕ)) (counts : Bool) (net : NetView) (start now : LineView R) (bytes : List ℕ) (ls : List BodyLine) (room : RoomView) (e : StreamFault) → IsRests (record { blocks = length net.worths; pairs = net.pairs }) → Ended remaining counts net start now bytes ls → AreSumsOf net ls room
+    → EndFails (remaining now.from) net room now e → BodyFails (remaining now.from) now.taken counts net (start.held ++ bytes) e
+end_fails remaining counts net start now bytes ls room stream.Device r q a h = tt
+end_fails remaining counts net start now bytes ls room stream.InputTooLong r q a h = h
+end_fails remaining counts net start now bytes ls room (stream.Cert e) r q a h =
+    subst (λ (x : CertFault). BodyFails (remaining now.from) now.taken counts net (start.held ++ bytes) (stream.Cert x)) (sym h.0) (ends_more counts (length net.worths) net.pairs (start.held ++ bytes) now.held now.number ls q.ends h.1)
+end_fails remaining counts net start now bytes ls room (stream.Pit e) r q a h =
+    let d = h.0 in
+    let w = ended_whole remaining counts net start now bytes ls q d.ends d.none d.few in
+    let body = start.held ++ bytes in
+    fails_at (remaining now.from) now.taken counts net body room e (tells counts net body r w.0.none) w.0 (subst (λ (xs : List BodyLine). AreSumsOf net xs room) (sym w.1) a) h.1
+
+-- The pit of an accepted body is a greatest closed set, and the room has what it is worth.
+pub accepted_worth : (left : Option (List ℕ)) (taken : ℕ) (counts : Bool) (net : NetView) (body pit : List ℕ) → BodyProves left taken counts net body pit → group_worth net.worths (holds_of pit) ≡ worth_of_blocks net.worths pit
+accepted_worth left taken counts net body pit p =
+    let order = stands_in_order counts (length net.worths) (has_pair net.pairs) None 4 (pieces_of body) p.whole.none in
+    worth_is net.worths pit (subst IsAscending (sym p.denotes.pit) (ascending counts (length net.worths) (has_pair net.pairs) None (lines_of_body counts net body) order)) p.proves.of_net
+
+pub accepted_greatest : (left : Option (List ℕ)) (taken : ℕ) (counts : Bool) (net : NetView) (body pit : List ℕ) → IsRests (record { blocks = length net.worths; pairs = net.pairs }) → BodyProves left taken counts net body pit → IsGreatest net (holds_of pit)
+accepted_greatest left taken counts net body pit r p = greatest_from_tight net (flow_by net (lines_of_body counts net body)) (holds_of pit) r.known p.proves.is_flow p.proves.closed p.proves.tight
+
+-- What a check answers.
+pub record Answered {R T : Type 0} (remaining : R → Option (List ℕ)) (counts : Bool) (net : NetView) (start later : LineView R) (room : RoomView) (result : Result T StreamFault) : Type 0 where
+  pub checked : (bytes : List ℕ) × ReadsOn remaining start later bytes × MatchResult result (λ x. BodyProves (remaining later.from) later.taken counts net (start.held ++ bytes) room.blocks) (λ e. BodyFails (remaining later.from) later.taken counts net (start.held ++ bytes) e)
+  pub worth : IfOk result (λ x. room.worth ≡ group_worth net.worths (holds_of room.blocks))
+  pub greatest : IfOk result (λ x. IsGreatest net (holds_of room.blocks))
+
+answered_at : {R T : Type 0} (remaining : R → Option (List ℕ)) (counts : Bool) (net : NetView) (start later : LineView R) (bytes : List ℕ) (ls : List BodyLine) (room : RoomView) (result : Result T StreamFault) → IsRests (record { blocks = length net.worths; pairs = net.pairs }) → Ended remaining counts net start later bytes ls → AllRead net room ls
+    → MatchResult result (λ x. IsDone (remaining later.from) later × SumsSettle net room) (λ e. EndFails (remaining later.from) net room later e) → Answered remaining counts net start later room result
+answered_at remaining counts net start later bytes ls room (Ok x) r q a h =
+    let d = h.0 in
+    let body = start.held ++ bytes in
+    let w = ended_whole remaining counts net start later bytes ls q d.ends d.none d.few in
+    let proves = proves_at (remaining later.from) later.taken counts net body room ls r w.0 w.1 a h.1 in
+    record {
+      checked = (bytes, q.read, proves);
+      worth = a.sums.worth ∙ sym (ap (worth_of_blocks net.worths) a.sums.blocks) ∙ sym (accepted_worth (remaining later.from) later.taken counts net body room.blocks proves);
+      greatest = accepted_greatest (remaining later.from) later.taken counts net body room.blocks r proves;
+    }
+answered_at remaining counts net start later bytes ls room (Err e) r q a h = record {
+  checked = (bytes, q.read, end_fails remaining counts net start later bytes ls room e r q a.sums h);
+  worth = tt;
+  greatest = tt;
+}
+
+end_kind : (kind : LineKind) → is_end kind ≡ true → is_pit kind ≡ false
+end_kind Pit h = absurd (let z : false ≡ true = h in cc)
+end_kind Source h = refl
+end_kind Rest h = refl
+end_kind Sink h = refl
+end_kind End h = refl
+
+pub end_answered : {R T : Type 0} (remaining : R → Option (List ℕ)) (counts : Bool) (net : NetView) (start now mid later : LineView R) (previous : Option BodyLine) (bytes : List ℕ) (ls : List BodyLine) (line : BodyLine) (before room : RoomView) (result : Result T StreamFault) → IsRests (record { blocks = length net.worths; pairs = net.pairs })
+    → Reading remaining counts net start now previous bytes ls → Summed net previous before ls → ClosesPit net previous line.kind before room → TakesLine remaining (next_of counts net previous) now mid line → is_end line.kind ≡ true → Reads remaining mid later
+    → MatchResult result (λ x. IsDone (remaining later.from) later × SumsSettle net room) (λ e. EndFails (remaining later.from) net room later e) → Answered remaining counts net start later room result
+end_answered remaining counts net start now mid later previous bytes ls line before room result r q s c t e m h =
+    let ended = ended_stops remaining counts net start mid later (bytes ++ t.0) m.0 ls (reading_ends remaining counts net start now mid previous bytes ls line q t e) m.1 in
+    let all : AllRead net room ls = record { sums = sums_closed net previous line.kind before room ls s c; limits = s.limits; closed = closed_now net previous line.kind before room ls s c (end_kind line.kind e) } in
+    answered_at remaining counts net start later ((bytes ++ t.0) ++ m.0) ls room result r ended all h

@@ -1,0 +1,10 @@
+use Rattle.std.proofs.Common.{◌≡◌, ℕ, ◌<◌, length, map}
+use Rattle.ordered_group.specs.Amount.{zero_amount}
+use Rattle.ordered_group.specs.Sums.{amount_at}
+use Rattle.check_pit.proofs.room.Room.clear_balances.Given as goal
+
+abbrev pub invariant-loop-b : goal.invariant-loop-b
+invariant-loop-b g l = record {
+  size : length l.self-inside.balances.items ≡ length l.fn.self.balances;
+  zero : (b : ℕ) → b < l.b → amount_at (map g.G.OrderedGroup.parts_of l.self-inside.balances.items) b ≡ zero_amount;
+}

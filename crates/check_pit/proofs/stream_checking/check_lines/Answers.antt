@@ -1,0 +1,87 @@
+use Rattle.std.proofs.Common.{rules, [], ◌∷◌, ◌++◌, refl, sym, ◌∙◌}
+use Rattle.std.proofs.lemmas.Result.{err_from_is_err_and}
+use Rattle.check_pit.proofs.StreamReadings.{reads_nothing, reading_begins, reading_on, reading_lacks, line_met}
+use Rattle.check_pit.proofs.StreamRooms.{summed_begins, summed_on, blocks_ascend, met_sound, may_put, line_refused, pit_open, end_answered}
+use Rattle.check_pit.proofs.stream_checking.check_lines.Goals as goal
+
+pub returns-in_default-clause-checked : goal.returns-in_default-clause-checked
+returns-in_default-clause-checked g c = ([], reads_nothing g.R.Read.remaining c.args.lines.now, λ future. tt)
+
+pub loop-line-init : goal.loop-line-init
+loop-line-init g c = record {
+  so_far = ([], [], reading_begins g.R.Read.remaining g.G.OrderedGroup.counts c.args.net.now c.args.lines.now c.requires.behind, summed_begins c.args.net.now c.begin.new.self c.in-Ok.ensures.sums c.in-Ok.ensures.open);
+  kept = refl;
+  size = c.in-Ok.ensures.size;
+}
+
+pub returns-in_err-line-clause-checked : goal.returns-in_err-line-clause-checked
+returns-in_err-line-clause-checked g c =
+    let q = c.loop-line.invariant.so_far in
+    let p = err_from_is_err_and c.from_residual.result c.from_residual.ensures.1 in
+    rw (p.1, p.2) (reading_lacks g.R.Read.remaining g.G.OrderedGroup.counts c.args.net.now c.args.lines.now c.loop-line.lines c.line_for.new.lines c.loop-line.previous q.0 q.1 c.in_err-line.field-0.0 q.2 c.in_err-line.ensures.line)
+
+pub close_pit-requires-clause-ascending : goal.close_pit-requires-clause-ascending
+close_pit-requires-clause-ascending g c κs within =
+    let q = c.loop-line.invariant.so_far in
+    blocks_ascend g.R.Read.remaining g.G.OrderedGroup.counts c.args.net.now c.args.lines.now c.loop-line.lines c.loop-line.previous q.0 q.1 c.loop-line.room q.2 q.3
+
+pub returns-in-Err-clause-checked : goal.returns-in-Err-clause-checked
+returns-in-Err-clause-checked g c =
+    let q = c.loop-line.invariant.so_far in
+    pit_open g.R.Read.remaining g.G.OrderedGroup.counts c.args.net.now c.args.lines.now c.loop-line.lines c.line_for.new.lines c.loop-line.previous q.0 q.1 c.in_ok-line.line c.loop-line.room c.in-Err.fault q.2 q.3 c.in_ok-line.ensures.line c.in-Err.ensures.closes
+
+pub returns-then-is_end-clause-checked : goal.returns-then-is_end-clause-checked
+returns-then-is_end-clause-checked g c =
+    let q = c.loop-line.invariant.so_far in
+    (end_answered g.R.Read.remaining g.G.OrderedGroup.counts c.args.net.now c.args.lines.now c.loop-line.lines c.line_for.new.lines c.check_end.new.lines c.loop-line.previous q.0 q.1 c.in_ok-line.line c.loop-line.room c.close_pit.new.room c.check_end.result c.worths-worths.ensures.net.rests q.2 q.3
+    c.in_default-close_pit.ensures.closes c.in_ok-line.ensures.line (sym c.is_end.ensures ∙ c.if-is_end.true) c.check_end.ensures.reads c.check_end.ensures.end).checked
+
+pub returns-then-is_end-clause-worth : goal.returns-then-is_end-clause-worth
+returns-then-is_end-clause-worth g c =
+    let q = c.loop-line.invariant.so_far in
+    (end_answered g.R.Read.remaining g.G.OrderedGroup.counts c.args.net.now c.args.lines.now c.loop-line.lines c.line_for.new.lines c.check_end.new.lines c.loop-line.previous q.0 q.1 c.in_ok-line.line c.loop-line.room c.close_pit.new.room c.check_end.result c.worths-worths.ensures.net.rests q.2 q.3
+    c.in_default-close_pit.ensures.closes c.in_ok-line.ensures.line (sym c.is_end.ensures ∙ c.if-is_end.true) c.check_end.ensures.reads c.check_end.ensures.end).worth
+
+pub returns-then-is_end-clause-greatest : goal.returns-then-is_end-clause-greatest
+returns-then-is_end-clause-greatest g c =
+    let q = c.loop-line.invariant.so_far in
+    (end_answered g.R.Read.remaining g.G.OrderedGroup.counts c.args.net.now c.args.lines.now c.loop-line.lines c.line_for.new.lines c.check_end.new.lines c.loop-line.previous q.0 q.1 c.in_ok-line.line c.loop-line.room c.close_pit.new.room c.check_end.result c.worths-worths.ensures.net.rests q.2 q.3
+    c.in_default-close_pit.ensures.closes c.in_ok-line.ensures.line (sym c.is_end.ensures ∙ c.if-is_end.true) c.check_end.ensures.reads c.check_end.ensures.end).greatest
+
+pub put-requires-clause-may : goal.put-requires-clause-may
+put-requires-clause-may g c κs within =
+    let q = c.loop-line.invariant.so_far in
+    let remaining = g.R.Read.remaining in
+    let counts = g.G.OrderedGroup.counts in
+    let net = c.args.net.now in
+    let e = sym c.is_end.ensures ∙ c.if-is_end.false in
+    may_put counts net c.loop-line.previous c.in_ok-line.line c.loop-line.room c.close_pit.new.room q.1 c.worths-worths.ensures.net.rests q.3 c.in_default-close_pit.ensures.closes
+    (line_met remaining counts net c.loop-line.lines c.line_for.new.lines c.loop-line.previous c.in_ok-line.line c.in_ok-line.ensures.line) e
+    (reading_on remaining counts net c.args.lines.now c.loop-line.lines c.line_for.new.lines c.loop-line.previous q.0 q.1 c.in_ok-line.line q.2 c.in_ok-line.ensures.line e).begins.order
+
+pub put-requires-clause-counted : goal.put-requires-clause-counted
+put-requires-clause-counted g c κs within =
+    let counts = g.G.OrderedGroup.counts in
+    (met_sound counts c.args.net.now c.loop-line.previous c.in_ok-line.line (line_met g.R.Read.remaining counts c.args.net.now c.loop-line.lines c.line_for.new.lines c.loop-line.previous c.in_ok-line.line c.in_ok-line.ensures.line)).count
+
+pub returns-in-Err-put-clause-checked : goal.returns-in-Err-put-clause-checked
+returns-in-Err-put-clause-checked g c =
+    let q = c.loop-line.invariant.so_far in
+    line_refused g.R.Read.remaining g.G.OrderedGroup.counts c.args.net.now c.args.lines.now c.loop-line.lines c.line_for.new.lines c.loop-line.previous q.0 q.1 c.in_ok-line.line c.loop-line.room c.close_pit.new.room c.in-Err-put.fault q.2 q.3 c.in_default-close_pit.ensures.closes c.in_ok-line.ensures.line (sym c.is_end.ensures ∙ c.if-is_end.false) c.in-Err-put.ensures.fault
+
+pub loop-line-preserved : goal.loop-line-preserved
+loop-line-preserved g c =
+    let i = c.loop-line.invariant in
+    let q = i.so_far in
+    let remaining = g.R.Read.remaining in
+    let counts = g.G.OrderedGroup.counts in
+    let net = c.args.net.now in
+    let line = c.in_ok-line.line in
+    let t = c.in_ok-line.ensures.line in
+    let r = reading_on remaining counts net c.args.lines.now c.loop-line.lines c.line_for.new.lines c.loop-line.previous q.0 q.1 line q.2 t (sym c.is_end.ensures ∙ c.if-is_end.false) in
+    let s = summed_on counts net c.loop-line.previous line c.loop-line.room c.close_pit.new.room c.put.new.self q.1 q.3 c.in_default-close_pit.ensures.closes (line_met remaining counts net c.loop-line.lines c.line_for.new.lines c.loop-line.previous line t) c.in_default-put.ensures.sums c.in_default-put.ensures.limits c.in_default-put.ensures.open in
+    record {
+      so_far = (q.0 ++ t.0, q.1 ++ line ∷ [], r, s);
+      kept = search rules;
+      size = c.in_default-put.ensures.size ∙ c.in_default-close_pit.ensures.size ∙ i.size;
+    }

@@ -1,0 +1,153 @@
+-- What a check of a stream finds: the lines behind the header say a pit and a flow, and the flow proves the pit.
+use Rattle.std.specs.Prelude.{◌≡◌, ℕ, ◌+◌, ◌<◌, ◌≤◌, Bool, true, false, not, cond, List, [], ◌∷◌, ◌++◌, length, Option, Some, None}
+use Rattle.std.specs.Io.KnownBytes.{Consumes, IsAtEnd}
+use Rattle.ordered_group.specs.Amount.{zero_amount}
+use Rattle.ordered_group.specs.Sums.{amount_at}
+use Rattle.prec_file.specs.Rests.{IsFirstNot}
+use Rattle.closure_net.specs.Network.{NetView, FlowView, holds_of}
+use Rattle.closure_net.specs.Closure.{IsClosed}
+use Rattle.closure_net.specs.Flows.{Balanced, IsTight}
+use Rattle.check_pit.specs.declared.cert_fault.CertFault.{CertFault}
+use Rattle.check_pit.specs.declared.cert_fault.CertFault.TheVariants as fault
+use Rattle.check_pit.specs.declared.pit_fault.PitFault.{PitFault}
+use Rattle.check_pit.specs.declared.pit_fault.PitFault.TheVariants.{WrongSize, NotClosed, Negative, OverCapacity, Unbalanced, NotTight, TooLarge}
+use Rattle.check_pit.specs.declared.stream_fault.StreamFault.{StreamFault}
+use Rattle.check_pit.specs.declared.stream_fault.StreamFault.TheVariants.{Device, InputTooLong, Cert}
+use Rattle.check_pit.specs.declared.stream_fault.StreamFault.TheVariants as stream
+use Rattle.check_pit.specs.declared.stream_lines.TheConstants.{MOST_BYTES}
+use Rattle.check_pit.specs.declared.lines_of_body.LineKind.{LineKind}
+use Rattle.check_pit.specs.declared.lines_of_body.LineKind.TheVariants.{Pit, Source, Rest, Sink, End}
+use Rattle.check_pit.specs.declared.lines_of_body.BodyLine.{BodyLine}
+use Rattle.check_pit.specs.Pieces.{pieces_of}
+use Rattle.check_pit.specs.BodyLines.{body_fault, lines_in}
+use Rattle.check_pit.specs.Certificate.{Denotes, UnlessMemory, has_pair, pit_of}
+use Rattle.check_pit.specs.Checks.{ProvesPit}
+use Rattle.check_pit.specs.Closing.{IsFirstOpen}
+use Rattle.check_pit.specs.LineSums.{flow_of}
+use Rattle.check_pit.specs.Rooms.{RoomView, AreSumsOf, LineRefused}
+use Rattle.check_pit.specs.StreamView.{LineView}
+use Rattle.check_pit.specs.TakenLines.{FaultIs}
+
+-- a PIT line
+abbrev pub is_pit : LineKind → Bool
+is_pit Pit = true
+is_pit Source = false
+is_pit Rest = false
+is_pit Sink = false
+is_pit End = false
+
+-- a line other than PIT was read last
+abbrev pub is_behind_pits : Option BodyLine → Bool
+is_behind_pits None = false
+is_behind_pits (Some line) = not (is_pit line.kind)
+
+-- these bytes were read
+pub record ReadsOn {R : Type 0} (remaining : R → Option (List ℕ)) (before later : LineView R) (bytes : List ℕ) : Type 0 where
+  pub given : Consumes (remaining before.from) (remaining later.from) bytes
+  pub taken : later.taken ≡ before.taken + length bytes
+
+-- what is wrong with the body of a certificate for a net, which is what stands behind the header
+abbrev pub fault_of_body : Bool → NetView → List ℕ → Option CertFault
+fault_of_body counts net body = body_fault counts (length net.worths) (has_pair net.pairs) None 4 (pieces_of body)
+
+-- its lines before END
+abbrev pub lines_of_body : Bool → NetView → List ℕ → List BodyLine
+lines_of_body counts net body = lines_in counts (length net.worths) (pieces_of body)
+
+-- the flow that lines say
+abbrev pub flow_by : NetView → List BodyLine → FlowView
+flow_by net ls = flow_of (length net.worths) net.pairs ls
+
+-- the lines of the body begin with these, whatever follows it
+abbrev pub LinesBegin : Bool → NetView → List ℕ → List BodyLine → Type 0
+LinesBegin counts net body ls = (future : List ℕ) → (more : List BodyLine) × (lines_of_body counts net (body ++ future) ≡ ls ++ more)
+
+-- the device has no further byte, few enough were read, and the body has no fault
+pub record IsWhole (left : Option (List ℕ)) (taken : ℕ) (counts : Bool) (net : NetView) (body : List ℕ) : Type 0 where
+  pub ends : IsAtEnd left
+  pub few : taken ≤ MOST_BYTES
+  pub none : fault_of_body counts net body ≡ None
+
+-- a line of the body is refused behind those before it
+abbrev pub RefusesSome : Bool → NetView → List ℕ → PitFault → Type 0
+RefusesSome counts net body e = (ls : List BodyLine) × (l : BodyLine) × LinesBegin counts net body (ls ++ l ∷ []) × LineRefused net ls l e
+
+-- what the PIT lines of the body say, of which it has no more
+pub record HasPit (counts : Bool) (net : NetView) (body pit : List ℕ) : Type 0 where
+  pub lines : List BodyLine
+  pub begin : LinesBegin counts net body lines
+  pub same : pit ≡ pit_of lines
+  pub all : (future : List ℕ) → fault_of_body counts net (body ++ future) ≡ None → pit_of (lines_of_body counts net (body ++ future)) ≡ pit
+
+-- Why a certificate doesn't prove its pit. A fault of a line is that of the first faulty one; the pit is not closed, whatever
+-- the other lines say; or all lines were read, and the flow is not balanced, or the pit not tight by it.
+abbrev pub BodyRefused : Option (List ℕ) → ℕ → Bool → NetView → List ℕ → PitFault → Type 0
+BodyRefused left taken counts net body WrongSize = ⊥
+BodyRefused left taken counts net body (NotClosed b p) = (pit : List ℕ) × HasPit counts net body pit × IsFirstOpen net.pairs (holds_of pit) (b, p)
+BodyRefused left taken counts net body Negative = RefusesSome counts net body Negative
+BodyRefused left taken counts net body (OverCapacity b) = RefusesSome counts net body (OverCapacity b)
+BodyRefused left taken counts net body (Unbalanced b) = IsWhole left taken counts net body × IsFirstNot (Balanced net (flow_by net (lines_of_body counts net body))) (length net.worths) b
+BodyRefused left taken counts net body NotTight =
+    IsWhole left taken counts net body × ((b : ℕ) → b < length net.worths → Balanced net (flow_by net (lines_of_body counts net body)) b)
+    × ¬ (IsTight net (flow_by net (lines_of_body counts net body)) (holds_of (pit_of (lines_of_body counts net body))))
+BodyRefused left taken counts net body TooLarge = RefusesSome counts net body TooLarge
+
+-- why a body was not accepted
+abbrev pub BodyFails : Option (List ℕ) → ℕ → Bool → NetView → List ℕ → StreamFault → Type 0
+BodyFails left taken counts net body e = FaultIs left taken (λ future x. UnlessMemory x (fault_of_body counts net (body ++ future) ≡ Some x)) (BodyRefused left taken counts net body) e
+
+-- the body is whole, and its flow proves this pit, which it says
+pub record BodyProves (left : Option (List ℕ)) (taken : ℕ) (counts : Bool) (net : NetView) (body pit : List ℕ) : Type 0 where
+  pub whole : IsWhole left taken counts net body
+  pub denotes : Denotes (length net.worths) net.pairs (lines_of_body counts net body) pit (flow_by net (lines_of_body counts net body))
+  pub proves : ProvesPit net (flow_by net (lines_of_body counts net body)) pit
+
+-- the blocks of the room are a pit once a line other than PIT is read, and its sums are the same
+pub record ClosesPit (net : NetView) (previous : Option BodyLine) (kind : LineKind) (before later : RoomView) : Type 0 where
+  pub sums : (ls : List BodyLine) → AreSumsOf net ls before → AreSumsOf net ls later
+  pub blocks : later.blocks ≡ before.blocks
+  pub made : later.is_pit ≡ cond (is_behind_pits previous) true (not (is_pit kind))
+  pub closed : is_behind_pits previous ≡ false → is_pit kind ≡ false → IsClosed net.pairs (holds_of later.blocks)
+
+-- the pit isn't closed, and a line of this kind, other than PIT, was read
+abbrev pub IsOpenPit : NetView → LineKind → List ℕ → PitFault → Type 0
+IsOpenPit net kind pit WrongSize = ⊥
+IsOpenPit net kind pit (NotClosed b p) = (is_pit kind ≡ false) × IsFirstOpen net.pairs (holds_of pit) (b, p)
+IsOpenPit net kind pit Negative = ⊥
+IsOpenPit net kind pit (OverCapacity b) = ⊥
+IsOpenPit net kind pit (Unbalanced b) = ⊥
+IsOpenPit net kind pit NotTight = ⊥
+IsOpenPit net kind pit TooLarge = ⊥
+
+-- each balance is zero
+abbrev pub AreZero : NetView → RoomView → Type 0
+AreZero net room = (b : ℕ) → b < length net.worths → amount_at room.balances b ≡ zero_amount
+
+-- and the pit is worth what the source could still give
+pub record SumsSettle (net : NetView) (room : RoomView) : Type 0 where
+  pub zero : AreZero net room
+  pub tight : room.worth ≡ room.left
+
+-- why they don't prove the pit: a balance is not zero, or the pit is worth something else
+abbrev pub SumsFail : NetView → RoomView → PitFault → Type 0
+SumsFail net room WrongSize = ⊥
+SumsFail net room (NotClosed b p) = ⊥
+SumsFail net room Negative = ⊥
+SumsFail net room (OverCapacity b) = ⊥
+SumsFail net room (Unbalanced b) = IsFirstNot (λ k. amount_at room.balances k ≡ zero_amount) (length net.worths) b
+SumsFail net room NotTight = AreZero net room × ¬ (room.worth ≡ room.left)
+SumsFail net room TooLarge = ⊥
+
+-- the text ends here, and few enough bytes were read
+pub record IsDone {R : Type 0} (left : Option (List ℕ)) (s : LineView R) : Type 0 where
+  pub ends : IsAtEnd left
+  pub none : s.held ≡ []
+  pub few : s.taken ≤ MOST_BYTES
+
+-- why the pit isn't proved once END is read: a read failed; or more bytes were read than a stream may give; or something
+-- stands behind END; or the sums don't prove the pit
+abbrev pub EndFails : {R : Type 0} → Option (List ℕ) → NetView → RoomView → LineView R → StreamFault → Type 0
+EndFails left net room s Device = Unit {0}
+EndFails left net room s InputTooLong = MOST_BYTES < s.taken
+EndFails left net room s (Cert e) = (e ≡ fault.Text (s.number + 1)) × (0 < length s.held)
+EndFails left net room s (stream.Pit e) = IsDone left s × SumsFail net room e

@@ -1,0 +1,76 @@
+//! The lines of a stream behind its header, one after another.
+
+ghost use Rattle.std.specs.Prelude.{◌≡◌, ◌+◌, ◌-◌, ◌^◌, ◌<◌, ◌≤◌, true, false, length, IsErrOf, MatchResult};
+ghost use Rattle.fixed_worth.specs.declared.limits.TheConstants.{LINE_BYTES};
+ghost use Rattle.check_pit.specs.BodyLines as spec;
+ghost use Rattle.check_pit.specs.Certificate.{has_pair};
+ghost use Rattle.check_pit.specs.StreamLines.{IsLine};
+ghost use Rattle.check_pit.specs.TakenLines.{TakesLine, LacksLine, NoNextLine, held_piece};
+
+use crate::cert_fault::CertFault;
+use crate::header_lines::in_line;
+use crate::lines_of_body::{BodyLine, LineKind, line_of, may_follow};
+use crate::stream_fault::StreamFault;
+use crate::stream_lines::StreamLines;
+use fixed_worth::CountedRead;
+use prec_file::Rests;
+
+// Whether the model has the pair of a line, where the line is of one.
+fn is_of_model(rests: &Rests, line: &BodyLine) -> bool
+    requires { spec.is_end line.now.kind ≡ false → line.now.block < rests.now.blocks }
+    ensures { result ≡ spec.is_of_model (has_pair rests.now.pairs) line.now.kind line.now }
+{
+    match line.kind {
+        LineKind::Pit | LineKind::Source | LineKind::Sink | LineKind::End => true,
+        LineKind::Rest => rests.find(line.block, line.other).is_some(),
+    }
+}
+
+// The line of this number that a text is, behind another one.
+fn line_behind(
+    rests: &Rests,
+    counts: bool,
+    previous: Option<BodyLine>,
+    number: u64,
+    text: &[u8],
+) -> Result<BodyLine, CertFault>
+    requires { length text.now ≤ LINE_BYTES }
+    ensures { result ≡ spec.next_line counts rests.now.blocks (has_pair rests.now.pairs) previous number (record { text = text.now; ended = true }) }
+{
+    let line = in_line(number, line_of(counts, rests.len(), text))?;
+    if !may_follow(previous, &line) {
+        return Err(CertFault::OutOfOrder(number));
+    }
+    if !is_of_model(rests, &line) {
+        return Err(CertFault::UnknownPair(number));
+    }
+    Ok(line)
+}
+
+/// The next line, which must be above the previous one and of the model.
+///
+/// # Errors
+/// `Device` where a read failed; `InputTooLong` where the stream gave more bytes than it may; `Cert` with the fault of
+/// the line, which isn't passed then.
+pub fn next_line<R: CountedRead>(
+    lines: &mut StreamLines<R>,
+    rests: &Rests,
+    counts: bool,
+    previous: Option<BodyLine>,
+) -> Result<BodyLine, StreamFault>
+    requires { R.failed lines.old.from < 2 ^ 64 - 1 }
+    ensures line { MatchResult result
+        (λ line. TakesLine R.remaining (spec.next_line counts rests.now.blocks (has_pair rests.now.pairs) previous) lines.old lines.new line)
+        (λ e. LacksLine R.remaining (spec.next_line counts rests.now.blocks (has_pair rests.now.pairs) previous) lines.old lines.new e) }
+    ensures device { IsErrOf result StreamFault.Device → R.failed lines.new.from ≡ R.failed lines.old.from + 1 }
+    ensures kept { ¬ IsErrOf result StreamFault.Device → R.failed lines.new.from ≡ R.failed lines.old.from }
+{
+    let count = lines.next_length()?;
+    let number = lines.number() + 1;
+    let line = match line_behind(rests, counts, previous, number, lines.front(count)) {
+        Ok(line) => line,
+        Err(fault) => return Err(StreamFault::Cert(fault)),
+    };
+    lines.pass(count);
+    Ok(line)
+}
