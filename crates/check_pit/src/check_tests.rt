@@ -73,7 +73,7 @@ fn worth(nanos: i128) -> Worth {
 }
 
 // Blocks of 6 and 5 that rest on one of -10.
-fn three_blocks(alloc: Global) -> Result<Net<WorthSize>, Fail> {
+pub(crate) fn three_blocks(alloc: Global) -> Result<Net<WorthSize>, Fail> {
     net_of(
         alloc,
         &[(0, 2), (1, 2)],

@@ -44,6 +44,8 @@ mod certificate_tests;
 #[cfg(test)]
 mod check_tests;
 #[cfg(test)]
+mod room_tests;
+#[cfg(test)]
 mod scaled_tests;
 #[cfg(test)]
 mod stream_tests;
