@@ -14,7 +14,7 @@ use Rattle.check_pit.specs.declared.lines_of_body.LineKind.TheVariants.{Pit, Sou
 use Rattle.check_pit.specs.declared.lines_of_body.BodyLine.{BodyLine}
 use Rattle.check_pit.specs.Certificate.{block_if_pit, pit_of}
 use Rattle.check_pit.specs.Checks.{ProvesPit, IsOfNet}
-use Rattle.check_pit.specs.LineSums.{balance_of, worth_of_blocks, left_to_give, flow_of, keeps_by, KeepLimits}
+use Rattle.check_pit.specs.LineSums.{flow_of, keeps_by, KeepLimits}
 use Rattle.check_pit.specs.LineLaws.{LinesTell}
 use Rattle.check_pit.specs.Rooms.{RoomView, AreSumsOf, TakesBlock, IsFirstUnbalanced, TellsTight}
 use Rattle.check_pit.proofs.LineFlows.{worth_is}

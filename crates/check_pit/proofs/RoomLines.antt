@@ -1,11 +1,11 @@
 -- What comes of putting a line of each kind into a room.
-use Rattle.std.proofs.Common.{◌≡◌, ◌≢◌, ℕ, get_or, set, ◌+◌, ◌<◌, ◌≤◌, Bool, true, false, eqb, inl, inr, List, [], ◌∷◌, ◌++◌, length, refl, sym, ap, ◌∙◌, subst, arith, Result, Ok, Err, MatchResult, get_or-set_other}
+use Rattle.std.proofs.Common.{◌≡◌, ◌≢◌, ℕ, get_or, ◌+◌, ◌<◌, ◌≤◌, eqb, inl, inr, List, [], ◌∷◌, ◌++◌, length, refl, sym, ap, ◌∙◌, subst, arith, Result, Ok, Err, MatchResult, get_or-set_other}
 use Rattle.std.specs.Prelude.{IfOk, IfErr}
 use Rattle.std.proofs.lemmas.List.{length-append}
 use Rattle.std.proofs.Math.Seq.{get_or-append_seam}
 use Rattle.std.proofs.lemmas.Int.{ints}
 use Rattle.std.proofs.lemmas.Bool.{eq-eqb, ne_eqb}
-use Rattle.ordered_group.specs.Amount.{Amount, zero_amount, plus, minus, AtMost, FitsPair, positive, negative, Amount_eq}
+use Rattle.ordered_group.specs.Amount.{Amount, zero_amount, plus, minus, AtMost, FitsPair, Amount_eq}
 use Rattle.ordered_group.specs.Sums.{where_so, amount_at}
 use Rattle.ordered_group.proofs.Steps.{fits_same}
 use Rattle.ordered_group.proofs.Totals.{plus-zero_right}
@@ -13,12 +13,12 @@ use Rattle.closure_net.specs.Network.{NetView, IsAscending}
 use Rattle.closure_net.proofs.Ascending.{apart_by_places}
 use Rattle.check_pit.specs.declared.pit_fault.PitFault.{PitFault}
 use Rattle.check_pit.specs.declared.pit_fault.PitFault.TheVariants.{TooLarge}
-use Rattle.check_pit.specs.declared.lines_of_body.LineKind.TheVariants.{Pit, Source, Rest, Sink, End}
+use Rattle.check_pit.specs.declared.lines_of_body.LineKind.TheVariants.{Pit, Source, Rest, Sink}
 use Rattle.check_pit.specs.declared.lines_of_body.BodyLine.{BodyLine}
 use Rattle.check_pit.specs.Certificate.{amount_of}
 use Rattle.check_pit.specs.LineSums.{keeps_by}
 use Rattle.check_pit.specs.Rooms.{RoomView, MayPut, TakesBlock, WithLine, SumOverflowsWith, RefusedWhere, PutsLine, RefusesLine, with_balance, with_left}
-use Rattle.check_pit.proofs.RoomSums.{puts_line, refuses_line, with_source, with_sink, with_rest}
+use Rattle.check_pit.proofs.RoomSums.{puts_line, refuses_line, with_source, with_sink}
 
 -- ---- space for a block that stands behind those before it
 

@@ -1,24 +1,23 @@
 -- The sums of a room, with one line more.
-use Rattle.std.proofs.Common.{◌≡◌, ◌≢◌, ℕ, zero, suc, get_or, set, ◌+◌, ◌⊎◌, ◌<◌, ◌≤◌, Bool, true, false, cond, eqb, inl, inr, List, [], ◌∷◌, ◌++◌, length, map, refl, sym, ap, ◌∙◌, subst, arith, append-nil, Option, Some, None, get_or-set_same, get_or-set_other}
+use Rattle.std.proofs.Common.{◌≡◌, ◌≢◌, ℕ, suc, set, ◌+◌, ◌⊎◌, ◌<◌, ◌≤◌, Bool, true, false, eqb, inl, inr, List, [], ◌∷◌, ◌++◌, length, map, refl, sym, ap, ◌∙◌, subst, arith, append-nil, Option, Some, None, get_or-set_same, get_or-set_other}
 use Rattle.std.proofs.lemmas.Int.{ints}
 use Rattle.std.proofs.lemmas.List.{length-map, length-set, map-set}
-use Rattle.std.proofs.lemmas.Bool.{cases_eq, eqb-true, eqb-false, eq-eqb, ne_eqb}
-use Rattle.ordered_group.specs.Amount.{Amount, zero_amount, plus, minus, AtMost, FitsPair, positive, negative, Amount_eq}
+use Rattle.std.proofs.lemmas.Bool.{cases_eq, eqb-true, eqb-false}
+use Rattle.ordered_group.specs.Amount.{Amount, zero_amount, plus, minus, positive, Amount_eq}
 use Rattle.ordered_group.specs.Sums.{total, where_so, amount_at}
 use Rattle.ordered_group.proofs.Totals.{plus-zero_left, plus-zero_right, plus-assoc}
 use Rattle.ordered_group.proofs.Steps.{fits_same}
-use Rattle.closure_net.specs.Network.{NetView, IsAscending}
-use Rattle.closure_net.proofs.Ascending.{apart_by_places}
+use Rattle.closure_net.specs.Network.{NetView}
 use Rattle.check_pit.specs.declared.pit_fault.PitFault.{PitFault}
 use Rattle.check_pit.specs.declared.pit_fault.PitFault.TheVariants.{WrongSize, NotClosed, Negative, OverCapacity, Unbalanced, NotTight, TooLarge}
 use Rattle.check_pit.specs.declared.lines_of_body.LineKind.{LineKind}
 use Rattle.check_pit.specs.declared.lines_of_body.LineKind.TheVariants.{Pit, Source, Rest, Sink, End}
 use Rattle.check_pit.specs.declared.lines_of_body.BodyLine.{BodyLine}
 use Rattle.check_pit.specs.Certificate.{block_if_pit, pit_of, amount_of}
-use Rattle.check_pit.specs.LineSums.{brings_by, balance_of, source_by, source_sum, worth_of_blocks, left_to_give, keeps_by, SomeLineSumOverflows}
+use Rattle.check_pit.specs.LineSums.{brings_by, balance_of, source_by, source_sum, worth_of_blocks, left_to_give, SomeLineSumOverflows}
 use Rattle.std.specs.Option.{is_some}
 use Rattle.check_pit.specs.PitLists.{blocks_of}
-use Rattle.check_pit.specs.Rooms.{RoomView, IsRoomFor, AreSumsOf, MayPut, WithLine, SumOverflowsWith, RefusedWhere, LineRefused, PutsLine, RefusesLine, with_balance, with_left}
+use Rattle.check_pit.specs.Rooms.{RoomView, IsRoomFor, AreSumsOf, WithLine, SumOverflowsWith, RefusedWhere, PutsLine, RefusesLine, with_balance, with_left}
 
 -- ---- the sums over some lines, and over one more
 

@@ -51,6 +51,8 @@ mod check_stream_tests;
 #[cfg(test)]
 mod check_tests;
 #[cfg(test)]
+mod room_tests;
+#[cfg(test)]
 mod scaled_tests;
 #[cfg(test)]
 mod stream_tests;

@@ -1,4 +1,4 @@
-use Rattle.std.proofs.Common.{◌≡◌, List, ℕ, sym, ap, ◌∙◌, subst}
+use Rattle.std.proofs.Common.{sym, ap, ◌∙◌, subst}
 use Rattle.closure_net.specs.Network.{IsAscending}
 use Rattle.check_pit.specs.PitLists.{PitListView}
 use Rattle.check_pit.proofs.RoomSums.{blocks_open}

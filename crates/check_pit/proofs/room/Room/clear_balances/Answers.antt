@@ -1,4 +1,4 @@
-use Rattle.std.proofs.Common.{◌≡◌, ℕ, ◌<◌, length, map, set, sym, ap, ◌∙◌, arith, below_more}
+use Rattle.std.proofs.Common.{ap, arith}
 use Rattle.closure_net.proofs.Views.{length_view}
 use Rattle.check_pit.specs.Rooms.{RoomView}
 use Rattle.check_pit.proofs.RoomSums.{cleared_size, cleared_more}

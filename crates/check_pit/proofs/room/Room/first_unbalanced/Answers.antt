@@ -1,5 +1,5 @@
-use Rattle.std.proofs.Common.{true, false, ◌≡◌, ℕ, ◌<◌, length, map, sym, ap, ◌∙◌, arith, below_more, refl, subst}
-use Rattle.ordered_group.specs.Amount.{Amount, zero_amount}
+use Rattle.std.proofs.Common.{true, false, ◌≡◌, ◌<◌, length, sym, ap, ◌∙◌, arith, below_more}
+use Rattle.ordered_group.specs.Amount.{zero_amount}
 use Rattle.ordered_group.proofs.Order.{is_eq_tells}
 use Rattle.closure_net.proofs.Views.{length_view, at_view}
 use Rattle.check_pit.specs.Rooms.{RoomView}

@@ -1,5 +1,5 @@
-use Rattle.std.proofs.Common.{rules, sym, ap, ◌∙◌, subst, arith, ℕ, length, ◌<◌}
-use Rattle.ordered_group.specs.Amount.{Amount, plus, FitsPair}
+use Rattle.std.proofs.Common.{rules, ap, arith, length}
+use Rattle.ordered_group.specs.Amount.{Amount, plus}
 use Rattle.ordered_group.proofs.Steps.{fits_same}
 use Rattle.check_pit.specs.Rooms.{RoomView}
 use Rattle.check_pit.proofs.RoomLines.{block_space, block_over}

@@ -1,4 +1,4 @@
-use Rattle.std.proofs.Common.{rules, sym, ap, ◌∙◌, subst, arith, length, ◌<◌, ◌≡◌, ◌≢◌}
+use Rattle.std.proofs.Common.{sym, subst, arith, length, ◌<◌}
 use Rattle.std.proofs.lemmas.Result.{err_from_is_err_and}
 use Rattle.check_pit.specs.declared.pit_fault.PitFault.{PitFault}
 use Rattle.check_pit.specs.Rooms.{SumOverflowsWith, RefusedWhere}

@@ -1,5 +1,5 @@
-use Rattle.std.proofs.Common.{rules, sym, ap, ◌∙◌, subst, arith, length, ◌<◌, ◌≡◌}
-use Rattle.ordered_group.specs.Amount.{Amount, AtMost, negative}
+use Rattle.std.proofs.Common.{rules}
+use Rattle.ordered_group.specs.Amount.{AtMost, negative}
 use Rattle.ordered_group.specs.Sums.{amount_at}
 use Rattle.check_pit.specs.Certificate.{amount_of}
 use Rattle.check_pit.proofs.RoomLines.{sink_put}

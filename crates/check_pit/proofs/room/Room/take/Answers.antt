@@ -1,5 +1,4 @@
-use Rattle.std.proofs.Common.{◌<◌, length, map, sym, ap, ◌∙◌, arith, rules}
-use Rattle.std.proofs.lemmas.List.{length-map}
+use Rattle.std.proofs.Common.{◌<◌, length, sym, ap, ◌∙◌, arith}
 use Rattle.closure_net.proofs.Views.{length_view, at_view}
 use Rattle.ordered_group.specs.Amount.{Amount, minus}
 use Rattle.check_pit.specs.Rooms.{RoomView}
