@@ -42,7 +42,10 @@ impl PitList {
         ensures space { IfOk result (λ _. n ≤ self.new.space) }
         ensures open { IfOk result (λ _. self.new.is_pit ≡ false) }
     {
-        self.pit = None;
+        // the pit's list has the space already, so that no memory is asked for
+        if let Some(pit) = self.pit.take() {
+            self.blocks = pit.into_blocks();
+        }
         self.blocks.clear();
         self.blocks.reserve(n as usize)
     }

@@ -92,6 +92,15 @@ impl Pit {
         &self.blocks
     }
 
+    /// The blocks, ascending, in the list of which the pit was made, with the space that it has for more.
+    pub fn into_blocks(self) -> Vec<u32>
+        ensures is { result.items ≡ self }
+        ensures ascending { IsAscending self }
+    {
+        let Pit { blocks } = self;
+        blocks
+    }
+
     /// How many blocks there are.
     pub fn len(&self) -> usize
         ensures { result ≡ length self.now }
