@@ -7,7 +7,7 @@
 #![tactic(auto)]
 
 mod announcing;
-mod candidates;
+mod best_pits;
 pub mod no_series;
 pub mod series_engine;
 pub mod series_inputs;
