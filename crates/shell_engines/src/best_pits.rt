@@ -3,6 +3,7 @@
 ghost use Rattle.std.specs.Prelude.{◌≡◌, ℕ, ◌<◌, All, Contains, length, IfNone, IfOk, IfSome, MatchResult};
 ghost use Rattle.ordered_group.specs.Block.{scaled_block};
 ghost use Rattle.closure_net.specs.Network.{holds_of};
+ghost use Rattle.closure_net.specs.Closure.{IsGreatest};
 ghost use Rattle.closure_net.specs.Mine.{Mine, IsBest, IsNetOf};
 ghost use Rattle.check_pit.specs.Checks.{IsSound};
 ghost use Rattle.shell_engines.specs.ShellTable.{IsRowOf};
@@ -63,8 +64,9 @@ pub fn net_at<R: Threads + Sync>(
 fn row_of<G: SizeGroup>(factor: Factor, accepted: &Accepted<'_, G>) -> ShellRow
     ensures factor { result.factor ≡ factor }
     ensures row { (mine : Mine) → IsNetOf G.block_parts mine accepted.now.net → IsBest mine (holds_of accepted.now.pit) → IsRowOf mine result }
+    ensures greatest { IsGreatest accepted.now.net (holds_of accepted.now.pit) }
 {
-    // proof: the blocks of an accepted pit are the net's
+    // proof: the blocks of an accepted pit are the net's, and no closed set of it sums to more
     let _pit = accepted.pit();
     let blocks = size_of(accepted);
     let worth = worth_of(accepted, blocks);
@@ -167,8 +169,11 @@ fn found_by<R: Threads + Sync, T: SeriesProgress>(
     Ok(found)
 }
 
-/// The best pits at the factors that pseudoflow finds within its turns and a check accepts, by so many threads, where they can
-/// be made, each of which has a list of its own. `Err` where memory was refused to a thread.
+/// The best pits at the factors that pseudoflow finds within its turns and a check accepts, in no order. They are found by so
+/// many threads, where these can be made.
+///
+/// # Errors
+/// Memory was refused.
 pub fn found_beside<R: Threads + Sync, T: SeriesProgress + Sync>(
     rt: &R,
     alloc: Global,
@@ -178,22 +183,28 @@ pub fn found_beside<R: Threads + Sync, T: SeriesProgress + Sync>(
     threads: usize,
     turns: u64,
     gate: &T,
-) -> Result<Vec<Result<Vec<BestPit>, AllocError>>, AllocError>
-    ensures { IfOk result (λ v. All (λ found. IfOk found (λ list. All (IsProved rests.now.pairs prices.now) list.items)) v.items) }
+) -> Result<Vec<BestPit>, AllocError>
+    ensures { IfOk result (λ v. All (IsProved rests.now.pairs prices.now) v.items) }
 {
     let taken = AtomicU64::new(0);
-    map_indices(
+    let mut answers = map_indices(
         rt,
         alloc,
         threads,
         &|_thread: usize| -> Result<Vec<BestPit>, AllocError>
             ensures { IfOk result (λ v. All (IsProved rests.entry.now.pairs prices.entry.now) v.items) }
         { found_by(rt, alloc, prices, rests, factors, &taken, turns, gate) },
-    )
+    )?;
+    let mut found: Vec<BestPit> = Vec::new(alloc);
+    while let Some(answer) = answers.pop() {
+        let mut list = answer?;
+        found.append(&mut list)?;
+    }
+    Ok(found)
 }
 
-// The best pit at a factor, if it is in the list.
-fn best_in(list: &[BestPit], factor: Factor) -> Option<&BestPit>
+/// The best pit at a factor, if it is in the list.
+pub fn best_in(list: &[BestPit], factor: Factor) -> Option<&BestPit>
     ensures { IfSome result (λ best. (best.now.row.factor ≡ factor) × Contains list.now best.now) }
 {
     for i in 0..list.len() {
@@ -202,27 +213,4 @@ fn best_in(list: &[BestPit], factor: Factor) -> Option<&BestPit>
         }
     }
     None
-}
-
-/// The best pit at a factor, if a thread has found it.
-///
-/// # Errors
-/// Memory was refused to a thread.
-pub fn best_among(
-    found: &[Result<Vec<BestPit>, AllocError>],
-    factor: Factor,
-) -> Result<Option<&BestPit>, AllocError>
-    ensures { IfOk result (λ o. IfSome o (λ best. (best.now.row.factor ≡ factor) × ((P : BestPit → Type 0) → All (λ list. IfOk list (λ v. All P v.items)) found.now → P best.now))) }
-{
-    for i in 0..found.len() {
-        match &found[i] {
-            Ok(list) => {
-                if let Some(best) = best_in(list.as_slice(), factor) {
-                    return Ok(Some(best));
-                }
-            }
-            Err(_) => return Err(AllocError),
-        }
-    }
-    Ok(None)
 }

@@ -8,7 +8,7 @@ ghost use Rattle.shell_engines.specs.Settling.{IsSettled, NoSeriesStands};
 ghost use Rattle.shell_engines.specs.Internal.{IsAdded, IsProved};
 
 use crate::announcing::SeriesProgress;
-use crate::best_pits::{BestPit, best_among, best_by, found_beside, net_at};
+use crate::best_pits::{BestPit, best_by, best_in, found_beside, net_at};
 use crate::no_series::NoSeries;
 use crate::series_inputs::SeriesMine;
 use crate::shell_rows::ShellRow;
@@ -84,19 +84,19 @@ impl Shells {
         rests: &Rests,
         factors: &[Factor],
         place: usize,
-        found: &[Result<Vec<BestPit>, AllocError>],
+        found: &[BestPit],
         effort: Effort,
         gate: &T,
     ) -> Result<(), NoSeries>
         requires inside { place < length factors.now }
         requires form { AreFactors factors.now }
-        requires found { All (λ list. IfOk list (λ v. All (IsProved rests.now.pairs self.old.series.prices) v.items)) found.now }
+        requires found { All (IsProved rests.now.pairs self.old.series.prices) found.now }
         requires done { IsSettled rests.now.pairs self.old.series.prices (take place factors.now) self.old.series self.old.rows.items }
         ensures settled { OnOk result (IsSettled rests.now.pairs self.old.series.prices (take (place + 1) factors.now) self.new.series self.new.rows.items) }
         ensures fault { IfErr result (λ e. NoSeriesStands scaled_block rests.now self.old.series.prices factors.now effort e) }
     {
         let factor = factors[place];
-        if let Some(best) = best_among(found, factor)? {
+        if let Some(best) = best_in(found, factor) {
             return Ok(self.add(factor, best)?);
         }
         let best = best_at(rt, alloc, self.series.prices(), rests, factor, effort, gate)?;
@@ -116,8 +116,8 @@ fn found_first<R: Threads + Sync, T: SeriesProgress + Sync>(
     factors: &[Factor],
     effort: Effort,
     gate: &T,
-) -> Result<Vec<Result<Vec<BestPit>, AllocError>>, AllocError>
-    ensures { IfOk result (λ v. All (λ found. IfOk found (λ list. All (IsProved rests.now.pairs prices.now) list.items)) v.items) }
+) -> Result<Vec<BestPit>, AllocError>
+    ensures { IfOk result (λ v. All (IsProved rests.now.pairs prices.now) v.items) }
 {
     if !effort.method.begins_with_pseudoflow(prices.len()) {
         return Ok(Vec::new(alloc));

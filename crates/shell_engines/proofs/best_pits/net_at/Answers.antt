@@ -1,23 +1,21 @@
-use Rattle.std.proofs.Common.{◌≡◌, ◌∙◌, ℕ, ℤ, List, length, map, ap, sym, subst}
-use Rattle.prec_file.specs.Rests.{RestsView}
-use Rattle.closure_net.specs.Network.{NetView, net_view}
+use Rattle.std.proofs.Common.{◌≡◌, ◌∙◌, ℕ, ℤ, List, length, map, subst}
+use Rattle.ordered_group.specs.Block.{scaled_block}
+use Rattle.closure_net.specs.Network.{net_view}
 use Rattle.closure_net.specs.FaultStands.{WorthsFaultStands}
 use Rattle.shells.specs.Prices.{worths_at}
 use Rattle.shell_engines.proofs.Nets.{over_of}
-use Rattle.shell_engines.proofs.candidates.net_at.Goals as goal
+use Rattle.shell_engines.proofs.best_pits.net_at.Goals as goal
 
 pub returns-in-Ok : goal.returns-in-Ok
 returns-in-Ok g c =
-    let block = g.G.OrderedGroup.block_parts in
+    let r = c.args.rests in
     let worths : c.as_slice.result.now ≡ worths_at c.args.prices.now c.args.factor = c.as_slice.ensures.value ∙ c.in_ok-nanos.ensures in
-    let M : RestsView → List ℤ → Type 0 = λ r vs. (c.in-Ok.net ≡ net_view r.pairs (map (λ v. block v r.blocks) vs)) × (r.blocks ≡ length vs) in
-    let made : M c.args.rests.now (worths_at c.args.prices.now c.args.factor) = subst (M c.args.rests.now) worths (subst (λ (r : RestsView). M r c.as_slice.result.now) c.in_ok-copy.ensures c.in-Ok.ensures) in
-    record { is_net = c.worths-worths.ensures.net; over = over_of block c.args.rests.now c.args.prices.now c.args.factor c.in-Ok.net made.0 made.1 }
+    let M : List ℤ → Type 0 = λ vs. (c.in-Ok.net ≡ net_view r.pairs (map (λ v. scaled_block v r.blocks) vs)) × (r.blocks ≡ length vs) in
+    let made : M (worths_at c.args.prices.now c.args.factor) = subst M worths c.in-Ok.ensures in
+    record { is_net = c.worths-worths.ensures.net; over = over_of scaled_block r c.args.prices.now c.args.factor c.in-Ok.net made.0 made.1 }
 
 pub returns : goal.returns
 returns g c = λ factors effort held.
-    let block = g.G.OrderedGroup.block_parts in
     let worths : c.as_slice.result.now ≡ worths_at c.args.prices.now c.args.factor = c.as_slice.ensures.value ∙ c.in_ok-nanos.ensures in
-    let F : ℕ → List ℤ → Type 0 = λ n vs. WorthsFaultStands block n vs c.in-Err.fault in
-    let stands : F c.args.rests.now.blocks (worths_at c.args.prices.now c.args.factor) = subst (F c.args.rests.now.blocks) worths (subst (λ (r : RestsView). F r.blocks c.as_slice.result.now) c.in_ok-copy.ensures c.in-Err.ensures) in
-    rw c.get.ensures.value (held, stands)
+    let F : List ℤ → Type 0 = λ vs. WorthsFaultStands scaled_block c.args.rests.blocks vs c.in-Err.fault in
+    rw c.get.ensures.value (held, subst F worths c.in-Err.ensures)
