@@ -1,6 +1,6 @@
 -- The best pit of a net is that of its prices.
-use Rattle.std.proofs.Common.{◌≡◌, ℕ, ℤ, List, sym, subst, All, length, ◌<◌, get_or}
-use Rattle.std.specs.List.{Contains}
+use Rattle.std.proofs.Common.{◌≡◌, ℕ, ℤ, List, [], ◌∷◌, ◌++◌, All, length, length-append, get_or, refl, sym, subst, arith}
+use Rattle.std.proofs.lemmas.List.{get_or_append_left}
 use Rattle.ordered_group.specs.Amount.{Amount}
 use Rattle.closure_net.specs.Network.{NetView, holds_of}
 use Rattle.closure_net.specs.Mine.{IsNetOf, IsBest}
@@ -22,6 +22,16 @@ proved_by block pairs prices k net best at is =
       row_is = subst R (sym is.at) (is.row_is (mine_at pairs prices k) of_mine);
     }
 
--- what holds of all holds of each
-pub of_all : {T : Type 0} (P : T → Type 0) (xs : List T) (x : T) → All P xs → Contains xs x → P x
-of_all P xs x all c = subst P c.2 (all c.0 x c.1)
+-- ---- what holds of all of a list
+pub all_one : {T : Type 0} (P : T → Type 0) (x : T) → P x → All P (x ∷ [])
+all_one P x h j d low = let z : j ≡ 0 = omega (arith, low) in subst (λ n. P (get_or (x ∷ []) n d)) (sym z) h
+
+pub all_before : {T : Type 0} (P : T → Type 0) (xs : List T) (x : T) → All P (xs ++ x ∷ []) → All P xs
+all_before P xs x h j d low = subst P (get_or_append_left xs (x ∷ []) d j low) (h j d (omega (arith, low, length-append xs (x ∷ []))))
+
+last_at : {T : Type 0} (xs : List T) (x d : T) → get_or (xs ++ x ∷ []) (length xs) d ≡ x
+last_at [] x d = refl
+last_at (y ∷ ys) x d = last_at ys x d
+
+pub all_last : {T : Type 0} (P : T → Type 0) (xs : List T) (x : T) → All P (xs ++ x ∷ []) → P x
+all_last P xs x h = subst P (last_at xs x x) (h (length xs) x (omega (arith, length-append xs (x ∷ []))))

@@ -2,6 +2,7 @@
 
 ghost use Rattle.std.specs.Prelude.{◌≡◌, ℕ, ◌<◌, All, Contains, length, IfNone, IfOk, IfSome, MatchResult};
 ghost use Rattle.ordered_group.specs.Block.{scaled_block};
+ghost use Rattle.settings_file.specs.Values.{AreFactors};
 ghost use Rattle.closure_net.specs.Network.{holds_of};
 ghost use Rattle.closure_net.specs.Closure.{IsGreatest};
 ghost use Rattle.closure_net.specs.Mine.{Mine, IsBest, IsNetOf};
@@ -124,15 +125,12 @@ fn quick_best(
     }
 }
 
-// The factor that comes next of those that no thread has taken yet.
-fn next_of(factors: &[Factor], taken: &AtomicU64) -> Option<(usize, Factor)>
-    ensures { IfSome result (λ next. next.0 < length factors.now) }
+// The next of so many places, from 0, that no thread has taken yet.
+fn next_place(count: usize, taken: &AtomicU64) -> Option<usize>
+    ensures { IfSome result (λ place. place < count) }
 {
     let place = taken.fetch_add(1, Ordering::SeqCst) as usize;
-    match factors.get(place) {
-        Some(factor) => Some((place, *factor)),
-        None => None,
-    }
+    if place < count { Some(place) } else { None }
 }
 
 // The best pits that one thread finds: it takes the factors that no other one has taken, one after another. It ends
@@ -147,14 +145,16 @@ fn found_by<R: Threads + Sync, T: SeriesProgress>(
     turns: u64,
     gate: &T,
 ) -> Result<Vec<BestPit>, AllocError>
+    requires { AreFactors factors.now }
     ensures { IfOk result (λ v. All (IsProved rests.now.pairs prices.now) v.items) }
 {
     let mut found: Vec<BestPit> = Vec::new(alloc);
     let mut pairs = rests.copy(alloc)?;
     for _ in 0..factors.len() {
-        let Some((place, factor)) = next_of(factors, taken) else {
+        let Some(place) = next_place(factors.len(), taken) else {
             return Ok(found);
         };
+        let factor = factors[place];
         let net = match net_at(rt, alloc, prices, pairs, factor) {
             Ok(net) => net,
             Err(NoSeries::Memory) => return Err(AllocError),
@@ -184,6 +184,7 @@ pub fn found_beside<R: Threads + Sync, T: SeriesProgress + Sync>(
     turns: u64,
     gate: &T,
 ) -> Result<Vec<BestPit>, AllocError>
+    requires { AreFactors factors.now }
     ensures { IfOk result (λ v. All (IsProved rests.now.pairs prices.now) v.items) }
 {
     let taken = AtomicU64::new(0);
@@ -192,6 +193,7 @@ pub fn found_beside<R: Threads + Sync, T: SeriesProgress + Sync>(
         alloc,
         threads,
         &|_thread: usize| -> Result<Vec<BestPit>, AllocError>
+            requires { AreFactors factors.now }
             ensures { IfOk result (λ v. All (IsProved rests.entry.now.pairs prices.entry.now) v.items) }
         { found_by(rt, alloc, prices, rests, factors, &taken, turns, gate) },
     )?;

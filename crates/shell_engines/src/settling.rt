@@ -117,13 +117,23 @@ fn found_first<R: Threads + Sync, T: SeriesProgress + Sync>(
     effort: Effort,
     gate: &T,
 ) -> Result<Vec<BestPit>, AllocError>
+    requires { AreFactors factors.now }
     ensures { IfOk result (λ v. All (IsProved rests.now.pairs prices.now) v.items) }
 {
     if !effort.method.begins_with_pseudoflow(prices.len()) {
         return Ok(Vec::new(alloc));
     }
     let threads = factors.len().min(effort.workers as usize);
-    found_beside(rt, alloc, prices, rests, factors, threads, effort.steps, gate)
+    found_beside(
+        rt,
+        alloc,
+        prices,
+        rests,
+        factors,
+        threads,
+        effort.steps,
+        gate,
+    )
 }
 
 /// The shells of a mine at its factors: each factor's mine is solved, a check accepts its flow, and the pit is added to
@@ -153,15 +163,7 @@ pub fn settle<R: Threads + Wait + Sync, T: Gate + Progress + SeriesProgress>(
         rests,
         factors,
     } = mine;
-    let found = found_first(
-        rt,
-        alloc,
-        &prices,
-        &rests,
-        factors.as_slice(),
-        effort,
-        gate,
-    )?;
+    let found = found_first(rt, alloc, &prices, &rests, factors.as_slice(), effort, gate)?;
     let series = match Series::open(alloc, rests.copy(alloc)?, prices) {
         Ok(series) => series,
         Err(SeriesFault::NoMemory) => return Err(NoSeries::Memory),
