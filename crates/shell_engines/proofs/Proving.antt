@@ -3,7 +3,7 @@ use Rattle.std.proofs.Common.{◌≡◌, ℕ, ℤ, List, [], ◌∷◌, ◌++◌
 use Rattle.std.proofs.lemmas.List.{get_or_append_left}
 use Rattle.ordered_group.specs.Amount.{Amount}
 use Rattle.closure_net.specs.Network.{NetView, holds_of}
-use Rattle.closure_net.specs.Mine.{IsNetOf, IsBest}
+use Rattle.closure_net.specs.Mine.{IsBest}
 use Rattle.shells.specs.Prices.{PricesView}
 use Rattle.shells.specs.Series.{mine_at}
 use Rattle.shells.proofs.OverNets.{net_of_over}

@@ -1,4 +1,4 @@
-use Rattle.std.proofs.Common.{◌∷◌, [], All, IfOk, Result, Vec, Global, sym, subst}
+use Rattle.std.proofs.Common.{All, IfOk, Result, Vec, Global, sym, subst}
 use Rattle.std.specs.declared.alloc.AllocError.{AllocError}
 use Rattle.std.proofs.lemmas.List.Elements.{All-append}
 use Rattle.shell_engines.specs.declared.best_pits.BestPit.{BestPit}

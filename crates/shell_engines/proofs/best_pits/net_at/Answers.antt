@@ -1,4 +1,4 @@
-use Rattle.std.proofs.Common.{◌≡◌, ◌∙◌, ℕ, ℤ, List, length, map, subst}
+use Rattle.std.proofs.Common.{◌≡◌, ◌∙◌, ℤ, List, length, map, subst}
 use Rattle.ordered_group.specs.Block.{scaled_block}
 use Rattle.closure_net.specs.Network.{net_view}
 use Rattle.closure_net.specs.FaultStands.{WorthsFaultStands}
