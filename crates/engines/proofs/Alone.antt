@@ -45,9 +45,6 @@ pub record AreOne (texts : MineTexts) (certificate : List ℕ) (x y : Reads text
   pub pit : x.pit ≡ y.pit
   pub flow : x.flow ≡ y.flow
 
-header_same : (text : List ℕ) (h k : Header) → h ≡ k → (h.blocks ≡ k.blocks) × (h.group ≡ k.group)
-header_same text h k e = (ap (λ (z : Header). z.blocks) e, ap (λ (z : Header). z.group) e)
-
 pub readings_same : (texts : MineTexts) (certificate : List ℕ) (x y : Reads texts certificate) → AreOne texts certificate x y
 readings_same texts certificate x y =
     let h = ok_same _ _ _ x.header y.header in

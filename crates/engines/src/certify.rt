@@ -1,6 +1,7 @@
 //! The pit that a flow proves, whatever engine made it: the one place where a solver's answer is trusted or not.
 
-ghost use Rattle.std.specs.Prelude.{◌≡◌, IfOk, MatchResult};
+ghost use Rattle.std.specs.Prelude.{◌≡◌, IfOk, MatchResult, IsErrOf};
+ghost use Rattle.closure_net.specs.Network.{FlowFits};
 ghost use Rattle.check_pit.specs.Checks.{IsSound};
 ghost use Rattle.engines.specs.Certifying.{UncertifiedStands};
 
@@ -33,7 +34,8 @@ pub enum Uncertified {
 /// makes flows needs no proof of being right.
 ///
 /// # Errors
-/// `NoMemory` where memory is refused; `Refused` with the check's fault, which stands.
+/// `Refused` with the check's fault, which stands: `WrongSize` where the flow's lengths aren't the net's, before all else.
+/// `NoMemory` where memory is refused.
 pub fn certified<G: OrderedGroup>(
     alloc: Global,
     net: &Net<G>,
@@ -43,6 +45,7 @@ pub fn certified<G: OrderedGroup>(
         (λ s. IsSound net.now s.flow s.pit)
         (λ why. UncertifiedStands net.now flow why) }
     ensures same { IfOk result (λ s. s.flow ≡ flow) }
+    ensures sized { IsErrOf result Uncertified.NoMemory → FlowFits net.now flow }
 {
     if !flow.fits(net) {
         return Err(Uncertified::Refused(PitFault::WrongSize));

@@ -15,9 +15,10 @@ use std::alloc::Global;
 /// Checks a certificate for the mine of two texts, and writes the answer as one line.
 ///
 /// `Done` where it wrote `ACCEPTED`: the pit of the certificate then holds every block that a
-/// block of it rests on, and no such pit is worth more; and with `GROUP PAIR` every other that is
-/// worth the same has more blocks (Picard 1976). `No` where it wrote `REFUSED` with the first fault
-/// of the pit and its flow. The inputs are read in the order of the arguments, each to its end.
+/// block of it rests on, and no such pit is worth more; and with `GROUP PAIR` or `GROUP SCALED` every
+/// other that is worth the same has more blocks (Picard 1976). `No` where it wrote `REFUSED` with the
+/// first fault of the pit and its flow. The inputs are read in the order of the arguments, each to its
+/// end.
 ///
 /// Each device must have counted fewer than 2^64 - 1 failures, so that one more can be counted.
 pub fn check_engine<U: CountedRead, P: CountedRead, C: CountedRead, W: CountedWrite>(

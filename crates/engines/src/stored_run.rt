@@ -1,14 +1,16 @@
 //! The run that the program carries: three blocks, of which the third must be dug for the other two.
 
-ghost use Rattle.std.specs.Prelude.{◌≡◌, ◌-◌, ◌^◌, ◌<◌, IsErrOf};
+ghost use Rattle.std.specs.Prelude.{◌≡◌, ◌+◌, ◌-◌, ◌^◌, ◌<◌, IsErrOf};
 ghost use Rattle.engines.specs.Checking.{Checks};
 ghost use Rattle.engines.specs.Mines.{mine_texts};
 
 use crate::checking::check_engine;
 use crate::engine_fault::EngineFault;
 use crate::judgement::Verdict;
-use fixed_worth::{Counted, CountedWrite};
+use fixed_worth::{CountedRead, CountedWrite};
 use std::alloc::Global;
+use std::io;
+use std::io::Read;
 
 /// The values of the blocks.
 pub const VALUES: &[u8] = b"NBLOCKS: 3\nOBJECTIVE_FUNCTION:\n0 6\n1 5\n2 -10\n";
@@ -20,16 +22,45 @@ pub const PRECEDENCE: &[u8] = b"0 1 2\n1 1 2\n";
 pub const CERTIFICATE: &[u8] =
     b"PITCERT 1\nBLOCKS 3\nPRICE OBJECTIVE\nGROUP PAIR\nPIT 0\nPIT 1\nPIT 2\nSOURCE 0 6000000000 -1\nSOURCE 1 4000000000 2\nREST 0 2 6000000000 -1\nREST 1 2 4000000000 2\nSINK 2 10000000000 1\nEND\n";
 
+// A text that the program carries, and what is left of it. No read of it fails.
+#[derive(Drop)]
+struct StoredText<'a> {
+    left: &'a [u8],
+}
+
+impl Read for StoredText<'_> {
+    ghost use Rattle.std.specs.Prelude.{Some};
+
+    ghost remaining = { λ text. Some text.left.now };
+
+    fn read(&mut self, buf: &mut [u8]) -> io::Result<usize> {
+        self.left.read(buf)
+    }
+}
+
+impl CountedRead for StoredText<'_> {
+    ghost failed = { λ _. 0 };
+
+    fn failures(&self) -> u64 {
+        0
+    }
+
+    fn read_once(&mut self, buf: &mut [u8]) -> Option<usize> {
+        self.left.read(buf).ok()
+    }
+}
+
 /// Checks the stored certificate, and writes the answer: what [`check_engine`] answers for these texts.
 ///
 /// `out` must have counted fewer than 2^64 - 1 failures, so that one more can be counted.
 pub fn stored_check<W: CountedWrite>(alloc: Global, out: &mut W) -> Result<Verdict, EngineFault>
     requires { W.failed out.old < 2 ^ 64 - 1 }
     ensures answer { Checks (mine_texts VALUES.now PRECEDENCE.now) CERTIFICATE.now (W.contents out.old) (W.contents out.new) result }
+    ensures device { IsErrOf result EngineFault.Device → W.failed out.new ≡ W.failed out.old + 1 }
     ensures kept { ¬ IsErrOf result EngineFault.Device → W.failed out.new ≡ W.failed out.old }
 {
-    let mut upit = Counted::new(VALUES);
-    let mut prec = Counted::new(PRECEDENCE);
-    let mut certificate = Counted::new(CERTIFICATE);
+    let mut upit = StoredText { left: VALUES };
+    let mut prec = StoredText { left: PRECEDENCE };
+    let mut certificate = StoredText { left: CERTIFICATE };
     check_engine(alloc, &mut upit, &mut prec, &mut certificate, out)
 }

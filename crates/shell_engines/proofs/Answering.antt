@@ -1,6 +1,6 @@
 -- From the parts of an engine over the factors of settings to its answer, where the readers tell their bytes.
-use Rattle.std.proofs.Common.{ℕ, List, Option, Result, Ok, Err, inl, inr, IfSome}
-use Rattle.std.specs.Io.KnownBytes.{Appends, Keeps}
+use Rattle.std.proofs.Common.{ℕ, List, Option, Ok, Err, inl, inr, IfSome}
+use Rattle.std.specs.Io.KnownBytes.{Appends}
 use Rattle.fixed_worth.specs.Device.{ReceivedPrefix}
 use Rattle.closure_net.specs.declared.net.NetFault.{NetFault}
 use Rattle.engines.specs.declared.engine_fault.EngineFault.{EngineFault}

@@ -1,5 +1,5 @@
 -- From the parts of the engine of shells to its answer, where the readers tell their bytes.
-use Rattle.std.proofs.Common.{ℕ, List, Option, Result, Err, IfSome}
+use Rattle.std.proofs.Common.{ℕ, List, Option, Err, IfSome}
 use Rattle.engines.specs.declared.engine_fault.EngineFault.{EngineFault}
 use Rattle.engines.specs.declared.effort.Effort.{Effort}
 use Rattle.shell_engines.specs.SeriesTexts.{SeriesMineFails}

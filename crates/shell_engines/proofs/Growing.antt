@@ -1,5 +1,5 @@
 -- A series and its rows, one factor after another.
-use Rattle.std.proofs.Common.{◌≡◌, ℕ, ◌+◌, ◌<◌, ◌≤◌, List, [], ◌∷◌, ◌++◌, map, take, length, get_or, sym, ap, ◌∙◌, subst, arith, All}
+use Rattle.std.proofs.Common.{◌≡◌, ℕ, ◌+◌, ◌<◌, List, [], ◌∷◌, ◌++◌, map, take, length, get_or, sym, ap, ◌∙◌, subst, arith, All}
 use Rattle.std.specs.List.{Contains}
 use Rattle.std.proofs.lemmas.List.{take_more, map_push, get_or_default, get_or-take, length-take-le}
 use Rattle.std.proofs.lemmas.List.Elements.{All-append}
@@ -7,7 +7,7 @@ use Rattle.closure_net.specs.Network.{IsAscending}
 use Rattle.shells.specs.Prices.{PricesView}
 use Rattle.shells.specs.Series.{SeriesView, mine_at, IsAbove}
 use Rattle.shell_engines.specs.declared.shell_rows.ShellRow.{ShellRow}
-use Rattle.shell_engines.specs.ShellTable.{IsRowOf, AreRowsOf}
+use Rattle.shell_engines.specs.ShellTable.{IsRowOf}
 use Rattle.shell_engines.specs.Settling.{IsSettled}
 use Rattle.shell_engines.specs.Internal.{IsAdded}
 

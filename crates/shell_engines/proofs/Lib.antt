@@ -5,3 +5,4 @@ pub mod Lifted
 pub mod Answering
 pub mod Answers
 pub mod WordEnds
+pub mod Proving

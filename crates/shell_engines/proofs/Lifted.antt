@@ -1,7 +1,6 @@
 -- Mines of prices and pairs that were read are those of their texts.
-use Rattle.std.proofs.Common.{◌≡◌, ◌↔◌, ℕ, ◌≤◌, ◌<◌, ℤ, Bool, true, false, List, length, refl, sym, ap, ◌∙◌, subst, IsTrue, Result, Ok, Err, inl, inr, MatchResult}
+use Rattle.std.proofs.Common.{◌≡◌, ℕ, Bool, true, false, List, length, refl, sym, ◌∙◌, subst, IsTrue, Result, Ok, Err, inl, inr, MatchResult}
 use Rattle.std.specs.Prelude.{Contains}
-use Rattle.ordered_group.specs.Amount.{Amount}
 use Rattle.ordered_group.specs.Block.{scaled_block}
 use Rattle.prec_file.specs.Rests.{RestsView, ArePairsOf}
 use Rattle.prec_file.specs.Records as prec
@@ -10,7 +9,7 @@ use Rattle.closure_net.specs.Mine.{Mine, IsBest, LiesWithin, IsNetOf}
 use Rattle.closure_net.specs.FaultStands.{WorthsFaultStands}
 use Rattle.closure_net.specs.declared.net.NetFault.{NetFault}
 use Rattle.closure_net.specs.declared.net.NetFault.TheVariants as net_fault
-use Rattle.shells.specs.Prices.{PricesView, NoneNegative, blocks_of, worth_at, worths_at}
+use Rattle.shells.specs.Prices.{PricesView, NoneNegative, worth_at, worths_at}
 use Rattle.shells.specs.Series as series
 use Rattle.shells.specs.Series.{mine_at}
 use Rattle.shells.specs.Nesting.{BestPitsAreNested}

@@ -1,5 +1,5 @@
 -- The net of pairs, and of the worths by prices at a factor; and what an accepted pit of it has.
-use Rattle.std.proofs.Common.{◌≡◌, ℕ, ℤ, pos, ◌<◌, ◌+◌, List, length, map, get_or, refl, sym, ap, ◌∙◌, subst, arith, All}
+use Rattle.std.proofs.Common.{◌≡◌, ℕ, ℤ, pos, ◌<◌, List, length, map, get_or, sym, ap, ◌∙◌, arith, All}
 use Rattle.std.proofs.lemmas.List.{length-map, get_or-map}
 use Rattle.std.proofs.lemmas.List.FromFn.{length-map-range_with_len, get_or-map-range_with_len}
 use Rattle.ordered_group.specs.Amount.{Amount, zero_amount}
@@ -14,7 +14,6 @@ use Rattle.closure_net.specs.Mine.{Mine, IsNetOf, IsBest}
 use Rattle.shells.specs.Prices.{PricesView, blocks_of, worth_at, worths_at}
 use Rattle.shells.specs.Series.{IsOver}
 use Rattle.engines.proofs.Counted.{count_in-ascending}
-use Rattle.shell_engines.specs.declared.shell_rows.ShellRow.{ShellRow}
 use Rattle.shell_engines.specs.ShellTable.{IsRowOf}
 
 pub over_of : (block : ℤ → ℕ → Amount) (rests : RestsView) (prices : PricesView) (k : ℕ) (net : NetView) → net ≡ net_view rests.pairs (map (λ v. block v rests.blocks) (worths_at prices k)) → rests.blocks ≡ length (worths_at prices k) → IsOver block rests.pairs prices k net

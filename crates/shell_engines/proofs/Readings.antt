@@ -1,5 +1,5 @@
 -- From the parts of the reading of a mine with its factors to what was read, where the readers tell their bytes.
-use Rattle.std.proofs.Common.{◌≡◌, ◌⊎◌, ℕ, List, [], ◌∷◌, refl, sym, ap, ◌∙◌, subst, Option, Some, None, inl, inr, IfSome, unwrap_or}
+use Rattle.std.proofs.Common.{◌≡◌, ◌⊎◌, ℕ, List, [], ◌∷◌, sym, ap, ◌∙◌, subst, Option, Some, None, inl, inr, IfSome, unwrap_or}
 use Rattle.prec_file.specs.Rests.{RestsView}
 use Rattle.settings_file.specs.declared.keys.Key.{Key}
 use Rattle.settings_file.specs.declared.keys.Key.TheVariants.{Factors}
@@ -15,7 +15,7 @@ use Rattle.engines.specs.declared.engine_fault.Problem.TheVariants as problem
 use Rattle.engines.specs.PricedTexts.{price_keys, SettingsFails}
 use Rattle.engines.specs.Inputs.{ReadsSettingsText, IsMissing, PricedMineFails}
 use Rattle.engines.specs.ReadMines.{ArePricesRead}
-use Rattle.shell_engines.specs.SeriesTexts.{series_keys, KeysKnown, factors_said, IsSeriesRead, SeriesMineFails}
+use Rattle.shell_engines.specs.SeriesTexts.{series_keys, KeysKnown, IsSeriesRead, SeriesMineFails}
 use Rattle.engines.proofs.PriceKeys.{prices_and_others}
 use Rattle.engines.proofs.PricedAnswers.{key_missing, keys_said}
 

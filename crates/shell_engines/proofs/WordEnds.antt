@@ -1,6 +1,5 @@
 -- How a run without a lock ends at a factor.
-use Rattle.std.proofs.Common.{◌≡◌, ℕ, ◌<◌, Result, Ok, Err, inl}
-use Rattle.std.specs.Prelude.{MatchResult}
+use Rattle.std.proofs.Common.{◌≡◌, ℕ, ◌<◌, inl}
 use Rattle.closure_net.specs.Network.{NetView}
 use Rattle.engines.specs.declared.effort.Effort.{Effort}
 use Rattle.engines.specs.declared.solving.Unsolved.{Unsolved}

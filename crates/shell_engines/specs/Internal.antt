@@ -5,6 +5,9 @@ use Rattle.prec_file.specs.Rests.{RestsView}
 use Rattle.engines.specs.declared.effort.Effort.{Effort}
 use Rattle.shells.specs.Prices.{PricesView}
 use Rattle.shells.specs.Series.{SeriesView, mine_at}
+use Rattle.closure_net.specs.Network.{NetView, holds_of}
+use Rattle.closure_net.specs.Mine.{Mine, IsNetOf, IsBest}
+use Rattle.shell_engines.specs.declared.best_pits.BestPit.{BestPit}
 use Rattle.engines.specs.declared.engine_fault.EngineFault.{EngineFault}
 use Rattle.engines.specs.declared.engine_fault.EngineFault.TheVariants as engine
 use Rattle.shell_engines.specs.declared.shell_rows.ShellRow.{ShellRow}
@@ -15,6 +18,17 @@ use Rattle.shell_engines.specs.Settling.{NoSeriesStands}
 -- why there is no net at a factor, whatever else there is
 abbrev pub NoNetStands : (ℤ → ℕ → Amount) → RestsView → PricesView → ℕ → NoSeries → Type 0
 NoNetStands block rests prices factor e = (factors : List ℕ) (effort : Effort) → Contains factors factor → NoSeriesStands block rests prices factors effort e
+
+-- the pit is the best one of each mine whose net this is, and the row has what it is and this factor
+pub record IsBestOf (block : ℤ → ℕ → Amount) (net : NetView) (factor : ℕ) (best : BestPit) : Type 0 where
+  pub at : best.row.factor ≡ factor
+  pub is_best : (mine : Mine) → IsNetOf block mine net → IsBest mine (holds_of best.pit)
+  pub row_is : (mine : Mine) → IsNetOf block mine net → IsRowOf mine best.row
+
+-- the pit is the best one of these pairs and prices at the factor of its row, which has what it is
+pub record IsProved (pairs : List (ℕ × ℕ)) (prices : PricesView) (best : BestPit) : Type 0 where
+  pub is_best : IsBest (mine_at pairs prices best.row.factor) (holds_of best.pit)
+  pub row_is : IsRowOf (mine_at pairs prices best.row.factor) best.row
 
 -- one factor more, with its row
 pub record IsAdded (s t : SeriesView) (rows rows' : List ShellRow) (factor : ℕ) : Type 0 where

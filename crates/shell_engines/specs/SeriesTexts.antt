@@ -1,5 +1,5 @@
 -- The texts of a mine of which shells are drawn: settings that name its prices and the factors, blocks and precedence.
-use Rattle.std.specs.Prelude.{◌≡◌, ℕ, List, [], ◌∷◌, Some, None, unwrap_or}
+use Rattle.std.specs.Prelude.{◌≡◌, ℕ, List, [], ◌∷◌, None, unwrap_or}
 use Rattle.prec_file.specs.Rests.{RestsView}
 use Rattle.settings_file.specs.declared.keys.Key.{Key}
 use Rattle.settings_file.specs.declared.keys.Key.TheVariants.{Factors}

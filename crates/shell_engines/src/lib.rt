@@ -1,13 +1,13 @@
 //! Shells of a mine at rising prices: each factor's mine is solved, checked and added to a series.
 //!
 //! Stands on `engines`, which reads the texts of a mine with prices and solves one net, and on `shells`, whose series
-//! takes nothing but pits that a check has accepted. Promises upward, over the bytes of the texts: where `shells_engine`
+//! takes nothing but best pits. Promises upward, over the bytes of the texts: where `shells_engine`
 //! answers `Done` it wrote the row of the best pit at each factor of the settings, and the pits lie one within the next
 //! (Lerchs and Grossmann, 1965, make the phases of a mine so).
 #![tactic(auto)]
 
 mod announcing;
-mod candidates;
+mod best_pits;
 pub mod no_series;
 pub mod series_engine;
 pub mod series_inputs;

@@ -47,11 +47,12 @@ fn factors_from(alloc: Global, thousandths: &[u32]) -> Result<Vec<Factor>, Alloc
 /// The factors of settings, ascending.
 ///
 /// # Errors
-/// `Settings` where the settings name none. `Memory` where memory is refused.
+/// `Settings` where the settings name none, before all else. `Memory` where memory is refused.
 pub fn factors_of(alloc: Global, settings: &Settings) -> Result<Vec<Factor>, EngineFault>
     ensures factors { IfOk result (λ v. (v.items ≡ unwrap_or settings.now.factors []) × (first_missing (Key.Factors ∷ []) settings.now ≡ None)) }
     ensures form { IfOk result (λ v. AreFactors v.items) }
     ensures fault { IfErr result (λ e. (e ≡ EngineFault.Memory) ⊎ IsMissing (Key.Factors ∷ []) settings.now e) }
+    ensures named { IsErrOf result EngineFault.Memory → first_missing (Key.Factors ∷ []) settings.now ≡ None }
 {
     match settings.factors() {
         Some(thousandths) => Ok(factors_from(alloc, thousandths)?),

@@ -1,32 +1,24 @@
 //! Settling a series: at each factor the mine's net is solved, its flow is checked, and the pit is added.
 
-ghost use Rattle.std.specs.Prelude.{◌≡◌, ℕ, ◌+◌, ◌<◌, ◌≤◌, ◌∷◌, [], List, take, length, slice_index_or, Contains, OnOk, IfOk, IfErr, IfSome, MatchResult};
+ghost use Rattle.std.specs.Prelude.{◌≡◌, ℕ, ◌+◌, ◌<◌, List, take, length, All, Contains, OnOk, IfOk, IfErr, MatchResult};
 ghost use Rattle.ordered_group.specs.Block.{scaled_block};
-ghost use Rattle.prec_file.specs.Rests.{RestsView};
 ghost use Rattle.settings_file.specs.Values.{AreFactors};
-ghost use Rattle.closure_net.specs.Network.{holds_of};
-ghost use Rattle.closure_net.specs.Mine.{Mine, IsBest, IsNetOf};
-ghost use Rattle.shells.specs.Series.{IsAbove, IsOver};
-ghost use Rattle.shell_engines.specs.ShellTable.{IsRowOf};
-ghost use Rattle.shell_engines.specs.Settling.{IsSettled, IsNetAt, NoSeriesStands};
-ghost use Rattle.shell_engines.specs.Internal.{IsAdded};
+ghost use Rattle.shells.specs.Series.{IsAbove};
+ghost use Rattle.shell_engines.specs.Settling.{IsSettled, NoSeriesStands};
+ghost use Rattle.shell_engines.specs.Internal.{IsAdded, IsProved};
 
 use crate::announcing::SeriesProgress;
-use crate::candidates::{candidates, proved};
+use crate::best_pits::{BestPit, best_by, best_in, found_beside, net_at};
 use crate::no_series::NoSeries;
 use crate::series_inputs::SeriesMine;
 use crate::shell_rows::ShellRow;
 use crate::solving_at::solution_at;
-use check_pit::{Accepted, check};
-use closure_net::Net;
-use engines::judging::{size_of, worth_of};
 use engines::solving::Unsolved;
 use engines::{Effort, Method};
 use fixed_worth::MOST_FACTORS;
-use ordered_group::{Scaled, SizeGroup};
 use prec_file::Rests;
 use pseudoflow::Progress;
-use shells::{Factor, Series, SeriesFault};
+use shells::{Factor, Prices, Series, SeriesFault};
 use std::alloc::{AllocError, Global};
 use std::sync::Wait;
 use std::thread::Threads;
@@ -41,141 +33,116 @@ pub struct Shells {
     pub rows: Vec<ShellRow>,
 }
 
-// The row of an accepted pit at a factor.
-fn row_of<G: SizeGroup>(factor: Factor, accepted: &Accepted<'_, G>) -> ShellRow
-    ensures factor { result.factor ≡ factor }
-    ensures row { (mine : Mine) → IsNetOf G.block_parts mine accepted.now.net → IsBest mine (holds_of accepted.now.pit) → IsRowOf mine result }
-{
-    // proof: the blocks of an accepted pit are the net's
-    let _pit = accepted.pit();
-    let blocks = size_of(accepted);
-    let worth = worth_of(accepted, blocks);
-    ShellRow {
-        factor: factor.get(),
-        blocks,
-        worth,
-    }
-}
-
 impl Shells {
-    // Adds the pit that was accepted at a factor above the others.
-    fn add<G: SizeGroup>(
-        &mut self,
-        factor: Factor,
-        accepted: &Accepted<'_, G>,
-    ) -> Result<(), AllocError>
+    // Adds the best pit at a factor above the others.
+    fn add(&mut self, factor: Factor, best: &BestPit) -> Result<(), AllocError>
         requires above { IsAbove self.old.series.factors factor }
-        requires over { IsOver G.block_parts self.old.series.pairs self.old.series.prices factor accepted.now.net }
+        requires at { best.now.row.factor ≡ factor }
+        requires proved { IsProved self.old.series.pairs self.old.series.prices best.now }
         requires room { length self.old.series.factors < MOST_FACTORS }
         ensures { OnOk result (IsAdded self.old.series self.new.series self.old.rows.items self.new.rows.items factor) }
     {
-        match self.series.push(factor, accepted) {
-            Ok(()) => {}
-            Err(_) => unreachable!(),
-        }
-        self.rows.push(row_of(factor, accepted))?;
+        self.series.push_best(factor, &best.pit);
+        self.rows.push(best.row)?;
         Ok(())
+    }
+}
+
+// The best pit of a mine at a factor, looked for now.
+fn best_at<R: Threads + Wait + Sync, T: Gate + Progress>(
+    rt: &R,
+    alloc: Global,
+    prices: &Prices,
+    rests: &Rests,
+    factor: Factor,
+    effort: Effort,
+    gate: &T,
+) -> Result<BestPit, NoSeries>
+    ensures best { IfOk result (λ best. (best.row.factor ≡ factor) × IsProved rests.now.pairs prices.now best) }
+    ensures fault { IfErr result (λ e. (factors : List ℕ) → Contains factors factor → NoSeriesStands scaled_block rests.now prices.now factors effort e) }
+{
+    let net = net_at(rt, alloc, prices, rests.copy(alloc)?, factor)?;
+    if effort.method == Method::Pseudoflow {
+        return Err(NoSeries::Unsolved(factor.get(), Unsolved::GaveUp));
+    }
+    let solution = match solution_at(rt, alloc, &net, effort, gate) {
+        Ok(solution) => solution,
+        Err(why) => return Err(NoSeries::Unsolved(factor.get(), why)),
+    };
+    match best_by(&net, factor, solution) {
+        Some(best) => Ok(best),
+        None => unreachable!(),
     }
 }
 
 impl Shells {
     // Adds the best pit at a factor: the one that was found beside others, or else one that is looked for now.
-    fn settle_at<R: Threads + Wait + Sync, T: Gate + Progress>(
-        &mut self,
-        rt: &R,
-        alloc: Global,
-        factor: Factor,
-        net: &Net<Scaled>,
-        found: &Option<Accepted<'_, Scaled>>,
-        effort: Effort,
-        gate: &T,
-    ) -> Result<(), NoSeries>
-        requires above { IsAbove self.old.series.factors factor }
-        requires net { IsNetAt scaled_block self.old.series.pairs self.old.series.prices factor net.now }
-        requires found { IfSome found.now (λ a. a.net ≡ net.now) }
-        requires room { length self.old.series.factors < MOST_FACTORS }
-        ensures added { OnOk result (IsAdded self.old.series self.new.series self.old.rows.items self.new.rows.items factor) }
-        ensures fault { IfErr result (λ e. (rests : RestsView) (factors : List ℕ) → rests.pairs ≡ self.old.series.pairs → Contains factors factor
-            → NoSeriesStands scaled_block rests self.old.series.prices factors effort e) }
-    {
-        if let Some(accepted) = found {
-            return Ok(self.add(factor, accepted)?);
-        }
-        if effort.method == Method::Pseudoflow {
-            return Err(NoSeries::Unsolved(factor.get(), Unsolved::GaveUp));
-        }
-        let solution = match solution_at(rt, alloc, net, effort, gate) {
-            Ok(solution) => solution,
-            Err(why) => return Err(NoSeries::Unsolved(factor.get(), why)),
-        };
-        match check(net, &solution.pit, &solution.flow) {
-            Ok(accepted) => Ok(self.add(factor, &accepted)?),
-            Err(_) => unreachable!(),
-        }
-    }
-
-    // Adds the best pits at the factors from one place on to another, which are solved side by side where pseudoflow
-    // solves them.
-    fn settle_from<R: Threads + Wait + Sync, T: Gate + Progress + SeriesProgress>(
+    fn settle_at<R: Threads + Wait + Sync, T: Gate + Progress + SeriesProgress>(
         &mut self,
         rt: &R,
         alloc: Global,
         rests: &Rests,
         factors: &[Factor],
-        from: usize,
-        to: usize,
+        place: usize,
+        found: &[BestPit],
         effort: Effort,
         gate: &T,
     ) -> Result<(), NoSeries>
-        requires order { from ≤ to }
-        requires end { to ≤ length factors.now }
+        requires inside { place < length factors.now }
         requires form { AreFactors factors.now }
-        requires done { IsSettled rests.now.pairs self.old.series.prices (take from factors.now) self.old.series self.old.rows.items }
-        ensures settled { OnOk result (IsSettled rests.now.pairs self.old.series.prices (take to factors.now) self.new.series self.new.rows.items) }
+        requires found { All (IsProved rests.now.pairs self.old.series.prices) found.now }
+        requires done { IsSettled rests.now.pairs self.old.series.prices (take place factors.now) self.old.series self.old.rows.items }
+        ensures settled { OnOk result (IsSettled rests.now.pairs self.old.series.prices (take (place + 1) factors.now) self.new.series self.new.rows.items) }
         ensures fault { IfErr result (λ e. NoSeriesStands scaled_block rests.now self.old.series.prices factors.now effort e) }
     {
-        let candidates = candidates::<Scaled, R>(
-            rt,
-            alloc,
-            self.series.prices(),
-            rests,
-            factors,
-            from,
-            to,
-            effort,
-        )?;
-        let found = proved(rt, alloc, candidates.as_slice())?;
-        for i in 0..candidates.len() {
-            let factor = factors[from + i];
-            match &candidates[i] {
-                Ok(candidate) => {
-                    self.settle_at(rt, alloc, factor, &candidate.net, &found[i], effort, gate)?;
-                }
-                Err(none) => return Err(*none),
-            }
-            gate.settled(factor.get(), (from + i) as u32 + 1, factors.len() as u32);
+        let factor = factors[place];
+        if let Some(best) = best_in(found, factor) {
+            return Ok(self.add(factor, best)?);
         }
+        let best = best_at(rt, alloc, self.series.prices(), rests, factor, effort, gate)?;
+        self.add(factor, &best)?;
+        gate.settled(factor.get(), place as u32 + 1, factors.len() as u32);
         Ok(())
     }
 }
 
-// How many factors are solved side by side: as many as there are workers, where pseudoflow begins.
-fn at_once(effort: Effort, blocks: u32) -> usize
-    ensures { 0 < result }
+// What pseudoflow finds at the factors, by as many threads as the effort has workers. Nothing where the method doesn't begin
+// with it.
+fn found_first<R: Threads + Sync, T: SeriesProgress + Sync>(
+    rt: &R,
+    alloc: Global,
+    prices: &Prices,
+    rests: &Rests,
+    factors: &[Factor],
+    effort: Effort,
+    gate: &T,
+) -> Result<Vec<BestPit>, AllocError>
+    requires { AreFactors factors.now }
+    ensures { IfOk result (λ v. All (IsProved rests.now.pairs prices.now) v.items) }
 {
-    if effort.method.begins_with_pseudoflow(blocks) {
-        effort.workers as usize
-    } else {
-        1
+    if !effort.method.begins_with_pseudoflow(prices.len()) {
+        return Ok(Vec::new(alloc));
     }
+    let threads = factors.len().min(effort.workers as usize);
+    found_beside(
+        rt,
+        alloc,
+        prices,
+        rests,
+        factors,
+        threads,
+        effort.steps,
+        gate,
+    )
 }
 
 /// The shells of a mine at its factors: each factor's mine is solved, a check accepts its flow, and the pit is added to
 /// the series, in the order of the factors.
 ///
-/// Where pseudoflow begins, as many factors are solved side by side as the effort has workers; otherwise these are the
-/// workers of the push-relabel machine, and one factor is solved after another. One worker or two run without a lock, and more
-/// under one. What pits come of it doesn't depend on the schedule: a mine has one best pit.
+/// Where pseudoflow begins, as many threads as the effort has workers take the factors one after another, each the next that
+/// no other has taken; what they find no proof for is looked for then. Otherwise, and then, the workers are those of the
+/// push-relabel machine, and one factor is solved after another: one worker or two run without a lock, and more under one.
+/// What pits come of it doesn't depend on the schedule: a mine has one best pit.
 ///
 /// # Errors
 /// Of the first factor at which no pit is proved: `Unsolved` with the reason, `Model` where an amount of its net
@@ -196,7 +163,7 @@ pub fn settle<R: Threads + Wait + Sync, T: Gate + Progress + SeriesProgress>(
         rests,
         factors,
     } = mine;
-    let step = at_once(effort, prices.len());
+    let found = found_first(rt, alloc, &prices, &rests, factors.as_slice(), effort, gate)?;
     let series = match Series::open(alloc, rests.copy(alloc)?, prices) {
         Ok(series) => series,
         Err(SeriesFault::NoMemory) => return Err(NoSeries::Memory),
@@ -206,20 +173,17 @@ pub fn settle<R: Threads + Wait + Sync, T: Gate + Progress + SeriesProgress>(
         series,
         rows: Vec::new(alloc),
     };
-    let mut done = 0;
-    while done < factors.len() {
-        let next = done + step.min(factors.len() - done);
-        shells.settle_from(
+    for place in 0..factors.len() {
+        shells.settle_at(
             rt,
             alloc,
             &rests,
             factors.as_slice(),
-            done,
-            next,
+            place,
+            found.as_slice(),
             effort,
             gate,
         )?;
-        done = next;
     }
     Ok(shells)
 }

@@ -8,9 +8,9 @@
 //!
 //! Stands on `check_pit`, `closure_net`, `ordered_group`, `prec_file`, `fixed_worth` and the kit's
 //! `rayon`. Promises upward: `worth` and `worths_at` are exact; a `Series` takes nothing but pits that
-//! were checked over its own pairs and its own prices at that factor, so that at each of its factors
-//! the blocks with a shell of at most that factor are the best pit; and `laws` has the nesting of
-//! accepted pits for all who check pits at two factors.
+//! were checked over its own pairs and its own prices at that factor, or that its caller has proved to be
+//! the best ones, so that at each of its factors the blocks with a shell of at most that factor are the
+//! best pit; and `laws` has the nesting of accepted pits for all who check pits at two factors.
 #![tactic(auto)]
 
 mod charges;

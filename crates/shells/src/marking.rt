@@ -32,7 +32,8 @@ pub(crate) fn give_shells(shells: &mut [Option<u32>], pit: &Pit, k: u32)
     ensures size { length shells.new ≡ length shells.old }
     ensures each { (b : ℕ) → b < length shells.old → shell_at shells.new b ≡ with_shell (shell_at shells.old b) (holds_of pit.now b) k }
 {
+    let mut place = 0;
     for b in 0..shells.len() {
-        shells[b] = shell_with(shells[b], pit.holds(b as u32), k);
+        shells[b] = shell_with(shells[b], pit.holds_near(&mut place, b as u32), k);
     }
 }

@@ -97,6 +97,18 @@ impl Series {
         Ok(())
     }
 
+    /// Adds the best pit at a factor above the others, for one who knows that it is the best: each of its blocks that has
+    /// no shell gets this one. Where `push` compares the net with the pairs and the prices, here the caller's proof stands
+    /// for it. Takes no memory.
+    pub fn push_best(&mut self, factor: Factor, pit: &Pit)
+        requires above { IsAbove self.old.factors factor }
+        requires best { IsBest (mine_at self.old.pairs self.old.prices factor) (holds_of pit.now) }
+        requires room { length self.old.factors < MOST_FACTORS }
+        ensures { IsPushed self.old self.new factor (holds_of pit.now) }
+    {
+        self.put(factor.get(), pit);
+    }
+
     // Whether the factor is above each that is held.
     fn is_higher(&self, factor: Factor) -> bool
         ensures { IsTrue result ↔ IsAbove self.now.factors factor }

@@ -1,4 +1,4 @@
-use Rattle.std.proofs.Common.{◌∙◌, List, ℕ, Option, ap, subst, sym}
+use Rattle.std.proofs.Common.{List, ℕ, subst}
 use Rattle.std.specs.Io.KnownBytes.{Appends}
 use Rattle.fixed_worth.specs.Device.{ReceivedPrefix}
 use Rattle.std.proofs.lemmas.Result.{err_from_is_err_and}

@@ -1,8 +1,8 @@
-use Rattle.std.proofs.Common.{◌≡◌, rules, sym, ap, subst, List, ℕ, FitsSigned, All, ◌<◌, length}
+use Rattle.std.proofs.Common.{rules, FitsSigned}
 use Rattle.std.specs.Int.{w128}
 use Rattle.std.proofs.lemmas.Int.{to_z-of_z}
 use Rattle.shell_engines.proofs.Nets.{row_is}
-use Rattle.shell_engines.proofs.settling.row_of.Goals as goal
+use Rattle.shell_engines.proofs.best_pits.row_of.Goals as goal
 
 pub returns-clause-row : goal.returns-clause-row
 returns-clause-row g c = λ mine of_mine best.
