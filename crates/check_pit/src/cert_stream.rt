@@ -9,6 +9,7 @@ use crate::accepted::Accepted;
 use crate::cert_fault::CertFault;
 use crate::header::Header;
 use crate::room::Room;
+use crate::stream_bytes::StreamBytes;
 use crate::stream_checking::check_lines;
 use crate::stream_fault::StreamFault;
 use crate::stream_header::read_header;
@@ -54,6 +55,33 @@ impl<R: Drop> CertStream<R> {
             fault: None,
             is_done: false,
         })
+    }
+}
+
+impl<R> CertStream<R> {
+    /// The certificate that a device gives from here on, with memory that was taken before. Reads nothing yet.
+    pub fn over(held: StreamBytes, from: R) -> CertStream<R>
+        requires { held ≡ [] }
+        ensures from { result.lines.from ≡ from }
+        ensures held { result.lines.held ≡ [] }
+        ensures taken { result.lines.taken ≡ 0 }
+        ensures header { result.header ≡ None }
+        ensures fault { result.fault ≡ None }
+        ensures done { result.is_done ≡ false }
+    {
+        CertStream {
+            lines: StreamLines::over(held, from),
+            header: None,
+            fault: None,
+            is_done: false,
+        }
+    }
+
+    /// The device, which has given what was read.
+    pub fn into_device(self) -> R
+        ensures { result ≡ self.lines.from }
+    {
+        self.lines.into_device()
     }
 }
 

@@ -161,3 +161,20 @@ fn faults_of_a_pit_come_in_their_order(rt: HostRuntime) -> Result<(), Fail> {
     ];
     have_their_answers(&rt, rt.alloc(), rows.as_slice())
 }
+
+#[test]
+fn one_room_serves_one_check_after_another(rt: HostRuntime) -> Result<(), Fail> {
+    let alloc = rt.alloc();
+    let net = three_blocks(alloc)?;
+    let mut room = Room::new(alloc, &net)?;
+    let unbalanced = with_header(alloc, b"PIT 0\nPIT 2\nSOURCE 0 6 -1\nEND\n")?;
+    let mut stream = stream_of(alloc, &unbalanced, 0, &net)?;
+    let first = worth_of(check_stream(&mut stream, &net, &mut room));
+    assert!(rt; first == refused(PitFault::Unbalanced(0)));
+    assert!(rt; room.is_for(&net));
+    let whole = with_header(alloc, WHOLE)?;
+    let mut stream = stream_of(alloc, &whole, 0, &net)?;
+    let second = worth_of(check_stream(&mut stream, &net, &mut room));
+    assert!(rt; second == Ok(WorthSize { nanos: 1, size: -3 }));
+    Ok(())
+}

@@ -42,6 +42,7 @@ pub use checking::check;
 pub use header::{Header, Price};
 pub use pit_fault::PitFault;
 pub use room::Room;
+pub use stream_bytes::StreamBytes;
 pub use writing::write_certificate;
 
 #[cfg(test)]

@@ -58,6 +58,29 @@ impl<R: Drop> StreamLines<R> {
 }
 
 impl<R> StreamLines<R> {
+    /// The lines of what the device gives, from the first on, with memory that was taken before.
+    pub fn over(held: StreamBytes, from: R) -> StreamLines<R>
+        requires { held ≡ [] }
+        ensures from { result.from ≡ from }
+        ensures held { result.held ≡ [] }
+        ensures taken { result.taken ≡ 0 }
+        ensures number { result.number ≡ 0 }
+    {
+        StreamLines {
+            from,
+            held,
+            taken: 0,
+            number: 0,
+        }
+    }
+
+    /// The device, which has given what was read.
+    pub fn into_device(self) -> R
+        ensures { result ≡ self.from }
+    {
+        self.from
+    }
+
     /// The number of the line that was passed last, or 0 before the first.
     pub fn number(&self) -> u64
         ensures value { result ≡ self.now.number }

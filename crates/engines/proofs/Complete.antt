@@ -6,19 +6,19 @@ use Rattle.engines.specs.declared.engine_fault.EngineFault.{EngineFault}
 use Rattle.engines.specs.declared.engine_fault.EngineFault.TheVariants as engine
 use Rattle.engines.specs.Checking.{Checks, SoundIsAccepted}
 use Rattle.engines.specs.Mines.{MineTexts, mine_texts}
-use Rattle.engines.proofs.Alone.{sound_stands}
+use Rattle.engines.proofs.SoundLines.{refused_leaves}
 use Rattle.engines.specs.declared.engine_fault.CertificateProblem.TheVariants as problem
 use Rattle.engines.proofs.Unread.{upit_read, settings_read, blocks_read, prices_read, prec_read, model_read, price_read, header_read, body_read}
 
 pub complete_at : (texts : MineTexts) (c : List ℕ) (old new : Option (List ℕ)) (answer : Result Verdict EngineFault) → Checks texts c old new answer → SoundIsAccepted texts c answer
 complete_at texts c old new (Ok Done) h read s = tt
-complete_at texts c old new (Ok No) h read s = sound_stands texts c read h.refused.read h.fault s h.refused.stands
+complete_at texts c old new (Ok No) h read s = refused_leaves texts c h.fault read s h.refused
 complete_at texts c old new (Err (engine.Upit q)) h read s = upit_read texts c q read h.0
 complete_at texts c old new (Err (engine.Prec q)) h read s = prec_read texts c h.0.0 q read h.0.1 h.0.2
-complete_at texts c old new (Err (engine.Model f)) h read s = model_read texts c h.0.0 h.0.3 f read h.0.4 h.0.5
+complete_at texts c old new (Err (engine.Model f)) h read s = model_read texts c h.0.0 h.0.2 f read h.0.3 h.0.4
 complete_at texts c old new (Err (engine.Certificate problem.InputTooLong)) h read s = h.0.2
-complete_at texts c old new (Err (engine.Certificate problem.WrongPrice)) h read s = price_read texts c h.0.0 read h.0.2.1
-complete_at texts c old new (Err (engine.Certificate (problem.Fault f))) h read s = elim h.0.2.1 [ inl a ↦ header_read texts c h.0.0 f read h.0.1 a | inr b ↦ body_read texts c h.0.0 f read h.0.1 b ]
+complete_at texts c old new (Err (engine.Certificate problem.WrongPrice)) h read s = price_read texts c h.0.0 read h.0.2
+complete_at texts c old new (Err (engine.Certificate (problem.Fault f))) h read s = elim h.0.2 [ inl a ↦ header_read texts c h.0.0 f read h.0.1 a | inr b ↦ body_read texts c h.0.0 f read h.0.1 b ]
 complete_at texts c old new (Err (engine.Settings q)) h read s = settings_read texts c q read h.0
 complete_at texts c old new (Err (engine.Blocks q)) h read s = blocks_read texts c q read h.0
 complete_at texts c old new (Err (engine.Prices f)) h read s = prices_read texts c f read h.0

@@ -9,18 +9,17 @@ use Rattle.prec_file.specs.Records as prec
 use Rattle.closure_net.specs.Network.{NetView, FlowView, net_view, IsNet, holds_of}
 use Rattle.closure_net.specs.Closure.{IsGreatest, group_worth}
 use Rattle.closure_net.specs.Mine.{IsNetOf}
-use Rattle.check_pit.specs.Checks.{IsSound, FaultStands}
+use Rattle.check_pit.specs.Checks.{ProvesPit}
 use Rattle.check_pit.specs.Certificate.{fault_of, lines_of_text, IsRead, Denotes, UnlessMemory}
-use Rattle.check_pit.specs.declared.pit_fault.PitFault.{PitFault}
 use Rattle.check_pit.specs.declared.header.Price.{Price}
 use Rattle.check_pit.specs.declared.header.Header.{Header}
 use Rattle.check_pit.specs.Pieces.{pieces_of}
 use Rattle.check_pit.specs.Header.{header_of}
 use Rattle.engines.specs.Limits.{IsWithinLimit}
 use Rattle.engines.specs.Mines.{MineTexts, precedence_of, price_wanted, mine_of, DenoteMine}
-use Rattle.engines.specs.Readings.{Reads}
-use Rattle.engines.specs.Judgements.{IsAccepted, IsRefused}
-use Rattle.engines.specs.FaultStands.{IsHeader, AreWorths, BodyFails, NetFails, Fails}
+use Rattle.engines.specs.Readings.{IsHeader, Reads}
+use Rattle.engines.specs.Judgements.{IsAccepted}
+use Rattle.engines.specs.FaultStands.{AreWorths, BodyFails, NetFails, Fails}
 use Rattle.closure_net.specs.FaultStands.{WorthsFaultStands}
 use Rattle.closure_net.specs.declared.net.NetFault.{NetFault}
 use Rattle.closure_net.specs.declared.net.NetFault.TheVariants as net
@@ -72,16 +71,13 @@ module _ (name : Group) (block : ℤ → ℕ → Amount) (counts : Bool) (texts 
     known = h.read.known;
   }
 
-  pub refused : IsWithinLimit certificate → (fault : PitFault) → FaultStands net flow pit fault → IsRefused texts certificate fault
-  refused within fault f = record { within = within; read = reads; stands = f }
-
-  pub accepted : IsWithinLimit certificate → (set_worth : Amount → ℕ → ℕ → ℤ) → SumsTellWorth block set_worth → IsSound net flow pit → IsGreatest net (holds_of pit) → (count : ℕ) (worth : ℤ) → count ≡ length pit → worth ≡ set_worth (group_worth net.worths (holds_of pit)) (length net.worths) count → IsAccepted texts certificate name count worth
-  accepted within set_worth tells sound greatest count worth c w =
+  pub accepted : IsWithinLimit certificate → (set_worth : Amount → ℕ → ℕ → ℤ) → SumsTellWorth block set_worth → ProvesPit net flow pit → IsGreatest net (holds_of pit) → (count : ℕ) (worth : ℤ) → count ≡ length pit → worth ≡ set_worth (group_worth net.worths (holds_of pit)) (length net.worths) count → IsAccepted texts certificate name count worth
+  accepted within set_worth tells proves greatest count worth c w =
       record {
         within = within;
         read = reads;
         group = refl;
-        sound = sound;
+        proves = proves;
         proved = h.named.proves (mine_of (length net.worths) texts) net (holds_of pit) h.of_mine greatest;
         count = size_told block texts net h.of_mine pit h.read.ascending h.read.known count c;
         worth = worth_told block texts net h.of_mine pit h.read.ascending h.read.known count c set_worth tells worth w;
@@ -100,13 +96,13 @@ body_fails name block counts texts certificate net fault named header is_net of_
     }
 
 -- a fault in answering it
-pub text_fails : (name : Group) (block : ℤ → ℕ → Amount) (counts : Bool) (texts : MineTexts) (certificate : List ℕ) (net : NetView) (fault : CertFault) → IsWithinLimit certificate → DenoteMine texts (length net.worths) → IsGroupNamed name block counts → IsHeader texts certificate (length net.worths) name → IsNet net → IsNetOf block (mine_of (length net.worths) texts) net → UnlessMemory fault (fault_of counts name (length net.worths) net.pairs certificate ≡ Some fault) → Fails texts certificate (of_certificate fault)
-text_fails name block counts texts certificate net (cert.Text k) within mine named header is_net of_mine f = (length net.worths, mine, (within, inr (body_fails name block counts texts certificate net _ named header is_net of_mine f)))
-text_fails name block counts texts certificate net (cert.Number k) within mine named header is_net of_mine f = (length net.worths, mine, (within, inr (body_fails name block counts texts certificate net _ named header is_net of_mine f)))
-text_fails name block counts texts certificate net (cert.OutOfOrder k) within mine named header is_net of_mine f = (length net.worths, mine, (within, inr (body_fails name block counts texts certificate net _ named header is_net of_mine f)))
-text_fails name block counts texts certificate net (cert.UnknownPair k) within mine named header is_net of_mine f = (length net.worths, mine, (within, inr (body_fails name block counts texts certificate net _ named header is_net of_mine f)))
-text_fails name block counts texts certificate net cert.Truncated within mine named header is_net of_mine f = (length net.worths, mine, (within, inr (body_fails name block counts texts certificate net _ named header is_net of_mine f)))
-text_fails name block counts texts certificate net cert.NoMemory within mine named header is_net of_mine f = tt
+pub text_fails : (name : Group) (block : ℤ → ℕ → Amount) (counts : Bool) (texts : MineTexts) (certificate : List ℕ) (net : NetView) (fault : CertFault) → DenoteMine texts (length net.worths) → IsGroupNamed name block counts → IsHeader texts certificate (length net.worths) name → IsNet net → IsNetOf block (mine_of (length net.worths) texts) net → UnlessMemory fault (fault_of counts name (length net.worths) net.pairs certificate ≡ Some fault) → Fails texts certificate (of_certificate fault)
+text_fails name block counts texts certificate net (cert.Text k) mine named header is_net of_mine f = (length net.worths, mine, inr (body_fails name block counts texts certificate net _ named header is_net of_mine f))
+text_fails name block counts texts certificate net (cert.Number k) mine named header is_net of_mine f = (length net.worths, mine, inr (body_fails name block counts texts certificate net _ named header is_net of_mine f))
+text_fails name block counts texts certificate net (cert.OutOfOrder k) mine named header is_net of_mine f = (length net.worths, mine, inr (body_fails name block counts texts certificate net _ named header is_net of_mine f))
+text_fails name block counts texts certificate net (cert.UnknownPair k) mine named header is_net of_mine f = (length net.worths, mine, inr (body_fails name block counts texts certificate net _ named header is_net of_mine f))
+text_fails name block counts texts certificate net cert.Truncated mine named header is_net of_mine f = (length net.worths, mine, inr (body_fails name block counts texts certificate net _ named header is_net of_mine f))
+text_fails name block counts texts certificate net cert.NoMemory mine named header is_net of_mine f = tt
 
 pub worths_fail : (name : Group) (block : ℤ → ℕ → Amount) (counts : Bool) (texts : MineTexts) (n : ℕ) (worths : List ℤ) (fault : NetFault) → AreWorths texts n worths → IsGroupNamed name block counts → WorthsFaultStands block n worths fault → NetFails texts n name fault
 worths_fail name block counts texts n worths fault are named f =
@@ -117,38 +113,19 @@ worths_fail name block counts texts n worths fault are named f =
     }
 
 -- a fault in making the net
-pub net_fails : (name : Group) (block : ℤ → ℕ → Amount) (counts : Bool) (texts : MineTexts) (certificate : List ℕ) (rests : RestsView) (worths : List ℤ) (fault : NetFault) → IsWithinLimit certificate → AreRead texts worths rests → IsGroupNamed name block counts → IsHeader texts certificate rests.blocks name → WorthsFaultStands block rests.blocks worths fault → Fails texts certificate (of_model fault)
-net_fails name block counts texts certificate rests worths net.WrongLength within a named header f = (rests.blocks, a.mine, within, name, header, worths_fail name block counts texts rests.blocks worths net.WrongLength a.worths named f)
-net_fails name block counts texts certificate rests worths net.TooLarge within a named header f = (rests.blocks, a.mine, within, name, header, worths_fail name block counts texts rests.blocks worths net.TooLarge a.worths named f)
-net_fails name block counts texts certificate rests worths net.NoMemory within a named header f = tt
-
--- what was read of the pairs of a net, said of the net
-pub unless_moved : (fault : CertFault) (counts : Bool) (name : Group) (n m : ℕ) (ps qs : List (ℕ × ℕ)) (text : List ℕ) → n ≡ m → ps ≡ qs → UnlessMemory fault (fault_of counts name n ps text ≡ Some fault) → UnlessMemory fault (fault_of counts name m qs text ≡ Some fault)
-unless_moved fault counts name n m ps qs text e f h =
-    let P : ℕ → Type 0 = λ k. UnlessMemory fault (fault_of counts name k ps text ≡ Some fault) in
-    let Q : List (ℕ × ℕ) → Type 0 = λ l. UnlessMemory fault (fault_of counts name m l text ≡ Some fault) in
-    subst Q f (subst P e h)
-
-pub none_moved : (counts : Bool) (name : Group) (n m : ℕ) (ps qs : List (ℕ × ℕ)) (text : List ℕ) → n ≡ m → ps ≡ qs → fault_of counts name n ps text ≡ None → fault_of counts name m qs text ≡ None
-none_moved counts name n m ps qs text e f h =
-    let P : ℕ → Type 0 = λ k. fault_of counts name k ps text ≡ None in
-    let Q : List (ℕ × ℕ) → Type 0 = λ l. fault_of counts name m l text ≡ None in
-    subst Q f (subst P e h)
-
-pub read_moved : (counts : Bool) (name : Group) (n m : ℕ) (ps qs : List (ℕ × ℕ)) (text : List ℕ) (blocks : ℕ) (price : Price) (pit : List ℕ) (flow : FlowView) → n ≡ m → ps ≡ qs → IsRead counts name n ps text blocks price pit flow → IsRead counts name m qs text blocks price pit flow
-read_moved counts name n m ps qs text blocks price pit flow e f h =
-    let P : ℕ → Type 0 = λ k. IsRead counts name k ps text blocks price pit flow in
-    let Q : List (ℕ × ℕ) → Type 0 = λ l. IsRead counts name m l text blocks price pit flow in
-    subst Q f (subst P e h)
+pub net_fails : (name : Group) (block : ℤ → ℕ → Amount) (counts : Bool) (texts : MineTexts) (certificate : List ℕ) (rests : RestsView) (worths : List ℤ) (fault : NetFault) → AreRead texts worths rests → IsGroupNamed name block counts → IsHeader texts certificate rests.blocks name → WorthsFaultStands block rests.blocks worths fault → Fails texts certificate (of_model fault)
+net_fails name block counts texts certificate rests worths net.WrongLength a named header f = (rests.blocks, a.mine, name, header, worths_fail name block counts texts rests.blocks worths net.WrongLength a.worths named f)
+net_fails name block counts texts certificate rests worths net.TooLarge a named header f = (rests.blocks, a.mine, name, header, worths_fail name block counts texts rests.blocks worths net.TooLarge a.worths named f)
+net_fails name block counts texts certificate rests worths net.NoMemory a named header f = tt
 
 -- what was answered with an accepted pit
-pub judged_accepted : (name : Group) (block : ℤ → ℕ → Amount) (counts : Bool) (texts : MineTexts) (certificate : List ℕ) (net : NetView) (pit : List ℕ) (flow : FlowView) → HasRead name block counts texts certificate net pit flow → IsWithinLimit certificate → (set_worth : Amount → ℕ → ℕ → ℤ) → SumsTellWorth block set_worth → (seen : NetView) (blocks : List ℕ) → seen ≡ net → blocks ≡ pit → IsSound net flow pit → IsGreatest seen (holds_of blocks) → (group : Group) (count : ℕ) (worth shown : ℤ) → group ≡ name → count ≡ length blocks → worth ≡ set_worth (group_worth seen.worths (holds_of blocks)) (length seen.worths) count → shown ≡ worth → IsAccepted texts certificate group count shown
-judged_accepted name block counts texts certificate net pit flow h within set_worth tells seen blocks e f sound greatest group count worth shown a b w s =
+pub judged_accepted : (name : Group) (block : ℤ → ℕ → Amount) (counts : Bool) (texts : MineTexts) (certificate : List ℕ) (net : NetView) (pit : List ℕ) (flow : FlowView) → HasRead name block counts texts certificate net pit flow → IsWithinLimit certificate → (set_worth : Amount → ℕ → ℕ → ℤ) → SumsTellWorth block set_worth → (seen : NetView) (blocks : List ℕ) → seen ≡ net → blocks ≡ pit → ProvesPit net flow pit → IsGreatest seen (holds_of blocks) → (group : Group) (count : ℕ) (worth shown : ℤ) → group ≡ name → count ≡ length blocks → worth ≡ set_worth (group_worth seen.worths (holds_of blocks)) (length seen.worths) count → shown ≡ worth → IsAccepted texts certificate group count shown
+judged_accepted name block counts texts certificate net pit flow h within set_worth tells seen blocks e f proves greatest group count worth shown a b w s =
     let G : NetView → Type 0 = λ n. IsGreatest n (holds_of blocks) in
     let H : List ℕ → Type 0 = λ l. IsGreatest net (holds_of l) in
     let size = b ∙ ap length f in
     let told = w ∙ ap (λ (n : NetView). set_worth (group_worth n.worths (holds_of blocks)) (length n.worths) count) e ∙ ap (λ (l : List ℕ). set_worth (group_worth net.worths (holds_of l)) (length net.worths) count) f in
-    let all = accepted name block counts texts certificate net pit flow h within set_worth tells sound (subst H f (subst G e greatest)) count worth size told in
+    let all = accepted name block counts texts certificate net pit flow h within set_worth tells proves (subst H f (subst G e greatest)) count worth size told in
     let S : ℤ → Type 0 = λ z. IsAccepted texts certificate name count z in
     let N : Group → Type 0 = λ n. IsAccepted texts certificate n count shown in
     subst N (sym a) (subst S (sym s) all)

@@ -16,3 +16,8 @@ pub mod SlopeAnswers
 pub mod Lone
 pub mod Solutions
 pub mod OfTexts
+pub mod NamedHeaders
+pub mod HeaderAnswers
+pub mod Streamed
+pub mod SoundLines
+pub mod StreamAnswers

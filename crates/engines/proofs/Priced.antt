@@ -31,7 +31,7 @@ use Rattle.check_pit.proofs.Wants.{joined}
 use Rattle.engines.specs.Mines.{priced_texts}
 use Rattle.engines.specs.declared.engine_fault.EngineFault.{EngineFault}
 use Rattle.engines.specs.declared.engine_fault.EngineFault.TheVariants as engine
-use Rattle.engines.specs.BlockTexts.{ReadsBlocks, BlocksFails, BlocksReadFails}
+use Rattle.engines.specs.BlockTexts.{ReadsBlocks, BlocksReadFails}
 use Rattle.engines.specs.Inputs.{ReadsSettingsText, SettingsReadFails, ReadsPrices, ReadsPrec, PricesReadFail, ModelPricesFail}
 use Rattle.engines.specs.PricedTexts.{cell, cells, values_of, charge_list, column_list, columns_said, costs_at, first_charges, first_columns, table_at, table_by, table_of, price_keys, price_columns, ColumnsKnown}
 use Rattle.engines.specs.declared.priced_inputs.ChargeColumns.{ChargeColumns}

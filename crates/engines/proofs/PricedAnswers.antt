@@ -19,7 +19,7 @@ use Rattle.engines.specs.declared.priced_inputs.PriceColumns.{PriceColumns}
 use Rattle.ordered_group.specs.declared.groups.Group.{Group}
 use Rattle.engines.specs.BlockTexts.{BlocksFails}
 use Rattle.engines.specs.PricedTexts.{price_keys, columns_said, price_columns, cell, table_by, table_of, KeysSaid, ColumnsKnown, PricesRead, SettingsFails}
-use Rattle.engines.specs.Inputs.{ReadsSettingsText, SettingsReadFails, IsMissing, ReadsPrices, PricesReadFail, ReadsPrec, PrecReadFails, TextReadFails, PricedMineFails}
+use Rattle.engines.specs.Inputs.{ReadsSettingsText, SettingsReadFails, IsMissing, ReadsPrices, PricesReadFail, ReadsPrec, PrecReadFails, PricedMineFails}
 use Rattle.engines.specs.Mines.{MineTexts, priced_texts, price_wanted}
 use Rattle.engines.specs.ReadMines.{AreRead, ArePricesRead}
 use Rattle.engines.specs.Judging.{Judges, factor_in}
@@ -28,7 +28,7 @@ use Rattle.engines.specs.Verdicts.{verdict_of}
 use Rattle.engines.specs.FaultStands.{Fails}
 use Rattle.engines.specs.Checking.{Checks, SoundIsAccepted, LineFails}
 use Rattle.engines.specs.Solving.{Solves}
-use Rattle.engines.proofs.Answered.{keeps_self, at_fault, text_stands, written, line_failed}
+use Rattle.engines.proofs.Answered.{keeps_self, at_fault, written, line_failed}
 use Rattle.check_pit.specs.declared.header.Price.{Price}
 use Rattle.engines.proofs.Complete.{complete_at}
 use Rattle.engines.proofs.Judged.{read_as}
@@ -205,48 +205,36 @@ mine_stands s b p c k engine.Stranger h = absurd h
 pub unread : (s b p c : List ℕ) (w : Option (List ℕ)) (e : EngineFault) → PricedMineFails s b p e → Checks (priced_texts s b p (factor_in c)) c w w (Err e)
 unread s b p c w e h = (mine_stands s b p c (factor_in c) e h, at_fault (priced_texts s b p (factor_in c)) c w w e (keeps_self w))
 
--- the certificate was not read
-pub text_unread : (s b p c : List ℕ) (w : Option (List ℕ)) (table : PricesView) (rests : RestsView) (e : EngineFault) → ArePricesRead s b p table rests → TextReadFails c e → Checks (priced_texts s b p (factor_in c)) c w w (Err e)
-text_unread s b p c w table rests e a h =
-    let texts = priced_texts s b p (factor_in c) in
-    (text_stands texts c _ rests e (worths_priced s b p table rests (factor_in c) a) h, at_fault texts c w w e (keeps_self w))
-
-judged_as : (s b p c text : List ℕ) (answer : Result Judgement EngineFault) → text ≡ c → Judges (priced_texts s b p (factor_in text)) text answer → Judges (priced_texts s b p (factor_in c)) c answer
-judged_as s b p c text answer e h = let P : List ℕ → Type 0 = λ t. Judges (priced_texts s b p (factor_in t)) t answer in subst P e h
-
 -- it could not be judged
-pub unjudged : (s b p c text : List ℕ) (w : Option (List ℕ)) (e : EngineFault) → text ≡ c → Judges (priced_texts s b p (factor_in text)) text (Err e) → Checks (priced_texts s b p (factor_in c)) c w w (Err e)
-unjudged s b p c text w e is h = (judged_as s b p c text (Err e) is h, at_fault (priced_texts s b p (factor_in c)) c w w e (keeps_self w))
+pub unjudged : (s b p c : List ℕ) (w : Option (List ℕ)) (e : EngineFault) → Judges (priced_texts s b p (factor_in c)) c (Err e) → Checks (priced_texts s b p (factor_in c)) c w w (Err e)
+unjudged s b p c w e h = (h, at_fault (priced_texts s b p (factor_in c)) c w w e (keeps_self w))
 
--- the line was written, or could not be
-pub told : (s b p c text : List ℕ) (old new : Option (List ℕ)) (judgement : Judgement) (verdict : Verdict) → verdict ≡ verdict_of judgement → text ≡ c → Judges (priced_texts s b p (factor_in text)) text (Ok judgement) → Appends old new (judgement_line judgement) → Checks (priced_texts s b p (factor_in c)) c old new (Ok verdict)
-told s b p c text old new judgement verdict v is h k =
+-- the line was written
+pub told : (s b p c : List ℕ) (old new : Option (List ℕ)) (judgement : Judgement) (verdict : Verdict) → verdict ≡ verdict_of judgement → Judges (priced_texts s b p (factor_in c)) c (Ok judgement) → Appends old new (judgement_line judgement) → Checks (priced_texts s b p (factor_in c)) c old new (Ok verdict)
+told s b p c old new judgement verdict v h k =
     let P : Verdict → Type 0 = λ x. Checks (priced_texts s b p (factor_in c)) c old new (Ok x) in
-    subst P (sym v) (written (priced_texts s b p (factor_in c)) c old new judgement (judged_as s b p c text (Ok judgement) is h) k)
+    subst P (sym v) (written (priced_texts s b p (factor_in c)) c old new judgement h k)
 
-pub untold : (s b p c text : List ℕ) (old new : Option (List ℕ)) (judgement : Judgement) (e : EngineFault) → text ≡ c → Judges (priced_texts s b p (factor_in text)) text (Ok judgement) → LineFails old new (judgement_line judgement) e → Checks (priced_texts s b p (factor_in c)) c old new (Err e)
-untold s b p c text old new judgement e is h k = line_failed (priced_texts s b p (factor_in c)) c old new judgement e (judged_as s b p c text (Ok judgement) is h) k
+-- what is answered of a certificate, at the factor that it names
+abbrev pub JudgedAt : PricesView → RestsView → Result Judgement EngineFault → List ℕ → Type 0
+JudgedAt table rests answer c = (s b p : List ℕ) → ArePricesRead s b p table rests → Judges (priced_texts s b p (factor_in c)) c answer
 
--- where the readers tell their bytes: the texts of the mine, or the certificate, were not read
+-- where the readers tell their bytes: the texts of the mine were not read
 pub mine_answer4 : (o q r t w : Option (List ℕ)) (e : EngineFault) → IfSome o (λ s. IfSome q (λ b. IfSome r (λ p. PricedMineFails s b p e))) → IfSome o (λ s. IfSome q (λ b. IfSome r (λ p. IfSome t (λ c. Checks (priced_texts s b p (factor_in c)) c w w (Err e)))))
 mine_answer4 o q r t w e h = under4 o q r t (λ s b p. PricedMineFails s b p e) (λ c. Unit {0}) (λ s b p c. Checks (priced_texts s b p (factor_in c)) c w w (Err e)) h (anything t) (λ s b p c a k. unread s b p c w e a)
 
-pub text_answer4 : (o q r t w : Option (List ℕ)) (table : PricesView) (rests : RestsView) (e : EngineFault) → IfSome o (λ s. IfSome q (λ b. IfSome r (λ p. ArePricesRead s b p table rests))) → IfSome t (λ c. TextReadFails c e) → IfSome o (λ s. IfSome q (λ b. IfSome r (λ p. IfSome t (λ c. Checks (priced_texts s b p (factor_in c)) c w w (Err e)))))
-text_answer4 o q r t w table rests e h k = under4 o q r t (λ s b p. ArePricesRead s b p table rests) (λ c. TextReadFails c e) (λ s b p c. Checks (priced_texts s b p (factor_in c)) c w w (Err e)) h k (λ s b p c a f. text_unread s b p c w table rests e a f)
-
 -- the certificate could not be judged
-pub judge_answer4 : (o q r t w : Option (List ℕ)) (table : PricesView) (rests : RestsView) (text : List ℕ) (e : EngineFault) → IfSome o (λ s. IfSome q (λ b. IfSome r (λ p. ArePricesRead s b p table rests))) → IfSome t (λ c. text ≡ c)
-    → ((s b p : List ℕ) → ArePricesRead s b p table rests → Judges (priced_texts s b p (factor_in text)) text (Err e)) → IfSome o (λ s. IfSome q (λ b. IfSome r (λ p. IfSome t (λ c. Checks (priced_texts s b p (factor_in c)) c w w (Err e)))))
-judge_answer4 o q r t w table rests text e h k judges = under4 o q r t (λ s b p. ArePricesRead s b p table rests) (λ c. text ≡ c) (λ s b p c. Checks (priced_texts s b p (factor_in c)) c w w (Err e)) h k (λ s b p c a is. unjudged s b p c text w e is (judges s b p a))
+pub judge_answer4 : (o q r t w : Option (List ℕ)) (table : PricesView) (rests : RestsView) (e : EngineFault) → IfSome o (λ s. IfSome q (λ b. IfSome r (λ p. ArePricesRead s b p table rests))) → IfSome t (JudgedAt table rests (Err e)) → IfSome o (λ s. IfSome q (λ b. IfSome r (λ p. IfSome t (λ c. Checks (priced_texts s b p (factor_in c)) c w w (Err e)))))
+judge_answer4 o q r t w table rests e h judges = under4 o q r t (λ s b p. ArePricesRead s b p table rests) (JudgedAt table rests (Err e)) (λ s b p c. Checks (priced_texts s b p (factor_in c)) c w w (Err e)) h judges (λ s b p c a j. unjudged s b p c w e (j s b p a))
 
 -- the line was written, or could not be
-pub line_answer4 : (o q r t old new : Option (List ℕ)) (table : PricesView) (rests : RestsView) (text : List ℕ) (judgement : Judgement) (verdict : Verdict) → verdict ≡ verdict_of judgement → IfSome o (λ s. IfSome q (λ b. IfSome r (λ p. ArePricesRead s b p table rests))) → IfSome t (λ c. text ≡ c)
-    → ((s b p : List ℕ) → ArePricesRead s b p table rests → Judges (priced_texts s b p (factor_in text)) text (Ok judgement)) → Appends old new (judgement_line judgement) → IfSome o (λ s. IfSome q (λ b. IfSome r (λ p. IfSome t (λ c. Checks (priced_texts s b p (factor_in c)) c old new (Ok verdict)))))
-line_answer4 o q r t old new table rests text judgement verdict v h k judges sent = under4 o q r t (λ s b p. ArePricesRead s b p table rests) (λ c. text ≡ c) (λ s b p c. Checks (priced_texts s b p (factor_in c)) c old new (Ok verdict)) h k (λ s b p c a is. told s b p c text old new judgement verdict v is (judges s b p a) sent)
+pub line_answer4 : (o q r t old new : Option (List ℕ)) (table : PricesView) (rests : RestsView) (judgement : Judgement) (verdict : Verdict) → verdict ≡ verdict_of judgement → IfSome o (λ s. IfSome q (λ b. IfSome r (λ p. ArePricesRead s b p table rests))) → IfSome t (JudgedAt table rests (Ok judgement)) → Appends old new (judgement_line judgement)
+    → IfSome o (λ s. IfSome q (λ b. IfSome r (λ p. IfSome t (λ c. Checks (priced_texts s b p (factor_in c)) c old new (Ok verdict)))))
+line_answer4 o q r t old new table rests judgement verdict v h judges sent = under4 o q r t (λ s b p. ArePricesRead s b p table rests) (JudgedAt table rests (Ok judgement)) (λ s b p c. Checks (priced_texts s b p (factor_in c)) c old new (Ok verdict)) h judges (λ s b p c a j. told s b p c old new judgement verdict v (j s b p a) sent)
 
-pub failed_answer4 : (o q r t old new : Option (List ℕ)) (table : PricesView) (rests : RestsView) (text : List ℕ) (judgement : Judgement) (e : EngineFault) → IfSome o (λ s. IfSome q (λ b. IfSome r (λ p. ArePricesRead s b p table rests))) → IfSome t (λ c. text ≡ c)
-    → ((s b p : List ℕ) → ArePricesRead s b p table rests → Judges (priced_texts s b p (factor_in text)) text (Ok judgement)) → LineFails old new (judgement_line judgement) e → IfSome o (λ s. IfSome q (λ b. IfSome r (λ p. IfSome t (λ c. Checks (priced_texts s b p (factor_in c)) c old new (Err e)))))
-failed_answer4 o q r t old new table rests text judgement e h k judges f = under4 o q r t (λ s b p. ArePricesRead s b p table rests) (λ c. text ≡ c) (λ s b p c. Checks (priced_texts s b p (factor_in c)) c old new (Err e)) h k (λ s b p c a is. untold s b p c text old new judgement e is (judges s b p a) f)
+pub failed_answer4 : (o q r t old new : Option (List ℕ)) (table : PricesView) (rests : RestsView) (judgement : Judgement) (e : EngineFault) → IfSome o (λ s. IfSome q (λ b. IfSome r (λ p. ArePricesRead s b p table rests))) → IfSome t (JudgedAt table rests (Ok judgement)) → LineFails old new (judgement_line judgement) e
+    → IfSome o (λ s. IfSome q (λ b. IfSome r (λ p. IfSome t (λ c. Checks (priced_texts s b p (factor_in c)) c old new (Err e)))))
+failed_answer4 o q r t old new table rests judgement e h judges f = under4 o q r t (λ s b p. ArePricesRead s b p table rests) (JudgedAt table rests (Ok judgement)) (λ s b p c. Checks (priced_texts s b p (factor_in c)) c old new (Err e)) h judges (λ s b p c a j. line_failed (priced_texts s b p (factor_in c)) c old new judgement e (j s b p a) f)
 
 pub complete4 : (o q r t : Option (List ℕ)) (old new : Option (List ℕ)) (answer : Result Verdict EngineFault) → IfSome o (λ s. IfSome q (λ b. IfSome r (λ p. IfSome t (λ c. Checks (priced_texts s b p (factor_in c)) c old new answer)))) → IfSome o (λ s. IfSome q (λ b. IfSome r (λ p. IfSome t (λ c. SoundIsAccepted (priced_texts s b p (factor_in c)) c answer))))
 complete4 o q r t old new answer h = all4 o q r t (λ s b p c. Checks (priced_texts s b p (factor_in c)) c old new answer) (λ s b p c. SoundIsAccepted (priced_texts s b p (factor_in c)) c answer) h (λ s b p c k. complete_at (priced_texts s b p (factor_in c)) c old new answer k)

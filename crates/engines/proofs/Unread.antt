@@ -33,8 +33,8 @@ use Rattle.engines.specs.declared.priced_inputs.ChargeColumns.TheVariants.{Plain
 use Rattle.shells.specs.declared.prices_fault.PricesFault.TheVariants as prices_fault
 use Rattle.engines.specs.PricedTexts.{price_keys, columns_said, price_columns, cell, costs_at, table_of, ColumnsKnown, PricesRead, SettingsFails, PricesFail}
 use Rattle.engines.specs.Mines.{MineTexts, mine_texts, priced_texts, precedence_of, ValuesRead, WorthsRead, mine_of, DenoteMine}
-use Rattle.engines.specs.Readings.{block_by, counts_by, Reads}
-use Rattle.engines.specs.FaultStands.{PrecFails, ValuesFail, SettingsFail, BlocksFail, TableFails, IsHeader, ModelFails, HeaderFails, BodyFails, PriceDiffers}
+use Rattle.engines.specs.Readings.{block_by, counts_by, IsHeader, Reads}
+use Rattle.engines.specs.FaultStands.{PrecFails, ValuesFail, SettingsFail, BlocksFail, TableFails, ModelFails, HeaderFails, BodyFails, PriceDiffers}
 use Rattle.engines.proofs.Alone.{ok_same, nets_same}
 use Rattle.engines.proofs.Fitting.{no_model_fails}
 

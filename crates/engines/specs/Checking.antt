@@ -3,7 +3,7 @@ use Rattle.std.specs.Prelude.{◌≡◌, ℕ, ◌+◌, ℤ, ◌⊎◌, List, Opt
 use Rattle.std.specs.Io.KnownBytes.{Appends, Keeps}
 use Rattle.ordered_group.specs.declared.groups.Group.{Group}
 use Rattle.check_pit.specs.declared.pit_fault.PitFault.{PitFault}
-use Rattle.check_pit.specs.Checks.{IsSound}
+use Rattle.check_pit.specs.Checks.{ProvesPit}
 use Rattle.fixed_worth.specs.Device.{ReceivedPrefix}
 use Rattle.engines.specs.declared.judgement.Judgement.{Judgement}
 use Rattle.engines.specs.declared.judgement.Judgement.TheVariants.{Accepted, Refused}
@@ -14,7 +14,8 @@ use Rattle.engines.specs.declared.engine_fault.EngineFault.TheVariants as engine
 use Rattle.engines.specs.declared.engine_fault.CertificateProblem.TheVariants as certificate
 use Rattle.engines.specs.Limits.{IsTooLong}
 use Rattle.engines.specs.Mines.{MineTexts}
-use Rattle.engines.specs.Readings.{Reads}
+use Rattle.engines.specs.Readings.{Reads, counts_by}
+use Rattle.engines.specs.Refusals.{SomeSumLeaves}
 use Rattle.engines.specs.Judgements.{IsAccepted, IsRefused, IsJudged}
 use Rattle.engines.specs.FaultStands.{Fails}
 use Rattle.engines.specs.OutputLines.{judgement_line}
@@ -61,15 +62,15 @@ Hinders text engine.Device = Unit {0}
 Hinders text (engine.Certificate certificate.InputTooLong) = IsTooLong text
 Hinders text _ = ⊥
 
--- it accepts, unless something hinders it
-abbrev pub AcceptsUnlessHindered : List ℕ → Result Verdict EngineFault → Type 0
-AcceptsUnlessHindered text (Ok Done) = Unit {0}
-AcceptsUnlessHindered text (Ok No) = ⊥
-AcceptsUnlessHindered text (Err fault) = Hinders text fault
+-- it accepts, unless something hinders it, or a sum on the way doesn't fit
+abbrev pub AcceptsUnlessHindered : List ℕ → Type 0 → Result Verdict EngineFault → Type 0
+AcceptsUnlessHindered text leaves (Ok Done) = Unit {0}
+AcceptsUnlessHindered text leaves (Ok No) = leaves
+AcceptsUnlessHindered text leaves (Err fault) = Hinders text fault
 
--- A certificate whose flow is one, whose pit is closed and tight, and whose sums fit is accepted.
+-- A certificate whose flow is one and whose pit is closed and tight is accepted, where each sum over its first lines fits.
 abbrev pub SoundIsAccepted : MineTexts → List ℕ → Result Verdict EngineFault → Type 0
-SoundIsAccepted texts certificate answer = (read : Reads texts certificate) → IsSound read.net read.flow read.pit → AcceptsUnlessHindered certificate answer
+SoundIsAccepted texts certificate answer = (read : Reads texts certificate) → ProvesPit read.net read.flow read.pit → AcceptsUnlessHindered certificate (SomeSumLeaves (counts_by read.group) read.net certificate) answer
 
 -- the counts of four devices are one more together
 pub record OneFailed (a b c d a' b' c' d' : ℕ) : Type 0 where

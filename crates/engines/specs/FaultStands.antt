@@ -28,7 +28,7 @@ use Rattle.shells.specs.declared.prices_fault.PricesFault.{PricesFault}
 use Rattle.engines.specs.Limits.{IsTooLong, IsWithinLimit}
 use Rattle.engines.specs.PricedTexts.{price_keys, SettingsFails, PricedBlocksFail, PricesFail}
 use Rattle.engines.specs.Mines.{MineTexts, mine_texts, priced_texts, precedence_of, price_wanted, worth_by, WorthsRead, DenoteMine, mine_of}
-use Rattle.engines.specs.Readings.{block_by, counts_by}
+use Rattle.engines.specs.Readings.{block_by, counts_by, IsHeader}
 
 -- the values are no text of values: too long, or a fault of the header, or one by the number of blocks that it declares
 abbrev pub UpitFails : List ℕ → Problem UpitFault → Type 0
@@ -38,10 +38,6 @@ UpitFails text (problem.Fault fault) = IsWithinLimit text × ((upit.declared_of 
 abbrev pub PrecFails : ℕ → List ℕ → Problem PrecFault → Type 0
 PrecFails n text problem.InputTooLong = IsTooLong text
 PrecFails n text (problem.Fault fault) = IsWithinLimit text × (prec.fault_of n text ≡ Some fault)
-
--- the header is one for this mine at its price
-abbrev pub IsHeader : MineTexts → List ℕ → ℕ → Group → Type 0
-IsHeader texts certificate n group = header_of (pieces_of certificate) ≡ Ok (record { blocks = n; price = price_wanted texts; group = group })
 
 -- the worths of the mine's blocks, in a list
 pub record AreWorths (texts : MineTexts) (n : ℕ) (worths : List ℤ) : Type 0 where
@@ -76,10 +72,11 @@ HeaderFails text n fault = (header_of (pieces_of text) ≡ Err fault) ⊎ ((head
 abbrev pub PriceDiffers : MineTexts → List ℕ → ℕ → Type 0
 PriceDiffers texts certificate n = (header : Header) × (header_of (pieces_of certificate) ≡ Ok header) × (header.blocks ≡ n) × (header.price ≢ price_wanted texts)
 
+-- It is too long; or its price is of another kind; or it has this fault, which is told where it is read, however long the text is.
 abbrev pub CertificateFails : MineTexts → List ℕ → ℕ → CertificateProblem → Type 0
 CertificateFails texts certificate n certificate_problem.InputTooLong = IsTooLong certificate
-CertificateFails texts certificate n certificate_problem.WrongPrice = IsWithinLimit certificate × PriceDiffers texts certificate n
-CertificateFails texts certificate n (certificate_problem.Fault fault) = IsWithinLimit certificate × (HeaderFails certificate n fault ⊎ BodyFails texts certificate n fault)
+CertificateFails texts certificate n certificate_problem.WrongPrice = PriceDiffers texts certificate n
+CertificateFails texts certificate n (certificate_problem.Fault fault) = HeaderFails certificate n fault ⊎ BodyFails texts certificate n fault
 
 -- a fault of the values, of settings, of blocks or of prices, where the mine is denoted by such texts
 abbrev pub ValuesFail : MineTexts → Problem UpitFault → Type 0
@@ -106,7 +103,7 @@ PrecedenceFails texts p = (n : ℕ) × WorthsRead texts n × PrecFails n (preced
 abbrev pub Fails : MineTexts → List ℕ → EngineFault → Type 0
 Fails texts certificate (engine.Upit p) = ValuesFail texts p
 Fails texts certificate (engine.Prec p) = PrecedenceFails texts p
-Fails texts certificate (engine.Model fault) = (n : ℕ) × DenoteMine texts n × IsWithinLimit certificate × (group : Group) × IsHeader texts certificate n group × ModelFails texts n group fault
+Fails texts certificate (engine.Model fault) = (n : ℕ) × DenoteMine texts n × (group : Group) × IsHeader texts certificate n group × ModelFails texts n group fault
 Fails texts certificate (engine.Certificate p) = (n : ℕ) × DenoteMine texts n × CertificateFails texts certificate n p
 Fails texts certificate (engine.Settings p) = SettingsFail texts p
 Fails texts certificate (engine.Blocks p) = BlocksFail texts p

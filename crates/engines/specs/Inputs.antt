@@ -5,7 +5,6 @@ use Rattle.prec_file.specs.Records as prec
 use Rattle.upit_file.specs.Records as upit
 use Rattle.engines.specs.declared.engine_fault.EngineFault.{EngineFault}
 use Rattle.engines.specs.declared.engine_fault.EngineFault.TheVariants as engine
-use Rattle.engines.specs.declared.engine_fault.CertificateProblem.TheVariants as certificate
 use Rattle.blocks_file.specs.Records as blocks
 use Rattle.blocks_file.specs.Denotes.{BlocksView}
 use Rattle.settings_file.specs.Settings.{SettingsView, ReadsSettings, first_missing}
@@ -49,12 +48,6 @@ PrecReadFails n text (engine.Prec p) = PrecFails n text p
 PrecReadFails n text engine.Memory = Unit {0}
 PrecReadFails n text engine.Device = Unit {0}
 PrecReadFails n text _ = ⊥
-
-abbrev pub TextReadFails : List ℕ → EngineFault → Type 0
-TextReadFails text (engine.Certificate certificate.InputTooLong) = IsTooLong text
-TextReadFails text engine.Memory = Unit {0}
-TextReadFails text engine.Device = Unit {0}
-TextReadFails text _ = ⊥
 
 -- the settings are those of the text
 abbrev pub ReadsSettingsText : List ℕ → SettingsView → Type 0

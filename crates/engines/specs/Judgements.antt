@@ -1,31 +1,37 @@
 -- What a check says of the texts of a mine and of a certificate.
 use Rattle.std.specs.Prelude.{◌≡◌, ℕ, ℤ, List}
 use Rattle.ordered_group.specs.declared.groups.Group.{Group}
-use Rattle.closure_net.specs.Network.{holds_of}
-use Rattle.closure_net.specs.Mine.{worth_of, count_of}
-use Rattle.check_pit.specs.Checks.{IsSound, FaultStands}
+use Rattle.closure_net.specs.Network.{NetView, IsNet, holds_of}
+use Rattle.closure_net.specs.Mine.{IsNetOf, worth_of, count_of}
+use Rattle.check_pit.specs.Checks.{ProvesPit}
 use Rattle.check_pit.specs.declared.pit_fault.PitFault.{PitFault}
 use Rattle.engines.specs.declared.judgement.Judgement.{Judgement}
 use Rattle.engines.specs.declared.judgement.Judgement.TheVariants.{Accepted, Refused}
 use Rattle.engines.specs.Limits.{IsWithinLimit}
-use Rattle.engines.specs.Mines.{MineTexts, mine_of}
-use Rattle.engines.specs.Readings.{Reads, IsProvedPit}
+use Rattle.engines.specs.Mines.{MineTexts, DenoteMine, mine_of}
+use Rattle.engines.specs.Readings.{Reads, IsProvedPit, block_by, counts_by, IsHeader}
+use Rattle.engines.specs.Refusals.{TextRefused}
 
 -- The texts denote a mine and a certificate whose flow proves its pit; that pit has so many blocks and is worth so much.
 pub record IsAccepted (texts : MineTexts) (certificate : List ℕ) (name : Group) (blocks : ℕ) (nanos : ℤ) : Type 0 where
   pub within : IsWithinLimit certificate
   pub read : Reads texts certificate
   pub group : read.group ≡ name
-  pub sound : IsSound read.net read.flow read.pit
+  pub proves : ProvesPit read.net read.flow read.pit
   pub proved : IsProvedPit name (mine_of read.blocks texts) (holds_of read.pit)
   pub count : count_of (mine_of read.blocks texts) (holds_of read.pit) ≡ blocks
   pub worth : worth_of (mine_of read.blocks texts) (holds_of read.pit) ≡ nanos
 
--- The texts denote a mine and a certificate in which this fault stands.
+-- The texts denote a mine and its net, and the header of the certificate is one for it; and the certificate doesn't prove its pit, for this reason.
 pub record IsRefused (texts : MineTexts) (certificate : List ℕ) (fault : PitFault) : Type 0 where
-  pub within : IsWithinLimit certificate
-  pub read : Reads texts certificate
-  pub stands : FaultStands read.net read.flow read.pit fault
+  pub blocks : ℕ
+  pub mine : DenoteMine texts blocks
+  pub group : Group
+  pub header : IsHeader texts certificate blocks group
+  pub net : NetView
+  pub is_net : IsNet net
+  pub of_mine : IsNetOf (block_by group) (mine_of blocks texts) net
+  pub stands : TextRefused (counts_by group) group net certificate fault
 
 abbrev pub IsJudged : MineTexts → List ℕ → Judgement → Type 0
 IsJudged texts certificate (Accepted group count worth) = IsAccepted texts certificate group count worth

@@ -1,5 +1,5 @@
 -- What judging a certificate gives.
-use Rattle.std.specs.Prelude.{ℕ, List, Result, Ok, Err}
+use Rattle.std.specs.Prelude.{◌≡◌, ℕ, ◌+◌, false, List, [], ◌++◌, length, drop, Option, Some, None, Result, Ok, Err}
 use Rattle.check_pit.specs.Pieces.{pieces_of}
 use Rattle.check_pit.specs.Header.{header_of}
 use Rattle.check_pit.specs.declared.header.Header.{Header}
@@ -7,7 +7,12 @@ use Rattle.check_pit.specs.declared.header.Price.{Price}
 use Rattle.check_pit.specs.declared.header.Price.TheVariants.{Objective, Factor, Mill}
 use Rattle.check_pit.specs.declared.cert_fault.CertFault.{CertFault}
 use Rattle.check_pit.specs.declared.cert_fault.CertFault.TheVariants as cert
+use Rattle.check_pit.specs.declared.stream_fault.StreamFault.{StreamFault}
+use Rattle.check_pit.specs.declared.stream_fault.StreamFault.TheVariants as stream
+use Rattle.check_pit.specs.StreamView.{LineView}
+use Rattle.check_pit.specs.CertStreams.{CertView}
 use Rattle.engines.specs.declared.judgement.Judgement.{Judgement}
+use Rattle.engines.specs.declared.judgement.Judgement.TheVariants.{Refused}
 use Rattle.engines.specs.declared.engine_fault.EngineFault.{EngineFault}
 use Rattle.engines.specs.declared.engine_fault.EngineFault.TheVariants as engine
 use Rattle.engines.specs.declared.engine_fault.CertificateProblem.TheVariants as problem
@@ -37,3 +42,30 @@ Judges texts certificate (Err fault) = Fails texts certificate fault
 abbrev pub of_certificate : CertFault → EngineFault
 of_certificate cert.NoMemory = engine.Memory
 of_certificate fault = engine.Certificate (problem.Fault fault)
+
+-- what is answered to a stream's fault: a fault of the pit is a judgement
+abbrev pub of_stream : StreamFault → Result Judgement EngineFault
+of_stream stream.Device = Err engine.Device
+of_stream stream.InputTooLong = Err (engine.Certificate problem.InputTooLong)
+of_stream (stream.Cert fault) = Err (of_certificate fault)
+of_stream (stream.Pit fault) = Ok (Refused fault)
+
+-- nothing was read of the stream
+pub record IsFresh {R : Type 0} (s : CertView R) : Type 0 where
+  pub held : s.lines.held ≡ []
+  pub taken : s.lines.taken ≡ 0
+  pub header : s.header ≡ None
+  pub fault : s.fault ≡ None
+  pub undone : s.is_done ≡ false
+
+-- no fault was answered, and no pit accepted
+pub record IsOpen {R : Type 0} (s : CertView R) : Type 0 where
+  pub fault : s.fault ≡ None
+  pub undone : s.is_done ≡ false
+
+-- the header of this text was read: the lines behind it are in what is held and what the device has left
+pub record StandsBehind {R : Type 0} (remaining : R → Option (List ℕ)) (text : List ℕ) (s : LineView R) : Type 0 where
+  pub left : List ℕ
+  pub known : remaining s.from ≡ Some left
+  pub body : drop 4 (pieces_of text) ≡ pieces_of (s.held ++ left)
+  pub taken : s.taken + length left ≡ length text

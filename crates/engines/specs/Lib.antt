@@ -4,6 +4,7 @@ pub mod PricedTexts
 pub mod Mines
 pub mod Readings
 pub mod ReadMines
+pub mod Refusals
 pub mod Judgements
 pub mod FaultStands
 pub mod OutputLines

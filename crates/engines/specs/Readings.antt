@@ -34,12 +34,16 @@ TellsSizes Worth = ⊥
 TellsSizes Pair = Unit {0}
 TellsSizes Scaled = Unit {0}
 
+-- the header is one for this mine at its price
+abbrev pub IsHeader : MineTexts → List ℕ → ℕ → Group → Type 0
+IsHeader texts certificate n group = header_of (pieces_of certificate) ≡ Ok (record { blocks = n; price = price_wanted texts; group = group })
+
 -- The texts denote a mine, its net, and a certificate for it with a pit and a flow.
 pub record Reads (texts : MineTexts) (certificate : List ℕ) : Type 0 where
   pub blocks : ℕ
   pub mine : DenoteMine texts blocks
   pub group : Group
-  pub header : header_of (pieces_of certificate) ≡ Ok (record { blocks = blocks; price = price_wanted texts; group = group })
+  pub header : IsHeader texts certificate blocks group
   pub net : NetView
   pub is_net : IsNet net
   pub of_mine : IsNetOf (block_by group) (mine_of blocks texts) net

@@ -1,5 +1,5 @@
 -- The precedence that offsets give of the blocks of a text, and how the engines of `slopes` end.
-use Rattle.std.specs.Prelude.{◌≡◌, ℕ, ◌≤◌, ◌⊎◌, List, [], ◌∷◌, Option, unwrap_or, Result, Ok, Err, Contains}
+use Rattle.std.specs.Prelude.{ℕ, ◌≤◌, ◌⊎◌, List, [], ◌∷◌, Option, unwrap_or, Result, Ok, Err, Contains}
 use Rattle.std.specs.Io.KnownBytes.{Appends, Keeps}
 use Rattle.fixed_worth.specs.Device.{ReceivedPrefix}
 use Rattle.blocks_file.specs.Denotes.{BlocksView}

@@ -5,7 +5,7 @@ ghost use Rattle.engines.specs.Checking.{Checks, SoundIsAccepted, OneFailed};
 ghost use Rattle.engines.specs.Mines.{mine_texts};
 
 use crate::engine_fault::EngineFault;
-use crate::inputs::{certificate_from, rests_from, upit_from};
+use crate::inputs::{rests_from, upit_from};
 use crate::judgement::{Judgement, Verdict};
 use crate::judgement_line::write_judgement;
 use crate::judging::judge;
@@ -45,8 +45,7 @@ pub fn check_engine<U: CountedRead, P: CountedRead, C: CountedRead, W: CountedWr
 {
     let upit = upit_from(alloc, upit)?;
     let rests = rests_from(alloc, prec, upit.len())?;
-    let text = certificate_from(alloc, certificate)?;
-    let judgement = judge(alloc, &upit, rests, text.as_slice())?;
+    let judgement = judge(alloc, &upit, rests, certificate)?;
     write_judgement(alloc, judgement, out)?;
     Ok(judgement.verdict())
 }

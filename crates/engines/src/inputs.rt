@@ -3,9 +3,9 @@
 ghost use Rattle.std.specs.Prelude.{◌≡◌, ◌+◌, ◌-◌, ◌^◌, ◌<◌, ◌≤◌, ◌↔◌, ℕ, ◌⊎◌, length, IfOk, IfSome, MatchResult, IsErrOf};
 ghost use Rattle.engines.specs.Limits.{IsWithinLimit};
 ghost use Rattle.engines.specs.BlockTexts.{ReadsBlocks, BlocksReadFails};
-ghost use Rattle.engines.specs.Inputs.{ReadsUpit, ListsPrec, ReadsPrec, UpitReadFails, PrecReadFails, TextFails, TextReadFails};
+ghost use Rattle.engines.specs.Inputs.{ReadsUpit, ListsPrec, ReadsPrec, UpitReadFails, PrecReadFails, TextFails};
 
-use crate::engine_fault::{CertificateProblem, EngineFault, Problem};
+use crate::engine_fault::{EngineFault, Problem};
 use blocks_file::{BlockModel, BlocksFault, read_blocks};
 use fixed_worth::{CountedRead, InputFault, MOST_BLOCKS, read_whole};
 use prec_file::{ListedPairs, PrecFault, Rests, read_listed};
@@ -117,19 +117,4 @@ pub fn rests_from<R: CountedRead>(alloc: Global, from: &mut R, n: u32) -> Result
 {
     let listed = listed_from(alloc, from, n)?;
     Ok(listed.settle(alloc)?)
-}
-
-/// The text of a certificate.
-pub fn certificate_from<R: CountedRead>(alloc: Global, from: &mut R) -> Result<Vec<u8>, EngineFault>
-    requires { R.failed from.old < 2 ^ 64 - 1 }
-    ensures read { IfSome (R.remaining from.old) (λ text. MatchResult result (λ v. v.items ≡ text) (TextReadFails text)) }
-    ensures within { IfOk result (λ v. IsWithinLimit v.items) }
-    ensures device { IsErrOf result EngineFault.Device ↔ (R.failed from.new ≡ R.failed from.old + 1) }
-    ensures kept { ¬ IsErrOf result EngineFault.Device → R.failed from.new ≡ R.failed from.old }
-{
-    text_from(
-        alloc,
-        from,
-        EngineFault::Certificate(CertificateProblem::InputTooLong),
-    )
 }

@@ -1,24 +1,31 @@
 //! Judging a certificate for a mine that was read.
 
-ghost use Rattle.std.specs.Prelude.{◌≡◌, ◌≤◌, ℕ, List, length, Ok, MatchResult, IsErrOf};
+ghost use Rattle.std.specs.Prelude.{◌≡◌, ◌≢◌, ◌+◌, ◌-◌, ◌^◌, ◌<◌, ◌≤◌, ℕ, List, [], length, Some, Ok, Err, IfSome, IfOk, MatchResult, IsErrOf};
+ghost use Rattle.std.specs.Thread.{IsSync};
 ghost use Rattle.check_pit.specs.Pieces.{pieces_of};
 ghost use Rattle.check_pit.specs.Header.{header_of};
 ghost use Rattle.closure_net.specs.Network.{holds_of, IsAscending};
 ghost use Rattle.ordered_group.specs.Amount.{FitsPair};
 ghost use Rattle.closure_net.specs.Closure.{group_worth, IsGreatest};
 ghost use Rattle.closure_net.specs.Mine.{IsNetOf};
-ghost use Rattle.engines.specs.Limits.{IsWithinLimit};
+ghost use Rattle.check_pit.specs.CertStreams.{IsReadFor};
+ghost use Rattle.check_pit.specs.declared.pit_fault.PitFault.{PitFault};
+ghost use Rattle.check_pit.specs.declared.stream_fault.StreamFault.TheVariants as stream;
 ghost use Rattle.check_pit.specs.declared.header.Price.TheVariants.{Objective};
 ghost use Rattle.engines.specs.Mines.{MineTexts, priced_texts, DenoteMine, mine_of, price_wanted};
-ghost use Rattle.engines.specs.FaultStands.{IsHeader, Fails};
-ghost use Rattle.engines.specs.Judging.{Judges, factor_in};
+ghost use Rattle.engines.specs.Readings.{IsHeader};
+ghost use Rattle.engines.specs.FaultStands.{Fails};
+ghost use Rattle.engines.specs.Judging.{Judges, IsFresh, IsOpen, StandsBehind, of_stream, factor_in};
 ghost use Rattle.engines.specs.ReadMines.{AreRead, ArePricesRead, IsGroupNamed, billionths_of};
 
 use crate::engine_fault::{CertificateProblem, EngineFault};
 use crate::judgement::Judgement;
 use crate::mines::nanos_of;
-use check_pit::{Accepted, CertFault, Header, Price, check, read_certificate, reading};
+use check_pit::stream_fault::StreamFault;
+use check_pit::{Accepted, CertFault, CertStream, Header, Price, Room, StreamBytes, check_stream};
 use closure_net::{Net, laws};
+use core::mem::replace_with;
+use fixed_worth::CountedRead;
 use ordered_group::{Group, OrderedGroup, Scaled, Worth, WorthSize};
 use prec_file::Rests;
 use shells::Prices;
@@ -26,18 +33,53 @@ use std::alloc::Global;
 use std::thread::Threads;
 use upit_file::Upit;
 
-/// What a certificate proves for the mine of these values and pairs, or why it can't be judged.
-pub fn judge(
+/// What a certificate proves for the mine of these values and pairs, or why it can't be judged. It is read line by line, up
+/// to its end or to its first fault.
+pub fn judge<C: CountedRead>(
     alloc: Global,
     upit: &Upit,
     rests: Rests,
-    certificate: &[u8],
+    certificate: &mut C,
 ) -> Result<Judgement, EngineFault>
-    requires { IsWithinLimit certificate.now }
-    ensures judged { (texts : MineTexts) → AreRead texts (billionths_of upit.now.values) rests → price_wanted texts ≡ Objective → Judges texts certificate.now result }
-    ensures no_device { ¬ IsErrOf result EngineFault.Device }
+    requires { C.failed certificate.old < 2 ^ 64 - 1 }
+    ensures judged { IfSome (C.remaining certificate.old) (λ c. (texts : MineTexts) → AreRead texts (billionths_of upit.now.values) rests → price_wanted texts ≡ Objective → Judges texts c result) }
+    ensures device { IsErrOf result EngineFault.Device → C.failed certificate.new ≡ C.failed certificate.old + 1 }
+    ensures kept { ¬ IsErrOf result EngineFault.Device → C.failed certificate.new ≡ C.failed certificate.old }
 {
-    let header = header_for(certificate, rests.len())?;
+    let held = StreamBytes::new(alloc)?;
+    replace_with(certificate, (alloc, upit, rests, held), judge_device)
+}
+
+// The same; the device is lent to a stream, and handed back.
+fn judge_device<C: CountedRead>(
+    device: C,
+    mine: (Global, &Upit, Rests, StreamBytes),
+) -> (C, Result<Judgement, EngineFault>)
+    requires count { C.failed device < 2 ^ 64 - 1 }
+    requires held { mine.3 ≡ [] }
+    ensures judged { IfSome (C.remaining device) (λ c. (texts : MineTexts) → AreRead texts (billionths_of mine.entry.1.now.values) mine.entry.2 → price_wanted texts ≡ Objective → Judges texts c result.1) }
+    ensures device { IsErrOf result.1 EngineFault.Device → C.failed result.0 ≡ C.failed device + 1 }
+    ensures kept { ¬ IsErrOf result.1 EngineFault.Device → C.failed result.0 ≡ C.failed device }
+{
+    let (alloc, upit, rests, held) = mine;
+    let mut stream = CertStream::over(held, device);
+    let judgement = judge_stream(alloc, upit, rests, &mut stream);
+    (stream.into_device(), judgement)
+}
+
+fn judge_stream<C: CountedRead>(
+    alloc: Global,
+    upit: &Upit,
+    rests: Rests,
+    stream: &mut CertStream<C>,
+) -> Result<Judgement, EngineFault>
+    requires count { C.failed stream.old.lines.from < 2 ^ 64 - 1 }
+    requires fresh { IsFresh stream.old }
+    ensures judged { IfSome (C.remaining stream.old.lines.from) (λ c. (texts : MineTexts) → AreRead texts (billionths_of upit.now.values) rests → price_wanted texts ≡ Objective → Judges texts c result) }
+    ensures device { IsErrOf result EngineFault.Device → C.failed stream.new.lines.from ≡ C.failed stream.old.lines.from + 1 }
+    ensures kept { ¬ IsErrOf result EngineFault.Device → C.failed stream.new.lines.from ≡ C.failed stream.old.lines.from }
+{
+    let header = header_for(stream, rests.len())?;
     match header.price {
         Price::Objective => {}
         Price::Factor(_) | Price::Mill(_) => {
@@ -45,102 +87,186 @@ pub fn judge(
         }
     }
     let nanos = nanos_of(alloc, upit)?;
-    judge_in(alloc, header.group, nanos.as_slice(), rests, certificate)
+    judge_in(alloc, header.group, nanos.as_slice(), rests, stream)
 }
 
 /// What a certificate proves for the mine of these prices, at the factor that it names, and of these pairs; or why it
-/// can't be judged.
-pub fn judge_priced<R: Threads + Sync>(
+/// can't be judged. It is read line by line, up to its end or to its first fault.
+pub fn judge_priced<R: Threads + Sync, C: CountedRead>(
     rt: &R,
     alloc: Global,
     prices: &Prices,
     rests: Rests,
-    certificate: &[u8],
+    certificate: &mut C,
 ) -> Result<Judgement, EngineFault>
-    requires { IsWithinLimit certificate.now }
-    ensures judged { (settings blocks precedence : List ℕ) → ArePricesRead settings blocks precedence prices.now rests
-        → Judges (priced_texts settings blocks precedence (factor_in certificate.now)) certificate.now result }
-    ensures no_device { ¬ IsErrOf result EngineFault.Device }
+    requires { C.failed certificate.old < 2 ^ 64 - 1 }
+    ensures judged { IfSome (C.remaining certificate.old) (λ c. (settings blocks precedence : List ℕ) → ArePricesRead settings blocks precedence prices.now rests
+        → Judges (priced_texts settings blocks precedence (factor_in c)) c result) }
+    ensures device { IsErrOf result EngineFault.Device → C.failed certificate.new ≡ C.failed certificate.old + 1 }
+    ensures kept { ¬ IsErrOf result EngineFault.Device → C.failed certificate.new ≡ C.failed certificate.old }
 {
-    let header = header_for(certificate, rests.len())?;
+    let held = StreamBytes::new(alloc)?;
+    replace_with(
+        certificate,
+        (rt, alloc, prices, rests, held),
+        judge_priced_device,
+    )
+}
+
+// The same; the device is lent to a stream, and handed back.
+fn judge_priced_device<R: Threads + Sync, C: CountedRead>(
+    device: C,
+    mine: (&R, Global, &Prices, Rests, StreamBytes),
+) -> (C, Result<Judgement, EngineFault>)
+    requires count { C.failed device < 2 ^ 64 - 1 }
+    requires held { mine.4 ≡ [] }
+    requires sync { IsSync R.row }
+    ensures judged { IfSome (C.remaining device) (λ c. (settings blocks precedence : List ℕ) → ArePricesRead settings blocks precedence mine.entry.2.now mine.entry.3
+        → Judges (priced_texts settings blocks precedence (factor_in c)) c result.1) }
+    ensures device { IsErrOf result.1 EngineFault.Device → C.failed result.0 ≡ C.failed device + 1 }
+    ensures kept { ¬ IsErrOf result.1 EngineFault.Device → C.failed result.0 ≡ C.failed device }
+{
+    let (rt, alloc, prices, rests, held) = mine;
+    let mut stream = CertStream::over(held, device);
+    let judgement = judge_priced_stream(rt, alloc, prices, rests, &mut stream);
+    (stream.into_device(), judgement)
+}
+
+fn judge_priced_stream<R: Threads + Sync, C: CountedRead>(
+    rt: &R,
+    alloc: Global,
+    prices: &Prices,
+    rests: Rests,
+    stream: &mut CertStream<C>,
+) -> Result<Judgement, EngineFault>
+    requires count { C.failed stream.old.lines.from < 2 ^ 64 - 1 }
+    requires fresh { IsFresh stream.old }
+    ensures judged { IfSome (C.remaining stream.old.lines.from) (λ c. (settings blocks precedence : List ℕ) → ArePricesRead settings blocks precedence prices.now rests
+        → Judges (priced_texts settings blocks precedence (factor_in c)) c result) }
+    ensures device { IsErrOf result EngineFault.Device → C.failed stream.new.lines.from ≡ C.failed stream.old.lines.from + 1 }
+    ensures kept { ¬ IsErrOf result EngineFault.Device → C.failed stream.new.lines.from ≡ C.failed stream.old.lines.from }
+{
+    let header = header_for(stream, rests.len())?;
     let Some(factor) = prices.factor_of(header.price) else {
         return Err(EngineFault::Certificate(CertificateProblem::WrongPrice));
     };
     let nanos = prices.worths_at(rt, alloc, factor)?;
-    judge_in(alloc, header.group, nanos.as_slice(), rests, certificate)
+    judge_in(alloc, header.group, nanos.as_slice(), rests, stream)
 }
 
 // The header of a certificate for a mine of n blocks.
-fn header_for(certificate: &[u8], n: u32) -> Result<Header, EngineFault>
-    requires { IsWithinLimit certificate.now }
-    ensures read { MatchResult result
-        (λ header. (header_of (pieces_of certificate.now) ≡ Ok header) × (header.blocks ≡ n))
-        (λ fault. (texts : MineTexts) → DenoteMine texts n → Fails texts certificate.now fault) }
-    ensures no_device { ¬ IsErrOf result EngineFault.Device }
+fn header_for<C: CountedRead>(stream: &mut CertStream<C>, n: u32) -> Result<Header, EngineFault>
+    requires count { C.failed stream.old.lines.from < 2 ^ 64 - 1 }
+    requires fresh { IsFresh stream.old }
+    ensures read { IfSome (C.remaining stream.old.lines.from) (λ c. MatchResult result
+        (λ header. (header_of (pieces_of c) ≡ Ok header) × StandsBehind C.remaining c stream.new.lines)
+        (λ fault. (texts : MineTexts) → DenoteMine texts n → Fails texts c fault)) }
+    ensures blocks { IfOk result (λ header. (header.blocks ≡ n) × (stream.new.header ≡ Some header)) }
+    ensures open { IfOk result (λ _. IsOpen stream.new) }
+    ensures device { IsErrOf result EngineFault.Device → C.failed stream.new.lines.from ≡ C.failed stream.old.lines.from + 1 }
+    ensures kept { ¬ IsErrOf result EngineFault.Device → C.failed stream.new.lines.from ≡ C.failed stream.old.lines.from }
 {
-    let header = reading::header(certificate)?;
+    let header = match stream.header() {
+        Ok(header) => header,
+        Err(fault) => return Err(header_fault(fault)),
+    };
     if header.blocks != n {
         return Err(EngineFault::from(CertFault::Number(2)));
     }
     Ok(header)
 }
 
+// What is answered to a fault of the header, which is none of the pit.
+fn header_fault(fault: StreamFault) -> EngineFault
+    requires { (e : PitFault) → fault ≢ stream.Pit e }
+    ensures { Err result ≡ of_stream fault }
+{
+    match fault {
+        StreamFault::Device => EngineFault::Device,
+        StreamFault::InputTooLong => { EngineFault::Certificate(CertificateProblem::InputTooLong) }
+        StreamFault::Cert(fault) => EngineFault::from(fault),
+        StreamFault::Pit(_) => unreachable!(),
+    }
+}
+
+// What is answered to a fault of the lines: one of the pit is a judgement.
+fn judgement_of(fault: StreamFault) -> Result<Judgement, EngineFault>
+    ensures { result ≡ of_stream fault }
+{
+    match fault {
+        StreamFault::Device => Err(EngineFault::Device),
+        StreamFault::InputTooLong => Err(EngineFault::Certificate(
+            CertificateProblem::InputTooLong,
+        )),
+        StreamFault::Cert(fault) => Err(EngineFault::from(fault)),
+        StreamFault::Pit(fault) => Ok(Judgement::Refused(fault)),
+    }
+}
+
 // What the certificate proves, where its header is read and the blocks are worth so many billionths.
-fn judge_in(
+fn judge_in<C: CountedRead>(
     alloc: Global,
     group: Group,
     nanos: &[i128],
     rests: Rests,
-    certificate: &[u8],
+    stream: &mut CertStream<C>,
 ) -> Result<Judgement, EngineFault>
-    requires { IsWithinLimit certificate.now }
-    ensures judged { (texts : MineTexts) → AreRead texts nanos.now rests → IsHeader texts certificate.now rests.blocks group → Judges texts certificate.now result }
-    ensures no_device { ¬ IsErrOf result EngineFault.Device }
+    requires count { C.failed stream.old.lines.from < 2 ^ 64 - 1 }
+    requires open { IsOpen stream.old }
+    requires header { IsReadFor rests.blocks group stream.old.header stream.old.fault }
+    ensures judged { (texts : MineTexts) (c : List ℕ) → AreRead texts nanos.now rests → IsHeader texts c rests.blocks group → StandsBehind C.remaining c stream.old.lines → Judges texts c result }
+    ensures device { IsErrOf result EngineFault.Device → C.failed stream.new.lines.from ≡ C.failed stream.old.lines.from + 1 }
+    ensures kept { ¬ IsErrOf result EngineFault.Device → C.failed stream.new.lines.from ≡ C.failed stream.old.lines.from }
 {
     // proof: a greatest set of the net is a pit that is worth most, and of amounts with sizes the best one
     laws::greatest_set_is_richest_pit();
     laws::greatest_set_is_best_pit::<WorthSize>();
     laws::greatest_set_is_best_pit::<Scaled>();
     match group {
-        Group::Worth => judge_by::<Worth>(alloc, nanos, rests, certificate),
-        Group::Pair => judge_by::<WorthSize>(alloc, nanos, rests, certificate),
-        Group::Scaled => judge_by::<Scaled>(alloc, nanos, rests, certificate),
+        Group::Worth => judge_by::<Worth, C>(alloc, nanos, rests, stream),
+        Group::Pair => judge_by::<WorthSize, C>(alloc, nanos, rests, stream),
+        Group::Scaled => judge_by::<Scaled, C>(alloc, nanos, rests, stream),
     }
 }
 
 // The same in amounts of the group G.
-fn judge_by<G: OrderedGroup>(
+fn judge_by<G: OrderedGroup, C: CountedRead>(
     alloc: Global,
     nanos: &[i128],
     rests: Rests,
-    certificate: &[u8],
+    stream: &mut CertStream<C>,
 ) -> Result<Judgement, EngineFault>
-    requires { IsWithinLimit certificate.now }
-    ensures judged { (texts : MineTexts) → AreRead texts nanos.now rests → IsGroupNamed G.name G.block_parts G.counts
-        → IsHeader texts certificate.now rests.blocks G.name → Judges texts certificate.now result }
-    ensures no_device { ¬ IsErrOf result EngineFault.Device }
+    requires count { C.failed stream.old.lines.from < 2 ^ 64 - 1 }
+    requires open { IsOpen stream.old }
+    requires header { IsReadFor rests.blocks G.name stream.old.header stream.old.fault }
+    ensures judged { (texts : MineTexts) (c : List ℕ) → AreRead texts nanos.now rests → IsGroupNamed G.name G.block_parts G.counts
+        → IsHeader texts c rests.blocks G.name → StandsBehind C.remaining c stream.old.lines → Judges texts c result }
+    ensures device { IsErrOf result EngineFault.Device → C.failed stream.new.lines.from ≡ C.failed stream.old.lines.from + 1 }
+    ensures kept { ¬ IsErrOf result EngineFault.Device → C.failed stream.new.lines.from ≡ C.failed stream.old.lines.from }
 {
     let net = Net::<G>::of_worths(alloc, rests, nanos)?;
-    judge_for(alloc, &net, certificate)
+    judge_for(alloc, &net, stream)
 }
 
 // The same, where the mine's net is made.
-fn judge_for<G: OrderedGroup>(
+fn judge_for<G: OrderedGroup, C: CountedRead>(
     alloc: Global,
     net: &Net<G>,
-    certificate: &[u8],
+    stream: &mut CertStream<C>,
 ) -> Result<Judgement, EngineFault>
-    requires { IsWithinLimit certificate.now }
-    ensures judged { (texts : MineTexts) → DenoteMine texts (length net.now.worths) → IsGroupNamed G.name G.block_parts G.counts
-        → IsHeader texts certificate.now (length net.now.worths) G.name → IsNetOf G.block_parts (mine_of (length net.now.worths) texts) net.now
-        → Judges texts certificate.now result }
-    ensures no_device { ¬ IsErrOf result EngineFault.Device }
+    requires count { C.failed stream.old.lines.from < 2 ^ 64 - 1 }
+    requires open { IsOpen stream.old }
+    requires header { IsReadFor (length net.now.worths) G.name stream.old.header stream.old.fault }
+    ensures judged { (texts : MineTexts) (c : List ℕ) → DenoteMine texts (length net.now.worths) → IsGroupNamed G.name G.block_parts G.counts
+        → IsHeader texts c (length net.now.worths) G.name → StandsBehind C.remaining c stream.old.lines
+        → IsNetOf G.block_parts (mine_of (length net.now.worths) texts) net.now → Judges texts c result }
+    ensures device { IsErrOf result EngineFault.Device → C.failed stream.new.lines.from ≡ C.failed stream.old.lines.from + 1 }
+    ensures kept { ¬ IsErrOf result EngineFault.Device → C.failed stream.new.lines.from ≡ C.failed stream.old.lines.from }
 {
     // proof: what is known of every net, that its pairs are of its blocks and in order
     let _worths = net.worths();
-    let rests = net.rests();
-    let certificate = read_certificate::<G>(alloc, certificate, rests)?;
-    match check(net, &certificate.pit, &certificate.flow) {
+    let mut room = Room::new(alloc, net)?;
+    match check_stream(stream, net, &mut room) {
         Ok(accepted) => {
             let count = size_of(&accepted);
             let worth = worth_of(&accepted, count);
@@ -150,7 +276,7 @@ fn judge_for<G: OrderedGroup>(
                 worth,
             })
         }
-        Err(fault) => Ok(Judgement::Refused(fault)),
+        Err(fault) => judgement_of(fault),
     }
 }
 

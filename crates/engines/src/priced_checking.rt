@@ -6,7 +6,6 @@ ghost use Rattle.engines.specs.Judging.{factor_in};
 ghost use Rattle.engines.specs.Mines.{priced_texts};
 
 use crate::engine_fault::EngineFault;
-use crate::inputs::certificate_from;
 use crate::judgement::{Judgement, Verdict};
 use crate::judgement_line::write_judgement;
 use crate::judging::judge_priced;
@@ -59,8 +58,7 @@ pub fn check_priced_engine<
 {
     let mine = priced_mine_from(alloc, settings, blocks, prec)?;
     let rests = mine.rests;
-    let text = certificate_from(alloc, certificate)?;
-    let judgement = judge_priced(rt, alloc, &mine.prices, rests, text.as_slice())?;
+    let judgement = judge_priced(rt, alloc, &mine.prices, rests, certificate)?;
     write_judgement(alloc, judgement, out)?;
     Ok(judgement.verdict())
 }

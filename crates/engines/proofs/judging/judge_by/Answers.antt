@@ -3,12 +3,12 @@ use Rattle.engines.proofs.Judged.{net_fails, net_known}
 use Rattle.engines.proofs.judging.judge_by.Goals as goal
 
 pub returns-in_err-net-clause-judged : goal.returns-in_err-net-clause-judged
-returns-in_err-net-clause-judged g c = λ texts read named header.
+returns-in_err-net-clause-judged g c = λ texts text read named header stands.
     let p = err_from_is_err_and c.from_residual.result c.from_residual.ensures.1 in
     rw (p.1, p.2)
-    (net_fails g.G.OrderedGroup.name g.G.OrderedGroup.block_parts g.G.OrderedGroup.counts texts c.args.certificate.now c.args.rests c.args.nanos.now c.in_err-net.field-0.0 c.requires read named header c.in_err-net.ensures)
+    (net_fails g.G.OrderedGroup.name g.G.OrderedGroup.block_parts g.G.OrderedGroup.counts texts text c.args.rests c.args.nanos.now c.in_err-net.field-0.0 read named header c.in_err-net.ensures)
 
 pub returns-clause-judged : goal.returns-clause-judged
-returns-clause-judged g c = λ texts read named header.
-    let known = net_known g.G.OrderedGroup.block_parts texts c.args.certificate.now g.G.OrderedGroup.name c.args.rests c.args.nanos.now c.in_ok-net.net read header c.in_ok-net.ensures.0 c.in_ok-net.ensures.1 in
-    c.judge_for.ensures.judged texts known.mine named known.header known.of_mine
+returns-clause-judged g c = λ texts text read named header stands.
+    let known = net_known g.G.OrderedGroup.block_parts texts text g.G.OrderedGroup.name c.args.rests c.args.nanos.now c.in_ok-net.net read header c.in_ok-net.ensures.0 c.in_ok-net.ensures.1 in
+    c.judge_for.ensures.judged texts text known.mine named known.header stands known.of_mine

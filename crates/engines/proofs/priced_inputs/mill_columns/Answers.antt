@@ -1,11 +1,9 @@
-use Rattle.std.proofs.Common.{◌≡◌, ◌∷◌, ◌∙◌, [], Some, None, List, refl, sym, ap, rules}
-use Rattle.std.specs.Prelude.{unwrap_or}
+use Rattle.std.proofs.Common.{◌≡◌, ◌∷◌, ◌∙◌, [], Some, None, List, refl, rules}
 use Rattle.std.proofs.lemmas.Result.{err_from_is_err_and}
-use Rattle.settings_file.specs.Settings.{SettingsView, first_missing, is_said}
+use Rattle.settings_file.specs.Settings.{first_missing}
 use Rattle.settings_file.specs.declared.keys.Key.{Key}
 use Rattle.settings_file.specs.declared.keys.Key.TheVariants.{Processing, Mining}
 use Rattle.settings_file.proofs.MissingKeys.{first_missing-append, first_missing-front}
-use Rattle.engines.specs.declared.priced_inputs.ChargeColumns.TheVariants.{Mill}
 use Rattle.engines.proofs.priced_inputs.mill_columns.Goals as goal
 
 abbrev charges : List Key

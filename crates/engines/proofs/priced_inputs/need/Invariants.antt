@@ -1,4 +1,4 @@
-use Rattle.std.proofs.Common.{◌≡◌, ◌≤◌, length, drop}
+use Rattle.std.proofs.Common.{◌≡◌, drop}
 use Rattle.settings_file.specs.Settings.{first_missing}
 use Rattle.engines.proofs.priced_inputs.need.Given as goal
 

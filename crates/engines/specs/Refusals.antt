@@ -1,0 +1,58 @@
+-- Why the text of a certificate for a net doesn't prove its pit, where its header is right.
+use Rattle.std.specs.Prelude.{◌≡◌, ℕ, ◌<◌, Bool, List, [], ◌∷◌, ◌++◌, length, None}
+use Rattle.ordered_group.specs.declared.groups.Group.{Group}
+use Rattle.prec_file.specs.Rests.{IsFirstNot}
+use Rattle.closure_net.specs.Network.{NetView, FlowView, holds_of}
+use Rattle.closure_net.specs.Flows.{Balanced, IsTight}
+use Rattle.check_pit.specs.declared.lines_of_body.BodyLine.{BodyLine}
+use Rattle.check_pit.specs.declared.pit_fault.PitFault.{PitFault}
+use Rattle.check_pit.specs.declared.pit_fault.PitFault.TheVariants.{WrongSize, NotClosed, Negative, OverCapacity, Unbalanced, NotTight, TooLarge}
+use Rattle.check_pit.specs.Certificate.{fault_of, lines_of_text, pit_of}
+use Rattle.check_pit.specs.Closing.{IsFirstOpen}
+use Rattle.check_pit.specs.LineSums.{flow_of, SomeLineSumOverflows}
+use Rattle.check_pit.specs.Rooms.{LineRefused}
+use Rattle.engines.specs.Limits.{IsWithinLimit}
+
+-- the lines of the text behind its header, before END
+abbrev pub lines_for : Bool → NetView → List ℕ → List BodyLine
+lines_for counts net text = lines_of_text counts (length net.worths) text
+
+-- the flow that they say
+abbrev pub flow_for : Bool → NetView → List ℕ → FlowView
+flow_for counts net text = flow_of (length net.worths) net.pairs (lines_for counts net text)
+
+-- they begin with these
+abbrev pub LinesBegin : Bool → NetView → List ℕ → List BodyLine → Type 0
+LinesBegin counts net text ls = (more : List BodyLine) × (lines_for counts net text ≡ ls ++ more)
+
+-- one of them is refused behind those before it
+abbrev pub RefusesLine : Bool → NetView → List ℕ → PitFault → Type 0
+RefusesLine counts net text e = (ls : List BodyLine) × (l : BodyLine) × LinesBegin counts net text (ls ++ l ∷ []) × LineRefused net ls l e
+
+-- some first lines have a sum that doesn't fit: the balance of a block, the worth of the pit, or what the source could still give
+abbrev pub SomeSumLeaves : Bool → NetView → List ℕ → Type 0
+SomeSumLeaves counts net text = (ls : List BodyLine) × LinesBegin counts net text ls × SomeLineSumOverflows net ls
+
+-- the text is read to its end without a fault
+abbrev pub IsFaultless : Bool → Group → NetView → List ℕ → Type 0
+IsFaultless counts name net text = IsWithinLimit text × (fault_of counts name (length net.worths) net.pairs text ≡ None)
+
+-- The pit that the first lines say, and no later one adds to: a PIT line behind another line is a fault of the text.
+pub record SaysPit (counts : Bool) (name : Group) (net : NetView) (text pit : List ℕ) : Type 0 where
+  pub lines : List BodyLine
+  pub begin : LinesBegin counts net text lines
+  pub same : pit ≡ pit_of lines
+  pub all : fault_of counts name (length net.worths) net.pairs text ≡ None → pit_of (lines_for counts net text) ≡ pit
+
+-- Each fault stands. A fault of a line is that of the first faulty one, and so is an open pit, whatever stands behind them;
+-- the balances and the pit's worth are told where the whole text is read.
+abbrev pub TextRefused : Bool → Group → NetView → List ℕ → PitFault → Type 0
+TextRefused counts name net text WrongSize = ⊥
+TextRefused counts name net text (NotClosed b p) = (pit : List ℕ) × SaysPit counts name net text pit × IsFirstOpen net.pairs (holds_of pit) (b, p)
+TextRefused counts name net text Negative = RefusesLine counts net text Negative
+TextRefused counts name net text (OverCapacity b) = RefusesLine counts net text (OverCapacity b)
+TextRefused counts name net text (Unbalanced b) = IsFaultless counts name net text × IsFirstNot (Balanced net (flow_for counts net text)) (length net.worths) b
+TextRefused counts name net text NotTight =
+    IsFaultless counts name net text × ((b : ℕ) → b < length net.worths → Balanced net (flow_for counts net text) b)
+    × ¬ (IsTight net (flow_for counts net text) (holds_of (pit_of (lines_for counts net text))))
+TextRefused counts name net text TooLarge = RefusesLine counts net text TooLarge
