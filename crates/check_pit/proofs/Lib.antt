@@ -25,7 +25,7 @@ pub mod Splits
 pub mod StreamHeads
 pub mod StreamReadings
 pub mod StreamRooms
-pub mod StreamTexts
+pub mod NamedHeaders
 pub mod Texts
 pub mod ValueLines
 pub mod Verdicts

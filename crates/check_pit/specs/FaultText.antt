@@ -5,6 +5,8 @@ use Rattle.check_pit.specs.declared.cert_fault.CertFault.{CertFault}
 use Rattle.check_pit.specs.declared.cert_fault.CertFault.TheVariants.{Text, Number, OutOfOrder, UnknownPair, Truncated, NoMemory}
 use Rattle.check_pit.specs.declared.pit_fault.PitFault.{PitFault}
 use Rattle.check_pit.specs.declared.pit_fault.PitFault.TheVariants.{WrongSize, NotClosed, Negative, OverCapacity, Unbalanced, NotTight, TooLarge}
+use Rattle.check_pit.specs.declared.stream_fault.StreamFault.{StreamFault}
+use Rattle.check_pit.specs.declared.stream_fault.StreamFault.TheVariants as stream
 
 -- of a text that is no certificate: the fault's name, and the line's number in parentheses where there is one
 abbrev pub fault_text : CertFault → List ℕ
@@ -24,3 +26,10 @@ pit_fault_text (OverCapacity b) = at_line (codes "OverCapacity") b
 pit_fault_text (Unbalanced b) = at_line (codes "Unbalanced") b
 pit_fault_text NotTight = codes "NotTight"
 pit_fault_text TooLarge = codes "TooLarge"
+
+-- of a certificate that is read line by line: the fault of its text, or of its pit and flow, as these are printed
+abbrev pub stream_fault_text : StreamFault → List ℕ
+stream_fault_text stream.Device = codes "Device"
+stream_fault_text stream.InputTooLong = codes "InputTooLong"
+stream_fault_text (stream.Cert fault) = fault_text fault
+stream_fault_text (stream.Pit fault) = pit_fault_text fault

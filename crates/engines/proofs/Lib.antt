@@ -16,7 +16,6 @@ pub mod SlopeAnswers
 pub mod Lone
 pub mod Solutions
 pub mod OfTexts
-pub mod NamedHeaders
 pub mod HeaderAnswers
 pub mod Streamed
 pub mod SoundLines

@@ -38,7 +38,7 @@ use Rattle.engines.specs.Judgements.{IsRefused}
 use Rattle.engines.specs.Judging.{Judges, StandsBehind, of_certificate, of_stream}
 use Rattle.engines.proofs.Judged.{HasRead, text_fails}
 use Rattle.engines.proofs.HeaderAnswers.{consumed}
-use Rattle.engines.proofs.NamedHeaders.{header_named}
+use Rattle.check_pit.proofs.NamedHeaders.{header_named}
 
 -- The text of a certificate whose header was read. What was read behind it is the body so far; and so many bytes are left.
 pub record IsSplit (name : Group) (net : NetView) (text body left : List ℕ) (price : Price) (taken : ℕ) : Type 0 where
