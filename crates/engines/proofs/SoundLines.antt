@@ -24,6 +24,7 @@ use Rattle.check_pit.specs.Pieces.{pieces_of}
 use Rattle.check_pit.specs.Rooms.{IsNegative, IsOver}
 use Rattle.check_pit.proofs.LineFlows.{denoted}
 use Rattle.check_pit.proofs.LineOrder.{Has, has_good, Proper, given_by, good_is_proper}
+use Rattle.check_pit.proofs.NamedHeaders.{header_named}
 use Rattle.check_pit.proofs.Order.{InOrder, Good, in_order_weaker, stands_in_order}
 use Rattle.check_pit.proofs.SameLines.{pair_place, tells_rest, tells_sink, tells_source}
 use Rattle.engines.specs.Mines.{MineTexts, mine_of, price_wanted}
@@ -31,7 +32,6 @@ use Rattle.engines.specs.Readings.{Reads, block_by, counts_by}
 use Rattle.engines.specs.Refusals.{LinesBegin, SomeSumLeaves, TextRefused, flow_for, lines_for}
 use Rattle.engines.specs.Judgements.{IsRefused}
 use Rattle.engines.proofs.Alone.{flows_same, nets_same, ok_same}
-use Rattle.engines.proofs.NamedHeaders.{header_named}
 
 -- a line that keeps its limits has no negative amount, and none that is too much
 not_negative : (k : LineKind) (net : NetView) (l : BodyLine) → keeps_by k net.worths l → IsNegative k (amount_of l) → ⊥

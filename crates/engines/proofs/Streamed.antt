@@ -26,6 +26,7 @@ use Rattle.check_pit.specs.Checks.{ProvesPit}
 use Rattle.check_pit.specs.StreamView.{LineView}
 use Rattle.check_pit.specs.StreamChecks.{ReadsOn, fault_of_body, lines_of_body, IsWhole, BodyRefused, BodyFails, BodyProves}
 use Rattle.check_pit.specs.StreamChecks as checks
+use Rattle.check_pit.proofs.NamedHeaders.{header_named}
 use Rattle.check_pit.proofs.Order.{stands_in_order, ascending, known}
 use Rattle.check_pit.proofs.Whole.{spelled}
 use Rattle.engines.specs.Limits.{IsWithinLimit, IsTooLong}
@@ -38,7 +39,6 @@ use Rattle.engines.specs.Judgements.{IsRefused}
 use Rattle.engines.specs.Judging.{Judges, StandsBehind, of_certificate, of_stream}
 use Rattle.engines.proofs.Judged.{HasRead, text_fails}
 use Rattle.engines.proofs.HeaderAnswers.{consumed}
-use Rattle.check_pit.proofs.NamedHeaders.{header_named}
 
 -- The text of a certificate whose header was read. What was read behind it is the body so far; and so many bytes are left.
 pub record IsSplit (name : Group) (net : NetView) (text body left : List ℕ) (price : Price) (taken : ℕ) : Type 0 where
