@@ -126,7 +126,7 @@ def blocks(given):
 
 
 def main():
-    words = arguments(__doc__, ["marvin", "mclim"])
+    words = arguments(__doc__, ["marvin", "mclim", "b350k", "b2m"])
     words.add_argument("--readers", action="store_true", help="read the model alone: the certificate is cut short")
     words.add_argument("--prec", action="store_true", help="read and index .prec files alone")
     words.add_argument("--blocks", action="store_true", help="read .blocks files alone, which are made for it")
