@@ -13,7 +13,7 @@ use Rattle.boards.specs.Runs.{AreTurnsTo}
 use Rattle.boards.specs.Boards.{BoardView, shown, IsTurnBoard, HasSettled}
 use Rattle.boards.specs.Turns.{IsGoing, IsDue, IsAtLimit, IsTurn, IsEnd}
 use Rattle.boards.specs.Ends.{HasEnded}
-use Rattle.boards.specs.Records.{RecordView, written, written_behind, Writes, RecordGoesOn}
+use Rattle.boards.specs.Records.{RecordView, written, written_after, Writes, RecordGoesOn}
 use Rattle.boards.specs.Audits.{AuditView, audit_of, IsAudited, IsAuditEnd, IsAuditTurn, IsToldAs, HasAuditEnded, AuditGoesOn, HasAuditSettled}
 use Rattle.machine_law.specs.declared.events.TheConstants.{MOST_EVENTS}
 use Rattle.boards.specs.declared.turn.Turn.{Turn}
@@ -93,7 +93,7 @@ module _ (old new : RecordView) (own : Option ℕ) (from limit : ℕ) (is : IsAu
 pub audit_goes_on : (old new : RecordView) (most limit : ℕ) → most ≤ limit → old.records ≡ true → RecordGoesOn old new most → AuditGoesOn (audit_of old) (audit_of new) limit
 audit_goes_on old new most limit below e h = record {
   board = record { net_is = h.board.net_is; within = (let w = h.board.within in omega (arith, w, below)); events = h.board.events; run = h.board.run };
-  history = h.events ∙ ap (λ t. written_behind t old.events h.board.events) e;
+  history = h.events ∙ ap (λ t. written_after t old.events h.board.events) e;
   room = h.room;
 }
 

@@ -4,11 +4,11 @@ use Rattle.machine_law.specs.Steps.{next_event}
 use Rattle.boards.specs.Runs.{AreTurnsTo}
 use Rattle.boards.specs.Boards.{BoardView, shown, IsBoard}
 use Rattle.boards.specs.Turns.{IsDue, HasNoneDue, HasServed, IsStepOf, IsEnd, IsTurn}
-use Rattle.boards.specs.Records.{RecordView, IsRecord, written_by, written, written_behind, Writes, RecordGoesOn}
+use Rattle.boards.specs.Records.{RecordView, IsRecord, written_by, written, written_after, Writes, RecordGoesOn}
 use Rattle.boards.specs.declared.turn.Turn.{Turn}
 use Rattle.boards.specs.declared.turn.Turn.TheVariants.{Stepped, Idle as Unserved, Ended}
 use Rattle.boards.specs.declared.turn.End.{End}
-use Rattle.boards.proofs.FurtherTurns.{written_behind_none, written_behind_both}
+use Rattle.boards.proofs.FurtherTurns.{written_after_none, written_after_both}
 use Rattle.boards.proofs.Alone.{served_counts}
 use Rattle.boards.proofs.Ends.{turned, same_turns, more_turns, turns_counted, end_same, served_run, ended_run, further_run}
 
@@ -20,7 +20,7 @@ room_stays first old limit goes room e = subst (λ k. limit ≤ k) (sym goes.roo
 pub record_stays : (r : RecordView) (limit : ℕ) → (shown r.board).steps ≤ limit → RecordGoesOn r r limit
 record_stays r limit within = record {
   board = record { net_is = refl; within = within; events = []; run = refl };
-  events = written_behind_none r.records r.events;
+  events = written_after_none r.records r.events;
   records = refl;
   room = refl;
 }
@@ -30,9 +30,9 @@ pub record_served : (first old new : RecordView) (own : Option ℕ) (from limit 
     → Writes old (Stepped b more) new → RecordGoesOn first new limit
 record_served first old new own from limit b more is goes h writes =
     let event = next_event old.board.net (shown old.board) b in
-    let here : new.events ≡ written_behind old.records old.events (event ∷ []) = ap (λ (r : RecordView). r.events) writes in
-    let same : written_behind old.records old.events (event ∷ []) ≡ written_behind first.records (written_behind first.records first.events goes.board.events) (event ∷ []) =
-    ap (λ t. written_behind t old.events (event ∷ [])) goes.records ∙ ap (λ xs. written_behind first.records xs (event ∷ [])) goes.events in
+    let here : new.events ≡ written_after old.records old.events (event ∷ []) = ap (λ (r : RecordView). r.events) writes in
+    let same : written_after old.records old.events (event ∷ []) ≡ written_after first.records (written_after first.records first.events goes.board.events) (event ∷ []) =
+    ap (λ t. written_after t old.events (event ∷ [])) goes.records ∙ ap (λ xs. written_after first.records xs (event ∷ [])) goes.events in
     let counted = served_counts old.board new.board b more h.1 in
     record {
       board = record {
@@ -41,7 +41,7 @@ record_served first old new own from limit b more is goes h writes =
         events = goes.board.events ++ event ∷ [];
         run = served_run first.board old.board new.board own from limit b more goes.board is h;
       };
-      events = here ∙ same ∙ written_behind_both first.records first.events goes.board.events (event ∷ []);
+      events = here ∙ same ∙ written_after_both first.records first.events goes.board.events (event ∷ []);
       records = ap (λ (r : RecordView). r.records) writes ∙ goes.records;
       room = ap (λ (r : RecordView). r.room) writes ∙ goes.room;
     }
@@ -71,8 +71,8 @@ record_further first old new limit goes further = record {
     events = goes.board.events ++ further.board.events;
     run = further_run first.board old.board new.board limit goes.board further.board;
   };
-  events = further.events ∙ ap (λ t. written_behind t old.events further.board.events) goes.records ∙ ap (λ xs. written_behind first.records xs further.board.events) goes.events
-      ∙ written_behind_both first.records first.events goes.board.events further.board.events;
+  events = further.events ∙ ap (λ t. written_after t old.events further.board.events) goes.records ∙ ap (λ xs. written_after first.records xs further.board.events) goes.events
+      ∙ written_after_both first.records first.events goes.board.events further.board.events;
   records = further.records ∙ goes.records;
   room = further.room ∙ goes.room;
 }
