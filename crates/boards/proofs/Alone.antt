@@ -16,7 +16,7 @@ use Rattle.machine_law.proofs.Law.{runs_keep_law}
 use Rattle.machine_law.proofs.Points.{put-other}
 use Rattle.boards.specs.Boards.{BoardView, shown, blocks_of, IsBoard}
 use Rattle.boards.specs.Turns.{HasNoOwn, IsPicked, IsUnserved, IsDue, HasServed}
-use Rattle.boards.specs.Ends.{IsAlone, AreIdleBelow, GoesOn}
+use Rattle.boards.specs.Ends.{IsAlone, AreIdleBelow}
 
 -- ---- a step changes the operation of its block alone, and is counted
 record Changes (s t : State) (b : ℕ) : Type 0 where
@@ -53,13 +53,6 @@ step_changes net s b (RaiseDue have best) = changes s _ b _ refl refl
 served_changes : (old new : BoardView) (b : ℕ) (more : Bool) → HasServed old b new more → Changes (shown old) (shown new) b
 served_changes old new b more h =
     subst (λ (t : State). Changes (shown old) t b) (sym h.step.after) (step_changes old.net (shown old) b ((shown old).operation b))
-
--- the run goes on
-pub served_goes_on : (first old new : BoardView) (own : Option ℕ) (from steps b : ℕ) (more : Bool) → GoesOn first old steps → IsDue old own from steps b × HasServed old b new more → GoesOn first new steps
-served_goes_on first old new own from steps b more g h = record {
-  net_is = ap (λ (x : BoardView). x.net) h.1.rest ∙ g.net_is;
-  within = (let k = (served_changes old new b more h.1).counted in omega (arith, k, h.0.going.room));
-}
 
 pub served_counts : (old new : BoardView) (b : ℕ) (more : Bool) → HasServed old b new more → (shown new).steps ≡ (shown old).steps + 1
 served_counts old new b more h = (served_changes old new b more h).counted

@@ -13,8 +13,8 @@ use Rattle.boards.specs.Runs.{AreTurnsTo}
 use Rattle.boards.specs.Boards.{BoardView, shown, IsTurnBoard, HasSettled}
 use Rattle.boards.specs.Turns.{IsGoing, IsDue, IsAtLimit, IsTurn, IsEnd}
 use Rattle.boards.specs.Ends.{HasEnded}
-use Rattle.boards.specs.Records.{RecordView, written, Writes}
-use Rattle.boards.specs.Audits.{AuditView, audit_of, IsAudited, IsAuditEnd, IsAuditTurn, IsToldAs, HasAuditEnded, HasAuditSettled}
+use Rattle.boards.specs.Records.{RecordView, written, written_after, Writes, RecordGoesOn}
+use Rattle.boards.specs.Audits.{AuditView, audit_of, IsAudited, IsAuditEnd, IsAuditTurn, IsToldAs, HasAuditEnded, AuditGoesOn, HasAuditSettled}
 use Rattle.machine_law.specs.declared.events.TheConstants.{MOST_EVENTS}
 use Rattle.boards.specs.declared.turn.Turn.{Turn}
 use Rattle.boards.specs.declared.turn.Turn.TheVariants.{Stepped, Idle as Unserved, Ended}
@@ -89,6 +89,14 @@ module _ (old new : RecordView) (own : Option ℕ) (from limit : ℕ) (is : IsAu
   ended Full told h writes t = absurd h
 
 -- ---- a whole run
+-- goes on within a limit as it does within the lower of that and its room
+pub audit_goes_on : (old new : RecordView) (most limit : ℕ) → most ≤ limit → old.records ≡ true → RecordGoesOn old new most → AuditGoesOn (audit_of old) (audit_of new) limit
+audit_goes_on old new most limit below e h = record {
+  board = record { net_is = h.board.net_is; within = (let w = h.board.within in omega (arith, w, below)); events = h.board.events; run = h.board.run };
+  history = h.events ∙ ap (λ t. written_after t old.events h.board.events) e;
+  room = h.room;
+}
+
 pub run_ended : (r : RecordView) (limit : ℕ) (end told : End) → IsAudited (audit_of r) → HasEnded r.board (min limit r.room) end → IsToldAs (shown r.board).steps limit end told → HasAuditEnded (audit_of r) limit told
 run_ended r limit Quiet told is h t = subst (λ x. HasAuditEnded (audit_of r) limit x) (sym t) h
 run_ended r limit Stuck told is h t = subst (λ x. HasAuditEnded (audit_of r) limit x) (sym t) h

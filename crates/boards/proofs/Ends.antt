@@ -13,7 +13,7 @@ use Rattle.machine_law.proofs.ActiveRuns.{active_is_run, active_more, excess_rea
 use Rattle.async_step.specs.declared.limits.TheConstants.{MOST_STEPS}
 use Rattle.async_step.specs.Answers.{Fits}
 use Rattle.async_step.specs.Views.{StateView, state_of}
-use Rattle.boards.specs.Runs.{SomeNextOverflows, IsMadeByTurns, AreTurnsTo}
+use Rattle.boards.specs.Runs.{SomeNextOverflows, IsMadeByTurns, AreTurnsBetween, AreTurnsTo}
 use Rattle.boards.specs.Boards.{BoardView, shown, IsBoard, IsTurnBoard, IsOpened, HasSettled}
 use Rattle.boards.specs.Turns.{IsPicked, IsDue, HasNoneDue, HasServed, Sticks, IsStepOf, IsEnd, IsTurn}
 use Rattle.boards.specs.Ends.{HasEnded, GoesOn}
@@ -21,6 +21,7 @@ use Rattle.boards.specs.declared.turn.Turn.{Turn}
 use Rattle.boards.specs.declared.turn.Turn.TheVariants.{Stepped, Idle as Unserved, Ended}
 use Rattle.boards.specs.declared.turn.End.{End}
 use Rattle.boards.specs.declared.turn.End.TheVariants.{Quiet, Stuck, Limit, Full}
+use Rattle.boards.proofs.FurtherTurns.{active_append}
 use Rattle.boards.proofs.Alone.{picked_inside}
 
 -- a quiet board's flow solves its net
@@ -65,14 +66,18 @@ due_reads board own from b (inr waits) kind zero = Below-not zero_amount ((shown
 pub same_turns : (old new : BoardView) (events : List Event) → new.net ≡ old.net → new.state ≡ old.state → AreTurnsTo old.net events (shown old) → AreTurnsTo new.net events (shown new)
 same_turns old new events net_is state_is run = subst (λ (n : NetView). AreTurnsTo n events (shown new)) (sym net_is) (subst (λ (v : StateView). AreTurnsTo old.net events (state_of v)) (sym state_is) run)
 
--- and one turn more, where it makes a step
+-- and one turn more, where it makes a step, from whichever state they began
+turns_between : (old new : BoardView) (s : State) (events : List Event) (own : Option ℕ) (from steps b : ℕ) (more : Bool) → IsBoard new → IsDue old own from steps b → HasServed old b new more → AreTurnsBetween old.net s events (shown old)
+    → AreTurnsBetween old.net s (events ++ next_event old.net (shown old) b ∷ []) (shown new)
+turns_between old new s events own from steps b more is due h run =
+    let fits : Fits old.net (shown new) = subst (λ (n : NetView). Fits n (shown new)) (ap (λ (x : BoardView). x.net) h.rest) is.over.fits in
+    active_more (Fits old.net) old.net s events (next_event old.net (shown old) b) (shown old) (shown new) run h.step (due_reads old own from b due.picked) fits
+
 pub more_turns : (old new : BoardView) (events : List Event) (own : Option ℕ) (from steps b : ℕ) (more : Bool) → IsBoard new → IsDue old own from steps b → HasServed old b new more → AreTurnsTo old.net events (shown old)
     → AreTurnsTo new.net (events ++ next_event old.net (shown old) b ∷ []) (shown new)
 more_turns old new events own from steps b more is due h run =
-    let net_is : new.net ≡ old.net = ap (λ (x : BoardView). x.net) h.rest in
-    let fits : Fits old.net (shown new) = subst (λ (n : NetView). Fits n (shown new)) net_is is.over.fits in
-    subst (λ (n : NetView). AreTurnsTo n (events ++ next_event old.net (shown old) b ∷ []) (shown new)) (sym net_is)
-    (active_more (Fits old.net) old.net (opening old.net) events (next_event old.net (shown old) b) (shown old) (shown new) run h.step (due_reads old own from b due.picked) fits)
+    subst (λ (n : NetView). AreTurnsTo n (events ++ next_event old.net (shown old) b ∷ []) (shown new)) (sym (ap (λ (x : BoardView). x.net) h.rest))
+    (turns_between old new (opening old.net) events own from steps b more is due h run)
 
 -- turns are as many as the steps that they lead to
 pub turns_counted : (net : NetView) (events : List Event) (s : State) → AreTurnsTo net events s → s.steps ≡ length events
@@ -127,14 +132,27 @@ opened net board is o = record {
   why = λ t. (let z : true ≡ false = sym t ∙ o.free in absurd cc);
 }
 
+-- ---- how a run goes on
+-- by a turn that makes a step
+pub served_run : (first old new : BoardView) (own : Option ℕ) (from steps b : ℕ) (more : Bool) (goes : GoesOn first old steps) → IsBoard new → IsDue old own from steps b × HasServed old b new more
+    → AreTurnsBetween first.net (shown first) (goes.events ++ next_event old.net (shown old) b ∷ []) (shown new)
+served_run first old new own from steps b more goes is h =
+    subst (λ (n : NetView). AreTurnsBetween n (shown first) (goes.events ++ next_event old.net (shown old) b ∷ []) (shown new)) goes.net_is
+    (turns_between old new (shown first) goes.events own from steps b more is h.0 h.1 (subst (λ (n : NetView). AreTurnsBetween n (shown first) goes.events (shown old)) (sym goes.net_is) goes.run))
+
+-- by one that makes none
+pub ended_run : (first old new : BoardView) (own : Option ℕ) (from steps : ℕ) (end : End) (goes : GoesOn first old steps) → IsEnd old own from steps new end → AreTurnsBetween first.net (shown first) goes.events (shown new)
+ended_run first old new own from steps end goes h =
+    subst (λ (v : StateView). AreTurnsBetween first.net (shown first) goes.events (state_of v)) (sym (end_same old new own from steps end h).1) goes.run
+
+-- by further turns
+pub further_run : (first old new : BoardView) (steps : ℕ) (goes : GoesOn first old steps) (further : GoesOn old new steps) → AreTurnsBetween first.net (shown first) (goes.events ++ further.events) (shown new)
+further_run first old new steps goes further =
+    active_append (Fits first.net) first.net (shown first) goes.events further.events (shown old) (shown new) goes.run
+    (subst (λ (n : NetView). AreTurnsBetween n (shown old) further.events (shown new)) goes.net_is further.run)
+
 -- ---- how turns end a run
 module _ (first old new : BoardView) (own : Option ℕ) (from steps : ℕ) (small : steps ≤ MOST_STEPS) (goes : GoesOn first old steps) (is : IsTurnBoard new) where
-  pub end_goes_on : (end : End) → IsEnd old own from steps new end → GoesOn first new steps
-  end_goes_on end h = let same = end_same old new own from steps end h in record {
-    net_is = same.0 ∙ goes.net_is;
-    within = subst (λ (k : ℕ). k ≤ steps) (sym (ap (λ v. v.steps) same.1)) goes.within;
-  }
-
   pub ended : (end : End) → IsEnd old own from steps new end → HasEnded new steps end
   ended Quiet h = subst (λ (x : BoardView). IsQuiet x.net (shown x)) (sym h.1) h.0
   ended Stuck (inl h) = is.why (ap (λ (x : BoardView). x.stuck) h.1 ∙ h.0.stuck)

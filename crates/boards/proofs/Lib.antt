@@ -1,3 +1,4 @@
+pub mod FurtherTurns
 pub mod Alone
 pub mod Ends
 pub mod Records

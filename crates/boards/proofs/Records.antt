@@ -1,24 +1,80 @@
 -- What turns leave of a board whose steps may be written down.
-use Rattle.std.proofs.Common.{◌≡◌, ℕ, ◌<◌, ◌≤◌, arith, length, true, Option, refl, sym, ap, subst, ◌∙◌, if◌then◌else◌, ◌∷◌, [], ◌++◌}
+use Rattle.std.proofs.Common.{◌≡◌, ℕ, ◌<◌, ◌≤◌, arith, length, Bool, true, Option, refl, sym, ap, subst, ◌∙◌, if◌then◌else◌, ◌∷◌, [], ◌++◌}
 use Rattle.machine_law.specs.Steps.{next_event}
 use Rattle.boards.specs.Runs.{AreTurnsTo}
 use Rattle.boards.specs.Boards.{BoardView, shown, IsBoard}
-use Rattle.boards.specs.Turns.{IsDue, HasNoneDue, IsStepOf, IsTurn}
-use Rattle.boards.specs.Ends.{GoesOn}
-use Rattle.boards.specs.Records.{RecordView, IsRecord, written_by, written, Writes, RecordGoesOn}
+use Rattle.boards.specs.Turns.{IsDue, HasNoneDue, HasServed, IsStepOf, IsEnd, IsTurn}
+use Rattle.boards.specs.Records.{RecordView, IsRecord, written_by, written, written_after, Writes, RecordGoesOn}
 use Rattle.boards.specs.declared.turn.Turn.{Turn}
 use Rattle.boards.specs.declared.turn.Turn.TheVariants.{Stepped, Idle as Unserved, Ended}
-use Rattle.boards.proofs.Ends.{turned, same_turns, more_turns, turns_counted, end_same}
+use Rattle.boards.specs.declared.turn.End.{End}
+use Rattle.boards.proofs.FurtherTurns.{written_after_none, written_after_both}
+use Rattle.boards.proofs.Alone.{served_counts}
+use Rattle.boards.proofs.Ends.{turned, same_turns, more_turns, turns_counted, end_same, served_run, ended_run, further_run}
 
 -- ---- a run that goes on
 pub room_stays : (first old : RecordView) (limit : ℕ) → RecordGoesOn first old limit → (first.records ≡ true → limit ≤ first.room) → old.records ≡ true → limit ≤ old.room
 room_stays first old limit goes room e = subst (λ k. limit ≤ k) (sym goes.room) (room (sym goes.records ∙ e))
 
-pub record_goes_on : (first old new : RecordView) (limit : ℕ) (turn : Turn) → RecordGoesOn first old limit → GoesOn first.board new.board limit → Writes old turn new → RecordGoesOn first new limit
-record_goes_on first old new limit turn goes board writes = record {
-  board = board;
-  records = ap (λ (r : RecordView). r.records) writes ∙ goes.records;
-  room = ap (λ (r : RecordView). r.room) writes ∙ goes.room;
+-- by no turn
+pub record_stays : (r : RecordView) (limit : ℕ) → (shown r.board).steps ≤ limit → RecordGoesOn r r limit
+record_stays r limit within = record {
+  board = record { net_is = refl; within = within; events = []; run = refl };
+  events = written_after_none r.records r.events;
+  records = refl;
+  room = refl;
+}
+
+-- by a turn that makes a step
+pub record_served : (first old new : RecordView) (own : Option ℕ) (from limit b : ℕ) (more : Bool) → IsBoard new.board → RecordGoesOn first old limit → IsDue old.board own from limit b × HasServed old.board b new.board more
+    → Writes old (Stepped b more) new → RecordGoesOn first new limit
+record_served first old new own from limit b more is goes h writes =
+    let event = next_event old.board.net (shown old.board) b in
+    let here : new.events ≡ written_after old.records old.events (event ∷ []) = ap (λ (r : RecordView). r.events) writes in
+    let same : written_after old.records old.events (event ∷ []) ≡ written_after first.records (written_after first.records first.events goes.board.events) (event ∷ []) =
+    ap (λ t. written_after t old.events (event ∷ [])) goes.records ∙ ap (λ xs. written_after first.records xs (event ∷ [])) goes.events in
+    let counted = served_counts old.board new.board b more h.1 in
+    record {
+      board = record {
+        net_is = ap (λ (v : BoardView). v.net) h.1.rest ∙ goes.board.net_is;
+        within = omega (arith, counted, h.0.going.room);
+        events = goes.board.events ++ event ∷ [];
+        run = served_run first.board old.board new.board own from limit b more goes.board is h;
+      };
+      events = here ∙ same ∙ written_after_both first.records first.events goes.board.events (event ∷ []);
+      records = ap (λ (r : RecordView). r.records) writes ∙ goes.records;
+      room = ap (λ (r : RecordView). r.room) writes ∙ goes.room;
+    }
+
+-- by one that makes none
+pub record_ended : (first old new : RecordView) (own : Option ℕ) (from limit : ℕ) (end : End) → RecordGoesOn first old limit → IsEnd old.board own from limit new.board end → Writes old (Ended end) new → RecordGoesOn first new limit
+record_ended first old new own from limit end goes h writes =
+    let same = end_same old.board new.board own from limit end h in
+    record {
+      board = record {
+        net_is = same.0 ∙ goes.board.net_is;
+        within = subst (λ (k : ℕ). k ≤ limit) (sym (ap (λ v. v.steps) same.1)) goes.board.within;
+        events = goes.board.events;
+        run = ended_run first.board old.board new.board own from limit end goes.board h;
+      };
+      events = ap (λ (r : RecordView). r.events) writes ∙ goes.events;
+      records = ap (λ (r : RecordView). r.records) writes ∙ goes.records;
+      room = ap (λ (r : RecordView). r.room) writes ∙ goes.room;
+    }
+
+-- by further turns
+pub record_further : (first old new : RecordView) (limit : ℕ) → RecordGoesOn first old limit → RecordGoesOn old new limit → RecordGoesOn first new limit
+record_further first old new limit goes further = record {
+  board = record {
+    net_is = further.board.net_is ∙ goes.board.net_is;
+    within = further.board.within;
+    events = goes.board.events ++ further.board.events;
+    run = further_run first.board old.board new.board limit goes.board further.board;
+  };
+  events = further.events ∙ ap (λ t. written_after t old.events further.board.events) goes.records ∙ ap (λ xs. written_after first.records xs further.board.events) goes.events
+      ∙ written_after_both first.records first.events goes.board.events further.board.events;
+  records = further.records ∙ goes.records;
+  room = further.room ∙ goes.room;
 }
 
 -- what is written down of a turn that is the step of a block

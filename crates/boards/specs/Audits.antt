@@ -103,9 +103,10 @@ HasAuditEnded audit limit Stuck = SomeNextOverflows audit.board.net (shown audit
 HasAuditEnded audit limit Limit = IsCutOffAt audit.board limit
 HasAuditEnded audit limit Full = IsFilled audit limit
 
--- the run goes on over the same net, with the same room
+-- the run goes on over the same net, with the same room, and its further turns, and no others, are added to the history
 pub record AuditGoesOn (old new : AuditView) (limit : ℕ) : Type 0 where
   pub board : GoesOn old.board new.board limit
+  pub history : new.history ≡ old.history ++ board.events
   pub room : new.room ≡ old.room
 
 -- ---- what a quiet one gives

@@ -1,8 +1,9 @@
 -- How the turns at a board end a run.
-use Rattle.std.specs.Prelude.{◌≡◌, ℕ, ◌<◌, ◌≤◌, Option, Some}
+use Rattle.std.specs.Prelude.{◌≡◌, ℕ, ◌<◌, ◌≤◌, Option, Some, List}
+use Rattle.machine_law.specs.declared.events.Event.{Event}
 use Rattle.machine_law.specs.declared.operations.Operation.TheVariants.{Idle}
 use Rattle.machine_law.specs.States.{State, IsQuiet}
-use Rattle.boards.specs.Runs.{SomeNextOverflows}
+use Rattle.boards.specs.Runs.{SomeNextOverflows, AreTurnsBetween}
 use Rattle.boards.specs.Boards.{BoardView, shown}
 use Rattle.boards.specs.declared.turn.End.{End}
 use Rattle.boards.specs.declared.turn.End.TheVariants.{Quiet, Stuck, Limit, Full}
@@ -28,7 +29,10 @@ HasEnded board limit Stuck = SomeNextOverflows board.net (shown board)
 HasEnded board limit Limit = IsCutOffAt board limit
 HasEnded board limit Full = ⊥
 
--- the run goes on over the same net, with at most so many steps
+-- The run goes on over the same net, with at most so many steps: these further turns lead from the state that the board showed to the
+-- one that it shows now.
 pub record GoesOn (old new : BoardView) (limit : ℕ) : Type 0 where
   pub net_is : new.net ≡ old.net
   pub within : (shown new).steps ≤ limit
+  pub events : List Event
+  pub run : AreTurnsBetween old.net (shown old) events (shown new)

@@ -48,8 +48,13 @@ written r (Ended end) = r.events
 abbrev pub Writes : RecordView → Turn → RecordView → Type 0
 Writes old turn new = new ≡ record old { board = new.board; events = written old turn }
 
--- the run goes on over the same net, with at most so many steps, and is written down as before
+-- what is written down after all of these further turns
+abbrev pub written_after : Bool → List Event → List Event → List Event
+written_after records events further = if records then events ++ further else events
+
+-- The run goes on over the same net, with at most so many steps, and is written down as before: the further turns, and no others.
 pub record RecordGoesOn (old new : RecordView) (limit : ℕ) : Type 0 where
   pub board : GoesOn old.board new.board limit
+  pub events : new.events ≡ written_after old.records old.events board.events
   pub records : new.records ≡ old.records
   pub room : new.room ≡ old.room

@@ -23,9 +23,13 @@ pub record SomeRunOverflows (net : NetView) : Type 0 where
 abbrev pub IsMadeByTurns : NetView → State → Type 0
 IsMadeByTurns net s = IsStateOfActiveRun (Fits net) net s
 
--- these events, in this order, are such turns
+-- these events, in this order, are such turns, from the first state to the second
+abbrev pub AreTurnsBetween : NetView → State → List Event → State → Type 0
+AreTurnsBetween net s events t = ActiveRun (Fits net) net s events t
+
+-- the same from the opening state
 abbrev pub AreTurnsTo : NetView → List Event → State → Type 0
-AreTurnsTo net events s = ActiveRun (Fits net) net (opening net) events s
+AreTurnsTo net events s = AreTurnsBetween net (opening net) events s
 
 -- The events are a run over the net. The state that they lead to, which is the only one, is quiet; the flow is that of the state, and
 -- so a greatest one, in which what the source reaches is closed and tight.

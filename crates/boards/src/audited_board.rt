@@ -121,7 +121,8 @@ impl<G: OrderedGroup> Audited<G> {
     }
 
     /// Makes the turns that are left, on this thread, until the run ends, and answers why it does: as
-    /// `finish`, and `Full` where there is no room for another event.
+    /// `finish`, and `Full` where there is no room for another event. The events of these turns are added
+    /// to the history.
     pub fn finish(&mut self, steps: u64) -> End
         requires counted { steps ≤ MOST_STEPS }
         requires within { (shown self.old.board).steps ≤ steps }

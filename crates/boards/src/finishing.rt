@@ -95,8 +95,9 @@ pub(crate) fn finish_recorded<G: OrderedGroup>(board: &mut Recorded<G>, steps: u
     end
 }
 
-/// Makes the turns that are left, on this thread, until the run ends, and answers why it does. Each is
-/// a turn of the first block that has an operation, or where none has of the next one that waits.
+/// Makes the turns that are left, on this thread, until the run ends, and answers why it does: from the
+/// state that the board shows, these turns lead to the state that it leaves. Each is a turn of the
+/// first block that has an operation, or where none has of the next one that waits.
 pub fn finish<G: OrderedGroup>(board: &mut TurnBoard<G>, steps: u64) -> End
     requires counted { steps ≤ MOST_STEPS }
     requires within { (shown board.old).steps ≤ steps }

@@ -6,8 +6,9 @@
 //! that `machine_law` says of every run holds of it; a turn makes exactly one step, of the block that
 //! it is said to pick, or leaves the state as it was; a board gives a flow only where it is quiet, and
 //! then a greatest one; a `TurnBoard`, on which nothing but turns makes steps, keeps in its type that no
-//! step of its run read an excess of zero and why it is stuck; `finish` says of the board how its run
-//! ends; and an `Audited` board keeps the history of its steps, whose replay leads to its state.
+//! step of its run read an excess of zero and why it is stuck; `finish` goes on with the run of the board
+//! that it takes, and says how it ends; and an `Audited` board keeps the history of its steps, whose
+//! replay leads to its state, and `finish` adds to it the steps that it makes.
 #![tactic(auto)]
 
 mod audited_board;

@@ -1,12 +1,19 @@
 use Rattle.std.proofs.Common.{◌≡◌, ◌∙◌, ◌+◌, ℕ, ap, sym, subst, Some, None, if◌then◌else◌}
 use Rattle.boards.specs.Boards.{shown, blocks_of}
 use Rattle.boards.specs.Ends.{IsAlone}
-use Rattle.boards.proofs.Alone.{served_goes_on, served_counts, still_alone, unserved_quiet}
-use Rattle.boards.proofs.Ends.{end_goes_on, ended}
-use Rattle.boards.specs.declared.turn.Turn.TheVariants.{Stepped, Ended}
-use Rattle.boards.proofs.Records.{record_goes_on}
+use Rattle.boards.proofs.Alone.{all_idle_alone, served_counts, still_alone, unserved_quiet}
+use Rattle.boards.proofs.Ends.{ended}
+use Rattle.boards.proofs.Records.{record_stays, record_served, record_ended}
 use Rattle.boards.proofs.finishing.take_turns.Goals.{then-more, else-more}
 use Rattle.boards.proofs.finishing.take_turns.Goals as goal
+
+pub loop-made-init : goal.loop-made-init
+loop-made-init g c = (
+  record_stays c.args.board.now c.args.steps c.requires.within,
+  all_idle_alone c.args.board.now.board c.requires.idle,
+  sym c.count-made.ensures,
+  c.len-blocks.ensures.made,
+)
 
 pub unreachable-requires : goal.unreachable-requires
 unreachable-requires g c =
@@ -24,7 +31,7 @@ loop-made-preserved g c =
       | then-more w ↦ ap (λ t. if t then Some s.block else None) w.if-more.true ∙ sym w.own-is
       | else-more w ↦ ap (λ t. if t then Some s.block else None) w.if-more.false ∙ sym w.own-is
     ]) in (
-      record_goes_on c.args.board.now old new c.args.steps (Stepped s.block s.more) i.0 (served_goes_on c.args.board.now.board old.board new.board c.loop-made.own c.loop-made.from c.args.steps s.block s.more i.0.board s.ensures.turn) s.ensures.writes,
+      record_served c.args.board.now old new c.loop-made.own c.loop-made.from c.args.steps s.block s.more s.ensures.made.is_board i.0 s.ensures.turn s.ensures.writes,
       subst (IsAlone (blocks_of new.board) (shown new.board)) own (still_alone old.board new.board c.loop-made.own c.loop-made.from c.args.steps s.block s.more i.1 s.ensures.turn),
       served_counts old.board new.board s.block s.more s.ensures.turn.1 ∙ ap (λ (k : ℕ). k + 1) i.2,
       s.ensures.made,
@@ -32,11 +39,7 @@ loop-made-preserved g c =
 
 pub returns-in-Ended-clause-goes_on : goal.returns-in-Ended-clause-goes_on
 returns-in-Ended-clause-goes_on g c =
-    let i = c.loop-made.invariant in
-    let old = c.loop-made.board in
-    let new = c.turn.new.self in
-    record_goes_on c.args.board.now old new c.args.steps (Ended c.in-Ended.end) i.0
-    (end_goes_on c.args.board.now.board old.board new.board c.loop-made.own c.loop-made.from c.args.steps c.requires.counted i.0.board c.in-Ended.ensures.made c.in-Ended.end c.in-Ended.ensures.turn) c.in-Ended.ensures.writes
+    record_ended c.args.board.now c.loop-made.board c.turn.new.self c.loop-made.own c.loop-made.from c.args.steps c.in-Ended.end c.loop-made.invariant.0 c.in-Ended.ensures.turn c.in-Ended.ensures.writes
 
 pub returns-in-Ended-clause-end : goal.returns-in-Ended-clause-end
 returns-in-Ended-clause-end g c =
