@@ -65,7 +65,7 @@ digit_at_most b false h = (grind (arith, nat_tests), grind (arith, nat_tests))
 spaced : (d p v : ℕ) → d ≤ 9 → v < p → d * p + v < 10 * p
 spaced d p v h j = let f : p * d ≤ p * 9 = mul-le-mul_left p h in omega arith
 
-value_below : (bs : List ℕ) → list_all is_digit bs ≡ true → value_of bs < 10 ^ length bs
+pub value_below : (bs : List ℕ) → list_all is_digit bs ≡ true → value_of bs < 10 ^ length bs
 value_below [] h = omega arith
 value_below (b ∷ bs) h =
     let q = digit_at_most b (list_all is_digit bs) h in

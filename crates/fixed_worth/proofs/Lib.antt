@@ -2,6 +2,8 @@ pub mod Cuts
 pub mod Searched
 pub mod Digits
 pub mod FieldLaws
+pub mod FirstNumbers
+pub mod FirstAmounts
 pub mod Fractions
 pub mod Lengths
 pub mod LineLaws

@@ -1,11 +1,12 @@
 -- Numerals with a point and an exponent, in millionths.
-use Rattle.std.specs.Prelude.{ℕ, ℤ, ◌+◌, ◌^◌, ◌==◌, ◌||◌, ◌&&◌, Bool, not, cond, List, ◌++◌, length, nat_lt, nat_le, Option, Result, Ok, Err}
+use Rattle.std.specs.Prelude.{ℕ, ℤ, ◌+◌, ◌^◌, ◌==◌, ◌||◌, ◌&&◌, Bool, not, cond, List, [], ◌∷◌, ◌++◌, length, nat_lt, nat_le, Option, Some, None, Result, Ok, Err}
 use Rattle.std.specs.Result.{result_ok}
 use Rattle.std.specs.List.{list_all, before_first, after_first, position_or_len}
 use Rattle.fixed_worth.specs.declared.numerals.NumberFault.{NumberFault}
 use Rattle.fixed_worth.specs.declared.numerals.NumberFault.TheVariants.{NotANumber, TooLong, TooLarge}
 use Rattle.fixed_worth.specs.Numeral.{is_digit, is_number, value_of, is_minus, unsigned_of, with_sign}
 use Rattle.fixed_worth.specs.Rounding.{rounded_of}
+use Rattle.fixed_worth.specs.Text.{Run}
 
 -- e or E
 unfoldable pub is_mark : ℕ → Bool
@@ -53,6 +54,11 @@ most limit n = cond (nat_le n limit) (Ok n) (Err TooLarge)
 
 abbrev pub decimal_of : List ℕ → Result ℤ NumberFault
 decimal_of text = cond (not (is_decimal text)) (Err NotANumber) (cond (is_too_long text) (Err TooLong) (with_sign (is_minus text) (most (10 ^ 18) (millionths_of text))))
+
+-- The value that the first of the fields is, or why it is none, where there is a field.
+abbrev pub first_decimal : List Run → Option (Result ℤ NumberFault)
+first_decimal [] = None
+first_decimal (field ∷ fields) = Some (decimal_of field.text)
 
 -- The value that a field is, in millionths, if it is one.
 abbrev pub value_read : List ℕ → Option ℤ

@@ -7,3 +7,4 @@ pub mod Laws
 pub mod FaultText
 pub mod Device
 pub mod Record
+pub mod Front

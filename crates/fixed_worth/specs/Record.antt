@@ -1,8 +1,9 @@
 -- Records of a text: numbered lines, whole numbers in their fields, and which lines are skipped.
-use Rattle.std.specs.Prelude.{ℕ, ◌+◌, ◌==◌, Bool, true, false, List, [], ◌∷◌, is_ok}
+use Rattle.std.specs.Prelude.{ℕ, ◌+◌, ◌==◌, Bool, true, false, List, [], ◌∷◌, Option, Some, None, Result, is_ok}
 use Rattle.std.specs.Result.{result_unwrap_or}
+use Rattle.fixed_worth.specs.declared.numerals.NumberFault.{NumberFault}
 use Rattle.fixed_worth.specs.Numeral.{whole_of}
-use Rattle.fixed_worth.specs.Text.{lines_of}
+use Rattle.fixed_worth.specs.Text.{Run, lines_of}
 
 -- A line and its number.
 pub record Line : Type 0 where
@@ -25,6 +26,11 @@ reads field = is_ok (whole_of field)
 -- The whole number that a field is; 0 where it is none.
 abbrev pub number_of : List ℕ → ℕ
 number_of field = result_unwrap_or (whole_of field) 0
+
+-- The whole number that the first of the fields is, or why it is none, where there is a field.
+abbrev pub first_whole : List Run → Option (Result ℕ NumberFault)
+first_whole [] = None
+first_whole (field ∷ fields) = Some (whole_of field.text)
 
 -- The field begins with a percent sign: its line is a remark.
 abbrev pub is_remark : List ℕ → Bool

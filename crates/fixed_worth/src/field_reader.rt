@@ -1,11 +1,17 @@
 //! The fields of a line, and where each begins.
 
-ghost use Rattle.std.specs.Prelude.{◌≡◌, ◌+◌, ◌<◌, ◌≤◌, ◌^◌, ◌==◌, List, length, not, position};
+ghost use Rattle.std.specs.Prelude.{◌≡◌, ◌+◌, ◌<◌, ◌≤◌, ◌^◌, ◌==◌, List, length, drop, not, position};
 ghost use Rattle.std.specs.List.{position_or_len};
 ghost use Rattle.std.specs.Iterator.{item_count, YieldsFirstBy};
 ghost use Rattle.fixed_worth.specs.Text.{Run, is_separator, runs_from};
+ghost use Rattle.fixed_worth.specs.Record.{first_whole};
+ghost use Rattle.fixed_worth.specs.Decimal.{first_decimal};
 
+use crate::first_amount::first_amount;
+use crate::first_number::first_number;
 use crate::limits::LINE_BYTES;
+use crate::millionths::Micros;
+use crate::numerals::{NumberFault, whole};
 use std::marker::Model;
 
 /// A field of a line: a longest run of bytes other than spaces, tabs, colons and carriage returns.
@@ -79,6 +85,91 @@ impl<'a> Fields<'a> {
             rest: line,
             place: 0,
         }
+    }
+
+    /// The next field as a whole number, or why it is none: what [`whole`](crate::whole) says of its text. `None` behind
+    /// the last field.
+    ///
+    /// Either way the field is passed. A number of at most nineteen digits, as nearly all are, is read while its end is
+    /// looked for, and the separator behind it is passed too.
+    #[inline(always)]
+    pub fn next_whole(&mut self) -> Option<Result<u64, NumberFault>>
+        ensures value { result ≡ first_whole self.old }
+        ensures left { self.new ≡ drop 1 self.old }
+    {
+        if self.rest.is_empty() {
+            return None;
+        }
+        let Some(first) = first_number(self.rest) else {
+            let (read, left) = self.now().after_whole();
+            *self = left;
+            return read;
+        };
+        self.place += (self.rest.len() - first.rest.len()) as u32;
+        self.rest = first.rest;
+        Some(Ok(first.value))
+    }
+
+    /// The next field as an amount, or why it is none: what [`Micros::from_text`] says of its text. `None` behind the last
+    /// field.
+    ///
+    /// Either way the field is passed. An amount with at most twelve digits before its point and six behind it, and
+    /// without an exponent, is read while its end is looked for.
+    #[inline(always)]
+    pub fn next_amount(&mut self) -> Option<Result<Micros, NumberFault>>
+        ensures value { result ≡ first_decimal self.old }
+        ensures left { self.new ≡ drop 1 self.old }
+    {
+        if self.rest.is_empty() {
+            return None;
+        }
+        let Some(first) = first_amount(self.rest) else {
+            let (read, left) = self.now().after_amount();
+            *self = left;
+            return read;
+        };
+        self.place += (self.rest.len() - first.rest.len()) as u32;
+        self.rest = first.rest;
+        Some(Ok(first.amount))
+    }
+
+    // The same fields once more.
+    fn now(&self) -> Fields<'a>
+        ensures { result ≡ self.now }
+    {
+        Fields {
+            rest: self.rest,
+            place: self.place,
+        }
+    }
+
+    // The next field as a whole number, of whatever form, and the fields behind it. By value, so that a loop over numbers
+    // can hold its fields in registers.
+    #[cold]
+    #[inline(never)]
+    fn after_whole(mut self) -> (Option<Result<u64, NumberFault>>, Fields<'a>)
+        ensures value { result.0 ≡ first_whole self.entry }
+        ensures left { result.1 ≡ drop 1 self.entry }
+    {
+        let read = match self.next() {
+            Some(field) => Some(whole(field.text)),
+            None => None,
+        };
+        (read, self)
+    }
+
+    // The next field as an amount, of whatever form, and the fields behind it.
+    #[cold]
+    #[inline(never)]
+    fn after_amount(mut self) -> (Option<Result<Micros, NumberFault>>, Fields<'a>)
+        ensures value { result.0 ≡ first_decimal self.entry }
+        ensures left { result.1 ≡ drop 1 self.entry }
+    {
+        let read = match self.next() {
+            Some(field) => Some(Micros::from_text(field.text)),
+            None => None,
+        };
+        (read, self)
     }
 }
 

@@ -17,6 +17,8 @@ mod devices;
 mod failing_device;
 mod fault_names;
 mod field_reader;
+mod first_amount;
+mod first_number;
 pub mod laws;
 mod limits;
 mod line_reader;

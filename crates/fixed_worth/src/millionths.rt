@@ -41,6 +41,14 @@ impl Micros {
         }
     }
 
+    // The amount of so many millionths.
+    pub(crate) fn of(millionths: i64) -> Micros
+        requires { unsigned_abs millionths ≤ 10 ^ 18 }
+        ensures { result ≡ millionths }
+    {
+        Micros { millionths }
+    }
+
     /// Reads an amount such as `12`, `-0.5`, `+.5`, `5.` or `1.25e-3`, to the nearest millionth, and away from zero from
     /// the middle between two.
     ///

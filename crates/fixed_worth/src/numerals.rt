@@ -15,7 +15,7 @@ pub enum NumberFault {
     TooLarge,
 }
 
-fn is_digit_byte(b: u8) -> bool
+pub(crate) fn is_digit_byte(b: u8) -> bool
     ensures { result ≡ is_digit b }
 {
     b >= b'0' && b <= b'9'

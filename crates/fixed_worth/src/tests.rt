@@ -264,6 +264,49 @@ fn fields_of_a_line(rt: HostRuntime) {
 }
 
 #[test]
+fn numbers_of_a_line(rt: HostRuntime) {
+    let line = b" 12:x 18446744073709551616\t12345678 00000000000000000007 1234567\r";
+    let mut fields = Fields::new(line);
+    for want in [
+        Ok(12),
+        Err(NotANumber),
+        Err(TooLarge),
+        Ok(12_345_678),
+        Ok(7),
+        Ok(1_234_567),
+    ] {
+        assert_eq!(rt; fields.next_whole(), Some(want));
+    }
+    assert_eq!(rt; fields.next_whole(), None);
+}
+
+// The millionths of the next field.
+fn next_millionths(fields: &mut Fields) -> Option<Result<i64, NumberFault>> {
+    match fields.next_amount()? {
+        Ok(amount) => Some(Ok(amount.get())),
+        Err(fault) => Some(Err(fault)),
+    }
+}
+
+#[test]
+fn amounts_of_a_line(rt: HostRuntime) {
+    let mut fields = Fields::new(b"-15447.51 +.5 5.:1e-3 . 1000000000000.1 0.0000005 -7\r");
+    for want in [
+        Ok(-15_447_510_000),
+        Ok(500_000),
+        Ok(5_000_000),
+        Ok(1_000),
+        Err(NotANumber),
+        Err(TooLarge),
+        Ok(1),
+        Ok(-7_000_000),
+    ] {
+        assert_eq!(rt; next_millionths(&mut fields), Some(want));
+    }
+    assert_eq!(rt; next_millionths(&mut fields), None);
+}
+
+#[test]
 fn laws_can_be_named() {
     laws::lines_make_the_text(b"one\n");
     laws::fields_are_longest_runs(b"a b");

@@ -1,3 +1,4 @@
+mod NumbersAlone
 pub mod HeaderLines
 pub mod BodyLines
 pub mod Names

@@ -1,6 +1,6 @@
 //! Reading one line behind the header.
 
-ghost use Rattle.std.specs.Prelude.{◌≡◌, ◌≤◌, false, Some, length, MatchResult};
+ghost use Rattle.std.specs.Prelude.{◌≡◌, ℕ, ◌≤◌, false, Some, length, IfSome, MatchResult};
 ghost use Rattle.fixed_worth.specs.Text.{fields_of};
 ghost use Rattle.fixed_worth.specs.Record.{is_skipped};
 ghost use Rattle.upit_file.specs.Header as header;
@@ -22,8 +22,42 @@ pub(crate) enum Record {
     Value(u64, Micros),
 }
 
+// The record that a line of two fields is, which are numbers as nearly all are. Of another line there is none.
+fn numbers_alone(text: &[u8]) -> Option<Record>
+    requires { length text.now ≤ LINE_BYTES }
+    ensures { IfSome result (λ read. (line : ℕ) → IsRecord line (fields_of text.now) read) }
+{
+    let mut fields = Fields::new(text);
+    let Some(Ok(block)) = fields.next_whole() else {
+        return None;
+    };
+    let Some(Ok(value)) = fields.next_amount() else {
+        return None;
+    };
+    match fields.next_whole() {
+        None => Some(Record::Value(block, value)),
+        Some(_) => None,
+    }
+}
+
 // The record that a line is.
 pub(crate) fn read_record(text: &[u8], line: u64) -> Result<Record, UpitFault>
+    requires { length text.now ≤ LINE_BYTES }
+    ensures { MatchResult result
+        (λ read. IsRecord line (fields_of text.now) read)
+        (λ e. (is_skipped (fields_of text.now) ≡ false) × (header.is_end (fields_of text.now) ≡ false)
+        × (spec.shape_fault line (fields_of text.now) ≡ Some e)) }
+{
+    match numbers_alone(text) {
+        Some(read) => Ok(read),
+        None => read_any_record(text, line),
+    }
+}
+
+// The same, of any line.
+#[cold]
+#[inline(never)]
+fn read_any_record(text: &[u8], line: u64) -> Result<Record, UpitFault>
     requires { length text.now ≤ LINE_BYTES }
     ensures { MatchResult result
         (λ read. IsRecord line (fields_of text.now) read)

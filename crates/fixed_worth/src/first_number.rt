@@ -1,0 +1,90 @@
+//! A field that stands first in a text and is a short number: its bytes are looked at once.
+
+ghost use Rattle.std.specs.Prelude.{◌≡◌, ◌<◌, ◌≤◌, ◌^◌, ℕ, List, Ok, IfSome, IsTrue, length, take, drop, slice_index_or};
+ghost use Rattle.std.specs.List.{list_all};
+ghost use Rattle.fixed_worth.specs.Front.{BeginsWithField};
+ghost use Rattle.fixed_worth.specs.Numeral.{is_digit, value_of, whole_of};
+ghost use Rattle.fixed_worth.specs.Text.{is_separator};
+
+use crate::field_reader::is_separator;
+use crate::line_reader::behind_first;
+use crate::numerals::is_digit_byte;
+
+// How many bytes are looked at without asking each time whether the text goes on.
+const WINDOW: usize = 8;
+
+// The value of the digits that come first among so many bytes, and how many they are.
+#[inline(always)]
+fn digits_among(text: &[u8], most: usize) -> (u64, usize)
+    requires within { most ≤ length text.now }
+    requires few { most ≤ 19 }
+    ensures within { result.1 ≤ most }
+    ensures digits { IsTrue (list_all is_digit (take result.1 text.now)) }
+    ensures value { result.0 ≡ value_of (take result.1 text.now) }
+    ensures small { result.0 < 10 ^ result.1 }
+{
+    let mut value: u64 = 0;
+    let mut width = 0;
+    while width < most && is_digit_byte(text[width]) {
+        value = value * 10 + u64::from(text[width] - b'0');
+        width += 1;
+    }
+    (value, width)
+}
+
+// The value of the digits that come first, and how many they are: at most nineteen, so that no sum overflows.
+#[inline(always)]
+pub(crate) fn leading_digits(text: &[u8]) -> (u64, usize)
+    ensures within { result.1 ≤ length text.now }
+    ensures few { result.1 ≤ 19 }
+    ensures digits { IsTrue (list_all is_digit (take result.1 text.now)) }
+    ensures value { result.0 ≡ value_of (take result.1 text.now) }
+    ensures small { result.0 < 10 ^ result.1 }
+{
+    if text.len() >= WINDOW {
+        let (value, width) = digits_among(text, WINDOW);
+        if width < WINDOW {
+            return (value, width);
+        }
+    }
+    digits_among(text, text.len().min(19))
+}
+
+// What is behind the end of a field that stands before this: nothing is, or a separator comes first. Where another byte
+// does, the field goes on.
+#[inline(always)]
+pub(crate) fn behind_field(text: &[u8]) -> Option<&[u8]>
+    ensures rest { IfSome result (λ rest. rest.now ≡ drop 1 text.now) }
+    ensures ends { IfSome result (λ rest. 0 < length text.now → IsTrue (is_separator (slice_index_or text.now 0 0))) }
+{
+    if text.is_empty() {
+        return Some(text);
+    }
+    if is_separator(text[0]) {
+        Some(behind_first(text))
+    } else {
+        None
+    }
+}
+
+// A number that stands first in a text, and what is left behind its field.
+#[derive(Clone, Copy)]
+pub(crate) struct FirstNumber<'a> {
+    pub value: u64,
+    pub rest: &'a [u8],
+}
+
+// The number that stands first in a text, where its field is at most nineteen digits. Of another field, and where the text
+// begins with a separator, there is none.
+#[inline(always)]
+pub(crate) fn first_number(text: &[u8]) -> Option<FirstNumber<'_>>
+    ensures { IfSome result (λ first. (field : List ℕ) × BeginsWithField text.now field first.rest.now × (whole_of field ≡ Ok first.value)) }
+{
+    let (value, width) = leading_digits(text);
+    if width == 0 {
+        return None;
+    }
+    let (_, behind) = text.split_at(width);
+    let rest = behind_field(behind)?;
+    Some(FirstNumber { value, rest })
+}
