@@ -5,7 +5,9 @@ pub mod Slots
 pub mod Starts
 pub mod Below
 pub mod Order
+pub mod Firsts
 pub mod Sorting
+pub mod Settled
 pub mod Finding
 pub mod Shapes
 pub mod History

@@ -1,8 +1,8 @@
 -- What is wrong with a record by itself.
-use Rattle.std.proofs.Common.{◌≡◌, ℕ, suc, ◌<◌, Bool, true, false, ltb, List, [], ◌∷◌, length, map, Option, Some, None, Result, Ok, Err, refl, sym, ap, ◌∙◌, arith}
+use Rattle.std.proofs.Common.{◌≡◌, ℕ, suc, ◌<◌, ◌≤◌, Bool, true, false, ltb, List, [], ◌∷◌, length, map, take, drop, Option, Some, None, Result, Ok, Err, refl, sym, ap, ◌∙◌, arith}
 use Rattle.std.specs.Prelude.{◌||◌, nat_le, is_ok}
 use Rattle.std.specs.List.{list_all, list_any}
-use Rattle.std.specs.Result.{MatchResult, IsErrAnd, result_unwrap_or}
+use Rattle.std.specs.Result.{result_unwrap_or}
 use Rattle.std.proofs.lemmas.Bool.{false≢true}
 use Rattle.std.proofs.lemmas.Bool.Decides.{nat_tests}
 use Rattle.std.proofs.lemmas.List.{length-map}
@@ -11,7 +11,8 @@ use Rattle.fixed_worth.specs.declared.numerals.NumberFault.{NumberFault}
 use Rattle.fixed_worth.specs.Numeral.{whole_of}
 use Rattle.prec_file.specs.declared.prec_fault.PrecFault.{PrecFault}
 use Rattle.prec_file.specs.declared.prec_fault.PrecFault.TheVariants.{Text, Number, UnknownBlock, Repeated, WrongCount, TooMany, NoMemory}
-use Rattle.fixed_worth.specs.Record.{reads, number_of, is_remark, is_skipped}
+use Rattle.fixed_worth.specs.Record.{first_whole, reads, number_of, is_remark, is_skipped}
+use Rattle.fixed_worth.proofs.FirstNumbers.{first_is, no_field, number_no_remark}
 use Rattle.prec_file.specs.Records.{pairs_in, shape_fault, UnlessMemory}
 use Rattle.prec_file.specs.Internal.{TellsFault}
 
@@ -25,16 +26,15 @@ unless_told (Repeated k) o f h = f h
 unless_told (WrongCount k) o f h = f h
 unless_told (TooMany k) o f h = f h
 
--- what a result was before another error was put in place of its own
-pub err_before : {T D E : Type 0} (Q : D → E → Type 0) (r : Result T D) (s : Result T E) (e : E) → s ≡ Err e → MatchResult r (λ y. s ≡ Ok y) (λ d. IsErrAnd s (Q d)) → (d : D) × (r ≡ Err d) × Q d e
-err_before Q (Ok y) s e is h = absurd (false≢true (ap is_ok (sym is ∙ h)))
-err_before Q (Err d) s e is h = (d, refl, rw is at h)
-
 pub reads_ok : (f : List ℕ) (v : ℕ) → Ok v ≡ whole_of f → (reads f ≡ true) × (number_of f ≡ v)
 reads_ok f v e = (ap is_ok (sym e), ap (λ r. result_unwrap_or r 0) (sym e))
 
 pub reads_err : (f : List ℕ) (d : NumberFault) → Err d ≡ whole_of f → reads f ≡ false
 reads_err f d e = ap is_ok (sym e)
+
+-- the texts of fields
+abbrev pub texts : List Run → List (List ℕ)
+texts rs = map (λ r. r.text) rs
 
 two : (k : ℕ) → ltb (suc (suc k)) 2 ≡ false
 two k = grind (arith, nat_tests)
@@ -80,3 +80,49 @@ texts_length rs = simp length-map
 
 pub pairs_at : (v : ℕ) (fs : List (List ℕ)) (f g : List ℕ) (gs : List (List ℕ)) → fs ≡ f ∷ g ∷ gs → is_remark f ≡ false → number_of f ≡ v → pairs_in fs ≡ map (λ p. (v, p)) (map number_of gs)
 pairs_at v fs f g gs e m k = rw (e, m) (ap (λ (w : ℕ). map (λ p. (w, p)) (map number_of gs)) k)
+
+-- The fields of a line of which two were read as numbers, or one and no second one was there.
+pub one_read : (rs ss : List Run) (v : ℕ) → Some (Ok v) ≡ first_whole rs → ss ≡ drop 1 rs → None ≡ first_whole ss → (f : List ℕ) × (texts rs ≡ f ∷ []) × (reads f ≡ true)
+one_read rs ss v a left b =
+    let f = first_is rs (Ok v) a in
+    let none : drop 1 rs ≡ [] = sym left ∙ no_field ss b in
+    (f.0.text, ap texts (f.1 ∙ ap (λ ts. f.0 ∷ ts) none), (reads_ok f.0.text v f.2).0)
+
+pub record TwoRead (rs ts : List Run) (v : ℕ) (read : Result ℕ NumberFault) : Type 0 where
+  pub block : List ℕ
+  pub count : List ℕ
+  pub fields : texts rs ≡ block ∷ count ∷ texts ts
+  pub good : reads block ≡ true
+  pub value : number_of block ≡ v
+  pub second : read ≡ whole_of count
+  pub plain : is_remark block ≡ false
+  pub fewer : length ts ≤ length rs
+
+pub two_read : (rs ss ts : List Run) (v : ℕ) (read : Result ℕ NumberFault) → Some (Ok v) ≡ first_whole rs → ss ≡ drop 1 rs → Some read ≡ first_whole ss → ts ≡ drop 1 ss → TwoRead rs ts v read
+two_read rs ss ts v read a left b behind =
+    let f = first_is rs (Ok v) a in
+    let g = first_is ss read b in
+    let k = reads_ok f.0.text v f.2 in
+    record {
+      block = f.0.text;
+      count = g.0.text;
+      fields = ap texts (f.1 ∙ ap (λ us. f.0 ∷ us) (sym left ∙ g.1 ∙ ap (λ us. g.0 ∷ us) (sym behind)));
+      good = k.0;
+      value = k.1;
+      second = g.2;
+      plain = number_no_remark f.0.text k.0;
+      fewer = let a = ap length f.1 in let b = ap length g.1 in let c = ap length left in let d = ap length behind in omega (arith, a, b, c, d);
+    }
+
+unread : (f : List ℕ) (fs gs : List (List ℕ)) → fs ≡ f ∷ gs → list_all reads (take 1 fs) ≡ false → (t : Bool) → reads f ≡ t → reads f ≡ false
+unread f fs gs e h true r = let none : true ≡ false = rw (e, r) at h in absurd (false≢true (sym none))
+unread f fs gs e h false r = r
+
+-- What is wrong with a line whose first field is no number.
+pub unread_alone : (line : ℕ) (fs : List (List ℕ)) (f : List ℕ) → fs ≡ f ∷ [] → is_remark f ≡ false → (is_skipped fs ≡ false) × ((n : ℕ) → shape_fault n line fs ≡ Some (Text line))
+unread_alone line fs f e m = ((too_few 0 line fs f e m).0, λ n. (too_few n line fs f e m).1)
+
+pub unread_first : (line : ℕ) (fs : List (List ℕ)) (f g : List ℕ) (gs : List (List ℕ)) → fs ≡ f ∷ g ∷ gs → is_remark f ≡ false → list_all reads (take 1 fs) ≡ false → (is_skipped fs ≡ false) × ((n : ℕ) → shape_fault n line fs ≡ Some (Number line))
+unread_first line fs f g gs e m h =
+    let r = unread f fs (g ∷ gs) e h (reads f) refl in
+    ((bad_first 0 line fs f g gs e m r).0, λ n. (bad_first n line fs f g gs e m r).1)

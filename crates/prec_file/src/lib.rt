@@ -2,16 +2,18 @@
 //!
 //! A pair (b, p) says that block b rests on block p, so that b can be dug only after p. `Rests` holds such pairs,
 //! each once and in order, and answers both ways at once: what a block rests on, and which pairs rest on a block.
-//! `read_prec` reads them from a precedence file, and `write_prec` writes them to one.
+//! `Predecessors` holds them to answer the first alone, with about a quarter of the memory. `read_prec` and `read_listed`
+//! read them from a precedence file, and `write_prec` writes them to one.
 //!
 //! It stands on `fixed_worth` for lines, fields, whole numbers and devices.
 //!
-//! Above it, callers may count on this: a `Rests` is exactly the set of the pairs that were listed, but those of a
-//! block with itself; a text is refused exactly where it has a fault, with the first faulty line and the first of
-//! its faults; both are built in the time of a sort, and one that finds its pairs in order in linear time; what is
-//! written is read back as the same pairs.
+//! Above it, callers may count on this: a `Rests` and a `Predecessors` are exactly the set of the pairs that were listed,
+//! but those of a block with itself; a text is refused exactly where it has a fault, with the first faulty line and the
+//! first of its faults; both types are built in the time of a sort, or in linear time where the pairs are listed in order;
+//! what is written is read back as the same pairs.
 #![tactic(auto)]
 
+mod first_pairs;
 mod index;
 pub mod laws;
 mod limits;
@@ -19,6 +21,8 @@ mod listed_pairs;
 mod pair_order;
 mod prec_fault;
 mod precedence;
+mod predecessors;
+mod predecessors_ref;
 mod reading;
 mod records;
 mod rests_fault;
@@ -29,6 +33,8 @@ pub use limits::MOST_PAIRS;
 pub use listed_pairs::ListedPairs;
 pub use prec_fault::PrecFault;
 pub use precedence::Rests;
+pub use predecessors::Predecessors;
+pub use predecessors_ref::PredecessorsRef;
 pub use reading::{read_listed, read_prec};
 pub use rests_fault::RestsFault;
 pub use write_fault::PrecWriteFault;

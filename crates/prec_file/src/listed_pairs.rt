@@ -3,9 +3,10 @@
 ghost use Rattle.std.specs.Prelude.{◌≡◌, ◌≤◌, All, length, IfOk};
 ghost use Rattle.prec_file.specs.Rests.{ArePairsOf, IsKnown};
 
-use crate::Rests;
 use crate::limits::MOST_PAIRS;
-use crate::precedence::settled;
+use crate::pair_order::settled;
+use crate::precedence::indexed;
+use crate::{Predecessors, Rests};
 use fixed_worth::MOST_BLOCKS;
 use std::alloc::{AllocError, Global};
 use std::marker::Model;
@@ -50,6 +51,17 @@ impl ListedPairs {
     pub fn settle(self, alloc: Global) -> Result<Rests, AllocError>
         ensures { IfOk result (λ r. (r.blocks ≡ self.blocks) × ArePairsOf self.pairs r.pairs) }
     {
-        settled(alloc, self.blocks, self.pairs)
+        indexed(alloc, self.blocks, settled(self.pairs))
+    }
+
+    /// The same, by block alone: the list of the pairs is given back.
+    ///
+    /// # Errors
+    /// Where memory is refused.
+    pub fn into_predecessors(self, alloc: Global) -> Result<Predecessors, AllocError>
+        ensures { IfOk result (λ r. (r.blocks ≡ self.blocks) × ArePairsOf self.pairs r.pairs) }
+    {
+        let pairs = settled(self.pairs);
+        Predecessors::of_pairs(alloc, self.blocks, &pairs)
     }
 }

@@ -1,18 +1,19 @@
 //! Who rests on whom, by block and by predecessor.
 
-ghost use Rattle.std.specs.Prelude.{◌≡◌, ℕ, ◌+◌, ◌<◌, ◌≤◌, All, IfOk, MatchResult, MatchOption, length, slice_index_or, map, ◌==◌, not};
-ghost use Rattle.std.specs.List.{filter, Contains};
-ghost use Rattle.prec_file.specs.Rests.{RestsView, IsRests, AreApart, IsKnown, KnownAt, IsFirstNot, IsRising, ArePairsOf, from_at, first_of, above_of, below_of};
-ghost use Rattle.prec_file.specs.Internal.{IsIndexed, IsStarts};
+ghost use Rattle.std.specs.Prelude.{◌≡◌, ℕ, ◌+◌, ◌<◌, ◌≤◌, All, IfOk, MatchResult, MatchOption, length, slice_index_or};
+ghost use Rattle.std.specs.List.{Contains};
+ghost use Rattle.prec_file.specs.Rests.{IsRests, AreApart, IsKnown, KnownAt, IsFirstNot, IsRising, ArePairsOf, first_of, above_of, below_of};
 ghost use Rattle.prec_file.specs.FaultStands.{FaultStands};
 
-use crate::RestsFault;
+use crate::first_pairs::firsts_of;
 use crate::index::{filled_by, part, starts_of};
 use crate::limits::MOST_PAIRS;
-use crate::pair_order::{bottoms_of, in_order, only_apart, tops_of};
+use crate::pair_order::tops_of;
+use crate::{ListedPairs, PredecessorsRef, RestsFault};
 use fixed_worth::MOST_BLOCKS;
 use std::alloc::{AllocError, Global};
 use std::marker::Model;
+use std::snapshot::Snapshot;
 
 /// Pairs (b, p) of n blocks, in which b rests on p: each once, ordered by b and then by p.
 #[derive(Drop)]
@@ -30,22 +31,14 @@ pub struct Rests {
 }
 
 impl Model for Rests {
+    ghost use Rattle.prec_file.specs.Rests.{RestsView};
+    ghost use Rattle.prec_file.specs.Internal.{IsIndexed};
+
     ghost Value = { RestsView };
 
     ghost view = { λ r. record { blocks = r.blocks; pairs = r.pairs.items } };
 
     ghost invariant = { λ r. IsIndexed r.blocks r.pairs.items r.firsts.items r.tops.items r.starts.items r.filled.items };
-}
-
-// At each block up to n, the number of its first pair. The list of the pairs' blocks is given back at the end.
-fn firsts_of(alloc: Global, n: u32, pairs: &[(u32, u32)]) -> Result<Vec<u32>, AllocError>
-    requires blocks { n ≤ MOST_BLOCKS }
-    requires few { length pairs.now ≤ MOST_PAIRS }
-    requires known { All (IsKnown n) pairs.now }
-    ensures { IfOk result (λ v. IsStarts (from_at pairs.now) (length pairs.now) n v.items) }
-{
-    let bottoms = bottoms_of(alloc, pairs)?;
-    starts_of(alloc, n, &bottoms)
 }
 
 // The two indexes of pairs in order.
@@ -69,16 +62,6 @@ pub(crate) fn indexed(alloc: Global, n: u32, pairs: Vec<(u32, u32)>) -> Result<R
         starts,
         filled,
     })
-}
-
-// Pairs of known blocks, but those of a block with itself, put in order in their own place.
-pub(crate) fn settled(alloc: Global, n: u32, pairs: Vec<(u32, u32)>) -> Result<Rests, AllocError>
-    requires blocks { n ≤ MOST_BLOCKS }
-    requires few { length pairs.items ≤ MOST_PAIRS }
-    requires known { All (IsKnown n) pairs.items }
-    ensures { IfOk result (λ r. (r.blocks ≡ n) × ArePairsOf pairs.items r.pairs) }
-{
-    indexed(alloc, n, in_order(only_apart(pairs)))
 }
 
 // The first pair with a block at n or above.
@@ -110,7 +93,8 @@ impl Rests {
             return Err(RestsFault::TooMany);
         }
         let pairs = Vec::from_slice(alloc, listed).map_err(|_| RestsFault::NoMemory)?;
-        settled(alloc, n, pairs).map_err(|_| RestsFault::NoMemory)
+        let listed = ListedPairs::of(n, pairs);
+        listed.settle(alloc).map_err(|_| RestsFault::NoMemory)
     }
 
     /// The same pairs, with memory of their own.
@@ -130,6 +114,14 @@ impl Rests {
             starts,
             filled,
         })
+    }
+
+    /// The same pairs by block alone, lent.
+    pub fn predecessors(&self) -> PredecessorsRef<'_>
+        ensures { result ≡ self.now }
+    {
+        let pairs = Snapshot::of(&self.pairs);
+        PredecessorsRef::of_parts(self.blocks, &self.firsts, &self.tops, &pairs)
     }
 
     /// How many blocks there are.
@@ -160,7 +152,7 @@ impl Rests {
         requires { b < self.now.blocks }
         ensures { result ≡ first_of self.now.pairs b }
     {
-        self.firsts[b as usize]
+        self.predecessors().first(b)
     }
 
     /// The blocks that b rests on, ascending: those of the pairs from `first(b)` on.
@@ -168,9 +160,7 @@ impl Rests {
         requires { b < self.now.blocks }
         ensures { result.now ≡ above_of self.now.pairs b }
     {
-        let from = self.firsts[b as usize];
-        let to = self.firsts[b as usize + 1];
-        part(&self.tops, from, to)
+        self.predecessors().above(b)
     }
 
     /// The numbers of the pairs in which a block rests on p, ascending.
@@ -190,8 +180,6 @@ impl Rests {
             (¬ (Contains self.now.pairs (b, p)))
             (λ k. (k < length self.now.pairs) × (slice_index_or self.now.pairs k (0, 0) ≡ (b, p))) }
     {
-        let first = self.firsts[b as usize];
-        let i = self.above(b).binary_search(&p).ok()?;
-        Some(first + i as u32)
+        self.predecessors().find(b, p)
     }
 }

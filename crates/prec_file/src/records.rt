@@ -1,13 +1,13 @@
 //! The records of a precedence file: `b k p1 .. pk`, a block, how many predecessors it has, and these.
 
-ghost use Rattle.std.specs.Prelude.{◌≡◌, ℕ, ◌<◌, ◌≤◌, ◌||◌, ◌++◌, false, length, map, nat_le, MatchResult, MatchOption, IsTrue};
+ghost use Rattle.std.specs.Prelude.{◌≡◌, ℕ, ◌<◌, ◌≤◌, ◌||◌, ◌++◌, false, length, map, take, nat_le, MatchResult, MatchOption, IsTrue};
 ghost use Rattle.std.specs.List.{list_all, list_any};
 ghost use Rattle.fixed_worth.specs.Text.{Run, fields_of};
 ghost use Rattle.fixed_worth.specs.Record.{reads, number_of, is_skipped};
 ghost use Rattle.prec_file.specs.Records.{block_of, count_of, predecessors_of, shape_fault, pairs_in};
 
 use crate::PrecFault;
-use fixed_worth::{Fields, LINE_BYTES, is_remark, whole};
+use fixed_worth::{Fields, LINE_BYTES, is_remark};
 
 // A record whose blocks are known.
 #[derive(Clone, Copy)]
@@ -35,7 +35,7 @@ struct Predecessors {
 // before want of memory, so the fields are read to the end.
 fn read_predecessors(
     pairs: &mut Vec<(u32, u32)>,
-    fields: Fields,
+    mut fields: Fields,
     block: u64,
     n: u32,
     line: u64,
@@ -51,8 +51,10 @@ fn read_predecessors(
     let mut unknown = block >= n as u64;
     let mut refused = false;
     let mut found: u64 = 0;
-    for field in fields {
-        let predecessor = whole(field.text).map_err(|_| PrecFault::Number(line))?;
+    while let Some(read) = fields.next_whole() {
+        let Ok(predecessor) = read else {
+            return Err(PrecFault::Number(line));
+        };
         if block < n as u64 && predecessor < n as u64 {
             if pairs.push((block as u32, predecessor as u32)).is_err() {
                 refused = true;
@@ -67,6 +69,26 @@ fn read_predecessors(
         unknown,
         refused,
     })
+}
+
+// What is wrong with a line whose first field is no number, unless it is a remark: a second field that is missing comes
+// before that.
+fn fault_before_numbers(text: &[u8], line: u64) -> Option<PrecFault>
+    requires short { length text.now ≤ LINE_BYTES }
+    requires unread { list_all reads (take 1 (fields_of text.now)) ≡ false }
+    ensures { MatchOption result
+        (IsTrue (is_skipped (fields_of text.now)))
+        (λ e. (is_skipped (fields_of text.now) ≡ false) × ((n : ℕ) → shape_fault n line (fields_of text.now) ≡ Some e)) }
+{
+    let mut fields = Fields::new(text);
+    let first = fields.next()?;
+    if is_remark(first.text) {
+        return None;
+    }
+    match fields.next() {
+        None => Some(PrecFault::Text(line)),
+        Some(_) => Some(PrecFault::Number(line)),
+    }
 }
 
 // Reads a line that may be a record, and adds its pairs where there is memory for them.
@@ -89,15 +111,18 @@ pub(crate) fn read_record(
         (λ e. (is_skipped (fields_of text.now) ≡ false) × (shape_fault n line (fields_of text.now) ≡ Some e)) }
 {
     let mut fields = Fields::new(text);
-    let Some(first) = fields.next() else {
+    let Some(first) = fields.next_whole() else {
         return Ok(None);
     };
-    if is_remark(first.text) {
-        return Ok(None);
-    }
-    let second = fields.next().ok_or(PrecFault::Text(line))?;
-    let block = whole(first.text).map_err(|_| PrecFault::Number(line))?;
-    let count = whole(second.text).map_err(|_| PrecFault::Number(line))?;
+    let Ok(block) = first else {
+        return fault_before_numbers(text, line).map_or(Ok(None), Err);
+    };
+    let Some(second) = fields.next_whole() else {
+        return Err(PrecFault::Text(line));
+    };
+    let Ok(count) = second else {
+        return Err(PrecFault::Number(line));
+    };
     let listed = read_predecessors(pairs, fields, block, n, line)?;
     if listed.unknown {
         return Err(PrecFault::UnknownBlock(line));

@@ -1,4 +1,6 @@
-use crate::{PrecFault, Rests, RestsFault, read_prec};
+ghost use Rattle.std.specs.Prelude.{◌≡◌, IfOk};
+
+use crate::{PrecFault, Predecessors, Rests, RestsFault, read_listed, read_prec};
 use std::alloc::Global;
 use std::test::Fail;
 
@@ -13,6 +15,30 @@ fn index_of_pairs(rt: HostRuntime) -> Result<(), Fail> {
     assert_eq!(rt; (rests.pair(0), rests.pair(1)), ((1, 2), (2, 0)));
     assert_eq!(rt; (rests.above(2), rests.first(2)), ([0].as_slice(), 1));
     assert_eq!(rt; rests.below(0), [1].as_slice());
+    Ok(())
+}
+
+// The predecessors of three blocks, as a text lists them.
+fn three_in_text(alloc: Global, text: &[u8]) -> Result<Predecessors, Fail>
+    ensures { IfOk result (λ r. r.blocks ≡ 3) }
+{
+    let listed = read_listed(alloc, text, 3)?;
+    Ok(listed.into_predecessors(alloc)?)
+}
+
+#[test]
+fn predecessors_alone(rt: HostRuntime) -> Result<(), Fail> {
+    // in order, and not
+    for text in [b"1 1 2\n2 1 0\n".as_slice(), b"2 3 2 0 0\n1 1 2\n"] {
+        let held = three_in_text(rt.alloc(), text)?;
+        let blocks = held.lent();
+        assert_eq!(rt; (held.len(), blocks.len(), blocks.first(2)), (3, 3, 1));
+        assert_eq!(rt;
+            (blocks.above(1), blocks.above(2)),
+            ([2].as_slice(), [0].as_slice())
+        );
+        assert_eq!(rt; (blocks.find(2, 0), blocks.find(2, 1)), (Some(1), None));
+    }
     Ok(())
 }
 

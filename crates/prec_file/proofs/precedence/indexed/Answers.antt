@@ -13,13 +13,11 @@ filled_by-requires-clause-known c = known_tops c.args.n c.args.pairs.items c.der
 
 pub invariant_of-result : goal.invariant_of-result
 invariant_of-result c = record {
-  blocks = c.requires.blocks;
-  few = c.requires.few;
-  known = c.requires.known;
-  rising = c.requires.rising;
-  apart = c.requires.apart;
-  tops = c.in_ok-tops.ensures ∙ ap (map (λ p. p.1)) c.deref-2.ensures.value;
-  firsts = let P : List (ℕ × ℕ) → Type 0 = λ ps. IsStarts (from_at ps) (length ps) c.args.n c.in_ok-firsts.firsts.items in subst P c.deref.ensures.value c.in_ok-firsts.ensures;
+  above = record {
+    rests = record { blocks = c.requires.blocks; few = c.requires.few; known = c.requires.known; rising = c.requires.rising; apart = c.requires.apart };
+    tops = c.in_ok-tops.ensures ∙ ap (map (λ p. p.1)) c.deref-2.ensures.value;
+    firsts = let P : List (ℕ × ℕ) → Type 0 = λ ps. IsStarts (from_at ps) (length ps) c.args.n c.in_ok-firsts.firsts.items in subst P c.deref.ensures.value c.in_ok-firsts.ensures;
+  };
   starts = tops_moved c.deref-3.result.now c.args.pairs.items c.args.n _ (c.deref-3.ensures.value ∙ c.in_ok-tops.ensures ∙ ap (map (λ p. p.1)) c.deref-2.ensures.value) c.in_ok-starts.ensures;
   filled = filled_moved c.deref-4.result.now c.args.pairs.items _ (c.deref-4.ensures.value ∙ c.in_ok-tops.ensures ∙ ap (map (λ p. p.1)) c.deref-2.ensures.value) c.in_ok-filled.ensures;
 }

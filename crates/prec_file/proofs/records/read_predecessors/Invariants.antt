@@ -6,9 +6,9 @@ use Rattle.fixed_worth.specs.Record.{reads, number_of}
 use Rattle.prec_file.proofs.records.read_predecessors.Given as goal
 
 -- what is found in what is read, with what is left, is what is found in all
-abbrev pub invariant-loop-field : goal.invariant-loop-field
-invariant-loop-field l =
-    let left = map (λ f. f.text) l.field-iterator in
+abbrev pub invariant-loop-read : goal.invariant-loop-read
+invariant-loop-read l =
+    let left = map (λ f. f.text) l.fields in
     let all = map (λ f. f.text) l.fn.fields in
     record {
       good : list_all reads left ≡ list_all reads all;
@@ -17,3 +17,6 @@ invariant-loop-field l =
       few : length all ≤ LINE_BYTES;
       pairs : l.unknown ≡ false → l.refused ≡ false → (l.block < l.n) × (l.pairs.items ++ map (λ p. (l.block, p)) (map number_of left) ≡ l.fn.pairs.items ++ map (λ p. (l.block, p)) (map number_of all));
     }
+
+abbrev pub decreases-loop-read : goal.decreases-loop-read
+decreases-loop-read l = length l.fields

@@ -1,0 +1,80 @@
+//! Who rests on whom, by block alone.
+
+ghost use Rattle.std.specs.Prelude.{◌≡◌, ◌≤◌, All, IfOk, length};
+ghost use Rattle.prec_file.specs.Rests.{IsRests, AreApart, IsKnown, IsRising};
+
+use crate::PredecessorsRef;
+use crate::first_pairs::firsts_of;
+use crate::limits::MOST_PAIRS;
+use crate::pair_order::tops_of;
+use fixed_worth::MOST_BLOCKS;
+use std::alloc::{AllocError, Global};
+use std::marker::Model;
+use std::snapshot::Snapshot;
+
+/// Pairs (b, p) of n blocks, in which b rests on p, as the predecessors of each block: each pair once, ordered by b and
+/// then by p.
+///
+/// It takes about a quarter of the memory of a [`crate::Rests`], which also has the pairs themselves and finds them by
+/// predecessor.
+#[derive(Drop)]
+pub struct Predecessors {
+    blocks: u32,
+    // at each block up to n, the number of its first pair
+    firsts: Vec<u32>,
+    // the predecessor of each pair
+    tops: Vec<u32>,
+    // the pairs, which only contracts read
+    pairs: Snapshot<Vec<(u32, u32)>>,
+}
+
+impl Model for Predecessors {
+    ghost use Rattle.prec_file.specs.Rests.{RestsView};
+    ghost use Rattle.prec_file.specs.Internal.{AreAbove};
+
+    ghost Value = { RestsView };
+
+    ghost view = { λ r. record { blocks = r.blocks; pairs = r.pairs.value.items } };
+
+    ghost invariant = { λ r. AreAbove r.blocks r.pairs.value.items r.firsts.items r.tops.items };
+}
+
+impl Predecessors {
+    // The predecessors of the blocks by pairs in order.
+    pub(crate) fn of_pairs(
+        alloc: Global,
+        n: u32,
+        pairs: &Vec<(u32, u32)>,
+    ) -> Result<Predecessors, AllocError>
+        requires blocks { n ≤ MOST_BLOCKS }
+        requires few { length pairs.now.items ≤ MOST_PAIRS }
+        requires known { All (IsKnown n) pairs.now.items }
+        requires rising { IsRising pairs.now.items }
+        requires apart { AreApart pairs.now.items }
+        ensures { IfOk result (λ r. r ≡ record { blocks = n; pairs = pairs.now.items }) }
+    {
+        let firsts = firsts_of(alloc, n, pairs)?;
+        let tops = tops_of(alloc, pairs)?;
+        Ok(Predecessors {
+            blocks: n,
+            firsts,
+            tops,
+            pairs: Snapshot::of(pairs),
+        })
+    }
+
+    /// How many blocks there are.
+    pub fn len(&self) -> u32
+        ensures is { result ≡ self.now.blocks }
+        ensures all { IsRests self.now }
+    {
+        self.blocks
+    }
+
+    /// The same pairs, lent.
+    pub fn lent(&self) -> PredecessorsRef<'_>
+        ensures { result ≡ self.now }
+    {
+        PredecessorsRef::of_parts(self.blocks, &self.firsts, &self.tops, &self.pairs)
+    }
+}
