@@ -1,5 +1,6 @@
 //! Picard's network of a closure problem (Picard, Maximal closure of a graph, 1976): the blocks, what
-//! each rests on and what each is worth; flows in it; and pits, which are sets of blocks.
+//! each rests on and what each is worth; flows in it; and pits, which are sets of blocks. A `Graph` is
+//! the net without what only a search for a flow needs.
 //!
 //! Stands on `fixed_worth`, `ordered_group` and `prec_file`. Promises upward: every `Net` names
 //! blocks that it has, each worth has an opposite that fits, and so does each sum of the positive
@@ -10,6 +11,7 @@
 
 mod carried;
 mod flow;
+mod graph;
 pub mod laws;
 mod net;
 mod pit;
@@ -23,6 +25,7 @@ mod worths;
 
 pub use carried::Carried;
 pub use flow::Flow;
+pub use graph::{Graph, GraphRef};
 pub use net::{Net, NetFault};
 pub use pit::Pit;
 pub use port::{Port, PortKind};

@@ -7,9 +7,10 @@ ghost use Rattle.closure_net.specs.Network.{net_view, IsNet};
 ghost use Rattle.closure_net.specs.FaultStands.{NetFaultStands, WorthsFaultStands};
 ghost use Rattle.closure_net.specs.FaultText.{net_fault_text};
 
+use crate::graph::GraphRef;
 use crate::sameness::{same_amounts, same_pairs};
-use crate::worths::{amounts_of_blocks, worths_fit};
-use ordered_group::{OrderedGroup, negative_part, positive_part};
+use crate::worths::{opposite_part, worths_fit, worths_of_blocks};
+use ordered_group::{OrderedGroup, positive_part};
 use prec_file::Rests;
 use std::alloc::{AllocError, Global};
 use std::fmt;
@@ -89,12 +90,17 @@ impl<G: OrderedGroup> Net<G> {
             (λ n. (n ≡ net_view rests.pairs (map (λ v. G.block_parts v rests.blocks) nanos.now)) × (rests.blocks ≡ length nanos.now))
             (λ e. WorthsFaultStands G.block_parts rests.blocks nanos.now e) }
     {
-        let blocks = rests.len();
-        if blocks as usize != nanos.len() {
-            return Err(NetFault::WrongLength);
+        match worths_of_blocks(alloc, rests.len(), nanos) {
+            Ok(worths) => Ok(Net { rests, worths }),
+            Err(fault) => Err(fault),
         }
-        let worths = amounts_of_blocks(alloc, nanos, blocks)?;
-        Net::build(rests, worths)
+    }
+
+    /// The graph of the net: what each block rests on, by block alone, and what it is worth.
+    pub fn graph(&self) -> GraphRef<'_, G>
+        ensures { result ≡ self.now }
+    {
+        GraphRef::of_parts(self.rests.predecessors(), &self.worths)
     }
 
     /// How many blocks there are.
@@ -126,10 +132,7 @@ impl<G: OrderedGroup> Net<G> {
         requires { b < length self.now.worths }
         ensures { G.parts_of result ≡ negative (amount_at self.now.worths b) }
     {
-        match negative_part(self.worths[b as usize]) {
-            Some(opposite) => opposite,
-            None => unreachable!("each worth of a net has an opposite"),
-        }
+        opposite_part(&self.worths, b)
     }
 
     /// What rests on what.

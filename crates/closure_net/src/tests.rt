@@ -1,9 +1,9 @@
 ghost use Rattle.std.specs.Prelude.{◌≤◌};
 
-use crate::{Carried, Flow, Net, NetFault, Pit, Port, PortKind, pit_of};
+use crate::{Carried, Flow, Graph, GraphRef, Net, NetFault, Pit, Port, PortKind, pit_of};
 use fixed_worth::MOST_BLOCKS;
 use ordered_group::{Scaled, Worth, WorthSize};
-use prec_file::Rests;
+use prec_file::{Rests, read_listed};
 use std::alloc::Global;
 use std::process::Abort;
 use std::test::Fail;
@@ -60,6 +60,32 @@ fn all_blocks_are_reached(rt: HostRuntime) -> Result<(), Fail> {
     let sink = [amount(0, 0), amount(0, 0), amount(10, 1)];
     let pit = reached(&rt, alloc, &net, &source, &rest, &sink)?;
     assert!(rt; pit.blocks() == [0, 1, 2].as_slice());
+    Ok(())
+}
+
+// Whether a graph is that of two blocks of worth that rest on a block of waste.
+fn is_two_on_waste(graph: &GraphRef<'_, WorthSize>) -> bool {
+    if graph.len() != 3 {
+        return false;
+    }
+    graph.worth(0) == amount(6, -1)
+        && graph.positive(2) == amount(0, 0)
+        && graph.negative(2) == amount(10, 1)
+        && graph.predecessors().above(1) == [2].as_slice()
+        && graph.worths().len() == 3
+}
+
+#[test]
+fn a_graph_tells_its_blocks(rt: HostRuntime) -> Result<(), Fail> {
+    let alloc = rt.alloc();
+    let listed = read_listed(alloc, b"0 1 2\n1 1 2\n", 3)?;
+    let predecessors = listed.into_predecessors(alloc)?;
+    let graph = Graph::of_worths(alloc, predecessors, &[6, 5, -10])
+        .ok()
+        .ok_or("worths")?;
+    assert!(rt; is_two_on_waste(&graph.lent()));
+    let net = two_on_waste(alloc, &[6, 5, -10])?;
+    assert!(rt; is_two_on_waste(&net.graph()));
     Ok(())
 }
 

@@ -1,7 +1,9 @@
 //! Whether amounts can be the worths of a net, and the amounts of blocks.
 
-ghost use Rattle.std.specs.Prelude.{◌≡◌, map, MatchBool, MatchResult};
-ghost use Rattle.closure_net.specs.FaultStands.{OppositesFit, OppositeOverflows, PositivesFit, PositivesOverflow, WorthsFit, WorthsOverflow, AmountsFaultStands};
+ghost use Rattle.std.specs.Prelude.{◌≡◌, ◌<◌, length, map, MatchBool, MatchResult};
+ghost use Rattle.ordered_group.specs.Amount.{negative};
+ghost use Rattle.ordered_group.specs.Sums.{amount_at};
+ghost use Rattle.closure_net.specs.FaultStands.{OppositesFit, OppositeOverflows, PositivesFit, PositivesOverflow, WorthsFit, WorthsOverflow, AmountsFaultStands, WorthsFaultStands};
 
 use crate::net::NetFault;
 use ordered_group::{OrderedGroup, negative_part, positive_part};
@@ -42,7 +44,7 @@ pub(crate) fn worths_fit<G: OrderedGroup>(worths: &[G]) -> bool
 }
 
 // The amounts of the blocks of a model of n blocks, by their worths in billionths.
-pub(crate) fn amounts_of_blocks<G: OrderedGroup>(
+fn amounts_of_blocks<G: OrderedGroup>(
     alloc: Global,
     nanos: &[i128],
     n: u32,
@@ -57,4 +59,36 @@ pub(crate) fn amounts_of_blocks<G: OrderedGroup>(
         amounts.push(amount).map_err(|_| NetFault::NoMemory)?;
     }
     Ok(amounts)
+}
+
+// The worths of a net of n blocks, by their worths in billionths.
+pub(crate) fn worths_of_blocks<G: OrderedGroup>(
+    alloc: Global,
+    n: u32,
+    nanos: &[i128],
+) -> Result<Vec<G>, NetFault>
+    ensures { MatchResult result
+        (λ v. (map G.parts_of v.items ≡ map (λ x. G.block_parts x n) nanos.now) × (n ≡ length nanos.now) × WorthsFit (map G.parts_of v.items))
+        (λ e. WorthsFaultStands G.block_parts n nanos.now e) }
+{
+    if n as usize != nanos.len() {
+        return Err(NetFault::WrongLength);
+    }
+    let worths = amounts_of_blocks(alloc, nanos, n)?;
+    if !worths_fit(&worths) {
+        return Err(NetFault::TooLarge);
+    }
+    Ok(worths)
+}
+
+// The opposite of what block b is worth where that is positive, and else zero, of worths of a net.
+pub(crate) fn opposite_part<G: OrderedGroup>(worths: &[G], b: u32) -> G
+    requires opposites { OppositesFit (map G.parts_of worths.now) }
+    requires known { b < length worths.now }
+    ensures { G.parts_of result ≡ negative (amount_at (map G.parts_of worths.now) b) }
+{
+    match negative_part(worths[b as usize]) {
+        Some(opposite) => opposite,
+        None => unreachable!("each worth of a net has an opposite"),
+    }
 }
