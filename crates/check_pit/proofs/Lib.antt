@@ -2,6 +2,7 @@ pub mod Additions
 pub mod Beginnings
 pub mod Amounts
 pub mod Duality
+pub mod FirstPits
 pub mod Going
 pub mod Heads
 pub mod HeldBytes
@@ -9,6 +10,7 @@ pub mod HeldLines
 pub mod Lacks
 pub mod NextLines
 pub mod LineOrder
+pub mod MarkedBlocks
 pub mod Order
 pub mod LineFlows
 pub mod LineSums

@@ -1,9 +1,9 @@
 -- The flow and the pit that the lines of a faultless text say, and what sums over the lines tell of them.
-use Rattle.std.proofs.Common.{◌≡◌, ◌≢◌, ℕ, zero, suc, get_or, ◌+◌, ◌<◌, Bool, true, false, eqb, inl, inr, List, [], ◌∷◌, length, map, Option, Some, None, refl, sym, ap, ◌∙◌, subst, arith}
+use Rattle.std.proofs.Common.{◌≡◌, ◌≢◌, ℕ, suc, get_or, ◌<◌, Bool, true, false, eqb, inl, inr, List, [], ◌∷◌, length, None, refl, sym, ap, ◌∙◌, subst, arith}
 use Rattle.std.specs.Prelude.{◌↔◌}
-use Rattle.std.specs.List.{All, range_with_len}
+use Rattle.std.specs.List.{All}
 use Rattle.std.proofs.lemmas.Int.{ints}
-use Rattle.std.proofs.lemmas.Bool.{eq-eqb, ne_eqb, or_left}
+use Rattle.std.proofs.lemmas.Bool.{eq-eqb, ne_eqb}
 use Rattle.std.proofs.lemmas.List.FromFn.{length-map-range_with_len, get_or-map-range_with_len}
 use Rattle.ordered_group.specs.Amount.{Amount, zero_amount, plus, minus, AtMost, positive, negative, Amount_eq}
 use Rattle.ordered_group.specs.Sums.{total, where_so, amount_at}
@@ -13,17 +13,16 @@ use Rattle.ordered_group.proofs.Totals.{total-same, total-minus, total-zero, tot
 use Rattle.prec_file.specs.Rests.{IsRests, from_at, to_at}
 use Rattle.closure_net.specs.Network.{NetView, IsAscending, holds_of}
 use Rattle.closure_net.specs.Closure.{group_worth}
-use Rattle.closure_net.specs.Flows.{Balanced, IsTight, still_to_give, inflow, outflow}
+use Rattle.closure_net.specs.Flows.{Balanced, still_to_give, inflow, outflow}
 use Rattle.closure_net.proofs.Holding.{place_of}
 use Rattle.check_pit.specs.declared.lines_of_body.LineKind.{LineKind}
 use Rattle.check_pit.specs.declared.lines_of_body.LineKind.TheVariants.{Source, Rest, Sink}
 use Rattle.check_pit.specs.declared.lines_of_body.BodyLine.{BodyLine}
-use Rattle.check_pit.specs.Pieces.{Piece}
-use Rattle.check_pit.specs.BodyLines.{body_fault, lines_in, is_of_model}
+use Rattle.check_pit.specs.BodyLines.{lines_in, is_of_model}
 use Rattle.check_pit.specs.Certificate.{Denotes, has_pair, pit_of, amount_of, given, gives_source, gives_rest, gives_sink}
 use Rattle.check_pit.specs.Checks.{NoneBelowZero, AllWithin}
-use Rattle.check_pit.specs.LineSums.{balance_of, source_sum, left_to_give, worth_of_blocks, flow_of, keeps_by, KeepLimits}
-use Rattle.check_pit.specs.LineLaws.{LinesTell, LineSumsTell}
+use Rattle.check_pit.specs.LineSums.{balance_of, left_to_give, worth_of_blocks, flow_of, keeps_by, KeepLimits}
+use Rattle.check_pit.specs.LineLaws.{LineSumsTell}
 use Rattle.check_pit.proofs.Order.{InOrder, Good, in_order_weaker, stands_in_order, ascending, known}
 use Rattle.check_pit.proofs.LineOrder.{Has, has_good, Proper, good_is_proper, found}
 use Rattle.check_pit.proofs.SameLines.{tells_source, tells_sink, tells_rest, source_so, sink_so, rest_so}

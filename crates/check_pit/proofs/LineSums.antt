@@ -1,12 +1,11 @@
 -- What is summed line by line is what is summed over the flow and the pit that lines in order say.
-use Rattle.std.proofs.Common.{◌≡◌, ◌≢◌, ℕ, zero, suc, get_or, ◌+◌, ◌<◌, Bool, true, false, cond, eqb, ltb, inl, inr, List, [], ◌∷◌, length, map, Option, Some, None, refl, sym, ap, ◌∙◌, subst, arith}
+use Rattle.std.proofs.Common.{◌≡◌, ℕ, zero, suc, get_or, ◌<◌, Bool, true, false, cond, eqb, ltb, inl, inr, List, [], ◌∷◌, length, Option, Some, refl, sym, ap, ◌∙◌, arith}
 use Rattle.std.specs.Prelude.{◌&&◌}
 use Rattle.std.proofs.lemmas.Int.{ints}
-use Rattle.std.proofs.lemmas.Bool.{eqb-true, eq-eqb, ne_eqb}
-use Rattle.std.proofs.lemmas.Bool.Decides.{nat_tests}
+use Rattle.std.proofs.lemmas.Bool.{eqb-true, eq-eqb}
 use Rattle.ordered_group.specs.Amount.{Amount, zero_amount, plus, minus, Amount_eq}
 use Rattle.ordered_group.specs.Sums.{total, where_so}
-use Rattle.ordered_group.proofs.Totals.{plus-zero_left, where_so-zero, where_so-plus, total-same, total-plus, total-minus, total-zero, total-none, total-one, total_changed}
+use Rattle.ordered_group.proofs.Totals.{plus-zero_left, where_so-zero, where_so-plus, total-same, total-plus, total-zero, total-none, total-one}
 use Rattle.prec_file.specs.Rests.{IsRising}
 use Rattle.prec_file.proofs.Pairs.{is_pair, tells_pair, pair_told}
 use Rattle.check_pit.specs.declared.lines_of_body.LineKind.{LineKind}
@@ -17,8 +16,7 @@ use Rattle.check_pit.specs.Certificate.{has_pair, amount_of, given, gives_source
 use Rattle.check_pit.specs.LineSums.{brings_by, balance_of, source_by, source_sum}
 use Rattle.check_pit.proofs.Additions.{one_place}
 use Rattle.check_pit.proofs.Order.{InOrder}
-use Rattle.check_pit.proofs.LineOrder.{Has, has_good, all_above, Tells, none_gives, Proper}
-use Rattle.check_pit.proofs.SameLines.{tells_source, tells_sink, tells_rest}
+use Rattle.check_pit.proofs.LineOrder.{Has, has_good, all_above, Tells, none_gives}
 
 -- the amounts of the lines that give
 abbrev pub sum_giving : (BodyLine → Bool) → List BodyLine → Amount

@@ -16,7 +16,6 @@ use Rattle.check_pit.specs.declared.header.Price.{Price}
 use Rattle.check_pit.specs.declared.header.Price.TheVariants.{Objective, Factor, Mill}
 use Rattle.check_pit.specs.declared.header.Version.{Version}
 use Rattle.check_pit.specs.declared.header.Version.TheVariants.{One, Two}
-use Rattle.check_pit.specs.declared.cert_fault.CertFault.{CertFault}
 use Rattle.check_pit.specs.declared.cert_fault.LineFault.{LineFault}
 use Rattle.check_pit.specs.declared.cert_fault.LineFault.TheVariants.{Text}
 use Rattle.check_pit.specs.declared.lines_of_body.LineKind.{LineKind}
@@ -27,7 +26,7 @@ use Rattle.check_pit.specs.Header.{header_for, version_in, value_behind, value_b
 use Rattle.check_pit.specs.BodyLines.{line_of, is_end, rank, is_of_model, may_follow, next_line, end_fault, fault_from, body_fault, lines_from, lines_in}
 use Rattle.check_pit.specs.Certificate.{wanted_for}
 use Rattle.check_pit.specs.ReadBack.{IsPrice}
-use Rattle.check_pit.specs.Written.{spaced, lines_text, line_words, version_for, version_word, price_words, header_words, header_with, body_text, end_text}
+use Rattle.check_pit.specs.Written.{spaced, lines_text, line_words, version_for, price_words, header_words, header_with, body_text, end_text}
 use Rattle.check_pit.proofs.Texts.{is_word, are_words, has_no_feed, words_read, spaced_no_feed, line_before, decimal_is_word}
 use Rattle.check_pit.proofs.HeaderLines.{all_ok}
 use Rattle.check_pit.proofs.Heads.{version_text, regroup}

@@ -131,9 +131,6 @@ reading_lacks remaining counts net start now later previous bytes ls e r l =
 pub lines_begin : {R : Type 0} (remaining : R → Option (List ℕ)) (counts : Bool) (net : NetView) (start now : LineView R) (previous : Option BodyLine) (bytes : List ℕ) (ls : List BodyLine) → Reading remaining counts net start now previous bytes ls → LinesBegin counts net (start.held ++ bytes) ls
 lines_begin remaining counts net start now previous bytes ls r = λ future. (lines_in counts (length net.worths) (pieces_of (now.held ++ future)), r.begins.lines future)
 
-pub ended_begin : {R : Type 0} (remaining : R → Option (List ℕ)) (counts : Bool) (net : NetView) (start now : LineView R) (bytes : List ℕ) (ls : List BodyLine) → Ended remaining counts net start now bytes ls → LinesBegin counts net (start.held ++ bytes) ls
-ended_begin remaining counts net start now bytes ls r = λ future. ([], r.ends.lines future ∙ sym (append-nil ls))
-
 -- Nothing stands behind END.
 pub ended_whole : {R : Type 0} (remaining : R → Option (List ℕ)) (counts : Bool) (net : NetView) (start now : LineView R) (bytes : List ℕ) (ls : List BodyLine) → Ended remaining counts net start now bytes ls → IsAtEnd (remaining now.from) → now.held ≡ [] → now.taken ≤ MOST_BYTES
     → IsWhole (remaining now.from) now.taken counts net (start.held ++ bytes) × (lines_of_body counts net (start.held ++ bytes) ≡ ls)

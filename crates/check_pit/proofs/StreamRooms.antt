@@ -30,14 +30,15 @@ use Rattle.check_pit.specs.Rooms.{RoomView, AreSumsOf, TakesBlock, MayPut, LineR
 use Rattle.check_pit.specs.StreamView.{LineView}
 use Rattle.check_pit.specs.StreamLines.{Reads}
 use Rattle.check_pit.specs.TakenLines.{TakesLine}
-use Rattle.check_pit.specs.StreamChecks.{is_pit, is_behind_pits, ReadsOn, fault_of_body, lines_of_body, flow_by, LinesBegin, IsWhole, HasPit, BodyRefused, BodyFails, BodyProves, ClosesPit, IsOpenPit, SumsSettle, SumsFail, IsDone, EndFails}
+use Rattle.check_pit.specs.StreamChecks.{is_pit, is_behind_pits, ReadsOn, fault_of_body, lines_of_body, flow_by, first_pits, LinesBegin, IsWhole, HasPit, BodyRefused, BodyFails, BodyProves, ClosesPit, IsOpenPit, SumsSettle, SumsFail, IsDone, EndFails}
 use Rattle.check_pit.proofs.Going.{Sound, sound, text_read}
 use Rattle.check_pit.proofs.Order.{InOrder, Good, stands_in_order, later_pits, ascending, known}
 use Rattle.check_pit.proofs.LineSums.{pair_place}
 use Rattle.check_pit.proofs.LineFlows.{worth_is, sums_tell}
 use Rattle.check_pit.proofs.RoomSums.{block_first, pit_more}
 use Rattle.check_pit.proofs.Beginnings.{ends_more}
-use Rattle.check_pit.proofs.StreamReadings.{Reading, Ended, MetNext, next_of, Fails, line_met, reading_on, reading_ends, lines_begin, ended_begin, ended_stops, ended_whole}
+use Rattle.check_pit.proofs.FirstPits.{AllPits, first_behind, first_all, all_pits}
+use Rattle.check_pit.proofs.StreamReadings.{Reading, Ended, MetNext, next_of, Fails, line_met, reading_on, reading_ends, lines_begin, ended_stops, ended_whole}
 
 -- What the room has of the lines so far.
 pub record Summed (net : NetView) (previous : Option BodyLine) (room : RoomView) (ls : List BodyLine) : Type 0 where
@@ -149,14 +150,14 @@ summed_on counts net previous line before mid later ls s c m p k i = record {
 }
 
 -- A line that is refused.
-pub refused_as : (left : Option (List ℕ)) (taken : ℕ) (counts : Bool) (net : NetView) (body : List ℕ) (ls : List BodyLine) (line : BodyLine) (e : PitFault) → LinesBegin counts net body (ls ++ line ∷ []) → LineRefused net ls line e → BodyRefused left taken counts net body e
-refused_as left taken counts net body ls line pit_fault.WrongSize b h = absurd h
-refused_as left taken counts net body ls line (pit_fault.NotClosed x y) b h = absurd h
-refused_as left taken counts net body ls line pit_fault.Negative b h = (ls, line, b, h)
-refused_as left taken counts net body ls line (pit_fault.OverCapacity x) b h = (ls, line, b, h)
-refused_as left taken counts net body ls line (pit_fault.Unbalanced x) b h = absurd h
-refused_as left taken counts net body ls line pit_fault.NotTight b h = absurd h
-refused_as left taken counts net body ls line pit_fault.TooLarge b h = (ls, line, b, h)
+pub refused_as : (left : Option (List ℕ)) (taken : ℕ) (counts : Bool) (net : NetView) (body : List ℕ) (ls : List BodyLine) (line : BodyLine) (e : PitFault) → LinesBegin counts net body (ls ++ line ∷ []) → KeepLimits net.worths ls → LineRefused net ls line e → BodyRefused left taken counts net body e
+refused_as left taken counts net body ls line pit_fault.WrongSize b k h = absurd h
+refused_as left taken counts net body ls line (pit_fault.NotClosed x y) b k h = absurd h
+refused_as left taken counts net body ls line pit_fault.Negative b k h = (ls, line, b, k, h)
+refused_as left taken counts net body ls line (pit_fault.OverCapacity x) b k h = (ls, line, b, k, h)
+refused_as left taken counts net body ls line (pit_fault.Unbalanced x) b k h = absurd h
+refused_as left taken counts net body ls line pit_fault.NotTight b k h = absurd h
+refused_as left taken counts net body ls line pit_fault.TooLarge b k h = (ls, line, b, k, h)
 
 pub line_refused : {R : Type 0} (remaining : R → Option (List ℕ)) (counts : Bool) (net : NetView) (start now later : LineView R) (previous : Option BodyLine) (bytes : List ℕ) (ls : List BodyLine) (line : BodyLine) (before mid : RoomView) (e : PitFault) → Reading remaining counts net start now previous bytes ls
     → Summed net previous before ls → ClosesPit net previous line.kind before mid → TakesLine remaining (next_of counts net previous) now later line → is_end line.kind ≡ false → RefusesLine net line mid e → Fails remaining counts net start later (stream.Pit e)
@@ -164,7 +165,7 @@ line_refused remaining counts net start now later previous bytes ls line before 
     let q = reading_on remaining counts net start now later previous bytes ls line r t f in (
       bytes ++ t.0,
       q.read,
-      refused_as (remaining later.from) later.taken counts net (start.held ++ (bytes ++ t.0)) ls line e (lines_begin remaining counts net start later (Some line) (bytes ++ t.0) (ls ++ line ∷ []) q) (h ls (sums_closed net previous line.kind before mid ls s c)),
+      refused_as (remaining later.from) later.taken counts net (start.held ++ (bytes ++ t.0)) ls line e (lines_begin remaining counts net start later (Some line) (bytes ++ t.0) (ls ++ line ∷ []) q) s.limits (h ls (sums_closed net previous line.kind before mid ls s c)),
     )
 
 -- The pit isn't closed: behind a line that is none of its own, no other names a block.
@@ -187,44 +188,50 @@ none_later counts net line k left s f h =
     no_pits (pit_of rest) (λ i l. pit_kind line.kind (later_pits counts n has line rest s (stands_in_order counts n has (Some line) k (pieces_of left) h) i l).0 f)
 
 pit_on : {R : Type 0} (remaining : R → Option (List ℕ)) (counts : Bool) (net : NetView) (start later : LineView R) (bytes : List ℕ) (ls : List BodyLine) (line : BodyLine) → Reading remaining counts net start later (Some line) bytes (ls ++ line ∷ []) → Sound counts (length net.worths) line → is_pit line.kind ≡ false
-    → HasPit counts net (start.held ++ bytes) (pit_of ls)
-pit_on remaining counts net start later bytes ls line q s f =
+    → AllPits ls → HasPit counts net (start.held ++ bytes) (pit_of ls)
+pit_on remaining counts net start later bytes ls line q s f a =
     let n = length net.worths in
     record {
-      lines = ls ++ line ∷ [];
-      begin = lines_begin remaining counts net start later (Some line) bytes (ls ++ line ∷ []) q;
-      same = sym (same_pit ls line f);
+      first = λ future. ap (λ (xs : List BodyLine). pit_of (first_pits xs)) (q.begins.lines future) ∙ ap pit_of (first_behind ls (lines_in counts n (pieces_of (later.held ++ future))) line a f);
       all = λ future h.
           let none = none_later counts net line later.number (later.held ++ future) s f (sym (q.begins.same_fault future) ∙ h) in
           ap pit_of (q.begins.lines future) ∙ pit_append (ls ++ line ∷ []) (lines_in counts n (pieces_of (later.held ++ future))) ∙ ap (λ (bs : List ℕ). pit_of (ls ++ line ∷ []) ++ bs) none ∙ append-nil (pit_of (ls ++ line ∷ [])) ∙ same_pit ls line f;
     }
 
-pit_at_end : {R : Type 0} (remaining : R → Option (List ℕ)) (counts : Bool) (net : NetView) (start later : LineView R) (bytes : List ℕ) (ls : List BodyLine) → Ended remaining counts net start later bytes ls → HasPit counts net (start.held ++ bytes) (pit_of ls)
-pit_at_end remaining counts net start later bytes ls q = record { lines = ls; begin = ended_begin remaining counts net start later bytes ls q; same = refl; all = λ future h. ap pit_of (q.ends.lines future) }
+pit_at_end : {R : Type 0} (remaining : R → Option (List ℕ)) (counts : Bool) (net : NetView) (start later : LineView R) (bytes : List ℕ) (ls : List BodyLine) → Ended remaining counts net start later bytes ls → AllPits ls → HasPit counts net (start.held ++ bytes) (pit_of ls)
+pit_at_end remaining counts net start later bytes ls q a = record {
+  first = λ future. ap (λ (xs : List BodyLine). pit_of (first_pits xs)) (q.ends.lines future) ∙ ap pit_of (first_all ls a);
+  all = λ future h. ap pit_of (q.ends.lines future);
+}
 
-open_as : (left : Option (List ℕ)) (taken : ℕ) (counts : Bool) (net : NetView) (body pit : List ℕ) (kind : LineKind) (e : PitFault) → (is_pit kind ≡ false → HasPit counts net body pit) → IsOpenPit net kind pit e → BodyRefused left taken counts net body e
-open_as left taken counts net body pit kind pit_fault.WrongSize p h = absurd h
-open_as left taken counts net body pit kind (pit_fault.NotClosed x y) p h = (pit, p h.0, h.1)
-open_as left taken counts net body pit kind pit_fault.Negative p h = absurd h
-open_as left taken counts net body pit kind (pit_fault.OverCapacity x) p h = absurd h
-open_as left taken counts net body pit kind (pit_fault.Unbalanced x) p h = absurd h
-open_as left taken counts net body pit kind pit_fault.NotTight p h = absurd h
-open_as left taken counts net body pit kind pit_fault.TooLarge p h = absurd h
+open_as : (left : Option (List ℕ)) (taken : ℕ) (counts : Bool) (net : NetView) (body pit : List ℕ) (previous : Option BodyLine) (kind : LineKind) (e : PitFault) → (is_behind_pits previous ≡ false → is_pit kind ≡ false → HasPit counts net body pit) → IsOpenPit net previous kind pit e → BodyRefused left taken counts net body e
+open_as left taken counts net body pit previous kind pit_fault.WrongSize p h = absurd h
+open_as left taken counts net body pit previous kind (pit_fault.NotClosed x y) p h = (pit, p h.0 h.1, h.2)
+open_as left taken counts net body pit previous kind pit_fault.Negative p h = absurd h
+open_as left taken counts net body pit previous kind (pit_fault.OverCapacity x) p h = absurd h
+open_as left taken counts net body pit previous kind (pit_fault.Unbalanced x) p h = absurd h
+open_as left taken counts net body pit previous kind pit_fault.NotTight p h = absurd h
+open_as left taken counts net body pit previous kind pit_fault.TooLarge p h = absurd h
+
+-- Up to the first line of another kind they are PIT lines alone.
+pits_so_far : {R : Type 0} (remaining : R → Option (List ℕ)) (counts : Bool) (net : NetView) (start now : LineView R) (previous : Option BodyLine) (bytes : List ℕ) (ls : List BodyLine) → Reading remaining counts net start now previous bytes ls → is_behind_pits previous ≡ false → AllPits ls
+pits_so_far remaining counts net start now previous bytes ls r h =
+    all_pits (Good counts (length net.worths) (has_pair net.pairs)) pit_behind None ls r.begins.order (sym (ap is_behind_pits r.begins.last) ∙ h)
 
 open_at : {R : Type 0} (remaining : R → Option (List ℕ)) (counts : Bool) (net : NetView) (start now later : LineView R) (previous : Option BodyLine) (bytes : List ℕ) (ls : List BodyLine) (line : BodyLine) (e : PitFault) (t : Bool) → is_end line.kind ≡ t → Reading remaining counts net start now previous bytes ls
-    → TakesLine remaining (next_of counts net previous) now later line → IsOpenPit net line.kind (pit_of ls) e → Fails remaining counts net start later (stream.Pit e)
+    → TakesLine remaining (next_of counts net previous) now later line → IsOpenPit net previous line.kind (pit_of ls) e → Fails remaining counts net start later (stream.Pit e)
 open_at remaining counts net start now later previous bytes ls line e true i r t h =
     let q = reading_ends remaining counts net start now later previous bytes ls line r t i in
-    (bytes ++ t.0, q.read, open_as (remaining later.from) later.taken counts net (start.held ++ (bytes ++ t.0)) (pit_of ls) line.kind e (λ f. pit_at_end remaining counts net start later (bytes ++ t.0) ls q) h)
+    (bytes ++ t.0, q.read, open_as (remaining later.from) later.taken counts net (start.held ++ (bytes ++ t.0)) (pit_of ls) previous line.kind e (λ b f. pit_at_end remaining counts net start later (bytes ++ t.0) ls q (pits_so_far remaining counts net start now previous bytes ls r b)) h)
 open_at remaining counts net start now later previous bytes ls line e false i r t h =
     let q = reading_on remaining counts net start now later previous bytes ls line r t i in
     let s = met_sound counts net previous line (line_met remaining counts net now later previous line t) in
-    (bytes ++ t.0, q.read, open_as (remaining later.from) later.taken counts net (start.held ++ (bytes ++ t.0)) (pit_of ls) line.kind e (λ f. pit_on remaining counts net start later (bytes ++ t.0) ls line q s f) h)
+    (bytes ++ t.0, q.read, open_as (remaining later.from) later.taken counts net (start.held ++ (bytes ++ t.0)) (pit_of ls) previous line.kind e (λ b f. pit_on remaining counts net start later (bytes ++ t.0) ls line q s f (pits_so_far remaining counts net start now previous bytes ls r b)) h)
 
 pub pit_open : {R : Type 0} (remaining : R → Option (List ℕ)) (counts : Bool) (net : NetView) (start now later : LineView R) (previous : Option BodyLine) (bytes : List ℕ) (ls : List BodyLine) (line : BodyLine) (before : RoomView) (e : PitFault) → Reading remaining counts net start now previous bytes ls
-    → Summed net previous before ls → TakesLine remaining (next_of counts net previous) now later line → IsOpenPit net line.kind before.blocks e → Fails remaining counts net start later (stream.Pit e)
+    → Summed net previous before ls → TakesLine remaining (next_of counts net previous) now later line → IsOpenPit net previous line.kind before.blocks e → Fails remaining counts net start later (stream.Pit e)
 pit_open remaining counts net start now later previous bytes ls line before e r s t h =
-    open_at remaining counts net start now later previous bytes ls line e (is_end line.kind) refl r t (subst (λ (bs : List ℕ). IsOpenPit net line.kind bs e) s.sums.blocks h)
+    open_at remaining counts net start now later previous bytes ls line e (is_end line.kind) refl r t (subst (λ (bs : List ℕ). IsOpenPit net previous line.kind bs e) s.sums.blocks h)
 
 -- All lines were read.
 pub record AllRead (net : NetView) (room : RoomView) (ls : List BodyLine) : Type 0 where

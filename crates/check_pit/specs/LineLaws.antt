@@ -2,7 +2,7 @@
 use Rattle.std.specs.Prelude.{◌≡◌, ◌↔◌, ℕ, ◌<◌, Bool, List, length, None}
 use Rattle.ordered_group.specs.Amount.{zero_amount}
 use Rattle.prec_file.specs.Rests.{IsRests}
-use Rattle.closure_net.specs.Network.{NetView, FlowFits, holds_of}
+use Rattle.closure_net.specs.Network.{NetView, holds_of}
 use Rattle.closure_net.specs.Flows.{Balanced, IsTight}
 use Rattle.check_pit.specs.declared.lines_of_body.BodyLine.{BodyLine}
 use Rattle.check_pit.specs.Pieces.{Piece}

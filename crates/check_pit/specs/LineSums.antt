@@ -1,5 +1,5 @@
 -- Sums over the lines of a certificate, as they are made while the lines are read.
-use Rattle.std.specs.Prelude.{◌≡◌, ℕ, ◌<◌, ◌==◌, ◌⊎◌, List, [], ◌∷◌, length, map, slice_index_or, All}
+use Rattle.std.specs.Prelude.{ℕ, ◌<◌, ◌==◌, ◌⊎◌, List, [], ◌∷◌, length, map, slice_index_or, All}
 use Rattle.std.specs.List.{range_with_len}
 use Rattle.ordered_group.specs.Amount.{Amount, zero_amount, plus, minus, AtMost, FitsPair, positive, negative}
 use Rattle.ordered_group.specs.Sums.{total, where_so, amount_at}

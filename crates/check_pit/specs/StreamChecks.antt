@@ -23,7 +23,7 @@ use Rattle.check_pit.specs.BodyLines.{body_fault, lines_in}
 use Rattle.check_pit.specs.Certificate.{Denotes, UnlessMemory, has_pair, pit_of}
 use Rattle.check_pit.specs.Checks.{ProvesPit}
 use Rattle.check_pit.specs.Closing.{IsFirstOpen}
-use Rattle.check_pit.specs.LineSums.{flow_of}
+use Rattle.check_pit.specs.LineSums.{KeepLimits, flow_of}
 use Rattle.check_pit.specs.Rooms.{RoomView, AreSumsOf, LineRefused}
 use Rattle.check_pit.specs.StreamView.{LineView}
 use Rattle.check_pit.specs.TakenLines.{FaultIs}
@@ -40,6 +40,11 @@ is_pit End = false
 abbrev pub is_behind_pits : Option BodyLine → Bool
 is_behind_pits None = false
 is_behind_pits (Some line) = not (is_pit line.kind)
+
+-- the PIT lines with which some lines begin
+abbrev pub first_pits : List BodyLine → List BodyLine
+first_pits [] = []
+first_pits (l ∷ ls) = cond (is_pit l.kind) (l ∷ first_pits ls) []
 
 -- these bytes were read
 pub record ReadsOn {R : Type 0} (remaining : R → Option (List ℕ)) (before later : LineView R) (bytes : List ℕ) : Type 0 where
@@ -68,19 +73,17 @@ pub record IsWhole (left : Option (List ℕ)) (taken : ℕ) (counts : Bool) (net
   pub few : taken ≤ MOST_BYTES
   pub none : fault_of_body counts net body ≡ None
 
--- a line of the body is refused behind those before it
+-- a line of the body is refused behind those before it, of which none has an amount that is negative or too large
 abbrev pub RefusesSome : Bool → NetView → List ℕ → PitFault → Type 0
-RefusesSome counts net body e = (ls : List BodyLine) × (l : BodyLine) × LinesBegin counts net body (ls ++ l ∷ []) × LineRefused net ls l e
+RefusesSome counts net body e = (ls : List BodyLine) × (l : BodyLine) × LinesBegin counts net body (ls ++ l ∷ []) × KeepLimits net.worths ls × LineRefused net ls l e
 
--- what the PIT lines of the body say, of which it has no more
+-- What the PIT lines say with which the body begins, whatever follows it; and no text without a fault has others.
 pub record HasPit (counts : Bool) (net : NetView) (body pit : List ℕ) : Type 0 where
-  pub lines : List BodyLine
-  pub begin : LinesBegin counts net body lines
-  pub same : pit ≡ pit_of lines
+  pub first : (future : List ℕ) → pit_of (first_pits (lines_of_body counts net (body ++ future))) ≡ pit
   pub all : (future : List ℕ) → fault_of_body counts net (body ++ future) ≡ None → pit_of (lines_of_body counts net (body ++ future)) ≡ pit
 
--- Why a certificate doesn't prove its pit. A fault of a line is that of the first faulty one; the pit is not closed, whatever
--- the other lines say; or all lines were read, and the flow is not balanced, or the pit not tight by it.
+-- Why a certificate doesn't prove its pit. An amount is negative or too large, the first such one, or a sum with it doesn't
+-- fit; the pit of the PIT lines is not closed, whatever the other lines say; or all lines were read, and the flow is not balanced, or the pit not tight by it.
 abbrev pub BodyRefused : Option (List ℕ) → ℕ → Bool → NetView → List ℕ → PitFault → Type 0
 BodyRefused left taken counts net body WrongSize = ⊥
 BodyRefused left taken counts net body (NotClosed b p) = (pit : List ℕ) × HasPit counts net body pit × IsFirstOpen net.pairs (holds_of pit) (b, p)
@@ -109,15 +112,15 @@ pub record ClosesPit (net : NetView) (previous : Option BodyLine) (kind : LineKi
   pub made : later.is_pit ≡ cond (is_behind_pits previous) true (not (is_pit kind))
   pub closed : is_behind_pits previous ≡ false → is_pit kind ≡ false → IsClosed net.pairs (holds_of later.blocks)
 
--- the pit isn't closed, and a line of this kind, other than PIT, was read
-abbrev pub IsOpenPit : NetView → LineKind → List ℕ → PitFault → Type 0
-IsOpenPit net kind pit WrongSize = ⊥
-IsOpenPit net kind pit (NotClosed b p) = (is_pit kind ≡ false) × IsFirstOpen net.pairs (holds_of pit) (b, p)
-IsOpenPit net kind pit Negative = ⊥
-IsOpenPit net kind pit (OverCapacity b) = ⊥
-IsOpenPit net kind pit (Unbalanced b) = ⊥
-IsOpenPit net kind pit NotTight = ⊥
-IsOpenPit net kind pit TooLarge = ⊥
+-- the pit isn't closed, and behind PIT lines alone a line of this kind, other than PIT, was read
+abbrev pub IsOpenPit : NetView → Option BodyLine → LineKind → List ℕ → PitFault → Type 0
+IsOpenPit net previous kind pit WrongSize = ⊥
+IsOpenPit net previous kind pit (NotClosed b p) = (is_behind_pits previous ≡ false) × (is_pit kind ≡ false) × IsFirstOpen net.pairs (holds_of pit) (b, p)
+IsOpenPit net previous kind pit Negative = ⊥
+IsOpenPit net previous kind pit (OverCapacity b) = ⊥
+IsOpenPit net previous kind pit (Unbalanced b) = ⊥
+IsOpenPit net previous kind pit NotTight = ⊥
+IsOpenPit net previous kind pit TooLarge = ⊥
 
 -- each balance is zero
 abbrev pub AreZero : NetView → RoomView → Type 0

@@ -6,6 +6,7 @@ ghost use Rattle.closure_net.specs.Network.{holds_of};
 ghost use Rattle.closure_net.specs.Closure.{IsClosed, IsGreatest, group_worth};
 ghost use Rattle.check_pit.specs.Checks.{IsOfNet};
 
+use crate::accepted_pit::AcceptedPit;
 use closure_net::{Net, Pit};
 use ordered_group::OrderedGroup;
 use std::marker::Model;
@@ -66,5 +67,12 @@ impl<'a, G: OrderedGroup> Accepted<'a, G> {
         ensures greatest { IsGreatest self.now.net (holds_of self.now.pit) }
     {
         self.worth
+    }
+
+    /// The same pit, with the net's graph alone.
+    pub fn on_graph(&self) -> AcceptedPit<'a, G>
+        ensures { result ≡ self.now }
+    {
+        AcceptedPit::new(self.net.graph(), self.pit, self.worth)
     }
 }

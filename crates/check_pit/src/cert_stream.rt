@@ -6,6 +6,7 @@ ghost use Rattle.check_pit.specs.StreamChecks.{ReadsOn, BodyFails, BodyProves};
 ghost use Rattle.check_pit.specs.StreamHeaders.{GivesHeader, LacksHeader};
 
 use crate::accepted::Accepted;
+use crate::accepted_pit::AcceptedPit;
 use crate::cert_fault::CertFault;
 use crate::header::Header;
 use crate::room::Room;
@@ -14,7 +15,7 @@ use crate::stream_checking::check_lines;
 use crate::stream_fault::StreamFault;
 use crate::stream_header::read_header;
 use crate::stream_lines::StreamLines;
-use closure_net::Net;
+use closure_net::{GraphRef, Net};
 use fixed_worth::CountedRead;
 use ordered_group::OrderedGroup;
 use std::alloc::{AllocError, Global};
@@ -121,11 +122,11 @@ impl<R: CountedRead> CertStream<R> {
     }
 }
 
-/// Checks the certificate whose header was read, line by line to the end of the text: whether its pit is a greatest closed set
-/// of the net, which its flow shows. A certificate is accepted once.
+/// Checks the certificate whose header was read, line by line up to its end or its first fault: whether its pit is a
+/// greatest closed set of the net with this graph, which its flow shows. A certificate is accepted once.
 ///
 /// Takes no memory but what the room has. Its time is linear in the numbers of blocks and pairs and in the length of the
-/// text, but for the search of blocks in the pit and of pairs in the net.
+/// text, but for the search of the predecessor of each REST line among those of its block.
 ///
 /// # Errors
 /// `Device` where a read failed; `InputTooLong` where more than 2^32 bytes were read. Otherwise the first of these that the
@@ -134,6 +135,50 @@ impl<R: CountedRead> CertStream<R> {
 /// then `NotTight`. `TooLarge` is a sum over the lines so far that doesn't fit: the balance of a block, the worth of the
 /// pit, or what the source could still give. A fault that the stream has answered before is answered again, and `Cert`
 /// with `Truncated` once the certificate was accepted.
+pub fn check_graph<'a, R: CountedRead, G: OrderedGroup>(
+    stream: &mut CertStream<R>,
+    net: GraphRef<'a, G>,
+    room: &'a mut Room<G>,
+) -> Result<AcceptedPit<'a, G>, StreamFault>
+    requires count { R.failed stream.old.lines.from < 2 ^ 64 - 1 }
+    requires header { IsReadFor (length net.worths) G.name stream.old.header stream.old.fault }
+    requires room { length room.old.balances ≡ length net.worths }
+    ensures fault_again { (e : StreamFault) → stream.old.fault ≡ Some e → IsErrOf result e × (stream.new ≡ stream.old) }
+    ensures done_again { stream.old.fault ≡ None → stream.old.is_done ≡ true → IsErrOf result (StreamFault.Cert CertFault.Truncated) × (stream.new.lines ≡ stream.old.lines) }
+    ensures checked { stream.old.fault ≡ None → stream.old.is_done ≡ false → (bytes : List ℕ) × ReadsOn R.remaining stream.old.lines stream.new.lines bytes × MatchResult result
+        (λ a. (a.net ≡ net.entry) × BodyProves (R.remaining stream.new.lines.from) stream.new.lines.taken G.counts net.entry (stream.old.lines.held ++ bytes) a.pit)
+        (λ e. BodyFails (R.remaining stream.new.lines.from) stream.new.lines.taken G.counts net.entry (stream.old.lines.held ++ bytes) e) }
+    ensures ok { IfOk result (λ a. (stream.new.fault ≡ None) × (stream.new.is_done ≡ true)) }
+    ensures fault { IfErr result (λ e. stream.new.fault ≡ Some e) }
+    ensures header { stream.new.header ≡ stream.old.header }
+    ensures device { stream.old.fault ≡ None → IsErrOf result StreamFault.Device → R.failed stream.new.lines.from ≡ R.failed stream.old.lines.from + 1 }
+    ensures kept { ¬ IsErrOf result StreamFault.Device → R.failed stream.new.lines.from ≡ R.failed stream.old.lines.from }
+{
+    if let Some(fault) = stream.fault {
+        return Err(fault);
+    }
+    if stream.is_done {
+        let fault = StreamFault::Cert(CertFault::Truncated);
+        stream.fault = Some(fault);
+        return Err(fault);
+    }
+    match check_lines(&mut stream.lines, &net, room) {
+        Ok(()) => {
+            stream.is_done = true;
+            let worth = room.worth();
+            Ok(AcceptedPit::new(net, room.pit(), worth))
+        }
+        Err(fault) => {
+            stream.fault = Some(fault);
+            Err(fault)
+        }
+    }
+}
+
+/// The same for a net, which is handed back with the accepted pit.
+///
+/// # Errors
+/// Those of [`check_graph`].
 pub fn check_stream<'a, R: CountedRead, G: OrderedGroup>(
     stream: &mut CertStream<R>,
     net: &'a Net<G>,
@@ -153,23 +198,8 @@ pub fn check_stream<'a, R: CountedRead, G: OrderedGroup>(
     ensures device { stream.old.fault ≡ None → IsErrOf result StreamFault.Device → R.failed stream.new.lines.from ≡ R.failed stream.old.lines.from + 1 }
     ensures kept { ¬ IsErrOf result StreamFault.Device → R.failed stream.new.lines.from ≡ R.failed stream.old.lines.from }
 {
-    if let Some(fault) = stream.fault {
-        return Err(fault);
-    }
-    if stream.is_done {
-        let fault = StreamFault::Cert(CertFault::Truncated);
-        stream.fault = Some(fault);
-        return Err(fault);
-    }
-    match check_lines(&mut stream.lines, net, room) {
-        Ok(()) => {
-            stream.is_done = true;
-            let worth = room.worth();
-            Ok(Accepted::new(net, room.pit(), worth))
-        }
-        Err(fault) => {
-            stream.fault = Some(fault);
-            Err(fault)
-        }
+    match check_graph(stream, net.graph(), room) {
+        Ok(accepted) => Ok(Accepted::new(net, accepted.pit(), accepted.worth())),
+        Err(fault) => Err(fault),
     }
 }

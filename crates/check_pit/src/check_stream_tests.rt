@@ -171,7 +171,7 @@ fn one_room_serves_one_check_after_another(rt: HostRuntime) -> Result<(), Fail> 
     let mut stream = stream_of(alloc, &unbalanced, 0, &net)?;
     let first = worth_of(check_stream(&mut stream, &net, &mut room));
     assert!(rt; first == refused(PitFault::Unbalanced(0)));
-    assert!(rt; room.is_for(&net));
+    assert!(rt; room.is_for(net.len()));
     let whole = with_header(alloc, WHOLE)?;
     let mut stream = stream_of(alloc, &whole, 0, &net)?;
     let second = worth_of(check_stream(&mut stream, &net, &mut room));

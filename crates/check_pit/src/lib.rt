@@ -6,9 +6,11 @@
 //! sums fit is never refused. `read_certificate` accepts exactly the texts of the grammar, with the
 //! pit and the flow that their lines say, and otherwise names the first faulty line; each certificate
 //! has one text, which `write_certificate` writes, and which is read back as that certificate.
+//! `check_graph` and `check_stream` read and check a certificate at once, line by line.
 #![tactic(auto)]
 
 mod accepted;
+mod accepted_pit;
 mod body_reader;
 mod cert_fault;
 mod cert_stream;
@@ -20,6 +22,7 @@ mod header;
 mod header_lines;
 pub mod laws;
 mod lines_of_body;
+mod marks;
 mod piece_reader;
 mod pit_fault;
 mod pit_list;
@@ -35,8 +38,9 @@ mod sums;
 mod writing;
 
 pub use accepted::Accepted;
+pub use accepted_pit::AcceptedPit;
 pub use cert_fault::CertFault;
-pub use cert_stream::{CertStream, check_stream};
+pub use cert_stream::{CertStream, check_graph, check_stream};
 pub use certificate::{Certificate, read_certificate};
 pub use checking::check;
 pub use header::{Header, Price};

@@ -1,46 +1,53 @@
 //! The sums of a check while lines are read.
 
-ghost use Rattle.std.specs.Prelude.{◌≡◌, ◌↔◌, ℕ, ◌<◌, ◌⊎◌, true, false, IsTrue, pos, List, [], length, IfOk, IfErr, IfSome, MatchOption, MatchResult};
+ghost use Rattle.std.specs.Prelude.{◌≡◌, ◌↔◌, ℕ, ◌<◌, ◌≤◌, ◌⊎◌, true, false, IsTrue, pos, List, [], length, IfOk, IfErr, IfSome, MatchOption, MatchResult};
 ghost use Rattle.ordered_group.specs.Amount.{zero_amount, plus, minus, positive, AtMost, FitsPair};
 ghost use Rattle.ordered_group.specs.Sums.{total, amount_at};
 ghost use Rattle.prec_file.specs.Rests.{IsFirstNot};
-ghost use Rattle.closure_net.specs.Network.{NetView, IsAscending};
+ghost use Rattle.closure_net.specs.Network.{NetView, IsAscending, holds_of};
+ghost use Rattle.closure_net.specs.Closure.{IsClosed};
 ghost use Rattle.check_pit.specs.declared.lines_of_body.LineKind.TheVariants as kind;
 ghost use Rattle.check_pit.specs.declared.lines_of_body.BodyLine.{BodyLine as LineView};
 ghost use Rattle.check_pit.specs.Certificate.{amount_of};
+ghost use Rattle.check_pit.specs.Closing.{IsFirstOpen};
 ghost use Rattle.check_pit.specs.LineSums.{keeps_by};
 ghost use Rattle.check_pit.specs.Rooms.{IsRoomFor, AreSumsOf, MayPut, WithLine, SumOverflowsWith, RefusedWhere, PutsLine, RefusesLine, with_balance, with_left, IsFirstUnbalanced, TellsTight};
 
 use crate::gathering::amount;
 use crate::lines_of_body::{BodyLine, LineKind};
+use crate::marks::{first_open, mark};
 use crate::pit_fault::PitFault;
 use crate::pit_list::PitList;
-use closure_net::{Net, Pit};
+use closure_net::{GraphRef, Net, Pit};
 use ordered_group::{OrderedGroup, at_most, is_zero, same, zeros};
 use std::alloc::{AllocError, Global};
 use std::marker::Model;
 
-/// What a check of a stream needs of memory: a balance for each block, and the list of the pit's blocks. It serves one check
-/// after another.
+/// What a check of a stream needs of memory: a balance and a mark for each block, and the list of the pit's blocks. It serves
+/// one check after another.
 #[derive(Drop)]
 pub struct Room<G: OrderedGroup> {
     balances: Vec<G>,
     pit: PitList,
+    // a mark for each block, of use to `first_open` alone
+    marks: Vec<bool>,
     worth: G,
     left: G,
 }
 
 impl<G: OrderedGroup> Model for Room<G> {
-    ghost use Rattle.std.specs.Prelude.{map};
+    ghost use Rattle.std.specs.Prelude.{◌≡◌, length, map};
     ghost use Rattle.check_pit.specs.Rooms.{RoomView};
 
     ghost Value = { RoomView };
 
     ghost view = { λ r. record { balances = map G.parts_of r.balances.items; blocks = r.pit.blocks; space = r.pit.space; is_pit = r.pit.is_pit; worth = G.parts_of r.worth; left = G.parts_of r.left } };
+
+    ghost invariant = { λ r. length r.marks.items ≡ length r.balances.items };
 }
 
 // What the source may give in all.
-fn positive_total<G: OrderedGroup>(net: &Net<G>) -> G
+fn positive_total<G: OrderedGroup>(net: &GraphRef<'_, G>) -> G
     ensures { G.parts_of result ≡ total (λ b. positive (amount_at net.now.worths b)) (length net.now.worths) }
 {
     // proof: each sum of the positive worths of a net fits
@@ -71,23 +78,39 @@ fn not_negative<G: OrderedGroup>(line: &BodyLine) -> Result<G, PitFault>
 }
 
 impl<G: OrderedGroup> Room<G> {
-    /// The room for checks of nets with as many blocks as this one. Takes the memory for a balance and a mark of each block.
+    /// The room for checks of this net, and of every other of as many blocks.
+    ///
+    /// # Errors
+    /// Where memory is refused.
     pub fn new(alloc: Global, net: &Net<G>) -> Result<Room<G>, AllocError>
-        ensures { IfOk result (λ r. length r.balances ≡ length net.now.worths) }
+        ensures balances { IfOk result (λ r. length r.balances ≡ length net.now.worths) }
+        ensures space { IfOk result (λ r. length net.now.worths ≤ r.space) }
+    {
+        Room::of_blocks(alloc, net.len())
+    }
+
+    /// The room for checks of nets of so many blocks: a balance, a place in the pit and a mark of each.
+    ///
+    /// # Errors
+    /// Where memory is refused.
+    pub fn of_blocks(alloc: Global, blocks: u32) -> Result<Room<G>, AllocError>
+        ensures balances { IfOk result (λ r. length r.balances ≡ blocks) }
+        ensures space { IfOk result (λ r. blocks ≤ r.space) }
     {
         Ok(Room {
-            balances: zeros(alloc, net.len())?,
-            pit: PitList::new(alloc, net.len())?,
+            balances: zeros(alloc, blocks)?,
+            pit: PitList::new(alloc, blocks)?,
+            marks: vec![in alloc; false; blocks as usize]?,
             worth: G::zero(),
             left: G::zero(),
         })
     }
 
-    /// Whether the room is one for nets with as many blocks as this one.
-    pub fn is_for(&self, net: &Net<G>) -> bool
-        ensures { IsTrue result ↔ (length self.now.balances ≡ length net.now.worths) }
+    /// Whether the room is one for nets of so many blocks.
+    pub fn is_for(&self, blocks: u32) -> bool
+        ensures { IsTrue result ↔ (length self.now.balances ≡ blocks) }
     {
-        self.balances.len() == net.len() as usize
+        self.balances.len() == blocks as usize
     }
 
     fn clear_balances(&mut self)
@@ -100,7 +123,7 @@ impl<G: OrderedGroup> Room<G> {
     }
 
     // Clears the room, as a check begins.
-    pub(crate) fn begin(&mut self, net: &Net<G>) -> Result<(), AllocError>
+    pub(crate) fn begin(&mut self, net: &GraphRef<'_, G>) -> Result<(), AllocError>
         requires { length self.old.balances ≡ length net.now.worths }
         ensures size { length self.new.balances ≡ length self.old.balances }
         ensures sums { IfOk result (λ _. AreSumsOf net.now [] self.new) }
@@ -146,7 +169,7 @@ impl<G: OrderedGroup> Room<G> {
         Ok(())
     }
 
-    fn put_block(&mut self, net: &Net<G>, line: &BodyLine) -> Result<(), PitFault>
+    fn put_block(&mut self, net: &GraphRef<'_, G>, line: &BodyLine) -> Result<(), PitFault>
         requires kind { line.now.kind ≡ kind.Pit }
         requires may { MayPut net.now self.old line.now }
         ensures size { length self.new.balances ≡ length self.old.balances }
@@ -160,7 +183,7 @@ impl<G: OrderedGroup> Room<G> {
         Ok(())
     }
 
-    fn put_source(&mut self, net: &Net<G>, line: &BodyLine) -> Result<(), PitFault>
+    fn put_source(&mut self, net: &GraphRef<'_, G>, line: &BodyLine) -> Result<(), PitFault>
         requires kind { line.now.kind ≡ kind.Source }
         requires may { MayPut net.now self.old line.now }
         requires counted { (G.counts ≡ true) ⊎ (line.now.count ≡ pos 0) }
@@ -177,7 +200,7 @@ impl<G: OrderedGroup> Room<G> {
         self.give(amount)
     }
 
-    fn put_rest(&mut self, net: &Net<G>, line: &BodyLine) -> Result<(), PitFault>
+    fn put_rest(&mut self, net: &GraphRef<'_, G>, line: &BodyLine) -> Result<(), PitFault>
         requires kind { line.now.kind ≡ kind.Rest }
         requires may { MayPut net.now self.old line.now }
         requires counted { (G.counts ≡ true) ⊎ (line.now.count ≡ pos 0) }
@@ -194,7 +217,7 @@ impl<G: OrderedGroup> Room<G> {
         Ok(())
     }
 
-    fn put_sink(&mut self, net: &Net<G>, line: &BodyLine) -> Result<(), PitFault>
+    fn put_sink(&mut self, net: &GraphRef<'_, G>, line: &BodyLine) -> Result<(), PitFault>
         requires kind { line.now.kind ≡ kind.Sink }
         requires may { MayPut net.now self.old line.now }
         requires counted { (G.counts ≡ true) ⊎ (line.now.count ≡ pos 0) }
@@ -211,7 +234,7 @@ impl<G: OrderedGroup> Room<G> {
     }
 
     // Puts a line: in this order `Negative`, `OverCapacity` and `TooLarge` of this line.
-    pub(crate) fn put(&mut self, net: &Net<G>, line: &BodyLine) -> Result<(), PitFault>
+    pub(crate) fn put(&mut self, net: &GraphRef<'_, G>, line: &BodyLine) -> Result<(), PitFault>
         requires may { MayPut net.now self.old line.now }
         requires counted { (G.counts ≡ true) ⊎ (line.now.count ≡ pos 0) }
         ensures size { length self.new.balances ≡ length self.old.balances }
@@ -249,8 +272,23 @@ impl<G: OrderedGroup> Room<G> {
         self.pit.pit()
     }
 
+    // The first pair of the net whose block is in the pit while its predecessor isn't.
+    pub(crate) fn first_open(&mut self, net: &GraphRef<'_, G>) -> Option<(u32, u32)>
+        requires made { self.old.is_pit ≡ true }
+        requires size { length self.old.balances ≡ length net.now.worths }
+        ensures same { self.new ≡ self.old }
+        ensures open { MatchOption result
+            (IsClosed net.now.pairs (holds_of self.old.blocks))
+            (λ pair. IsFirstOpen net.now.pairs (holds_of self.old.blocks) pair) }
+    {
+        // proof: the pairs of a net are of its blocks
+        let _worths = net.worths();
+        mark(&mut self.marks, self.pit.pit().blocks());
+        first_open(net.predecessors(), &self.marks)
+    }
+
     // The first block of the net whose balance is not zero.
-    pub(crate) fn first_unbalanced(&self, net: &Net<G>) -> Option<u32>
+    pub(crate) fn first_unbalanced(&self, net: &GraphRef<'_, G>) -> Option<u32>
         requires { length self.now.balances ≡ length net.now.worths }
         ensures is { MatchOption result
             ((b : ℕ) → b < length net.now.worths → amount_at self.now.balances b ≡ zero_amount)

@@ -37,11 +37,11 @@ fn source(block: u32, worth: i128, count: i128) -> BodyLine
 fn a_room_serves_one_check_after_another(rt: HostRuntime) -> Result<(), Fail> {
     let net = three(rt.alloc())?;
     let mut room = Room::new(rt.alloc(), &net)?;
-    room.begin(&net)?;
-    assert!(rt; room.put(&net, &source(0, 6, -1)) == Ok(()));
-    assert!(rt; room.first_unbalanced(&net) == Some(0));
-    room.begin(&net)?;
-    assert!(rt; room.first_unbalanced(&net) == None);
+    room.begin(&net.graph())?;
+    assert!(rt; room.put(&net.graph(), &source(0, 6, -1)) == Ok(()));
+    assert!(rt; room.first_unbalanced(&net.graph()) == Some(0));
+    room.begin(&net.graph())?;
+    assert!(rt; room.first_unbalanced(&net.graph()) == None);
     Ok(())
 }
 
@@ -49,9 +49,9 @@ fn a_room_serves_one_check_after_another(rt: HostRuntime) -> Result<(), Fail> {
 fn amounts_have_limits(rt: HostRuntime) -> Result<(), Fail> {
     let net = three(rt.alloc())?;
     let mut room = Room::new(rt.alloc(), &net)?;
-    room.begin(&net)?;
-    assert!(rt; room.put(&net, &source(0, -1, 0)) == Err(PitFault::Negative));
-    room.begin(&net)?;
-    assert!(rt; room.put(&net, &source(1, 6, 0)) == Err(PitFault::OverCapacity(1)));
+    room.begin(&net.graph())?;
+    assert!(rt; room.put(&net.graph(), &source(0, -1, 0)) == Err(PitFault::Negative));
+    room.begin(&net.graph())?;
+    assert!(rt; room.put(&net.graph(), &source(1, 6, 0)) == Err(PitFault::OverCapacity(1)));
     Ok(())
 }

@@ -15,7 +15,6 @@ ghost use Rattle.check_pit.specs.StreamChecks.{ClosesPit, IsOpenPit, SumsSettle,
 
 use crate::body_reader::is_end;
 use crate::cert_fault::CertFault;
-use crate::closing::first_open;
 use crate::gathering::counts;
 use crate::lines_of_body::{BodyLine, LineKind};
 use crate::pit_fault::PitFault;
@@ -23,7 +22,7 @@ use crate::room::Room;
 use crate::stream_body::next_line;
 use crate::stream_fault::StreamFault;
 use crate::stream_lines::StreamLines;
-use closure_net::Net;
+use closure_net::GraphRef;
 use fixed_worth::CountedRead;
 use ordered_group::OrderedGroup;
 
@@ -45,21 +44,22 @@ fn is_behind_pits(previous: Option<BodyLine>) -> bool
 
 // Whether the pit of the PIT lines is closed, at the first line behind them.
 fn close_pit<G: OrderedGroup>(
-    net: &Net<G>,
+    net: &GraphRef<'_, G>,
     room: &mut Room<G>,
     previous: Option<BodyLine>,
     kind: LineKind,
 ) -> Result<(), PitFault>
     requires open { room.old.is_pit ≡ spec.is_behind_pits previous }
     requires ascending { IsAscending room.old.blocks }
+    requires size { length room.old.balances ≡ length net.now.worths }
     ensures size { length room.new.balances ≡ length room.old.balances }
-    ensures closes { MatchResult result (λ _. ClosesPit net.now previous kind room.old room.new) (λ e. IsOpenPit net.now kind room.old.blocks e) }
+    ensures closes { MatchResult result (λ _. ClosesPit net.now previous kind room.old room.new) (λ e. IsOpenPit net.now previous kind room.old.blocks e) }
 {
     if is_behind_pits(previous) || is_pit(kind) {
         return Ok(());
     }
     room.make_pit();
-    match first_open(net, room.pit()) {
+    match room.first_open(net) {
         Some((block, other)) => Err(PitFault::NotClosed(block, other)),
         None => Ok(()),
     }
@@ -68,7 +68,7 @@ fn close_pit<G: OrderedGroup>(
 // The next line of a certificate for the net.
 fn line_for<R: CountedRead, G: OrderedGroup>(
     lines: &mut StreamLines<R>,
-    net: &Net<G>,
+    net: &GraphRef<'_, G>,
     previous: Option<BodyLine>,
 ) -> Result<BodyLine, StreamFault>
     requires { R.failed lines.old.from < 2 ^ 64 - 1 }
@@ -78,11 +78,11 @@ fn line_for<R: CountedRead, G: OrderedGroup>(
     ensures device { IsErrOf result StreamFault.Device → R.failed lines.new.from ≡ R.failed lines.old.from + 1 }
     ensures kept { ¬ IsErrOf result StreamFault.Device → R.failed lines.new.from ≡ R.failed lines.old.from }
 {
-    next_line(lines, net.rests(), counts::<G>(), previous)
+    next_line(lines, net.predecessors(), counts::<G>(), previous)
 }
 
 // Whether the sums behind all lines prove the pit.
-fn settle<G: OrderedGroup>(net: &Net<G>, room: &Room<G>) -> Result<(), PitFault>
+fn settle<G: OrderedGroup>(net: &GraphRef<'_, G>, room: &Room<G>) -> Result<(), PitFault>
     requires { length room.now.balances ≡ length net.now.worths }
     ensures { MatchResult result (λ _. SumsSettle net.now room.now) (λ e. SumsFail net.now room.now e) }
 {
@@ -98,7 +98,7 @@ fn settle<G: OrderedGroup>(net: &Net<G>, room: &Room<G>) -> Result<(), PitFault>
 // Whether nothing stands behind END, and the sums prove the pit.
 fn check_end<R: CountedRead, G: OrderedGroup>(
     lines: &mut StreamLines<R>,
-    net: &Net<G>,
+    net: &GraphRef<'_, G>,
     room: &Room<G>,
 ) -> Result<(), StreamFault>
     requires count { R.failed lines.old.from < 2 ^ 64 - 1 }
@@ -124,7 +124,7 @@ fn check_end<R: CountedRead, G: OrderedGroup>(
 /// `OverCapacity` and `TooLarge` of a line; behind END `Unbalanced` and `NotTight`.
 pub fn check_lines<R: CountedRead, G: OrderedGroup>(
     lines: &mut StreamLines<R>,
-    net: &Net<G>,
+    net: &GraphRef<'_, G>,
     room: &mut Room<G>,
 ) -> Result<(), StreamFault>
     requires count { R.failed lines.old.from < 2 ^ 64 - 1 }

@@ -1,4 +1,3 @@
-use Rattle.std.proofs.Common.{rules}
 use Rattle.std.proofs.lemmas.Result.{err_from_is_err_and}
 use Rattle.check_pit.proofs.HeaderLines.{three_passed, header_made, header_unmade}
 use Rattle.check_pit.proofs.header_lines.read_header.Goals as goal

@@ -1,4 +1,4 @@
-use Rattle.std.proofs.Common.{ap, arith}
+use Rattle.std.proofs.Common.{sym, ap, ◌∙◌, arith, length-set}
 use Rattle.closure_net.proofs.Views.{length_view}
 use Rattle.check_pit.specs.Rooms.{RoomView}
 use Rattle.check_pit.proofs.RoomSums.{cleared_size, cleared_more}
@@ -11,5 +11,6 @@ loop-b-preserved g c =
     let is = length_view parts c.self.inside.balances.items c.args.self.now.balances (ap (λ (v : RoomView). v.balances) c.self.view_is) in
     record {
       size = cleared_size items c.loop-b.b c.zero.result _ c.loop-b.invariant.size;
+      marks = c.loop-b.invariant.marks ∙ sym (length-set items c.loop-b.b c.zero.result);
       zero = cleared_more parts items c.loop-b.b c.zero.result (omega (arith, c.loop-b.invariant.size, is)) c.zero.ensures c.loop-b.invariant.zero;
     }

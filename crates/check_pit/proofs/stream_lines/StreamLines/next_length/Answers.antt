@@ -1,4 +1,4 @@
-use Rattle.std.proofs.Common.{◌≡◌, false, rules, ◌∙◌, ap, sym, arith}
+use Rattle.std.proofs.Common.{◌≡◌, false, rules, ◌∙◌, ap, arith}
 use Rattle.check_pit.proofs.HeldLines.{held_too_long, held_cut_off}
 use Rattle.check_pit.proofs.stream_lines.StreamLines.next_length.Goals as goal
 

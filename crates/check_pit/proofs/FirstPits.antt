@@ -1,0 +1,51 @@
+-- The PIT lines with which the lines of a certificate begin.
+use Rattle.std.proofs.Common.{◌≡◌, ℕ, Bool, true, false, not, List, [], ◌∷◌, ◌++◌, Option, Some, None, refl, ap, ◌∙◌, append_assoc, append-nil}
+use Rattle.check_pit.specs.declared.lines_of_body.LineKind.{LineKind}
+use Rattle.check_pit.specs.declared.lines_of_body.LineKind.TheVariants.{Pit, Source, Rest, Sink, End}
+use Rattle.check_pit.specs.declared.lines_of_body.BodyLine.{BodyLine}
+use Rattle.check_pit.specs.BodyLines.{may_follow}
+use Rattle.check_pit.specs.StreamChecks.{is_pit, is_behind_pits, first_pits}
+use Rattle.check_pit.proofs.Order.{InOrder}
+use Rattle.check_pit.proofs.Beginnings.{last_line}
+
+-- Lines that are all PIT lines.
+abbrev pub AllPits : List BodyLine → Type 0
+AllPits [] = Unit {0}
+AllPits (l ∷ ls) = (is_pit l.kind ≡ true) × AllPits ls
+
+first_front : (ls more : List BodyLine) → AllPits ls → first_pits (ls ++ more) ≡ ls ++ first_pits more
+first_front [] more a = refl
+first_front (l ∷ ls) more a = rw a.0 (ap (λ (xs : List BodyLine). l ∷ xs) (first_front ls more a.1))
+
+first_stops : (l : BodyLine) (more : List BodyLine) → is_pit l.kind ≡ false → first_pits (l ∷ more) ≡ []
+first_stops l more h = rw h refl
+
+-- They are the first ones where another line stands behind them, or none does.
+pub first_behind : (ls more : List BodyLine) (l : BodyLine) → AllPits ls → is_pit l.kind ≡ false → first_pits ((ls ++ l ∷ []) ++ more) ≡ ls
+first_behind ls more l a h =
+    ap first_pits (append_assoc ls (l ∷ []) more) ∙ first_front ls (l ∷ more) a ∙ ap (λ (xs : List BodyLine). ls ++ xs) (first_stops l more h) ∙ append-nil ls
+
+pub first_all : (ls : List BodyLine) → AllPits ls → first_pits ls ≡ ls
+first_all [] a = refl
+first_all (l ∷ ls) a = rw a.0 (ap (λ (xs : List BodyLine). l ∷ xs) (first_all ls a.1))
+
+kind_is : (kind : LineKind) → is_pit kind ≡ true → kind ≡ Pit
+kind_is Pit h = refl
+kind_is Source h = absurd (let z : false ≡ true = h in cc)
+kind_is Rest h = absurd (let z : false ≡ true = h in cc)
+kind_is Sink h = absurd (let z : false ≡ true = h in cc)
+kind_is End h = absurd (let z : false ≡ true = h in cc)
+
+not_false : (t : Bool) → not t ≡ false → t ≡ true
+not_false true h = refl
+not_false false h = absurd (let z : true ≡ false = h in cc)
+
+-- Where PIT lines are not left for others, the lines so far are PIT lines alone.
+module _ (P : BodyLine → Type 0) (pit_behind : (previous : Option BodyLine) (line : BodyLine) → may_follow previous line ≡ true → line.kind ≡ Pit → is_behind_pits previous ≡ false) where
+  stays : (l : BodyLine) (ls : List BodyLine) → InOrder P (Some l) ls → is_behind_pits (last_line (Some l) ls) ≡ false → is_pit l.kind ≡ true
+  stays l [] o h = not_false (is_pit l.kind) h
+  stays l (m ∷ ms) o h = not_false (is_pit l.kind) (pit_behind (Some l) m o.0 (kind_is m.kind (stays m ms o.2 h)))
+
+  pub all_pits : (previous : Option BodyLine) (ls : List BodyLine) → InOrder P previous ls → is_behind_pits (last_line previous ls) ≡ false → AllPits ls
+  all_pits previous [] o h = tt
+  all_pits previous (l ∷ ls) o h = (stays l ls o.2 h, all_pits (Some l) ls o.2 h)
