@@ -107,8 +107,8 @@ module _ (counts : Bool) (name : Group) (net : NetView) (text pit : List ℕ) (f
       let same : pit ≡ h.0 = p.denotes.pit ∙ says.all p.none in
       let closed : IsClosed net.pairs (holds_of h.0) = subst (λ (l : List ℕ). IsClosed net.pairs (holds_of l)) same p.proves.closed in
       absurd (first.1.2 (closed first.0 (0, 0) first.1.0))
-  refusal_leaves Negative h = absurd (not_negative h.1.kind net h.1 (line_kept h.0 h.1 h.2) h.3)
-  refusal_leaves (OverCapacity b) h = absurd (not_over h.1.kind net h.1 (line_kept h.0 h.1 h.2) h.3.1)
+  refusal_leaves Negative h = absurd (not_negative h.1.kind net h.1 (line_kept h.0 h.1 h.2) h.4)
+  refusal_leaves (OverCapacity b) h = absurd (not_over h.1.kind net h.1 (line_kept h.0 h.1 h.2) h.4.1)
   refusal_leaves (Unbalanced b) h =
       let balanced : Balanced net (flow_for counts net text) b = subst (λ (f : FlowView). Balanced net f b) (sym flow_is) (p.proves.is_flow.balance b h.1.0) in
       absurd (h.1.2 balanced)
@@ -116,7 +116,7 @@ module _ (counts : Bool) (name : Group) (net : NetView) (text pit : List ℕ) (f
       let T : FlowView → Type 0 = λ f. IsTight net f (holds_of pit) in
       let U : List ℕ → Type 0 = λ l. IsTight net (flow_for counts net text) (holds_of l) in
       absurd (h.2 (subst U p.denotes.pit (subst T (sym flow_is) p.proves.tight)))
-  refusal_leaves TooLarge h = (h.0 ++ h.1 ∷ [], h.2, h.3.1)
+  refusal_leaves TooLarge h = (h.0 ++ h.1 ∷ [], h.2, h.4.1)
 
 -- a reading of texts that proves its pit
 proved_at : (texts : MineTexts) (c : List ℕ) (n : ℕ) (x : Reads texts c) → x.blocks ≡ n → n ≡ length x.net.worths → ProvesPit x.net x.flow x.pit → IsProved (counts_by x.group) x.group x.net c x.pit x.flow

@@ -24,7 +24,7 @@ use Rattle.check_pit.specs.Header.{header_for}
 use Rattle.check_pit.specs.LineSums.{flow_of}
 use Rattle.check_pit.specs.Checks.{ProvesPit}
 use Rattle.check_pit.specs.StreamView.{LineView}
-use Rattle.check_pit.specs.StreamChecks.{ReadsOn, fault_of_body, lines_of_body, IsWhole, BodyRefused, BodyFails, BodyProves}
+use Rattle.check_pit.specs.StreamChecks.{first_pits, ReadsOn, fault_of_body, lines_of_body, IsWhole, BodyRefused, BodyFails, BodyProves}
 use Rattle.check_pit.specs.StreamChecks as checks
 use Rattle.check_pit.proofs.NamedHeaders.{header_named}
 use Rattle.check_pit.proofs.Order.{stands_in_order, ascending, known}
@@ -72,9 +72,9 @@ module _ (name : Group) (counts : Bool) (net : NetView) (text body left : List �
   refusal WrongSize h = h
   refusal (NotClosed b p) h =
       let pit = h.1 in
-      (h.0, record { lines = pit.lines; begin = begins pit.lines pit.begin; same = pit.same; all = λ f. ap pit_of text_lines ∙ pit.all left (sym text_fault ∙ f) }, h.2)
-  refusal Negative h = (h.0, h.1, begins (h.0 ++ h.1 ∷ []) h.2, h.3)
-  refusal (OverCapacity b) h = (h.0, h.1, begins (h.0 ++ h.1 ∷ []) h.2, h.3)
+      (h.0, record { first = ap (λ (ls : List BodyLine). pit_of (first_pits ls)) text_lines ∙ pit.first left; all = λ f. ap pit_of text_lines ∙ pit.all left (sym text_fault ∙ f) }, h.2)
+  refusal Negative h = (h.0, h.1, begins (h.0 ++ h.1 ∷ []) h.2, h.3, h.4)
+  refusal (OverCapacity b) h = (h.0, h.1, begins (h.0 ++ h.1 ∷ []) h.2, h.3, h.4)
   refusal (Unbalanced b) h =
       let P : List BodyLine → Type 0 = λ ls. IsFirstNot (Balanced net (flow_of (length net.worths) net.pairs ls)) (length net.worths) b in
       ((within h.0, no_fault h.0), subst P (whole_lines h.0.ends) h.1)
@@ -82,7 +82,7 @@ module _ (name : Group) (counts : Bool) (net : NetView) (text body left : List �
       let P : List BodyLine → Type 0 = λ ls. ((b : ℕ) → b < length net.worths → Balanced net (flow_of (length net.worths) net.pairs ls) b) × ¬ (IsTight net (flow_of (length net.worths) net.pairs ls) (holds_of (pit_of ls))) in
       let told = subst P (whole_lines h.0.ends) (h.1, h.2) in
       ((within h.0, no_fault h.0), told.0, told.1)
-  refusal TooLarge h = (h.0, h.1, begins (h.0 ++ h.1 ∷ []) h.2, h.3)
+  refusal TooLarge h = (h.0, h.1, begins (h.0 ++ h.1 ∷ []) h.2, h.3, h.4)
 
   -- a fault that stands whatever follows stands in the text
   text_has : (e : CertFault) → ((future : List ℕ) → UnlessMemory e (fault_of_body counts net (body ++ future) ≡ Some e)) → UnlessMemory e (fault_of counts name (length net.worths) net.pairs text ≡ Some e)

@@ -9,8 +9,9 @@ use Rattle.check_pit.specs.declared.pit_fault.PitFault.{PitFault}
 use Rattle.check_pit.specs.declared.pit_fault.PitFault.TheVariants.{WrongSize, NotClosed, Negative, OverCapacity, Unbalanced, NotTight, TooLarge}
 use Rattle.check_pit.specs.Certificate.{fault_of, lines_of_text, pit_of}
 use Rattle.check_pit.specs.Closing.{IsFirstOpen}
-use Rattle.check_pit.specs.LineSums.{flow_of, SomeLineSumOverflows}
+use Rattle.check_pit.specs.LineSums.{KeepLimits, flow_of, SomeLineSumOverflows}
 use Rattle.check_pit.specs.Rooms.{LineRefused}
+use Rattle.check_pit.specs.StreamChecks.{first_pits}
 use Rattle.engines.specs.Limits.{IsWithinLimit}
 
 -- the lines of the text behind its header, before END
@@ -25,9 +26,9 @@ flow_for counts net text = flow_of (length net.worths) net.pairs (lines_for coun
 abbrev pub LinesBegin : Bool → NetView → List ℕ → List BodyLine → Type 0
 LinesBegin counts net text ls = (more : List BodyLine) × (lines_for counts net text ≡ ls ++ more)
 
--- one of them is refused behind those before it
+-- one of them is refused behind those before it, of which none has an amount that is negative or too large
 abbrev pub RefusesLine : Bool → NetView → List ℕ → PitFault → Type 0
-RefusesLine counts net text e = (ls : List BodyLine) × (l : BodyLine) × LinesBegin counts net text (ls ++ l ∷ []) × LineRefused net ls l e
+RefusesLine counts net text e = (ls : List BodyLine) × (l : BodyLine) × LinesBegin counts net text (ls ++ l ∷ []) × KeepLimits net.worths ls × LineRefused net ls l e
 
 -- some first lines have a sum that doesn't fit: the balance of a block, the worth of the pit, or what the source could still give
 abbrev pub SomeSumLeaves : Bool → NetView → List ℕ → Type 0
@@ -37,15 +38,14 @@ SomeSumLeaves counts net text = (ls : List BodyLine) × LinesBegin counts net te
 abbrev pub IsFaultless : Bool → Group → NetView → List ℕ → Type 0
 IsFaultless counts name net text = IsWithinLimit text × (fault_of counts name (length net.worths) net.pairs text ≡ None)
 
--- The pit that the first lines say, and no later one adds to: a PIT line behind another line is a fault of the text.
+-- The pit that the PIT lines say with which the lines begin. A text without a fault has no others, since a PIT line behind
+-- another line is one.
 pub record SaysPit (counts : Bool) (name : Group) (net : NetView) (text pit : List ℕ) : Type 0 where
-  pub lines : List BodyLine
-  pub begin : LinesBegin counts net text lines
-  pub same : pit ≡ pit_of lines
+  pub first : pit_of (first_pits (lines_for counts net text)) ≡ pit
   pub all : fault_of counts name (length net.worths) net.pairs text ≡ None → pit_of (lines_for counts net text) ≡ pit
 
--- Each fault stands. A fault of a line is that of the first faulty one, and so is an open pit, whatever stands behind them;
--- the balances and the pit's worth are told where the whole text is read.
+-- Each fault stands. An amount that is negative or too large is the first such one, and a sum that doesn't fit is one over
+-- the lines so far; the pit of the PIT lines is open, whatever stands behind them; the balances and the pit's worth are told where the whole text is read.
 abbrev pub TextRefused : Bool → Group → NetView → List ℕ → PitFault → Type 0
 TextRefused counts name net text WrongSize = ⊥
 TextRefused counts name net text (NotClosed b p) = (pit : List ℕ) × SaysPit counts name net text pit × IsFirstOpen net.pairs (holds_of pit) (b, p)

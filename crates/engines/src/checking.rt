@@ -5,7 +5,7 @@ ghost use Rattle.engines.specs.Checking.{Checks, SoundIsAccepted, OneFailed};
 ghost use Rattle.engines.specs.Mines.{mine_texts};
 
 use crate::engine_fault::EngineFault;
-use crate::inputs::{rests_from, upit_from};
+use crate::inputs::{predecessors_from, upit_from};
 use crate::judgement::{Judgement, Verdict};
 use crate::judgement_line::write_judgement;
 use crate::judging::judge;
@@ -17,8 +17,8 @@ use std::alloc::Global;
 /// `Done` where it wrote `ACCEPTED`: the pit of the certificate then holds every block that a
 /// block of it rests on, and no such pit is worth more; and with `GROUP PAIR` or `GROUP SCALED` every
 /// other that is worth the same has more blocks (Picard 1976). `No` where it wrote `REFUSED` with the
-/// first fault of the pit and its flow. The inputs are read in the order of the arguments, each to its
-/// end.
+/// first fault of the pit and its flow that the lines come to. The inputs are read in the order of the
+/// arguments, each to its end, but the certificate only up to its first fault.
 ///
 /// Each device must have counted fewer than 2^64 - 1 failures, so that one more can be counted.
 pub fn check_engine<U: CountedRead, P: CountedRead, C: CountedRead, W: CountedWrite>(
@@ -44,8 +44,8 @@ pub fn check_engine<U: CountedRead, P: CountedRead, C: CountedRead, W: CountedWr
     ensures kept { ¬ IsErrOf result EngineFault.Device → (U.failed upit.new ≡ U.failed upit.old) × (P.failed prec.new ≡ P.failed prec.old) × (C.failed certificate.new ≡ C.failed certificate.old) × (W.failed out.new ≡ W.failed out.old) }
 {
     let upit = upit_from(alloc, upit)?;
-    let rests = rests_from(alloc, prec, upit.len())?;
-    let judgement = judge(alloc, &upit, rests, certificate)?;
+    let rests = predecessors_from(alloc, prec, upit.len())?;
+    let judgement = judge(alloc, upit, rests, certificate)?;
     write_judgement(alloc, judgement, out)?;
     Ok(judgement.verdict())
 }

@@ -8,7 +8,7 @@ ghost use Rattle.engines.specs.Inputs.{ReadsUpit, ListsPrec, ReadsPrec, UpitRead
 use crate::engine_fault::{EngineFault, Problem};
 use blocks_file::{BlockModel, BlocksFault, read_blocks};
 use fixed_worth::{CountedRead, InputFault, MOST_BLOCKS, read_whole};
-use prec_file::{ListedPairs, PrecFault, Rests, read_listed};
+use prec_file::{ListedPairs, PrecFault, Predecessors, Rests, read_listed};
 use std::alloc::Global;
 use upit_file::{Upit, UpitFault, declared_blocks, read_upit};
 
@@ -85,7 +85,7 @@ fn upit_of(alloc: Global, text: &[u8]) -> Result<Upit, EngineFault>
     }
 }
 
-// The pairs that a text lists. Its bytes are given back here, before the pairs take memory of their own.
+// The pairs that a text lists. Its bytes are given back here, before the pairs are put in order and indexed.
 fn listed_from<R: CountedRead>(
     alloc: Global,
     from: &mut R,
@@ -117,4 +117,21 @@ pub fn rests_from<R: CountedRead>(alloc: Global, from: &mut R, n: u32) -> Result
 {
     let listed = listed_from(alloc, from, n)?;
     Ok(listed.settle(alloc)?)
+}
+
+/// The predecessors of each of n blocks, without what only those need who look for a flow.
+pub fn predecessors_from<R: CountedRead>(
+    alloc: Global,
+    from: &mut R,
+    n: u32,
+) -> Result<Predecessors, EngineFault>
+    requires blocks { n ≤ MOST_BLOCKS }
+    requires room { R.failed from.old < 2 ^ 64 - 1 }
+    ensures read { IfSome (R.remaining from.old) (λ text. MatchResult result (ReadsPrec n text) (PrecReadFails n text)) }
+    ensures size { IfOk result (λ rests. rests.blocks ≡ n) }
+    ensures device { IsErrOf result EngineFault.Device ↔ (R.failed from.new ≡ R.failed from.old + 1) }
+    ensures kept { ¬ IsErrOf result EngineFault.Device → R.failed from.new ≡ R.failed from.old }
+{
+    let listed = listed_from(alloc, from, n)?;
+    Ok(listed.into_predecessors(alloc)?)
 }

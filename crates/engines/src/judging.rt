@@ -22,27 +22,29 @@ use crate::engine_fault::{CertificateProblem, EngineFault};
 use crate::judgement::Judgement;
 use crate::mines::nanos_of;
 use check_pit::stream_fault::StreamFault;
-use check_pit::{Accepted, CertFault, CertStream, Header, Price, Room, StreamBytes, check_stream};
-use closure_net::{Net, laws};
+use check_pit::{
+    Accepted, AcceptedPit, CertFault, CertStream, Header, Price, Room, StreamBytes, check_graph,
+};
+use closure_net::{Graph, GraphRef, laws};
 use core::mem::replace_with;
 use fixed_worth::CountedRead;
 use ordered_group::{Group, OrderedGroup, Scaled, Worth, WorthSize};
-use prec_file::Rests;
+use prec_file::Predecessors;
 use shells::Prices;
 use std::alloc::Global;
 use std::thread::Threads;
 use upit_file::Upit;
 
 /// What a certificate proves for the mine of these values and pairs, or why it can't be judged. It is read line by line, up
-/// to its end or to its first fault.
+/// to its end or to its first fault. The values are given back before the check takes memory.
 pub fn judge<C: CountedRead>(
     alloc: Global,
-    upit: &Upit,
-    rests: Rests,
+    upit: Upit,
+    rests: Predecessors,
     certificate: &mut C,
 ) -> Result<Judgement, EngineFault>
     requires { C.failed certificate.old < 2 ^ 64 - 1 }
-    ensures judged { IfSome (C.remaining certificate.old) (λ c. (texts : MineTexts) → AreRead texts (billionths_of upit.now.values) rests → price_wanted texts ≡ Objective → Judges texts c result) }
+    ensures judged { IfSome (C.remaining certificate.old) (λ c. (texts : MineTexts) → AreRead texts (billionths_of upit.values) rests → price_wanted texts ≡ Objective → Judges texts c result) }
     ensures device { IsErrOf result EngineFault.Device → C.failed certificate.new ≡ C.failed certificate.old + 1 }
     ensures kept { ¬ IsErrOf result EngineFault.Device → C.failed certificate.new ≡ C.failed certificate.old }
 {
@@ -53,11 +55,11 @@ pub fn judge<C: CountedRead>(
 // The same; the device is lent to a stream, and handed back.
 fn judge_device<C: CountedRead>(
     device: C,
-    mine: (Global, &Upit, Rests, StreamBytes),
+    mine: (Global, Upit, Predecessors, StreamBytes),
 ) -> (C, Result<Judgement, EngineFault>)
     requires count { C.failed device < 2 ^ 64 - 1 }
     requires held { mine.3 ≡ [] }
-    ensures judged { IfSome (C.remaining device) (λ c. (texts : MineTexts) → AreRead texts (billionths_of mine.entry.1.now.values) mine.entry.2 → price_wanted texts ≡ Objective → Judges texts c result.1) }
+    ensures judged { IfSome (C.remaining device) (λ c. (texts : MineTexts) → AreRead texts (billionths_of mine.1.values) mine.2 → price_wanted texts ≡ Objective → Judges texts c result.1) }
     ensures device { IsErrOf result.1 EngineFault.Device → C.failed result.0 ≡ C.failed device + 1 }
     ensures kept { ¬ IsErrOf result.1 EngineFault.Device → C.failed result.0 ≡ C.failed device }
 {
@@ -69,13 +71,13 @@ fn judge_device<C: CountedRead>(
 
 fn judge_stream<C: CountedRead>(
     alloc: Global,
-    upit: &Upit,
-    rests: Rests,
+    upit: Upit,
+    rests: Predecessors,
     stream: &mut CertStream<C>,
 ) -> Result<Judgement, EngineFault>
     requires count { C.failed stream.old.lines.from < 2 ^ 64 - 1 }
     requires fresh { IsFresh stream.old }
-    ensures judged { IfSome (C.remaining stream.old.lines.from) (λ c. (texts : MineTexts) → AreRead texts (billionths_of upit.now.values) rests → price_wanted texts ≡ Objective → Judges texts c result) }
+    ensures judged { IfSome (C.remaining stream.old.lines.from) (λ c. (texts : MineTexts) → AreRead texts (billionths_of upit.values) rests → price_wanted texts ≡ Objective → Judges texts c result) }
     ensures device { IsErrOf result EngineFault.Device → C.failed stream.new.lines.from ≡ C.failed stream.old.lines.from + 1 }
     ensures kept { ¬ IsErrOf result EngineFault.Device → C.failed stream.new.lines.from ≡ C.failed stream.old.lines.from }
 {
@@ -86,21 +88,23 @@ fn judge_stream<C: CountedRead>(
             return Err(EngineFault::Certificate(CertificateProblem::WrongPrice));
         }
     }
-    let nanos = nanos_of(alloc, upit)?;
-    judge_in(alloc, header.group, nanos.as_slice(), rests, stream)
+    let nanos = nanos_of(alloc, &upit)?;
+    drop(upit);
+    judge_in(alloc, header.group, nanos, rests, stream)
 }
 
 /// What a certificate proves for the mine of these prices, at the factor that it names, and of these pairs; or why it
-/// can't be judged. It is read line by line, up to its end or to its first fault.
+/// can't be judged. It is read line by line, up to its end or to its first fault. The prices are given back before the
+/// check takes memory.
 pub fn judge_priced<R: Threads + Sync, C: CountedRead>(
     rt: &R,
     alloc: Global,
-    prices: &Prices,
-    rests: Rests,
+    prices: Prices,
+    rests: Predecessors,
     certificate: &mut C,
 ) -> Result<Judgement, EngineFault>
     requires { C.failed certificate.old < 2 ^ 64 - 1 }
-    ensures judged { IfSome (C.remaining certificate.old) (λ c. (settings blocks precedence : List ℕ) → ArePricesRead settings blocks precedence prices.now rests
+    ensures judged { IfSome (C.remaining certificate.old) (λ c. (settings blocks precedence : List ℕ) → ArePricesRead settings blocks precedence prices rests
         → Judges (priced_texts settings blocks precedence (factor_in c)) c result) }
     ensures device { IsErrOf result EngineFault.Device → C.failed certificate.new ≡ C.failed certificate.old + 1 }
     ensures kept { ¬ IsErrOf result EngineFault.Device → C.failed certificate.new ≡ C.failed certificate.old }
@@ -116,12 +120,12 @@ pub fn judge_priced<R: Threads + Sync, C: CountedRead>(
 // The same; the device is lent to a stream, and handed back.
 fn judge_priced_device<R: Threads + Sync, C: CountedRead>(
     device: C,
-    mine: (&R, Global, &Prices, Rests, StreamBytes),
+    mine: (&R, Global, Prices, Predecessors, StreamBytes),
 ) -> (C, Result<Judgement, EngineFault>)
     requires count { C.failed device < 2 ^ 64 - 1 }
     requires held { mine.4 ≡ [] }
     requires sync { IsSync R.row }
-    ensures judged { IfSome (C.remaining device) (λ c. (settings blocks precedence : List ℕ) → ArePricesRead settings blocks precedence mine.entry.2.now mine.entry.3
+    ensures judged { IfSome (C.remaining device) (λ c. (settings blocks precedence : List ℕ) → ArePricesRead settings blocks precedence mine.entry.2 mine.entry.3
         → Judges (priced_texts settings blocks precedence (factor_in c)) c result.1) }
     ensures device { IsErrOf result.1 EngineFault.Device → C.failed result.0 ≡ C.failed device + 1 }
     ensures kept { ¬ IsErrOf result.1 EngineFault.Device → C.failed result.0 ≡ C.failed device }
@@ -135,13 +139,13 @@ fn judge_priced_device<R: Threads + Sync, C: CountedRead>(
 fn judge_priced_stream<R: Threads + Sync, C: CountedRead>(
     rt: &R,
     alloc: Global,
-    prices: &Prices,
-    rests: Rests,
+    prices: Prices,
+    rests: Predecessors,
     stream: &mut CertStream<C>,
 ) -> Result<Judgement, EngineFault>
     requires count { C.failed stream.old.lines.from < 2 ^ 64 - 1 }
     requires fresh { IsFresh stream.old }
-    ensures judged { IfSome (C.remaining stream.old.lines.from) (λ c. (settings blocks precedence : List ℕ) → ArePricesRead settings blocks precedence prices.now rests
+    ensures judged { IfSome (C.remaining stream.old.lines.from) (λ c. (settings blocks precedence : List ℕ) → ArePricesRead settings blocks precedence prices rests
         → Judges (priced_texts settings blocks precedence (factor_in c)) c result) }
     ensures device { IsErrOf result EngineFault.Device → C.failed stream.new.lines.from ≡ C.failed stream.old.lines.from + 1 }
     ensures kept { ¬ IsErrOf result EngineFault.Device → C.failed stream.new.lines.from ≡ C.failed stream.old.lines.from }
@@ -151,7 +155,8 @@ fn judge_priced_stream<R: Threads + Sync, C: CountedRead>(
         return Err(EngineFault::Certificate(CertificateProblem::WrongPrice));
     };
     let nanos = prices.worths_at(rt, alloc, factor)?;
-    judge_in(alloc, header.group, nanos.as_slice(), rests, stream)
+    drop(prices);
+    judge_in(alloc, header.group, nanos, rests, stream)
 }
 
 // The header of a certificate for a mine of n blocks.
@@ -207,14 +212,14 @@ fn judgement_of(fault: StreamFault) -> Result<Judgement, EngineFault>
 fn judge_in<C: CountedRead>(
     alloc: Global,
     group: Group,
-    nanos: &[i128],
-    rests: Rests,
+    nanos: Vec<i128>,
+    rests: Predecessors,
     stream: &mut CertStream<C>,
 ) -> Result<Judgement, EngineFault>
     requires count { C.failed stream.old.lines.from < 2 ^ 64 - 1 }
     requires open { IsOpen stream.old }
     requires header { IsReadFor rests.blocks group stream.old.header stream.old.fault }
-    ensures judged { (texts : MineTexts) (c : List ℕ) → AreRead texts nanos.now rests → IsHeader texts c rests.blocks group → StandsBehind C.remaining c stream.old.lines → Judges texts c result }
+    ensures judged { (texts : MineTexts) (c : List ℕ) → AreRead texts nanos.items rests → IsHeader texts c rests.blocks group → StandsBehind C.remaining c stream.old.lines → Judges texts c result }
     ensures device { IsErrOf result EngineFault.Device → C.failed stream.new.lines.from ≡ C.failed stream.old.lines.from + 1 }
     ensures kept { ¬ IsErrOf result EngineFault.Device → C.failed stream.new.lines.from ≡ C.failed stream.old.lines.from }
 {
@@ -232,44 +237,45 @@ fn judge_in<C: CountedRead>(
 // The same in amounts of the group G.
 fn judge_by<G: OrderedGroup, C: CountedRead>(
     alloc: Global,
-    nanos: &[i128],
-    rests: Rests,
+    nanos: Vec<i128>,
+    rests: Predecessors,
     stream: &mut CertStream<C>,
 ) -> Result<Judgement, EngineFault>
     requires count { C.failed stream.old.lines.from < 2 ^ 64 - 1 }
     requires open { IsOpen stream.old }
     requires header { IsReadFor rests.blocks G.name stream.old.header stream.old.fault }
-    ensures judged { (texts : MineTexts) (c : List ℕ) → AreRead texts nanos.now rests → IsGroupNamed G.name G.block_parts G.counts
+    ensures judged { (texts : MineTexts) (c : List ℕ) → AreRead texts nanos.items rests → IsGroupNamed G.name G.block_parts G.counts
         → IsHeader texts c rests.blocks G.name → StandsBehind C.remaining c stream.old.lines → Judges texts c result }
     ensures device { IsErrOf result EngineFault.Device → C.failed stream.new.lines.from ≡ C.failed stream.old.lines.from + 1 }
     ensures kept { ¬ IsErrOf result EngineFault.Device → C.failed stream.new.lines.from ≡ C.failed stream.old.lines.from }
 {
-    let net = Net::<G>::of_worths(alloc, rests, nanos)?;
-    judge_for(alloc, &net, stream)
+    let net = Graph::<G>::of_worths(alloc, rests, &nanos)?;
+    drop(nanos);
+    judge_for(alloc, net.lent(), stream)
 }
 
-// The same, where the mine's net is made.
+// The same, where the graph of the mine's net is made.
 fn judge_for<G: OrderedGroup, C: CountedRead>(
     alloc: Global,
-    net: &Net<G>,
+    net: GraphRef<'_, G>,
     stream: &mut CertStream<C>,
 ) -> Result<Judgement, EngineFault>
     requires count { C.failed stream.old.lines.from < 2 ^ 64 - 1 }
     requires open { IsOpen stream.old }
-    requires header { IsReadFor (length net.now.worths) G.name stream.old.header stream.old.fault }
-    ensures judged { (texts : MineTexts) (c : List ℕ) → DenoteMine texts (length net.now.worths) → IsGroupNamed G.name G.block_parts G.counts
-        → IsHeader texts c (length net.now.worths) G.name → StandsBehind C.remaining c stream.old.lines
-        → IsNetOf G.block_parts (mine_of (length net.now.worths) texts) net.now → Judges texts c result }
+    requires header { IsReadFor (length net.worths) G.name stream.old.header stream.old.fault }
+    ensures judged { (texts : MineTexts) (c : List ℕ) → DenoteMine texts (length net.entry.worths) → IsGroupNamed G.name G.block_parts G.counts
+        → IsHeader texts c (length net.entry.worths) G.name → StandsBehind C.remaining c stream.old.lines
+        → IsNetOf G.block_parts (mine_of (length net.entry.worths) texts) net.entry → Judges texts c result }
     ensures device { IsErrOf result EngineFault.Device → C.failed stream.new.lines.from ≡ C.failed stream.old.lines.from + 1 }
     ensures kept { ¬ IsErrOf result EngineFault.Device → C.failed stream.new.lines.from ≡ C.failed stream.old.lines.from }
 {
     // proof: what is known of every net, that its pairs are of its blocks and in order
     let _worths = net.worths();
-    let mut room = Room::new(alloc, net)?;
-    match check_stream(stream, net, &mut room) {
+    let mut room = Room::of_blocks(alloc, net.len())?;
+    match check_graph(stream, net, &mut room) {
         Ok(accepted) => {
-            let count = size_of(&accepted);
-            let worth = worth_of(&accepted, count);
+            let count = size_of_pit(&accepted);
+            let worth = worth_of_pit(&accepted, count);
             Ok(Judgement::Accepted {
                 group: G::group(),
                 count,
@@ -280,16 +286,41 @@ fn judge_for<G: OrderedGroup, C: CountedRead>(
     }
 }
 
+// The number of blocks of an accepted pit.
+fn size_of_pit<G: OrderedGroup>(accepted: &AcceptedPit<'_, G>) -> u32
+    ensures size { result ≡ length accepted.now.pit }
+    ensures most { result ≤ length accepted.now.net.worths }
+    ensures ascending { IsAscending accepted.now.pit }
+{
+    // proof: a net has at most `MOST_BLOCKS` blocks
+    let _size = accepted.graph().len();
+    let blocks = accepted.pit().blocks();
+    blocks.len() as u32
+}
+
+// The worth of an accepted pit of this many blocks, in billionths.
+fn worth_of_pit<G: OrderedGroup>(accepted: &AcceptedPit<'_, G>, count: u32) -> i128
+    requires { count ≤ length accepted.now.net.worths }
+    ensures worth { result ≡ G.set_worth (group_worth accepted.now.net.worths (holds_of accepted.now.pit)) (length accepted.now.net.worths) count }
+    ensures greatest { IsGreatest accepted.now.net (holds_of accepted.now.pit) }
+{
+    let size = accepted.graph().len();
+    let sum = accepted.worth();
+    // proof: the numbers of the sum fit their types
+    known_to_fit(sum);
+    match sum.nanos_of_set(size, count) {
+        Some(worth) => worth,
+        None => unreachable!(),
+    }
+}
+
 /// The number of blocks of an accepted pit.
 pub fn size_of<G: OrderedGroup>(accepted: &Accepted<'_, G>) -> u32
     ensures size { result ≡ length accepted.now.pit }
     ensures most { result ≤ length accepted.now.net.worths }
     ensures ascending { IsAscending accepted.now.pit }
 {
-    // proof: a net has at most `MOST_BLOCKS` blocks
-    let _size = accepted.net().len();
-    let blocks = accepted.pit().blocks();
-    blocks.len() as u32
+    size_of_pit(&accepted.on_graph())
 }
 
 /// The worth of an accepted pit of this many blocks, in billionths.
@@ -298,14 +329,7 @@ pub fn worth_of<G: OrderedGroup>(accepted: &Accepted<'_, G>, count: u32) -> i128
     ensures worth { result ≡ G.set_worth (group_worth accepted.now.net.worths (holds_of accepted.now.pit)) (length accepted.now.net.worths) count }
     ensures greatest { IsGreatest accepted.now.net (holds_of accepted.now.pit) }
 {
-    let size = accepted.net().len();
-    let sum = accepted.worth();
-    // proof: the numbers of the sum fit their types
-    known_to_fit(sum);
-    match sum.nanos_of_set(size, count) {
-        Some(worth) => worth,
-        None => unreachable!(),
-    }
+    worth_of_pit(&accepted.on_graph(), count)
 }
 
 // The two numbers of an amount fit the machine's.

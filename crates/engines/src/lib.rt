@@ -1,10 +1,11 @@
 //! The engines of the program: bytes in, bytes out, and what each answer means.
 //!
 //! Stands on the crates of files, nets, runs and checks, which hand each other typed values; here they are put
-//! together. An engine reads its inputs to their ends, one after another, does its work, and writes one text; its
-//! contract says which text stands for which bytes. The words that name a pattern, a kind of amount or an effort are
-//! read here too, and a fault is told in one line. The library of the command line is kept out: the program `pit`
-//! opens the files that the words name, and hands them on.
+//! together. An engine reads its inputs, one after another, does its work, and writes one text; its contract says which
+//! text stands for which bytes. Each input is read to its end, but a certificate to be checked only up to its first
+//! fault. The words that name a pattern, a kind of amount or an effort are read here too, and a fault is told in one
+//! line. The library of the command line is kept out: the program `pit` opens the files that the words name, and hands
+//! them on.
 #![tactic(auto)]
 
 pub mod certify;

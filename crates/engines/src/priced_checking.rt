@@ -9,7 +9,7 @@ use crate::engine_fault::EngineFault;
 use crate::judgement::{Judgement, Verdict};
 use crate::judgement_line::write_judgement;
 use crate::judging::judge_priced;
-use crate::priced_inputs::priced_mine_from;
+use crate::priced_inputs::prices_and_predecessors_from;
 use fixed_worth::{CountedRead, CountedWrite};
 use std::alloc::Global;
 use std::thread::Threads;
@@ -18,8 +18,8 @@ use std::thread::Threads;
 /// writes the answer as one line.
 ///
 /// What `Done` and `No` mean is said at [`check_engine`](crate::check_engine). Of two pits that are accepted over the
-/// same texts, the one at the lower factor lies within the other. The inputs are read in the order of the arguments,
-/// each to its end.
+/// same texts, neither at `GROUP WORTH`, the one at the lower factor lies within the other. The inputs are read in the
+/// order of the arguments, each to its end, but the certificate only up to its first fault.
 ///
 /// Each device must have counted fewer than 2^64 - 1 failures, so that one more can be counted.
 pub fn check_priced_engine<
@@ -56,9 +56,8 @@ pub fn check_priced_engine<
     ensures kept { ¬ IsErrOf result EngineFault.Device → (S.failed settings.new ≡ S.failed settings.old) × (B.failed blocks.new ≡ B.failed blocks.old) × (P.failed prec.new ≡ P.failed prec.old)
         × (C.failed certificate.new ≡ C.failed certificate.old) × (W.failed out.new ≡ W.failed out.old) }
 {
-    let mine = priced_mine_from(alloc, settings, blocks, prec)?;
-    let rests = mine.rests;
-    let judgement = judge_priced(rt, alloc, &mine.prices, rests, certificate)?;
+    let mine = prices_and_predecessors_from(alloc, settings, blocks, prec)?;
+    let judgement = judge_priced(rt, alloc, mine.0, mine.1, certificate)?;
     write_judgement(alloc, judgement, out)?;
     Ok(judgement.verdict())
 }

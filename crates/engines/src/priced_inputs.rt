@@ -9,10 +9,10 @@ ghost use Rattle.engines.specs.ReadMines.{ArePricesRead};
 ghost use Rattle.engines.specs.Inputs.{ReadsSettingsText, SettingsReadFails, IsMissing, ReadsPrices, PricesReadFail, ModelPricesFail, PricedMineFails};
 
 use crate::engine_fault::{EngineFault, Problem};
-use crate::inputs::{blocks_from, rests_from, text_from};
+use crate::inputs::{blocks_from, predecessors_from, rests_from, text_from};
 use blocks_file::BlockModel;
 use fixed_worth::{CountedRead, Micros};
-use prec_file::Rests;
+use prec_file::{Predecessors, Rests};
 use settings_file::{Key, Settings, SettingsFault, read_settings};
 use shells::Prices;
 use std::alloc::{AllocError, Global};
@@ -237,4 +237,29 @@ pub fn priced_mine_from<S: CountedRead, B: CountedRead, P: CountedRead>(
     let prices = prices_from(alloc, blocks, columns)?;
     let rests = rests_from(alloc, prec, prices.len())?;
     Ok(PricedMine { prices, rests })
+}
+
+/// The same for a check: the prices, and the predecessors of each block.
+///
+/// # Errors
+/// Those of [`priced_mine_from`].
+pub fn prices_and_predecessors_from<S: CountedRead, B: CountedRead, P: CountedRead>(
+    alloc: Global,
+    settings: &mut S,
+    blocks: &mut B,
+    prec: &mut P,
+) -> Result<(Prices, Predecessors), EngineFault>
+    requires settings_room { S.failed settings.old < 2 ^ 64 - 1 }
+    requires blocks_room { B.failed blocks.old < 2 ^ 64 - 1 }
+    requires prec_room { P.failed prec.old < 2 ^ 64 - 1 }
+    ensures read { IfSome (S.remaining settings.old) (λ s. IfSome (B.remaining blocks.old) (λ b. IfSome (P.remaining prec.old) (λ p.
+        MatchResult result (λ mine. ArePricesRead s b p mine.0 mine.1) (PricedMineFails s b p)))) }
+    ensures device { IsErrOf result EngineFault.Device → S.failed settings.new + B.failed blocks.new + P.failed prec.new ≡ S.failed settings.old + B.failed blocks.old + P.failed prec.old + 1 }
+    ensures kept { ¬ IsErrOf result EngineFault.Device → (S.failed settings.new ≡ S.failed settings.old) × (B.failed blocks.new ≡ B.failed blocks.old) × (P.failed prec.new ≡ P.failed prec.old) }
+{
+    let settings = settings_from(alloc, settings)?;
+    let columns = price_columns(&settings, &[])?;
+    let prices = prices_from(alloc, blocks, columns)?;
+    let rests = predecessors_from(alloc, prec, prices.len())?;
+    Ok((prices, rests))
 }

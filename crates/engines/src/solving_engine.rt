@@ -26,8 +26,8 @@ use workers::{Gate, Locked, Shared, TurnBoard};
 /// Finds the best pit of the mine of two texts, and writes its certificate.
 ///
 /// `Done` where it wrote a certificate, which a check has accepted: with each block its pit holds all predecessors, and
-/// no such pit is worth more; and with `Group::Pair` and `Group::Scaled` every other that is worth the same has more blocks (Picard 1976).
-/// That rests on the check alone, whatever engine the effort's method chose.
+/// no such pit is worth more; and with `Group::Pair` and `Group::Scaled` every other that is worth the same has more
+/// blocks (Picard 1976). That rests on the check alone, whatever engine the effort's method chose.
 ///
 /// `No` where it wrote `UNSETTLED`, since the machine's run needs more than the effort's steps, or `REFUSED TooLarge`,
 /// since a number of the run or of the check of its flow doesn't fit. With `Method::Pseudoflow` it writes `UNSETTLED`
@@ -39,8 +39,8 @@ use workers::{Gate, Locked, Shared, TurnBoard};
 /// # Errors
 /// In this order: `Upit` and `Prec` for a fault of these texts; `Model` where the net's amounts don't
 /// fit. `Memory` where memory is refused, `Thread` where a worker can't be started, `Stranger` where the
-/// board that the workers shared comes back as another's (see `workers::solve`), `Device` where a read or a write fails: the writer has then
-/// received a front of the answer, and at every other fault nothing.
+/// board that the workers shared comes back as another's (see `workers::solve`), `Device` where a read or
+/// a write fails: the writer has then received a prefix of the answer, and at every other fault nothing.
 ///
 /// Each device must have counted fewer than 2^64 - 1 failures, so that one more can be counted.
 pub fn solve_engine<

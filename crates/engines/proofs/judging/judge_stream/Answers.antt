@@ -8,8 +8,8 @@ pub returns-in_err-header-clause-judged : goal.returns-in_err-header-clause-judg
 returns-in_err-header-clause-judged g c =
     let p = err_from_is_err_and c.from_residual.result c.from_residual.ensures.1 in
     rw (p.1, p.2)
-    (header_unjudged (g.C.Read.remaining c.args.stream.now.lines.from) (billionths_of c.args.upit.now.values) c.args.rests c.len.result c.in_err-header.field-0.0 c.len.ensures.is c.in_err-header.ensures.read)
+    (header_unjudged (g.C.Read.remaining c.args.stream.now.lines.from) (billionths_of c.args.upit.values) c.args.rests c.len.result c.in_err-header.field-0.0 c.len.ensures.is c.in_err-header.ensures.read)
 
 pub returns-clause-judged : goal.returns-clause-judged
 returns-clause-judged g c =
-    stream_judged g.C.Read.remaining c.header_for.new.stream.lines (g.C.Read.remaining c.args.stream.now.lines.from) (billionths_of c.args.upit.now.values) c.as_slice.result.now c.args.rests c.in_ok-header.header _ (c.in_ok-header.ensures.blocks.0 ∙ c.len.ensures.is) c.in-Objective.is (c.as_slice.ensures.value ∙ c.in_ok-nanos.ensures) c.in_ok-header.ensures.read c.judge_in.ensures.judged
+    stream_judged g.C.Read.remaining c.header_for.new.stream.lines (g.C.Read.remaining c.args.stream.now.lines.from) (billionths_of c.args.upit.values) c.in_ok-nanos.nanos.items c.args.rests c.in_ok-header.header _ (c.in_ok-header.ensures.blocks.0 ∙ c.len.ensures.is) c.in-Objective.is c.in_ok-nanos.ensures c.in_ok-header.ensures.read c.judge_in.ensures.judged
