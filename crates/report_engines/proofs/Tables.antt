@@ -1,5 +1,5 @@
 -- The bench table of a series is that of the texts.
-use Rattle.std.proofs.Common.{◌≡◌, ℕ, pos, ◌<◌, List, [], ◌∷◌, ◌++◌, length, get_or, refl, sym, ap, ◌∙◌, subst, arith, Result, Ok, Err, inl, inr, unwrap_or, MatchResult}
+use Rattle.std.proofs.Common.{◌≡◌, ℕ, pos, ◌<◌, List, [], ◌∷◌, ◌++◌, length, get_or, refl, sym, ap, ◌∙◌, subst, arith, Result, Ok, Err, unwrap_or, MatchResult}
 use Rattle.std.specs.List.{find, Contains}
 use Rattle.std.proofs.lemmas.List.FromFn.{length-map-range_with_len, get_or-map-range_with_len}
 use Rattle.ordered_group.specs.Block.{scaled_block}
@@ -21,6 +21,7 @@ use Rattle.bench_report.specs.Written.{table_text}
 use Rattle.engines.specs.declared.judgement.Verdict.TheVariants.{No}
 use Rattle.engines.specs.declared.effort.Effort.{Effort}
 use Rattle.engines.specs.declared.solving.Unsolved.{Unsolved}
+use Rattle.engines.specs.declared.solving.Unsolved.TheVariants.{Unsettled, TooLarge, GaveUp, NoMemory, NoThread, Stranger}
 use Rattle.engines.specs.declared.engine_fault.EngineFault.{EngineFault}
 use Rattle.engines.specs.declared.priced_inputs.ChargeColumns.{ChargeColumns}
 use Rattle.engines.specs.declared.priced_inputs.ChargeColumns.TheVariants.{Plain, Mill}
@@ -115,16 +116,19 @@ module _ (s t p : List ℕ) (prices : PricesView) (rests : RestsView) (factors :
   is_none : (effort : Effort) (k : ℕ) (why : Unsolved) (line : List ℕ) → NoSeriesStands scaled_block rests prices factors effort (none.Unsolved k why) → IsLineOf k why line → AnswersReport s t p effort No line
   is_none effort k why line h spelled = (blocks_read, is_no_table s t p prices rests factors read.series effort k why h.1.0 line h.0 h.1.1 h.1.2 spelled)
 
-  wanted : (e : EngineFault) → IsWant e → ReportFails s t p e
-  wanted e (inl is) = subst (ReportFails s t p) (sym is) tt
-  wanted e (inr (inl is)) = subst (ReportFails s t p) (sym is) tt
-  wanted e (inr (inr is)) = subst (ReportFails s t p) (sym is) tt
+  wanted : (why : Unsolved) (e : EngineFault) → IsWant why e → ReportFails s t p e
+  wanted Unsettled e is = subst (ReportFails s t p) (sym is) tt
+  wanted TooLarge e is = subst (ReportFails s t p) (sym is) tt
+  wanted GaveUp e is = subst (ReportFails s t p) (sym is) tt
+  wanted NoMemory e is = subst (ReportFails s t p) (sym is) tt
+  wanted NoThread e is = subst (ReportFails s t p) (sym is) tt
+  wanted Stranger e is = subst (ReportFails s t p) (sym is) tt
 
   -- the answer where no pit is proved at a factor
-  none_answer : (effort : Effort) (k : ℕ) (why : Unsolved) (answer : Result Outcome EngineFault) → NoSeriesStands scaled_block rests prices factors effort (none.Unsolved k why) → MatchResult answer (λ o. (verdict_of o ≡ No) × IsLineOf k why (text_of o)) IsWant
+  none_answer : (effort : Effort) (k : ℕ) (why : Unsolved) (answer : Result Outcome EngineFault) → NoSeriesStands scaled_block rests prices factors effort (none.Unsolved k why) → MatchResult answer (λ o. (verdict_of o ≡ No) × IsLineOf k why (text_of o)) (IsWant why)
       → MatchResult answer (λ o. AnswersReport s t p effort (verdict_of o) (text_of o)) (ReportFails s t p)
   none_answer effort k why (Ok o) h line = subst (λ (v : Verdict). AnswersReport s t p effort v (text_of o)) (sym line.0) (is_none effort k why (text_of o) h line.1)
-  none_answer effort k why (Err e) h want = wanted e want
+  none_answer effort k why (Err e) h want = wanted why e want
 
   net_fails : (fault : NetFault) → ShellsFail s t p (of_model fault) → ReportFails s t p (of_model fault)
   net_fails net_fault.WrongLength h = (blocks_read, h)

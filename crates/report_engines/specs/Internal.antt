@@ -93,6 +93,6 @@ TellsWhy _ text = ⊥
 
 -- the fault that says so
 abbrev pub IsFaultOf : NoSeries → EngineFault → Type 0
-IsFaultOf (none.Unsolved factor why) e = IsWant e
+IsFaultOf (none.Unsolved factor why) e = IsWant why e
 IsFaultOf (none.Model factor fault) e = e ≡ of_model fault
 IsFaultOf none.Memory e = e ≡ engine.Memory

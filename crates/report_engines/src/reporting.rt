@@ -37,8 +37,9 @@ use workers::Gate;
 ///
 /// # Errors
 /// In this order: `Settings` for a fault of this text, or the first of the keys `revenue`, `cost`, `tonnes` and `factors`
-/// that is missing, or of `revenue`, `tonnes`, `factors`, `processing` and `mining` where there is a mill; `Blocks`; `Prices` for a negative revenue; `Prec`; `Model` where at a factor of the settings an amount
-/// of the mine's net doesn't fit. `Memory`, `Thread`, `Stranger` and `Device` as of `solve_engine`.
+/// that is missing, or of `revenue`, `tonnes`, `factors`, `processing` and `mining` where there is a mill; `Blocks`;
+/// `Prices` for a negative revenue; `Prec`; `Model` where at a factor of the settings an amount of the mine's net doesn't
+/// fit. `Memory`, `Thread`, `Stranger` and `Device` as of `solve_engine`.
 ///
 /// Each device must have counted fewer than 2^64 - 1 failures, so that one more can be counted.
 pub fn report_engine<
@@ -132,7 +133,7 @@ fn no_series(alloc: Global, none: NoSeries) -> Result<Outcome, EngineFault>
 
 // What comes of a mine where no pit is proved at a factor.
 fn no_table(alloc: Global, factor: u32, why: Unsolved) -> Result<Outcome, EngineFault>
-    ensures { MatchResult result (λ outcome. (verdict_of outcome ≡ Verdict.No) × IsLineOf factor why (text_of outcome)) IsWant }
+    ensures { MatchResult result (λ outcome. (verdict_of outcome ≡ Verdict.No) × IsLineOf factor why (text_of outcome)) (IsWant why) }
 {
     match answer_at(alloc, factor, why) {
         Ok(answer) => Ok(Outcome::NoTable(answer.text)),

@@ -1,5 +1,5 @@
 -- Mines of prices and pairs that were read are those of their texts.
-use Rattle.std.proofs.Common.{◌≡◌, ℕ, Bool, true, false, List, length, refl, sym, ◌∙◌, subst, IsTrue, Result, Ok, Err, inl, inr, MatchResult}
+use Rattle.std.proofs.Common.{◌≡◌, ℕ, Bool, true, false, List, length, refl, sym, ◌∙◌, subst, IsTrue, Result, Ok, Err, MatchResult}
 use Rattle.std.specs.Prelude.{Contains}
 use Rattle.ordered_group.specs.Block.{scaled_block}
 use Rattle.prec_file.specs.Rests.{RestsView, ArePairsOf}
@@ -16,6 +16,7 @@ use Rattle.shells.specs.Nesting.{BestPitsAreNested}
 use Rattle.shells.proofs.OverNets.{net_of_over}
 use Rattle.engines.specs.declared.effort.Effort.{Effort}
 use Rattle.engines.specs.declared.solving.Unsolved.{Unsolved}
+use Rattle.engines.specs.declared.solving.Unsolved.TheVariants.{Unsettled, TooLarge, GaveUp, NoMemory, NoThread, Stranger}
 use Rattle.engines.specs.declared.judgement.Verdict.{Verdict}
 use Rattle.engines.specs.declared.judgement.Verdict.TheVariants.{No}
 use Rattle.engines.specs.declared.engine_fault.EngineFault.{EngineFault}
@@ -99,14 +100,20 @@ module _ (s t p : List ℕ) (table : PricesView) (rests : RestsView) (factors : 
     spelled = spelled;
   }
 
+  wanted : (why : Unsolved) (e : EngineFault) → IsWant why e → ShellsFail s t p e
+  wanted Unsettled e is = subst (ShellsFail s t p) (sym is) tt
+  wanted TooLarge e is = subst (ShellsFail s t p) (sym is) tt
+  wanted GaveUp e is = subst (ShellsFail s t p) (sym is) tt
+  wanted NoMemory e is = subst (ShellsFail s t p) (sym is) tt
+  wanted NoThread e is = subst (ShellsFail s t p) (sym is) tt
+  wanted Stranger e is = subst (ShellsFail s t p) (sym is) tt
+
   -- the answer where no pit is proved at a factor
-  pub no_pit_answer : (effort : Effort) (factor : ℕ) (why : Unsolved) (answer : Result Answer EngineFault) → NoSeriesStands scaled_block rests table factors effort (none.Unsolved factor why) → MatchResult answer (λ a. (a.verdict ≡ No) × IsLineOf factor why a.text.items) IsWant
+  pub no_pit_answer : (effort : Effort) (factor : ℕ) (why : Unsolved) (answer : Result Answer EngineFault) → NoSeriesStands scaled_block rests table factors effort (none.Unsolved factor why) → MatchResult answer (λ a. (a.verdict ≡ No) × IsLineOf factor why a.text.items) (IsWant why)
       → MatchResult answer (λ a. AnswersShells s t p effort a.verdict a.text.items) (ShellsFail s t p)
   no_pit_answer effort factor why (Ok a) h line =
       subst (λ (v : Verdict). AnswersShells s t p effort v a.text.items) (sym line.0) (is_no_table effort factor why h.1.0 a.text.items h.0 h.1.1 h.1.2 line.1)
-  no_pit_answer effort factor why (Err e) h (inl is) = subst (ShellsFail s t p) (sym is) tt
-  no_pit_answer effort factor why (Err e) h (inr (inl is)) = subst (ShellsFail s t p) (sym is) tt
-  no_pit_answer effort factor why (Err e) h (inr (inr is)) = subst (ShellsFail s t p) (sym is) tt
+  no_pit_answer effort factor why (Err e) h is = wanted why e is
 
   -- an amount of the mine doesn't fit at a factor
   no_net : (factor : ℕ) (fault : NetFault) → Contains factors factor → ModelFails (priced_texts s t p factor) rests.blocks shell_group fault → NoNetAt s t p fault

@@ -1,5 +1,5 @@
 -- What only the functions of this crate say to one another.
-use Rattle.std.specs.Prelude.{◌≡◌, ℕ, ℤ, ◌⊎◌, ◌++◌, ◌∷◌, [], List, Contains}
+use Rattle.std.specs.Prelude.{◌≡◌, ℕ, ℤ, ◌++◌, ◌∷◌, [], List, Contains}
 use Rattle.ordered_group.specs.Amount.{Amount}
 use Rattle.prec_file.specs.Rests.{RestsView}
 use Rattle.engines.specs.declared.effort.Effort.{Effort}
@@ -10,6 +10,8 @@ use Rattle.closure_net.specs.Mine.{Mine, IsNetOf, IsBest}
 use Rattle.shell_engines.specs.declared.best_pits.BestPit.{BestPit}
 use Rattle.engines.specs.declared.engine_fault.EngineFault.{EngineFault}
 use Rattle.engines.specs.declared.engine_fault.EngineFault.TheVariants as engine
+use Rattle.engines.specs.declared.solving.Unsolved.{Unsolved}
+use Rattle.engines.specs.declared.solving.Unsolved.TheVariants.{NoThread, Stranger}
 use Rattle.shell_engines.specs.declared.shell_rows.ShellRow.{ShellRow}
 use Rattle.shell_engines.specs.ShellTable.{IsRowOf}
 use Rattle.shell_engines.specs.declared.no_series.NoSeries.{NoSeries}
@@ -40,6 +42,8 @@ pub record IsAdded (s t : SeriesView) (rows rows' : List ShellRow) (factor : ℕ
   pub at : row.factor ≡ factor
   pub is : IsRowOf (mine_at s.pairs s.prices factor) row
 
--- memory or a thread is wanted, or a board came back as another's
-abbrev pub IsWant : EngineFault → Type 0
-IsWant e = (e ≡ engine.Memory) ⊎ (e ≡ engine.Thread) ⊎ (e ≡ engine.Stranger)
+-- the fault where that is the reason why no pit is proved; and where memory is refused for the line that says the reason
+abbrev pub IsWant : Unsolved → EngineFault → Type 0
+IsWant NoThread e = e ≡ engine.Thread
+IsWant Stranger e = e ≡ engine.Stranger
+IsWant _ e = e ≡ engine.Memory

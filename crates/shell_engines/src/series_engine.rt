@@ -115,7 +115,7 @@ fn answer_of<R: Threads + Wait + Sync, T: Gate + Progress + SeriesProgress>(
 /// # Errors
 /// `Memory`, `Thread` and `Stranger`, where that is the reason; `Memory` too where it is refused here.
 pub fn answer_at(alloc: Global, factor: u32, why: Unsolved) -> Result<Answer, EngineFault>
-    ensures { MatchResult result (λ a. (a.verdict ≡ Verdict.No) × IsLineOf factor why a.text.items) IsWant }
+    ensures { MatchResult result (λ a. (a.verdict ≡ Verdict.No) × IsLineOf factor why a.text.items) (IsWant why) }
 {
     match why {
         Unsolved::Unsettled => unsettled_at(alloc, factor),
