@@ -6,9 +6,9 @@ use std::alloc::{AllocError, Global};
 /// The exit statuses, for each command's help.
 pub const STATUSES: &str = "Exit status:
   0  done: the answer is on standard output
-  1  no: the certificate doesn't prove its pit, or the run gave none
+  1  no: the certificate doesn't prove its pit, the run gave no pit, or the trace isn't that of a whole run
   2  usage: the words of the command line are wrong
-  3  a file is wrong, or a pattern gives nothing for it: standard error names the fault, and its line in the file
+  3  a file is wrong, its numbers are too large, or a pattern gives nothing for it: standard error names the fault, and the line of the file where it has one
   4  memory or a thread was refused, or a file or the output failed
 
 Without words pit checks a small example that it carries, and prints the answer.";
@@ -104,7 +104,7 @@ pub fn group_option<'a>(alloc: Global) -> Arg<'a> {
         alloc,
         "group",
         "GROUP",
-        "What amounts count: pair, worth and then the fewer blocks (the default); scaled, both in one number, where pair is too large; or worth alone",
+        "What amounts count. pair (the default): worth, and then the fewer blocks; scaled: the same in one number, where the numbers of pair overflow; worth: worth alone",
     )
 }
 
@@ -119,7 +119,7 @@ pub fn steps_option<'a>(alloc: Global) -> Arg<'a> {
         alloc,
         "steps",
         "STEPS",
-        "The most steps of a run, from 1 to 1099511627776 (1000000000 by default)",
+        "The most steps of the push-relabel machine, or turns of pseudoflow, from 1 to 1099511627776 (1000000000 by default)",
     )
 }
 

@@ -38,7 +38,7 @@ const METHODS: &str = "Which engine makes the flow: auto (the default), pseudofl
   pseudoflow    highest-label pseudoflow alone, for as many factors at a time as there are workers; UNSETTLED where it gives up
   push-relabel  the push-relabel machine alone, with as many threads as there are workers
 
-One worker or two of the machine run without a lock, and under one where a number of that run doesn't fit a word; more workers share a lock. The pits are the same.";
+One worker or two of the machine run without a lock; where a number of that run doesn't fit 63 bits, they run again with a lock, as more workers always do. The pits are the same.";
 
 /// The options of such a command; the help says what its settings have.
 pub fn with_series<'a>(

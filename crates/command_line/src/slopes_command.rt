@@ -20,7 +20,7 @@ Patterns:
 const OF_SETTINGS: &str = "settings";
 
 const SETTINGS_HELP: &str =
-    "The offsets of the pattern settings, which needs them: a TOML text; not opened with other patterns";
+    "The file that lists the offsets, which --pattern settings needs: a TOML text; not opened with another pattern";
 
 /// What says which blocks above a block are its predecessors.
 #[derive(Clone, Copy)]

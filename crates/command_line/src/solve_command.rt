@@ -11,7 +11,7 @@ const ABOUT: &str = "Finds the best pit and writes its certificate";
 
 const DETAILS: &str = "Finds the best pit and writes its certificate.
 
-Prints a PITCERT text, which `pit check` accepts: the pit, and a flow that proves it. Whatever engine made the flow, it is checked before anything is written. Prints UNSETTLED where the run needs more steps than --steps allows, and REFUSED TooLarge where a sum of the run or of its check doesn't fit the machine's numbers; both have the status 1.
+Prints a PITCERT text for `pit check`: the pit, and a flow that proves it. Whatever engine made the flow, it is checked before anything is written. Prints UNSETTLED where the run needs more steps than --steps allows, and REFUSED TooLarge where a number of the run, or a sum of the check of its flow, doesn't fit 128 bits (of a run by words 63); both have the status 1.
 
 With --trace the push-relabel machine makes the flow, and each of its steps is written to the trace, with which `pit replay` repeats the run. Prints HISTORYFULL, with the status 1, where the run needs more steps than --room has room for.
 
@@ -19,7 +19,7 @@ Methods:
   auto          the push-relabel machine for a mine of at most 1000 blocks, and pseudoflow where a number of its run doesn't fit; for more blocks pseudoflow, and the machine where that gives no flow that proves a pit; the machine alone where --workers or --steps is given
   pseudoflow    highest-label pseudoflow alone: quick on mines of millions of blocks; UNSETTLED where it gives up
   push-relabel  the push-relabel machine alone: each step is proved, and it is slow beyond some thousand blocks
-  words         the same machine without a lock: one or two workers share its state in words of 64 bits, and each step is one operation on one word; in amounts of the group scaled, which is the default here, and without --trace";
+  words         the same machine without a lock: one or two workers share its state in words of 64 bits, and each step is one operation on one word. Its --group is scaled, also where that is left out, and it can't be given with --trace";
 
 /// The words of a request to solve: the files, and where they were given the factor, the method, the kind of amount, the steps, the
 /// workers, the trace and its room, and whether progress is shown and it is told why a file failed.
@@ -63,7 +63,7 @@ fn with_limits<'a>(alloc: Global, command: Command<'a>) -> Result<Command<'a>, A
         .arg(steps_option(alloc))?
         .arg(workers_option(
             alloc,
-            "The threads of the push-relabel machine, from 1 to 64 (1 by default); they share one lock, or of --method words 1 or 2 without a lock",
+            "How many threads the push-relabel machine has, from 1 to 64 (1 by default), which share one lock; with --method words 1 or 2, without a lock",
         ))?
         .arg(progress_option(
             alloc,
