@@ -14,9 +14,6 @@ pub record FirstsSoFar (ps : List (ℕ × ℕ)) (n k : ℕ) (firsts : List ℕ) 
   pub at : (b : ℕ) → b < length firsts → get_or firsts b 0 ≡ ending_below (from_at ps) b (length ps)
   pub passed : (j : ℕ) → j < k → from_at ps j < length firsts
 
-pub firsts_none : (ps : List (ℕ × ℕ)) (n : ℕ) (firsts : List ℕ) → length firsts ≡ 0 → FirstsSoFar ps n 0 firsts
-firsts_none ps n firsts e = record { size = omega arith; at = λ b l. absurd (omega arith); passed = λ j l. absurd (omega arith) }
-
 not_below : (e b : ℕ) → b ≤ e → nat_lt e b ≡ false
 not_below e b h = grind (arith, nat_tests)
 
