@@ -124,19 +124,6 @@ module _ (net : NetView) (v : StateView) (over : IsStateOf net v) (b : ℕ) (l :
   same_pairs (AtSource x) = refl
   same_pairs (AtSink x) = refl
 
-  pub same_steps : (change : Change Amount) → (lists_changed v b change).steps ≡ v.steps
-  same_steps Nothing = refl
-  same_steps (Excess at x) = refl
-  same_steps (Label x) = refl
-  same_steps (Source x) = refl
-  same_steps (Sink x) = refl
-  same_steps (Flow k x) = refl
-  same_steps (AtSource x) = refl
-  same_steps (AtSink x) = refl
-
-  pub still_there : (change : Change Amount) → b < length (lists_changed v b change).operation
-  still_there change = subst (λ os. b < length os) (sym (same_blocks change)) (omega (arith, l, over.blocks))
-
   pub goes : v.steps < MOST_STEPS → IsSized v → (change : Change Amount) → CanChange net b change → GoesTo net v (changed (becomes (state_of v) b o) b change) (gone_on change)
   goes few sized change can =
       let e = shows sized change can in

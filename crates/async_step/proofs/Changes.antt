@@ -21,13 +21,6 @@ marked_set old new n marks b h l other = record {
 }
 
 module _ (v : StateView) (ready undone : List Bool) (h : IsState v ready undone) (b : ℕ) where
-  pub state_label : (x : ℕ) → IsState (record v { label = set v.label b x }) ready undone
-  state_label x = record {
-    sized = record { few = h.sized.few; excess = h.sized.excess; label = length-set v.label b x ∙ h.sized.label; source = h.sized.source; sink = h.sized.sink };
-    waiting = h.waiting;
-    busy = h.busy;
-  }
-
   pub state_source : (x : Amount) → IsState (record v { source = set v.source b x }) ready undone
   state_source x = record {
     sized = record { few = h.sized.few; excess = h.sized.excess; label = h.sized.label; source = length-set v.source b x ∙ h.sized.source; sink = h.sized.sink };

@@ -1,14 +1,12 @@
--- What counts tell of stretches without a mark, and of the first mark going round.
-use Rattle.std.proofs.Common.{◌≡◌, ◌↔◌, ℕ, zero, suc, ◌+◌, ◌*◌, ◌/◌, ◌%◌, ◌<◌, ◌≤◌, Bool, true, false, inl, inr, List, length, get_or, replicate, sym, refl, subst, ◌∙◌, arith}
+-- What counts tell of stretches without a mark.
+use Rattle.std.proofs.Common.{◌≡◌, ◌↔◌, ℕ, zero, suc, ◌+◌, ◌*◌, ◌/◌, ◌%◌, ◌<◌, ◌≤◌, Bool, false, List, length, get_or, replicate, sym, refl, subst, ◌∙◌, arith}
 use Rattle.std.proofs.Math.Nat.{lt-div-mul-add, div-lt_iff_lt-mul}
 use Rattle.std.proofs.lemmas.Nat.{div-add-mod'}
-use Rattle.std.proofs.lemmas.Bool.{cases_lt}
-use Rattle.std.proofs.lemmas.Bool.Decides.{nat_tests}
 use Rattle.std.proofs.lemmas.List.{get_or_default, length-replicate}
 use Rattle.fixed_worth.specs.declared.limits.TheConstants.{MOST_BLOCKS}
 use Rattle.ordered_group.specs.Sets.{count_in}
 use Rattle.async_step.specs.declared.marks.TheConstants.{SMALL, MIDDLE, LARGE}
-use Rattle.async_step.specs.Marks.{mark_at, run_count, IsCounted, IsMarks, NoneWithin, IsFirstWithin, ahead_of, IsFirstRound}
+use Rattle.async_step.specs.Marks.{mark_at, run_count, IsCounted, IsMarks, NoneWithin}
 use Rattle.async_step.proofs.Counts.{run_none}
 
 -- a run that counts none, from its first block on
@@ -65,55 +63,3 @@ marks_none n marks smalls middles larges h e p q r =
       large = counted_none n LARGE (omega arith);
       held = sym (run_empty (replicate n false) 0 (length (replicate n false)) (λ b. none_at n b));
     })
-
--- ---- going round
-ahead_behind : (n from b c : ℕ) → from < n → from ≤ b → b < n → c < n → (from ≤ c → b ≤ c) → ahead_of n from b ≤ ahead_of n from c
-ahead_behind n from b c f p q l h = grind (arith, nat_tests)
-
-ahead_before : (n from b c : ℕ) → from < n → b < from → c < from → b ≤ c → ahead_of n from b ≤ ahead_of n from c
-ahead_before n from b c f p q l = grind (arith, nat_tests)
-
-ahead_all : (n from b c : ℕ) → n ≤ from → b ≤ c → ahead_of n from b ≤ ahead_of n from c
-ahead_all n from b c f p = grind (arith, nat_tests)
-
-not_before : (marks : List Bool) (from b c : ℕ) → NoneWithin marks from b → mark_at marks c ≡ true → from ≤ c → b ≤ c
-not_before marks from b c h t l =
-    elim (cases_lt c b) [
-      | inl k ↦ let f : false ≡ true = sym (h c l k) ∙ t in absurd cc
-      | inr k ↦ k
-    ]
-
--- from a block that there is
-pub round_behind : (marks : List Bool) (from b : ℕ) → from < length marks → IsFirstWithin marks from (length marks) b → IsFirstRound (λ c. mark_at marks c ≡ true) (length marks) from b
-round_behind marks from b f h = record {
-  inside = h.inside;
-  here = h.here;
-  first = λ c l t. ahead_behind (length marks) from b c f h.behind h.inside l (not_before marks from b c h.first t);
-}
-
-pub round_before : (marks : List Bool) (from b : ℕ) → from < length marks → NoneWithin marks from (length marks) → IsFirstWithin marks 0 from b → IsFirstRound (λ c. mark_at marks c ≡ true) (length marks) from b
-round_before marks from b f n h = record {
-  inside = omega (arith, h.inside);
-  here = h.here;
-  first = λ c l t.
-      elim (cases_lt c from) [
-        | inl k ↦ ahead_before (length marks) from b c f h.inside k (not_before marks 0 b c h.first t (omega arith))
-        | inr k ↦ absurd (let g : false ≡ true = sym (n c k l) ∙ t in cc)
-      ];
-}
-
--- from one that there isn't
-pub round_all : (marks : List Bool) (from b : ℕ) → length marks ≤ from → IsFirstWithin marks 0 (length marks) b → IsFirstRound (λ c. mark_at marks c ≡ true) (length marks) from b
-round_all marks from b f h = record {
-  inside = h.inside;
-  here = h.here;
-  first = λ c l t. ahead_all (length marks) from b c f (not_before marks 0 b c h.first t (omega arith));
-}
-
--- none from a block on, and none before it
-pub none_round : (marks : List Bool) (from to : ℕ) → NoneWithin marks from to → NoneWithin marks 0 from → NoneWithin marks 0 to
-none_round marks from to h k b p q =
-    elim (cases_lt b from) [
-      | inl l ↦ k b p l
-      | inr l ↦ h b l q
-    ]

@@ -2,13 +2,10 @@
 use Rattle.std.proofs.Common.{◌≡◌, ℕ, ◌+◌, ◌<◌, List, [], ◌∷◌, ◌++◌, length, take, get_or, codes, refl, sym, ap, ◌∙◌, append_assoc, add-one}
 use Rattle.std.proofs.lemmas.List.{append-nil}
 use Rattle.std.proofs.Math.Seq.{take-suc}
-use Rattle.csv.specs.Writing.{default_writer, field_text, fields_text, row_text, is_blank}
+use Rattle.csv.specs.Writing.{default_writer, fields_text, row_text, is_blank}
 use Rattle.bench_report.specs.declared.bench_row.BenchRow.{BenchRow}
 use Rattle.bench_report.specs.Written.{header_line, row_line, rows_text}
 use Rattle.bench_report.proofs.Plain.{IsPlain, plain_needs_none}
-
-pub plain_field : (f : List ℕ) → IsPlain f → field_text default_writer f ≡ f
-plain_field f h = rw (plain_needs_none f h) refl
 
 -- five plain fields, with commas between them and a line feed at the end
 pub five_fields : (a b c d e : List ℕ) → IsPlain a → IsPlain b → IsPlain c → IsPlain d → IsPlain e

@@ -1,5 +1,5 @@
 -- Rows by bench and shell, as blocks are added to them.
-use Rattle.std.proofs.Common.{◌≡◌, ℕ, suc, ◌+◌, ◌<◌, ◌≤◌, ℤ, Bool, true, false, cond, ◌==◌, ◌&&◌, inl, inr, Option, Some, None, refl, sym, ap, subst, ◌∙◌, add-one, rules, arith}
+use Rattle.std.proofs.Common.{◌≡◌, ℕ, suc, ◌+◌, ◌<◌, ◌≤◌, ℤ, Bool, true, false, cond, ◌==◌, ◌&&◌, inl, inr, Option, Some, None, refl, sym, ap, subst, ◌∙◌, add-one, arith}
 use Rattle.std.specs.Prelude.{unwrap_or, FitsSigned}
 use Rattle.std.specs.Int.{w128}
 use Rattle.std.specs.BTreeMap.{is_at}
@@ -128,13 +128,6 @@ none_more m n f hn h = subst (λ i. IsTallied m i f) (sym (add-one n)) (record {
 
     outside : (z : ℤ) (k : ℕ) → blocks_at m z k n ≡ false
     outside z k = rw hn (never (int_eq (m.height n) z))
-
--- before the first block no row is found
-pub none_tallied : (m : ReportedBlocks) (f : ℤ × ℕ → Option BenchRow) → ((q : ℤ × ℕ) → f q ≡ None) → IsTallied m 0 f
-none_tallied m f h = record {
-  rows = λ z k. h (z, k);
-  fits = λ z k j l. subst (SumsFit m z k) (let e : 0 ≡ j = omega (arith, l) in e) (search rules, search rules);
-}
 
 -- the row of the block's place doesn't take it: a sum overflows
 leaves_here : (m : ReportedBlocks) (n : ℕ) (x : ℤ) (j : ℕ) (f : ℤ × ℕ → Option BenchRow) → n < m.blocks → m.height n ≡ x → m.shell n ≡ Some j → IsTallied m n f

@@ -1,15 +1,12 @@
 -- Counting the records of a text.
-use Rattle.std.proofs.Common.{◌≡◌, ℕ, ◌+◌, ◌<◌, ◌≤◌, Bool, true, false, not, cond, List, [], ◌∷◌, ◌++◌, length, get_or, Some, None, refl, sym, ap, ◌∙◌, arith, append-nil, append_assoc}
+use Rattle.std.proofs.Common.{◌≡◌, ℕ, ◌+◌, ◌<◌, ◌≤◌, Bool, true, false, not, cond, List, [], ◌∷◌, ◌++◌, length, get_or, refl, sym, ap, ◌∙◌, arith, append-nil, append_assoc}
 use Rattle.std.specs.Prelude.{nat_lt}
-use Rattle.std.specs.Option.{option_or}
-use Rattle.std.proofs.lemmas.Bool.Decides.{nat_tests}
 use Rattle.std.proofs.lemmas.List.{get_or_push, get_or_append_left, length-append}
 use Rattle.std.proofs.lemmas.List.Concat.{flat_map-append}
 use Rattle.fixed_worth.specs.declared.limits.TheConstants.{LINE_BYTES}
-use Rattle.fixed_worth.specs.Text.{Left, BeginsTooLong, fields_of}
+use Rattle.fixed_worth.specs.Text.{Left, fields_of}
 use Rattle.fixed_worth.specs.Record.{Line, numbered, is_skipped}
-use Rattle.blocks_file.specs.declared.faults.BlocksFault.TheVariants.{Text, TooMany}
-use Rattle.blocks_file.specs.Records.{record_lines, long_fault, many_fault, early_fault, extra_fault}
+use Rattle.blocks_file.specs.Records.{record_lines, long_fault}
 use Rattle.fixed_worth.proofs.NextLine.{line, Next, next_is, short}
 
 -- What has been counted, and what is left.
@@ -21,9 +18,6 @@ pub record Counted (all : List Line) (most count extra : ℕ) (left : Left) : Ty
   pub found : most < count → get_or (record_lines before) most 0 ≡ extra
   pub small : count ≤ left.number
 
-pub begins : (all : List Line) (most : ℕ) (left : Left) → all ≡ numbered left.number left.lines → Counted all most 0 0 left
-begins all most left e = record { before = []; whole = sym e; long = ap long_fault (sym e); counted = refl; found = λ h. absurd (omega arith); small = omega arith }
-
 next_long : (k : ℕ) (text : List ℕ) (ls : List Line) → nat_lt LINE_BYTES (length text) ≡ false → long_fault (line k text ∷ ls) ≡ long_fault ls
 next_long k text ls s = rw s refl
 
@@ -32,9 +26,6 @@ push_skipped before k text s = flat_map-append (λ l. cond (is_skipped (fields_o
 
 pub push_record : (before : List Line) (k : ℕ) (text : List ℕ) → is_skipped (fields_of text) ≡ false → record_lines (before ++ line k text ∷ []) ≡ record_lines before ++ k ∷ []
 push_record before k text s = flat_map-append (λ l. cond (is_skipped (fields_of l.text)) [] (l.number ∷ [])) before (line k text ∷ []) ∙ rw s refl
-
-pub lines_push : (before : List Line) (k : ℕ) (text : List ℕ) → record_lines (before ++ line k text ∷ []) ≡ record_lines before ++ cond (is_skipped (fields_of text)) [] (k ∷ [])
-lines_push before k text = flat_map-append (λ l. cond (is_skipped (fields_of l.text)) [] (l.number ∷ [])) before (line k text ∷ []) ∙ ap (λ (xs : List ℕ). record_lines before ++ xs) (append-nil (cond (is_skipped (fields_of text)) [] (k ∷ [])))
 
 pub moved : (all before : List Line) (left next : Left) (k : ℕ) (text : List ℕ) → before ++ numbered left.number left.lines ≡ all → Next left next k text → (before ++ line k text ∷ []) ++ numbered next.number next.lines ≡ all
 moved all before left next k text w h = append_assoc before (line k text ∷ []) (numbered next.number next.lines) ∙ ap (λ (xs : List Line). before ++ xs) (sym (next_is left next k text h)) ∙ w
@@ -78,29 +69,6 @@ is_counted all most count extra left next k text g h s ne = record {
       ap (λ (xs : List ℕ). get_or xs most 0) (push_record g.before k text s) ∙ get_or_append_left (record_lines g.before) (k ∷ []) 0 most (omega (arith, more, g.counted)) ∙ g.found more;
   small = omega (arith, g.small, h.number);
 }
-
-pub long_at : (k : ℕ) (lines : List (List ℕ)) → BeginsTooLong lines → long_fault (numbered k lines) ≡ Some (Text (k + 1))
-long_at k [] h = absurd h
-long_at k (text ∷ lines) h = let t : nat_lt LINE_BYTES (length text) ≡ true = grind (arith, nat_tests) in rw t refl
-
-pub too_long : (all : List Line) (most count extra : ℕ) (left : Left) → Counted all most count extra left → BeginsTooLong left.lines → early_fault all ≡ Some (Text (left.number + 1))
-too_long all most count extra left g h = ap (λ o. option_or o (many_fault all)) (sym g.long ∙ long_at left.number left.lines h)
-
--- All is counted.
-pub counted_all : (all : List Line) (most count extra : ℕ) (left : Left) → Counted all most count extra left → left.lines ≡ [] → (long_fault all ≡ None) × (length (record_lines all) ≡ count) × (most < count → get_or (record_lines all) most 0 ≡ extra)
-counted_all all most count extra left g e =
-    let none : numbered left.number left.lines ≡ [] = rw e refl in
-    let same : g.before ≡ all = sym (append-nil g.before) ∙ ap (λ (xs : List Line). g.before ++ xs) (sym none) ∙ g.whole in (
-      sym g.long ∙ ap long_fault none,
-      ap (λ (xs : List Line). length (record_lines xs)) (sym same) ∙ g.counted,
-      λ m. ap (λ (xs : List Line). get_or (record_lines xs) most 0) (sym same) ∙ g.found m,
-    )
-
-pub extra_none : (most : ℕ) (records : List ℕ) → length records ≤ most → extra_fault most records ≡ None
-extra_none most records h = let t : nat_lt most (length records) ≡ false = grind (arith, nat_tests) in rw t refl
-
-pub extra_some : (most k : ℕ) (records : List ℕ) → most < length records → get_or records most 0 ≡ k → extra_fault most records ≡ Some (TooMany k)
-extra_some most k records h e = let t : nat_lt most (length records) ≡ true = grind (arith, nat_tests) in rw (t, e) refl
 
 pub not_true : (t : Bool) → not t ≡ true → t ≡ false
 not_true true h = sym h

@@ -9,16 +9,16 @@ use Rattle.std.proofs.lemmas.List.Folds.{list_any-append}
 use Rattle.std.proofs.Math.Bool.{or-false}
 use Rattle.std.proofs.Math.ListN.{length-set}
 use Rattle.fixed_worth.specs.declared.limits.TheConstants.{MOST_BLOCKS}
-use Rattle.fixed_worth.specs.Text.{Left, BeginsTooLong, fields_of}
+use Rattle.fixed_worth.specs.Text.{Left, fields_of}
 use Rattle.fixed_worth.specs.Record.{Line, numbered, is_skipped}
 use Rattle.blocks_file.specs.declared.coordinates.Place.{Place}
 use Rattle.blocks_file.specs.declared.faults.BlocksFault.{BlocksFault}
-use Rattle.blocks_file.specs.declared.faults.BlocksFault.TheVariants.{Text, UnknownBlock, Repeated}
+use Rattle.blocks_file.specs.declared.faults.BlocksFault.TheVariants.{UnknownBlock, Repeated}
 use Rattle.blocks_file.specs.Records.{block_of, place_of, columns_of, value_in, shape_fault, block_fault, record_fault, is_record_of, has_record, record_among, first_fault, long_fault, record_lines}
 use Rattle.blocks_file.specs.Denotes.{origin}
 use Rattle.blocks_file.specs.Internal.{HoldsValues, ArePut, AreKept}
 use Rattle.fixed_worth.proofs.NextLine.{line, Next, next_is}
-use Rattle.blocks_file.proofs.Counts.{moved, still_long, push_skipped, push_record, longer, long_at}
+use Rattle.blocks_file.proofs.Counts.{moved, still_long, push_skipped, push_record, longer}
 use Rattle.blocks_file.proofs.Marks.{marked, marked-replicate, marked-set, all_marked}
 use Rattle.blocks_file.proofs.Slots.{blocks_apart}
 
@@ -95,23 +95,6 @@ no_fault : (n : ℕ) (chosen : List ℕ) (all : List Line) (seen : List Bool) (p
     → record_fault n chosen (has_record g.before) k (fields_of text) ≡ None → first_fault n chosen (g.before ++ line k text ∷ []) (numbered next.number next.lines) ≡ first_fault n chosen [] all
 no_fault n chosen all seen places values left next k text g h none =
     sym (ap (λ (o : Option BlocksFault). option_or o (first_fault n chosen (g.before ++ line k text ∷ []) (numbered next.number next.lines))) none) ∙ next_fault n chosen all seen places values left next k text g h
-
-goes_wrong : (n : ℕ) (chosen : List ℕ) (all : List Line) (seen : List Bool) (places : List Place) (values : List ℤ) (left next : Left) (k : ℕ) (text : List ℕ) (e : BlocksFault) (g : ReadSoFar n chosen all seen places values left) → Next left next k text
-    → record_fault n chosen (has_record g.before) k (fields_of text) ≡ Some e → first_fault n chosen [] all ≡ Some e
-goes_wrong n chosen all seen places values left next k text e g h w =
-    sym (next_fault n chosen all seen places values left next k text g h) ∙ ap (λ (o : Option BlocksFault). option_or o (first_fault n chosen (g.before ++ line k text ∷ []) (numbered next.number next.lines))) w
-
--- The line's record is faulty by itself.
-pub bad_shape : (n : ℕ) (chosen : List ℕ) (all : List Line) (seen : List Bool) (places : List Place) (values : List ℤ) (left next : Left) (k : ℕ) (text : List ℕ) (e : BlocksFault) → ReadSoFar n chosen all seen places values left → Next left next k text
-    → is_skipped (fields_of text) ≡ false → shape_fault k chosen (fields_of text) ≡ Some e → first_fault n chosen [] all ≡ Some e
-bad_shape n chosen all seen places values left next k text e g h s f = goes_wrong n chosen all seen places values left next k text e g h (rw (s, f) refl)
-
--- The line's record is for the wrong block.
-pub bad_block : (n : ℕ) (chosen : List ℕ) (all : List Line) (seen : List Bool) (places : List Place) (values : List ℤ) (left next : Left) (k block : ℕ) (text : List ℕ) (e : BlocksFault) → ReadSoFar n chosen all seen places values left → Next left next k text
-    → is_skipped (fields_of text) ≡ false → shape_fault k chosen (fields_of text) ≡ None → block ≡ block_of (fields_of text) → block_fault (length seen) (λ b. get_or seen b false) k block ≡ Some e → first_fault n chosen [] all ≡ Some e
-bad_block n chosen all seen places values left next k block text e g h s f is w =
-    let same : block_fault n (has_record g.before) k block ≡ Some e = known n seen g.before k block g.marks g.all_seen ∙ w in
-    goes_wrong n chosen all seen places values left next k text e g h (rw (s, f) (ap (block_fault n (has_record g.before) k) (sym is) ∙ same))
 
 -- The line is skipped.
 pub passes : (n : ℕ) (chosen : List ℕ) (all : List Line) (seen : List Bool) (places : List Place) (values : List ℤ) (left next : Left) (k : ℕ) (text : List ℕ) → ReadSoFar n chosen all seen places values left → Next left next k text
@@ -207,10 +190,6 @@ keeps n block chosen p row all seen more places others values new left next k te
       all_places = ap length o ∙ length-set places block p ∙ g.all_places;
       all_values = put.size ∙ g.all_values;
     }
-
--- No line of such a text is too long.
-pub none_long : (n : ℕ) (chosen : List ℕ) (all : List Line) (seen : List Bool) (places : List Place) (values : List ℤ) (left : Left) → ReadSoFar n chosen all seen places values left → long_fault all ≡ None → BeginsTooLong left.lines → ⊥
-none_long n chosen all seen places values left g e h = let q : Some (Text (left.number + 1)) ≡ None = sym (long_at left.number left.lines h) ∙ g.long ∙ e in cc
 
 -- All is read.
 pub read_all : (n : ℕ) (chosen : List ℕ) (all : List Line) (seen : List Bool) (places : List Place) (values : List ℤ) (left : Left) → ReadSoFar n chosen all seen places values left → left.lines ≡ [] → n ≡ length (record_lines all) → n ≤ MOST_BLOCKS → length chosen ≤ 8

@@ -88,12 +88,6 @@ still_idle_below old new from steps block b more l work idle h c below =
     let e = own_served old from block b l work h.0.picked in
     (served_changes old new b more h.1).others c (λ q. (let t : block < block = subst (λ x. x < block) (q ∙ e) below in omega (arith, t))) ∙ idle c below
 
-pub one_more_idle : (board : BoardView) (block : ℕ) → AreIdleBelow board block → ¬ ¬ ((shown board).operation block ≡ Idle) → AreIdleBelow board (block + 1)
-one_more_idle board block idle here c below = elim (cases_eq c block) [
-  | inl e ↦ subst (λ x. (shown board).operation x ≡ Idle) (sym e) (idle_not ((shown board).operation block) here)
-  | inr ne ↦ idle c (omega (arith, below, ne))
-]
-
 -- ---- while one operation follows another
 pub all_idle_alone : (board : BoardView) → AreIdleBelow board (blocks_of board) → IsAlone (blocks_of board) (shown board) None
 all_idle_alone board idle = record {

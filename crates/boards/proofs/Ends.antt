@@ -14,7 +14,7 @@ use Rattle.async_step.specs.declared.limits.TheConstants.{MOST_STEPS}
 use Rattle.async_step.specs.Answers.{Fits}
 use Rattle.async_step.specs.Views.{StateView, state_of}
 use Rattle.boards.specs.Runs.{SomeNextOverflows, IsMadeByTurns, AreTurnsBetween, AreTurnsTo}
-use Rattle.boards.specs.Boards.{BoardView, shown, IsBoard, IsTurnBoard, IsOpened, HasSettled}
+use Rattle.boards.specs.Boards.{BoardView, shown, IsBoard, IsTurnBoard, HasSettled}
 use Rattle.boards.specs.Turns.{IsPicked, IsDue, HasNoneDue, HasServed, Sticks, IsStepOf, IsEnd, IsTurn}
 use Rattle.boards.specs.Ends.{HasEnded, GoesOn}
 use Rattle.boards.specs.declared.turn.Turn.{Turn}
@@ -123,14 +123,6 @@ module _ (old new : BoardView) (was : IsTurnBoard old) (is : IsBoard new) where
   turned own from steps (Ended Stuck) (inr h) = sticks own from steps h.0 h.1 h.2
   turned own from steps (Ended Limit) h = still h.1
   turned own from steps (Ended Full) h = absurd h
-
--- a board as it opens
-pub opened : (net : NetView) (board : BoardView) → IsBoard board → IsOpened net board → IsTurnBoard board
-opened net board is o = record {
-  is_board = is;
-  made = record { events = []; run = o.state ∙ ap opening (sym o.net_is) };
-  why = λ t. (let z : true ≡ false = sym t ∙ o.free in absurd cc);
-}
 
 -- ---- how a run goes on
 -- by a turn that makes a step

@@ -3,7 +3,7 @@ use Rattle.std.proofs.Common.{◌≡◌, ℕ, ◌<◌, ◌≤◌, arith, length,
 use Rattle.machine_law.specs.Steps.{next_event}
 use Rattle.boards.specs.Runs.{AreTurnsTo}
 use Rattle.boards.specs.Boards.{BoardView, shown, IsBoard}
-use Rattle.boards.specs.Turns.{IsDue, HasNoneDue, HasServed, IsStepOf, IsEnd, IsTurn}
+use Rattle.boards.specs.Turns.{IsDue, HasServed, IsStepOf, IsEnd, IsTurn}
 use Rattle.boards.specs.Records.{RecordView, IsRecord, written_by, written, written_after, Writes, RecordGoesOn}
 use Rattle.boards.specs.declared.turn.Turn.{Turn}
 use Rattle.boards.specs.declared.turn.Turn.TheVariants.{Stepped, Idle as Unserved, Ended}
@@ -13,8 +13,6 @@ use Rattle.boards.proofs.Alone.{served_counts}
 use Rattle.boards.proofs.Ends.{turned, same_turns, more_turns, turns_counted, end_same, served_run, ended_run, further_run}
 
 -- ---- a run that goes on
-pub room_stays : (first old : RecordView) (limit : ℕ) → RecordGoesOn first old limit → (first.records ≡ true → limit ≤ first.room) → old.records ≡ true → limit ≤ old.room
-room_stays first old limit goes room e = subst (λ k. limit ≤ k) (sym goes.room) (room (sym goes.records ∙ e))
 
 -- by no turn
 pub record_stays : (r : RecordView) (limit : ℕ) → (shown r.board).steps ≤ limit → RecordGoesOn r r limit
@@ -82,12 +80,6 @@ pub written_is : (old : RecordView) (b : ℕ) (new : BoardView) (turn : Turn) �
 written_is old b new (Stepped block more) h = ap (λ x. written_by old.records old.events (next_event old.board.net (shown old.board) x) (Stepped block more)) (sym h.0)
 written_is old b new Unserved h = refl
 written_is old b new (Ended end) h = refl
-
--- a turn that serves no block writes nothing down
-pub none_written : (old : RecordView) (own : Option ℕ) (steps : ℕ) (turn : Turn) → HasNoneDue old.board own steps turn → Writes old turn old
-none_written old own steps (Stepped block more) h = absurd h
-none_written old own steps Unserved h = refl
-none_written old own steps (Ended end) h = refl
 
 -- where a block is due there is room for its event
 pub room_due : (r : RecordView) (own : Option ℕ) (from steps b capacity : ℕ) → IsRecord r capacity → IsDue r.board own from steps b → (r.records ≡ true → steps ≤ r.room) → r.records ≡ true → length r.events < capacity

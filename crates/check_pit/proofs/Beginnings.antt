@@ -131,19 +131,6 @@ pub wrong_at : (counts : Bool) (n : ℕ) (has : ℕ → ℕ → Bool) (previous 
 wrong_at counts n has previous number [] e h = cc
 wrong_at counts n has previous number (p ∷ ps) e h = ap (fault_from (end_fault (number + 1) ps) (λ l. body_fault counts n has (Some l) (number + 1) ps)) h
 
-pub wrong_always : (counts : Bool) (n : ℕ) (pairs : List (ℕ × ℕ)) (body held : List ℕ) (number : ℕ) (previous : Option BodyLine) (ls : List BodyLine) (e : CertFault) → BeginsWith counts n pairs body held number previous ls
-    → ((future : List ℕ) → next_line counts n (has_pair pairs) previous (number + 1) (piece_at (pieces_of (held ++ future)) 0) ≡ Err e) → (future : List ℕ) → body_fault counts n (has_pair pairs) None 4 (pieces_of (body ++ future)) ≡ Some e
-wrong_always counts n pairs body held number previous ls e b h future = b.same_fault future ∙ wrong_at counts n (has_pair pairs) previous number (pieces_of (held ++ future)) e (h future)
-
--- A line that the end of the text cuts off.
-pub wrong_at_end : (counts : Bool) (n : ℕ) (pairs : List (ℕ × ℕ)) (body held : List ℕ) (number : ℕ) (previous : Option BodyLine) (ls : List BodyLine) (e : CertFault) → BeginsWith counts n pairs body held number previous ls
-    → next_line counts n (has_pair pairs) previous (number + 1) (piece_at (pieces_of held) 0) ≡ Err e → body_fault counts n (has_pair pairs) None 4 (pieces_of body) ≡ Some e
-wrong_at_end counts n pairs body held number previous ls e b h =
-    sym (ap (λ (t : List ℕ). body_fault counts n (has_pair pairs) None 4 (pieces_of t)) (append-nil body))
-    ∙ b.same_fault []
-    ∙ ap (λ (t : List ℕ). body_fault counts n (has_pair pairs) previous number (pieces_of t)) (append-nil held)
-    ∙ wrong_at counts n (has_pair pairs) previous number (pieces_of held) e h
-
 -- A piece that is no line says nothing; and of one that is, the text goes on behind it.
 pub no_line_next : (counts : Bool) (n : ℕ) (has : ℕ → ℕ → Bool) (previous : Option BodyLine) (k : ℕ) (p : Piece) (e : CertFault) → no_line k p ≡ Some e → next_line counts n has previous k p ≡ Err e
 no_line_next counts n has previous k p e h = rw h refl

@@ -1,5 +1,5 @@
 -- Reading line after line: what a line that is read says, and what is left.
-use Rattle.std.proofs.Common.{◌≡◌, ℕ, get_or, ◌+◌, ◌<◌, Bool, true, false, cond, ltb, ℤ, pos, negsuc, ◌⊎◌, inl, inr, List, [], ◌∷◌, ◌++◌, length, Option, Some, None, Result, Ok, Err, refl, sym, ap, ◌∙◌, subst, arith, append-nil, append_assoc}
+use Rattle.std.proofs.Common.{◌≡◌, ℕ, get_or, ◌+◌, ◌<◌, Bool, true, false, cond, ltb, ℤ, pos, negsuc, ◌⊎◌, inl, inr, List, [], ◌∷◌, ◌++◌, length, Option, Some, None, Result, Ok, Err, refl, sym, ap, ◌∙◌, subst, arith, append_assoc}
 use Rattle.std.specs.Prelude.{unwrap_or}
 use Rattle.std.specs.Ordering.{int_eq}
 use Rattle.std.specs.Result.{result_unwrap_or}
@@ -15,7 +15,7 @@ use Rattle.check_pit.specs.declared.cert_fault.LineFault.TheVariants.{Text, Numb
 use Rattle.check_pit.specs.declared.lines_of_body.LineKind.{LineKind}
 use Rattle.check_pit.specs.declared.lines_of_body.LineKind.TheVariants.{Pit, Source, Rest, Sink, End}
 use Rattle.check_pit.specs.declared.lines_of_body.BodyLine.{BodyLine}
-use Rattle.check_pit.specs.Pieces.{Piece, Unread, Passed, piece_at, read_line, in_line, no_line, unless_fault, within, number_below, words_of}
+use Rattle.check_pit.specs.Pieces.{Piece, Unread, Passed, read_line, in_line, no_line, unless_fault, within, number_below, words_of}
 use Rattle.check_pit.specs.BodyLines.{kind_of, amount_said, amount_in, is_amount, numbered_line, pit_line, block_line, rest_line, end_line, line_with, line_of_words, line_of, is_end, is_of_model, may_follow, line_behind, next_line, end_fault, fault_from, body_fault, lines_in}
 use Rattle.check_pit.specs.Certificate.{Covers, UnlessMemory, has_pair, pit_of, block_if_pit, given, gives_source, gives_rest, gives_sink, is_rest, amount_of}
 use Rattle.check_pit.specs.Gathered.{Gathered, Adds}
@@ -197,9 +197,6 @@ pub record Going (counts : Bool) (n : ℕ) (pairs : List (ℕ × ℕ)) (all : Un
   pub sink : (b : ℕ) → b < n → given (gives_sink b) (amount_at so.flow.sink b) (lines_in counts n left.pieces) ≡ given (gives_sink b) (amount_at start.flow.sink b) (lines_in counts n all.pieces)
   pub covers : Covers n (length pairs) so.flow
 
-pub begins : (counts : Bool) (n : ℕ) (pairs : List (ℕ × ℕ)) (all : Unread) (start : Gathered) → Covers n (length pairs) start.flow → Going counts n pairs all start None all start
-begins counts n pairs all start c = record { same_fault = refl; pit = refl; source = λ b h. refl; rest = λ k h. refl; sink = λ b h. refl; covers = c }
-
 -- One line on.
 fault_at : (counts : Bool) (n : ℕ) (has : ℕ → ℕ → Bool) (previous : Option BodyLine) (left : Unread) (p : Piece) (ps : List Piece) → left.pieces ≡ p ∷ ps
     → body_fault counts n has previous left.number left.pieces ≡ fault_from (end_fault (left.number + 1) ps) (λ line. body_fault counts n has (Some line) (left.number + 1) ps) (next_line counts n has previous (left.number + 1) p)
@@ -214,25 +211,12 @@ behind_ok counts n previous k p line e f = rw (e, f) refl
 next_ok : (counts : Bool) (n : ℕ) (has : ℕ → ℕ → Bool) (previous : Option BodyLine) (k : ℕ) (p : Piece) (line : BodyLine) → line_behind counts n previous k p ≡ Ok line → is_of_model has line.kind line ≡ true → next_line counts n has previous k p ≡ Ok line
 next_ok counts n has previous k p line e f = rw (e, f) refl
 
-next_unknown : (counts : Bool) (n : ℕ) (has : ℕ → ℕ → Bool) (previous : Option BodyLine) (k : ℕ) (p : Piece) (line : BodyLine) → line_behind counts n previous k p ≡ Ok line → is_of_model has line.kind line ≡ false → next_line counts n has previous k p ≡ Err (fault.UnknownPair k)
-next_unknown counts n has previous k p line e f = rw (e, f) refl
-
-next_wrong : (counts : Bool) (n : ℕ) (has : ℕ → ℕ → Bool) (previous : Option BodyLine) (k : ℕ) (p : Piece) (x : CertFault) → line_behind counts n previous k p ≡ Err x → next_line counts n has previous k p ≡ Err x
-next_wrong counts n has previous k p x e = rw e refl
-
 pit_joins : (kind : LineKind) (b : ℕ) (bs : List ℕ) → block_if_pit kind b [] ++ bs ≡ block_if_pit kind b bs
 pit_joins Pit b bs = refl
 pit_joins Source b bs = refl
 pit_joins Rest b bs = refl
 pit_joins Sink b bs = refl
 pit_joins End b bs = refl
-
-end_of_model : (has : ℕ → ℕ → Bool) (kind : LineKind) (line : BodyLine) → is_end kind ≡ true → is_of_model has kind line ≡ true
-end_of_model has Pit line h = refl
-end_of_model has Source line h = refl
-end_of_model has Rest line h = absurd (let z : false ≡ true = h in cc)
-end_of_model has Sink line h = refl
-end_of_model has End line h = refl
 
 pub goes_on : (counts : Bool) (n : ℕ) (pairs : List (ℕ × ℕ)) (all : Unread) (start : Gathered) (previous : Option BodyLine) (left next : Unread) (so later : Gathered) (line : BodyLine) → Going counts n pairs all start previous left so → Passed (line_of counts n) left next line
     → may_follow previous line ≡ true → is_end line.kind ≡ false → is_of_model (has_pair pairs) line.kind line ≡ true → Covers n (length pairs) later.flow → Adds n pairs (line ∷ []) so later → Going counts n pairs all start (Some line) next later
@@ -254,56 +238,6 @@ goes_on counts n pairs all start previous left next so later line g p f e m c a 
       sink = λ b h. ap (λ (x : Amount). given (gives_sink b) x (lines_in counts n next.pieces)) (a.sink b h) ∙ sym (ap (given (gives_sink b) (amount_at so.flow.sink b)) lines) ∙ g.sink b h;
       covers = c;
     }
-
--- The faults.
-at_wrong : (counts : Bool) (n : ℕ) (has : ℕ → ℕ → Bool) (previous : Option BodyLine) (k : ℕ) (ps : List Piece) (x : CertFault) → line_behind counts n previous (k + 1) (piece_at ps 0) ≡ Err x → body_fault counts n has previous k ps ≡ Some x
-at_wrong counts n has previous k [] x h = cc
-at_wrong counts n has previous k (p ∷ ps) x h = rw (next_wrong counts n has previous (k + 1) p x h) refl
-
-pub goes_wrong : (counts : Bool) (n : ℕ) (pairs : List (ℕ × ℕ)) (all : Unread) (start : Gathered) (previous : Option BodyLine) (left : Unread) (so : Gathered) (x : CertFault) → Going counts n pairs all start previous left so
-    → line_behind counts n previous (left.number + 1) (piece_at left.pieces 0) ≡ Err x → body_fault counts n (has_pair pairs) None all.number all.pieces ≡ Some x
-goes_wrong counts n pairs all start previous left so x g h = sym g.same_fault ∙ at_wrong counts n (has_pair pairs) previous left.number left.pieces x h
-
-pub goes_unknown : (counts : Bool) (n : ℕ) (pairs : List (ℕ × ℕ)) (all : Unread) (start : Gathered) (previous : Option BodyLine) (left next : Unread) (so : Gathered) (line : BodyLine) (k : ℕ) → Going counts n pairs all start previous left so → Passed (line_of counts n) left next line
-    → may_follow previous line ≡ true → k ≡ next.number → is_of_model (has_pair pairs) line.kind line ≡ false → body_fault counts n (has_pair pairs) None all.number all.pieces ≡ Some (fault.UnknownPair k)
-goes_unknown counts n pairs all start previous left next so line k g p f i m =
-    let has : ℕ → ℕ → Bool = has_pair pairs in
-    let read = subst (λ (j : ℕ). read_line (line_of counts n) j p.piece ≡ Ok line) p.number p.read in
-    let bad = next_unknown counts n has previous (left.number + 1) p.piece line (behind_ok counts n previous (left.number + 1) p.piece line read f) m in
-    sym g.same_fault ∙ fault_at counts n has previous left p.piece next.pieces p.pieces
-    ∙ ap (fault_from (end_fault (left.number + 1) next.pieces) (λ l. body_fault counts n has (Some l) (left.number + 1) next.pieces)) bad
-    ∙ ap (λ (j : ℕ). Some (fault.UnknownPair j)) (sym p.number ∙ sym i)
-
--- The last line.
-pub ends : (counts : Bool) (n : ℕ) (pairs : List (ℕ × ℕ)) (all : Unread) (start : Gathered) (previous : Option BodyLine) (left next : Unread) (so : Gathered) (line : BodyLine) → Going counts n pairs all start previous left so → Passed (line_of counts n) left next line
-    → may_follow previous line ≡ true → is_end line.kind ≡ true → body_fault counts n (has_pair pairs) None all.number all.pieces ≡ end_fault next.number next.pieces
-ends counts n pairs all start previous left next so line g p f e =
-    let has : ℕ → ℕ → Bool = has_pair pairs in
-    let read = subst (λ (j : ℕ). read_line (line_of counts n) j p.piece ≡ Ok line) p.number p.read in
-    let ok = next_ok counts n has previous (left.number + 1) p.piece line (behind_ok counts n previous (left.number + 1) p.piece line read f) (end_of_model has line.kind line e) in
-    sym g.same_fault ∙ fault_at counts n has previous left p.piece next.pieces p.pieces
-    ∙ ap (fault_from (end_fault (left.number + 1) next.pieces) (λ l. body_fault counts n has (Some l) (left.number + 1) next.pieces)) ok
-    ∙ ap (λ (t : Bool). cond t (end_fault (left.number + 1) next.pieces) (body_fault counts n has (Some line) (left.number + 1) next.pieces)) e
-    ∙ ap (λ (j : ℕ). end_fault j next.pieces) (sym p.number)
-
-pub ended : (counts : Bool) (n : ℕ) (pairs : List (ℕ × ℕ)) (all : Unread) (start : Gathered) (previous : Option BodyLine) (left next : Unread) (so : Gathered) (line : BodyLine) → Going counts n pairs all start previous left so → Passed (line_of counts n) left next line
-    → is_end line.kind ≡ true → Adds n pairs (lines_in counts n all.pieces) start so
-ended counts n pairs all start previous left next so line g p e =
-    let none : lines_in counts n left.pieces ≡ [] = lines_at counts n left p.piece next.pieces line p.pieces (text_read (line_of counts n) next.number p.piece line p.read) ∙ ap (λ (t : Bool). cond t [] (line ∷ lines_in counts n next.pieces)) e in
-    record {
-      pit = sym (append-nil so.pit) ∙ sym (ap (λ (ls : List BodyLine). so.pit ++ pit_of ls) none) ∙ g.pit;
-      source = λ b h. sym (ap (given (gives_source b) (amount_at so.flow.source b)) none) ∙ g.source b h;
-      rest = λ k h. sym (ap (given (gives_rest (get_or pairs k (0, 0))) (amount_at so.flow.rest k)) none) ∙ g.rest k h;
-      sink = λ b h. sym (ap (given (gives_sink b) (amount_at so.flow.sink b)) none) ∙ g.sink b h;
-    }
-
-pub unless : (e : CertFault) {P Q : Type 0} → (P → Q) → UnlessMemory e P → UnlessMemory e Q
-unless fault.NoMemory f h = tt
-unless (fault.Text k) f h = f h
-unless (fault.Number k) f h = f h
-unless (fault.OutOfOrder k) f h = f h
-unless (fault.UnknownPair k) f h = f h
-unless fault.Truncated f h = f h
 
 pub always : (e : CertFault) {P : Type 0} → P → UnlessMemory e P
 always fault.NoMemory h = tt

@@ -1,5 +1,5 @@
 -- Why a stream gives no further line.
-use Rattle.std.proofs.Common.{◌≡◌, ℕ, get_or, ◌+◌, ◌<◌, ◌≤◌, Bool, true, false, ltb, List, [], ◌++◌, length, take, drop, Option, Some, None, Result, Ok, Err, refl, sym, ap, ◌∙◌, subst, arith, append-nil}
+use Rattle.std.proofs.Common.{◌≡◌, ℕ, get_or, ◌+◌, ◌<◌, ◌≤◌, Bool, true, false, ltb, List, [], ◌++◌, length, take, drop, Option, Some, None, Result, Ok, Err, refl, sym, ap, ◌∙◌, subst, arith}
 use Rattle.std.specs.Prelude.{unwrap_or, Contains, MatchOption, MatchResult}
 use Rattle.std.specs.Io.KnownBytes.{Consumes}
 use Rattle.std.specs.Option.{is_some}
@@ -21,7 +21,7 @@ use Rattle.check_pit.specs.Header.{◌>>=◌}
 use Rattle.check_pit.specs.BodyLines.{line_of, is_of_model, may_follow, in_order, in_model, line_behind, next_line}
 use Rattle.check_pit.specs.Certificate.{has_pair}
 use Rattle.check_pit.specs.StreamView.{LineView}
-use Rattle.check_pit.specs.StreamLines.{Reads, IsLine, NoLine}
+use Rattle.check_pit.specs.StreamLines.{Reads, IsLine}
 use Rattle.check_pit.specs.TakenLines.{held_piece, PassesLine, GoesBehind, TakesLine, LacksLine, FaultIs, NoNextLine}
 use Rattle.check_pit.proofs.Additions.{absent, present}
 use Rattle.check_pit.proofs.Beginnings.{no_line_next}
@@ -93,18 +93,6 @@ line_wrong left f s count e r h bad =
     stays left f s e
     (λ cut. r.whole (s.number + 1) (take count s.held) short (bad ∙ ap (λ (x : CertFault). Err x) cut))
     (λ future. ap (λ (ps : List Piece). f (s.number + 1) (piece_at ps 0)) (line_held s.held count h.ends future) ∙ bad)
-
--- No line is there.
-pub no_next : {R A : Type 0} (left : Option (List ℕ)) (f : ℕ → Piece → Result A CertFault) (s : LineView R) (e : StreamFault) → ReadsLines f → NoLine left s e → NoNextLine left f s e
-no_next left f s Device r h = tt
-no_next left f s InputTooLong r h = h
-no_next left f s (Cert fault.Truncated) r h = (h.0, h.1, ap (λ (t : List ℕ). f (s.number + 1) (piece_at (pieces_of t) 0)) (append-nil s.held) ∙ r.none (s.number + 1) (piece_at (pieces_of s.held) 0) fault.Truncated h.2)
-no_next left f s (Cert (fault.Text k)) r h = λ future. r.none (s.number + 1) (piece_at (pieces_of (s.held ++ future)) 0) (fault.Text k) (h future)
-no_next left f s (Cert (fault.Number k)) r h = λ future. r.none (s.number + 1) (piece_at (pieces_of (s.held ++ future)) 0) (fault.Number k) (h future)
-no_next left f s (Cert (fault.OutOfOrder k)) r h = λ future. r.none (s.number + 1) (piece_at (pieces_of (s.held ++ future)) 0) (fault.OutOfOrder k) (h future)
-no_next left f s (Cert (fault.UnknownPair k)) r h = λ future. r.none (s.number + 1) (piece_at (pieces_of (s.held ++ future)) 0) (fault.UnknownPair k) (h future)
-no_next left f s (Cert fault.NoMemory) r h = λ future. r.none (s.number + 1) (piece_at (pieces_of (s.held ++ future)) 0) fault.NoMemory (h future)
-no_next left f s (Pit e) r h = absurd h
 
 -- A fault of one thing, as one of another.
 pub fault_as : (left : Option (List ℕ)) (taken : ℕ) (has had : List ℕ → CertFault → Type 0) (p q : PitFault → Type 0) (e : StreamFault) → ((future : List ℕ) (x : CertFault) → has future x → had future x) → ((x : PitFault) → p x → q x) → FaultIs left taken has p e → FaultIs left taken had q e

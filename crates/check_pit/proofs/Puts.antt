@@ -26,9 +26,6 @@ put_more a b c first now next piece left all p h = record {
   whole = append_assoc p.done piece left ∙ p.whole;
 }
 
-pub put_over : (a b : Option (List ℕ)) (first now all : List ℕ) → Put a b first now [] all → SentOrHeld a b now (first ++ all)
-put_over a b first now all p = subst (λ (t : List ℕ). SentOrHeld a b now (first ++ t)) (sym (append-nil p.done) ∙ p.whole) p.held
-
 pub put_failed : (a b c : Option (List ℕ)) (first now piece left all : List ℕ) → Put a b first now (piece ++ left) all → ReceivedPrefix b c (now ++ piece) → ReceivedPrefix a c (first ++ all)
 put_failed a b c first now piece left all p h =
     let part : ReceivedPrefix a c ((first ++ p.done) ++ piece) = held_more_prefix a b c now (first ++ p.done) piece p.held h in

@@ -42,22 +42,11 @@ pub block_over : (net : NetView) (l : BodyLine) (room : RoomView) (x : Amount) �
 block_over net l room x is e n =
     rw is (tt, inr (inl (λ f. n (fits_same _ _ (ap (plus room.worth) (e ∙ sym (plus-zero_right (amount_at net.worths l.block)))) f))))
 
-source_here : (y x : Amount) (b : ℕ) → plus y x ≡ plus y (where_so (eqb b b) x)
-source_here y x b = let e = eq-eqb b b refl in rw e refl
-
 sink_here : (y x : Amount) (b : ℕ) → minus y x ≡ plus y (minus zero_amount (where_so (eqb b b) x))
 sink_here y x b = let e = eq-eqb b b refl in rw e (Amount_eq _ _ (omega (arith, ints)) (omega (arith, ints)))
 
-from_here : (y x : Amount) (b p : ℕ) → b ≢ p → minus y x ≡ plus y (minus (where_so (eqb p b) x) (where_so (eqb b b) x))
-from_here y x b p d = let e = eq-eqb b b refl in let f = ne_eqb p b (λ i. d (sym i)) in rw (e, f) (Amount_eq _ _ (omega (arith, ints)) (omega (arith, ints)))
-
 to_here : (y x : Amount) (b p : ℕ) → b ≢ p → plus y x ≡ plus y (minus (where_so (eqb p p) x) (where_so (eqb b p) x))
 to_here y x b p d = let e = eq-eqb p p refl in let f = ne_eqb b p d in rw (e, f) (Amount_eq _ _ (omega (arith, ints)) (omega (arith, ints)))
-
-pub source_over : (net : NetView) (l : BodyLine) (room : RoomView) (x : Amount) → l.kind ≡ Source → l.block < length net.worths → x ≡ amount_of l → keeps_by Source net.worths l
-    → ¬ (FitsPair (plus (amount_at room.balances l.block) x)) → RefusedWhere net l (SumOverflowsWith net room l) TooLarge
-source_over net l room x is h e k n =
-    rw is (k, inl (l.block, h, λ f. n (fits_same _ _ (ap (plus (amount_at room.balances l.block)) e ∙ source_here (amount_at room.balances l.block) (amount_of l) l.block) f)))
 
 left_over : (net : NetView) (l : BodyLine) (room : RoomView) (x : Amount) → l.kind ≡ Source → x ≡ amount_of l → keeps_by Source net.worths l → ¬ (FitsPair (minus room.left x)) → RefusedWhere net l (SumOverflowsWith net room l) TooLarge
 left_over net l room x is e k n = rw is (k, inr (inr (λ f. n (fits_same _ _ (ap (minus room.left) e) f))))
@@ -66,11 +55,6 @@ sink_over : (net : NetView) (l : BodyLine) (room : RoomView) (x : Amount) → l.
     → ¬ (FitsPair (minus (amount_at room.balances l.block) x)) → RefusedWhere net l (SumOverflowsWith net room l) TooLarge
 sink_over net l room x is h e k n =
     rw is (k, inl (l.block, h, λ f. n (fits_same _ _ (ap (minus (amount_at room.balances l.block)) e ∙ sink_here (amount_at room.balances l.block) (amount_of l) l.block) f)))
-
-pub from_over : (net : NetView) (l : BodyLine) (room : RoomView) (x : Amount) → l.kind ≡ Rest → l.block ≢ l.other → l.block < length net.worths → x ≡ amount_of l → AtMost zero_amount (amount_of l)
-    → ¬ (FitsPair (minus (amount_at room.balances l.block) x)) → RefusedWhere net l (SumOverflowsWith net room l) TooLarge
-from_over net l room x is d h e k n =
-    rw is (k, inl (l.block, h, λ f. n (fits_same _ _ (ap (minus (amount_at room.balances l.block)) e ∙ from_here (amount_at room.balances l.block) (amount_of l) l.block l.other d) f)))
 
 pub to_over : (net : NetView) (l : BodyLine) (room mid : RoomView) (x : Amount) → l.kind ≡ Rest → l.block ≢ l.other → l.other < length net.worths → x ≡ amount_of l → AtMost zero_amount (amount_of l)
     → mid ≡ with_balance l.block (minus (amount_at room.balances l.block) x) room → ¬ (FitsPair (plus (amount_at mid.balances l.other) x)) → RefusedWhere net l (SumOverflowsWith net room l) TooLarge

@@ -107,9 +107,6 @@ taken_at xs b k x false h e = get_or-set_other xs b k (minus (amount_at xs b) x)
 moved : (y u v : Amount) → plus (plus y (minus zero_amount u)) v ≡ plus y (minus v u)
 moved y u v = Amount_eq _ _ (omega (arith, ints)) (omega (arith, ints))
 
-none_moved : (y u : Amount) → y ≡ plus y (minus u u)
-none_moved y u = Amount_eq _ _ (omega (arith, ints)) (omega (arith, ints))
-
 none_taken : (y : Amount) → y ≡ minus y zero_amount
 none_taken y = Amount_eq _ _ (omega (arith, ints)) (omega (arith, ints))
 
@@ -164,18 +161,6 @@ with_rest net l before mid later x is h i e m w =
       worth = rw is (sym (plus-zero_right before.worth));
       left = rw is (none_taken before.left);
     })
-
--- an amount from a block to itself
-pub with_none : (net : NetView) (l : BodyLine) (room : RoomView) → l.kind ≡ Rest → l.block ≡ l.other → WithLine net l room room
-with_none net l room is e = record {
-  size = refl;
-  balances = λ b j. rw is (none_moved (amount_at room.balances b) (where_so (eqb l.other b) (amount_of l)) ∙ ap (λ (i : ℕ). plus (amount_at room.balances b) (minus (where_so (eqb l.other b) (amount_of l)) (where_so (eqb i b) (amount_of l)))) (sym e));
-  blocks = rw is (sym (append-nil room.blocks));
-  space = refl;
-  is_pit = refl;
-  worth = rw is (sym (plus-zero_right room.worth));
-  left = rw is (none_taken room.left);
-}
 
 -- ---- the list of a pit that is not made yet
 

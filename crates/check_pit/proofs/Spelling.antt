@@ -76,10 +76,6 @@ amount_of_words counts v w a (Err x) (Err y) e f h = absurd cc
 amount_is : (counts : Bool) (v w : List ℕ) (a : ℤ × ℤ) → amount_in counts v w ≡ Some a → (v ≡ signed_decimal a.0) × (w ≡ signed_decimal a.1)
 amount_is counts v w a h = amount_of_words counts v w a (plain_of v) (plain_of w) refl refl h
 
--- The words of a line.
-abbrev refused : Result BodyLine LineFault
-refused = Err Text
-
 pit_words : (n : ℕ) (words : List (List ℕ)) (l : BodyLine) → pit_line n words ≡ Ok l → key_word Pit ∷ words ≡ line_words l
 pit_words n [] l h = no_line_is l h
 pit_words n (b ∷ []) l h =

@@ -1,14 +1,12 @@
 -- What the steps of a check come to.
-use Rattle.std.proofs.Common.{◌≡◌, ℕ, Bool, List, length, inl, inr, refl, subst}
+use Rattle.std.proofs.Common.{◌≡◌, ℕ, Bool, List, inl, inr, refl, subst}
 use Rattle.std.proofs.lemmas.Bool.{cases_lt}
-use Rattle.std.proofs.lemmas.List.Elements.{Contains-get_or, All-contains}
+use Rattle.std.proofs.lemmas.List.Elements.{All-contains}
 use Rattle.closure_net.specs.Network.{NetView, FlowView, holds_of}
 use Rattle.closure_net.specs.Closure.{Stays, IsClosed}
 use Rattle.closure_net.specs.Flows.{IsFlow}
-use Rattle.prec_file.specs.Rests.{IsFirstNot}
 use Rattle.check_pit.specs.Fits.{BalanceFits, BalanceOverflows, SumsFit, SomeSumOverflows}
-use Rattle.check_pit.specs.Checks.{ProvesPit, Sizes, NoneBelowZero, KeepsWithin, PassesSigns, PassesCapacities, AllWithin, AllBalanced, BalancedWhileFit, IsOpen, FaultHolds, FaultStands}
-use Rattle.check_pit.specs.Closing.{IsFirstOpen}
+use Rattle.check_pit.specs.Checks.{ProvesPit, Sizes, NoneBelowZero, PassesCapacities, AllWithin, AllBalanced, BalancedWhileFit, IsOpen, FaultHolds, FaultStands}
 use Rattle.check_pit.specs.Balances.{ComesTo, BalanceFault}
 use Rattle.check_pit.specs.declared.pit_fault.PitFault.{PitFault}
 use Rattle.check_pit.specs.declared.pit_fault.PitFault.TheVariants.{WrongSize, NotClosed, Negative, OverCapacity, Unbalanced, NotTight, TooLarge}
@@ -19,16 +17,6 @@ flow_found net flow pit sizes signs within balanced =
     record { fits = sizes.lengths; source = signs.source; rest = signs.rest; sink = signs.sink; capacity = within; balance = λ b h. (balanced b h).1 }
 
 -- ---- a fault that is found is the first that holds
-
-pub open_fault : (net : NetView) (flow : FlowView) (pit : List ℕ) (b p : ℕ) → Sizes net flow pit → IsFirstOpen net.pairs (holds_of pit) (b, p) → FaultStands net flow pit (NotClosed b p)
-open_fault net flow pit b p sizes h =
-    let P : ℕ × ℕ → Type 0 = λ q. IsOpen net.pairs (holds_of pit) q in record {
-      holds = subst P h.2 (Contains-get_or net.pairs h.0 (0, 0) h.1.0, h.1.2);
-      first = (sizes, (h.0, h.1.0, h.2, h.1.1));
-    }
-
-pub capacity_fault : (net : NetView) (flow : FlowView) (pit : List ℕ) (b : ℕ) → PassesSigns net flow pit → IsFirstNot (KeepsWithin net flow) (length net.worths) b → FaultStands net flow pit (OverCapacity b)
-capacity_fault net flow pit b passes h = record { holds = (h.0, h.2); first = (passes, h.1) }
 
 -- where the sums of a balance fit, none overflows
 balance_fits : (net : NetView) (flow : FlowView) (b : ℕ) → BalanceFits net flow b → BalanceOverflows net flow b → ⊥
@@ -51,10 +39,6 @@ balance_fault net flow pit (NotClosed b p) passes h = absurd h
 balance_fault net flow pit Negative passes h = absurd h
 balance_fault net flow pit (OverCapacity b) passes h = absurd h
 balance_fault net flow pit NotTight passes h = absurd h
-
--- a sum that overflows once every balance stands
-pub sum_fault : (net : NetView) (flow : FlowView) (pit : List ℕ) → PassesCapacities net flow pit → AllBalanced net flow → SomeSumOverflows net flow pit → FaultStands net flow pit TooLarge
-sum_fault net flow pit passes balanced over = record { holds = over; first = (passes, λ b l fit. (balanced b l).1) }
 
 -- ---- no fault holds of what is sound
 

@@ -7,7 +7,7 @@ use Rattle.prec_file.specs.Rests.{from_at, to_at, numbers, above_of, below_of, f
 use Rattle.prec_file.proofs.Passing.{passing_at, passing_most}
 use Rattle.prec_file.proofs.Order.{own_at}
 use Rattle.closure_net.specs.declared.port.Port.{Port}
-use Rattle.closure_net.specs.declared.port.PortKind.TheVariants.{Forward, Backward}
+use Rattle.closure_net.specs.declared.port.PortKind.TheVariants.{Forward}
 use Rattle.closure_net.specs.Ports.{forward_port, backward_port, forwards, backwards}
 
 -- the ports of these pairs to the blocks that b rests on, and to those that rest on b
@@ -52,17 +52,6 @@ fore_is ps r b i top first ts e l q f =
     let t : top ≡ to_at ps (get_or ks i 0) = q ∙ ap (λ xs. get_or xs i 0) e ∙ get_or-map (to_at ps) ks i 0 0 inside in
     let same : d ≡ forward_port (to_at ps) (get_or ks i 0) = λ j. record { kind = Forward; other = t j; slot = s j } in
     slice_get-get_or (fore ps b) i d l ∙ ap Some (sym (same ∙ sym (get_or-map (forward_port (to_at ps)) ks i 0 d inside)))
-
-pub back_is : (ps : List (ℕ × ℕ)) (b i k other : ℕ) (ks : List ℕ) → ks ≡ below_of ps b → i < length (back ps b) → k ≡ get_or ks i 0 → other ≡ from_at ps k
-    → (let p : Port = record { kind = Backward; other = other; slot = k } in slice_get (back ps b) i ≡ Some p)
-back_is ps b i k other ks e l q f =
-    let ns = below_of ps b in
-    let d : Port = record { kind = Backward; other = other; slot = k } in
-    let inside : i < length ns = omega (arith, length-map ns (backward_port (from_at ps))) in
-    let s : k ≡ get_or ns i 0 = q ∙ ap (λ xs. get_or xs i 0) e in
-    let t : other ≡ from_at ps (get_or ns i 0) = f ∙ ap (from_at ps) s in
-    let same : d ≡ backward_port (from_at ps) (get_or ns i 0) = λ j. record { kind = Backward; other = t j; slot = s j } in
-    slice_get-get_or (back ps b) i d l ∙ ap Some (sym (same ∙ sym (get_or-map (backward_port (from_at ps)) ns i 0 d inside)))
 
 pub number_below : (ps : List (ℕ × ℕ)) (b i : ℕ) (ks : List ℕ) → ks ≡ below_of ps b → i < length ks → get_or ks i 0 < length ps
 number_below ps b i ks e l =

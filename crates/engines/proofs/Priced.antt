@@ -31,7 +31,7 @@ use Rattle.check_pit.proofs.Wants.{joined}
 use Rattle.engines.specs.Mines.{priced_texts}
 use Rattle.engines.specs.declared.engine_fault.EngineFault.{EngineFault}
 use Rattle.engines.specs.declared.engine_fault.EngineFault.TheVariants as engine
-use Rattle.engines.specs.BlockTexts.{ReadsBlocks, BlocksReadFails}
+use Rattle.engines.specs.BlockTexts.{ReadsBlocks}
 use Rattle.engines.specs.Inputs.{ReadsSettingsText, SettingsReadFails, ReadsPrices, ReadsPrec, PricesReadFail, ModelPricesFail}
 use Rattle.engines.specs.PricedTexts.{cell, cells, values_of, charge_list, column_list, columns_said, costs_at, first_charges, first_columns, table_at, table_by, table_of, price_keys, price_columns, ColumnsKnown}
 use Rattle.engines.specs.declared.priced_inputs.ChargeColumns.{ChargeColumns}
@@ -162,28 +162,6 @@ pub prices_told : (o : Option (List ℕ)) (columns : PriceColumns) (m : BlocksVi
 prices_told None columns m made h is = tt
 prices_told (Some text) columns m (Ok table) h is = prices_made text columns m table h is
 prices_told (Some text) columns m (Err fault) h f = prices_fail text columns m fault h f
-
--- the blocks were not read
-pub blocks_fail : (o : Option (List ℕ)) (columns : PriceColumns) (fault : EngineFault) → IfSome o (λ text. BlocksReadFails (column_list columns) text fault) → IfSome o (λ text. PricesReadFail columns text fault)
-blocks_fail None columns fault h = tt
-blocks_fail (Some text) columns (engine.Blocks p) h = h
-blocks_fail (Some text) columns engine.Memory h = tt
-blocks_fail (Some text) columns engine.Device h = tt
-blocks_fail (Some text) columns (engine.Settings p) h = absurd h
-blocks_fail (Some text) columns (engine.Prices p) h = absurd h
-blocks_fail (Some text) columns (engine.Upit p) h = absurd h
-blocks_fail (Some text) columns (engine.Prec p) h = absurd h
-blocks_fail (Some text) columns (engine.Slope p) h = absurd h
-blocks_fail (Some text) columns (engine.Model p) h = absurd h
-blocks_fail (Some text) columns (engine.Certificate p) h = absurd h
-blocks_fail (Some text) columns (engine.Trace p) h = absurd h
-blocks_fail (Some text) columns engine.Thread h = absurd h
-blocks_fail (Some text) columns engine.Stranger h = absurd h
-
--- memory is refused
-pub memory_fails : (o : Option (List ℕ)) (columns : PriceColumns) → IfSome o (λ text. PricesReadFail columns text engine.Memory)
-memory_fails None columns = tt
-memory_fails (Some text) columns = tt
 
 -- the texts that price blocks, and the precedence, were read
 pub all_read : (settings text precedence : List ℕ) (said : SettingsView) (table : PricesView) (rests : RestsView) (n : ℕ) → n ≡ blocks_of table → NoneNegative table → first_missing (price_keys said) said ≡ None → ReadsSettingsText settings said → ReadsPrices (columns_said said) text table → ReadsPrec n precedence rests

@@ -8,22 +8,18 @@ use Rattle.ordered_group.specs.Amount.{Amount}
 use Rattle.ordered_group.specs.declared.groups.Group.{Group}
 use Rattle.prec_file.specs.Rests.{RestsView}
 use Rattle.upit_file.specs.Records as upit
-use Rattle.closure_net.specs.Network.{NetView, FlowView, net_view, IsNet, FlowFits, holds_of}
+use Rattle.closure_net.specs.Network.{NetView, FlowView, net_view, IsNet, holds_of}
 use Rattle.closure_net.specs.Mine.{IsNetOf}
 use Rattle.closure_net.specs.FaultStands.{WorthsFaultStands}
 use Rattle.closure_net.specs.declared.net.NetFault.{NetFault}
 use Rattle.closure_net.specs.declared.net.NetFault.TheVariants as net_fault
-use Rattle.workers.specs.Runs.{Settles}
-use Rattle.check_pit.specs.Checks.{IsSound, FaultStands}
-use Rattle.check_pit.specs.Certificate.{Covers}
+use Rattle.check_pit.specs.Checks.{IsSound}
 use Rattle.check_pit.specs.ReadBack.{IsReadBack}
 use Rattle.check_pit.specs.Written.{header_with, text_of}
-use Rattle.check_pit.specs.declared.pit_fault.PitFault.{PitFault}
 use Rattle.check_pit.specs.declared.header.Price.{Price}
 use Rattle.check_pit.specs.declared.header.Price.TheVariants.{Objective}
 use Rattle.check_pit.specs.Pieces.{pieces_of}
 use Rattle.check_pit.proofs.Duality.{duality}
-use Rattle.check_pit.proofs.Tightness.{refused_for_size_only}
 use Rattle.engines.specs.declared.judgement.Verdict.{Verdict}
 use Rattle.engines.specs.declared.judgement.Verdict.TheVariants.{Done, No}
 use Rattle.engines.specs.declared.engine_fault.EngineFault.{EngineFault}
@@ -31,35 +27,13 @@ use Rattle.engines.specs.declared.engine_fault.EngineFault.TheVariants as engine
 use Rattle.engines.specs.Inputs.{ReadsUpit, ReadsPrec}
 use Rattle.engines.specs.ReadMines.{AreRead, IsGroupNamed, of_model, billionths_of}
 use Rattle.engines.specs.Mines.{MineTexts, mine_texts, price_wanted, mine_of, DenoteMine}
-use Rattle.engines.specs.Certifying.{IsRefusedFlow}
 use Rattle.engines.specs.declared.method.Method.{Method}
-use Rattle.engines.specs.Solving.{CheckOverflows, IsNoOf, IsCertificateOf, AnswersNet, SolvesNet, IsCertificate, IsNetBy, AnswersMine, Solves}
+use Rattle.engines.specs.Solving.{IsNoOf, IsCertificateOf, AnswersNet, SolvesNet, IsCertificate, IsNetBy, AnswersMine, Solves}
 use Rattle.engines.proofs.Answered.{read_both, keeps_self}
 use Rattle.engines.proofs.Judged.{HasRead, reads, net_made, read_as, worths_fail}
 use Rattle.engines.proofs.Lone.{header_alone}
 
--- ---- the check of a run's pit
-
--- what the source reaches in the flow of a settled run is refused for sums that don't fit, and nothing else
-pub check_overflows : (net : NetView) (limit : ℕ) (flow : FlowView) (steps : ℕ) (fault : PitFault) → Settles net limit flow steps → FlowFits net flow → IsRefusedFlow net flow fault → CheckOverflows net limit
-check_overflows net limit flow steps fault settles fits refused =
-    let reached = refused.reached fits in
-    let of_net = refused.of_net fits in
-    let e = refused_for_size_only net flow refused.pit fault (record { of_net = of_net; is_flow = settles.solved.greatest.is_flow; closed = settles.solved.closed (holds_of refused.pit) reached; tight = settles.solved.tight (holds_of refused.pit) reached }) refused.stands.holds in
-    record {
-      flow = flow;
-      steps = steps;
-      settles = settles;
-      pit = refused.pit;
-      reached = reached;
-      of_net = of_net;
-      stands = subst (λ (f : PitFault). FaultStands net flow refused.pit f) e refused.stands;
-    }
-
 -- ---- what is written
-
-pub covers : (net : NetView) (n : ℕ) (ps : List (ℕ × ℕ)) (flow : FlowView) → n ≡ length net.worths → ps ≡ net.pairs → FlowFits net flow → Covers n (length ps) flow
-covers net n ps flow e f h = record { sources = h.source ∙ sym e; rests = h.rest ∙ sym (ap length f); sinks = h.sink ∙ sym e }
 
 pub back_moved : (counts : Bool) (name : Group) (n m : ℕ) (ps qs : List (ℕ × ℕ)) (text : List ℕ) (price : Price) (pit : List ℕ) (flow : FlowView) → n ≡ m → ps ≡ qs → IsReadBack counts name n ps text price pit flow → IsReadBack counts name m qs text price pit flow
 back_moved counts name n m ps qs text price pit flow e f h =

@@ -39,11 +39,6 @@ pub header_unjudged : (t : Option (List ℕ)) (nanos : List ℤ) (rests : RestsV
 header_unjudged None nanos rests n e size h = tt
 header_unjudged (Some c) nanos rests n e size h = λ texts read at. h texts (subst (DenoteMine texts) (sym size) read.mine)
 
--- the price is another
-pub price_unjudged : {R : Type 0} (remaining : R → Option (List ℕ)) (s : LineView R) (t : Option (List ℕ)) (nanos : List ℤ) (rests : RestsView) (h : Header) → h.blocks ≡ rests.blocks → h.price ≢ Objective → IfSome t (HasHeader remaining s h) → IfSome t (JudgedFor nanos rests (Err (engine.Certificate problem.WrongPrice)))
-price_unjudged remaining s None nanos rests h size differs k = tt
-price_unjudged remaining s (Some c) nanos rests h size differs k = λ texts read at. (rests.blocks, read.mine, (h, k.0, size, λ e. differs (e ∙ at)))
-
 pub stream_judged : {R : Type 0} (remaining : R → Option (List ℕ)) (s : LineView R) (t : Option (List ℕ)) (nanos shown : List ℤ) (rests : RestsView) (h : Header) (answer : Result Judgement EngineFault) → h.blocks ≡ rests.blocks → h.price ≡ Objective → shown ≡ nanos → IfSome t (HasHeader remaining s h)
     → ((texts : MineTexts) (c : List ℕ) → AreRead texts shown rests → IsHeader texts c rests.blocks h.group → StandsBehind remaining c s → Judges texts c answer) → IfSome t (JudgedFor nanos rests answer)
 stream_judged remaining s None nanos shown rests h answer size price is k judges = tt

@@ -1,10 +1,9 @@
 -- How long a printed amount is.
 use Rattle.std.proofs.Common.{ℕ, suc, ◌+◌, ◌-◌, ◌/◌, ◌%◌, ◌^◌, ◌<◌, ◌≤◌, Bool, true, false, cond, eqb, List, [], ◌∷◌, ◌++◌, length, replicate, ℤ, arith, length-append, lit<}
-use Rattle.std.specs.Prelude.{unsigned_abs, FitsSigned}
-use Rattle.std.specs.Int.{w128, is_negative}
+use Rattle.std.specs.Prelude.{unsigned_abs}
+use Rattle.std.specs.Int.{is_negative}
 use Rattle.std.specs.Fmt.{decimal, sign_text}
 use Rattle.std.proofs.lemmas.List.{length-replicate}
-use Rattle.std.proofs.lemmas.Int.{ints}
 use Rattle.std.proofs.Math.Nat.{div-le_self, pow-le-pow_right}
 use Rattle.std.proofs.lemmas.Fmt.{length-decimal-le_wide}
 use Rattle.fixed_worth.specs.Printed.{fixed_width, digit_before, without_trailing_zeros, fraction_text, printed}
@@ -47,16 +46,6 @@ printed_short places whole z some few w h s =
     let b = fraction_short places (n % 10 ^ places) some few (rest_below n places) (omega arith) in
     let t = sign_short (is_negative z) in
     omega (arith, length-append (sign_text (is_negative z)) (decimal (n / 10 ^ places) ++ fraction_text places (n % 10 ^ places)), length-append (decimal (n / 10 ^ places)) (fraction_text places (n % 10 ^ places)))
-
-within : (z : ℤ) → FitsSigned w128 z → unsigned_abs z ≤ 2 ^ 127
-within z h = omega (arith, ints)
-
--- What an i128 prints as nanos, and as micros, has at most 41 bytes.
-pub printed_nanos_short : (z : ℤ) → FitsSigned w128 z → length (printed 9 z) ≤ 41
-printed_nanos_short z h = let l = within z h in printed_short 9 30 z (omega arith) (omega arith) (omega arith) (omega arith) (omega arith)
-
-pub printed_total_short : (z : ℤ) → FitsSigned w128 z → length (printed 6 z) ≤ 41
-printed_total_short z h = let l = within z h in printed_short 6 33 z (omega arith) (omega arith) (omega arith) (omega arith) (omega arith)
 
 -- An amount of at most 10 ^ 18 millionths has at most 21.
 pub printed_micros_short : (z : ℤ) → unsigned_abs z ≤ 10 ^ 18 → length (printed 6 z) ≤ 21

@@ -1,24 +1,12 @@
 -- A text that is sent in pieces: what the writer received of each makes up what it received of all.
 use Rattle.std.proofs.Common.{inr, ◌≡◌, ℕ, ◌+◌, ◌≤◌, List, [], ◌++◌, length, take, drop, Option, refl, sym, ap, subst, ◌∙◌, append_assoc, append-nil, length-append, arith}
-use Rattle.std.proofs.Math.Seq.{take-append-add, take-length, take-add}
+use Rattle.std.proofs.Math.Seq.{take-append-add, take-add}
 use Rattle.std.proofs.lemmas.List.{take-append-le, take_all}
 use Rattle.std.proofs.KnownBytes.{Appends-trans, Appends-nil, Appends-kept}
 use Rattle.std.specs.Io.KnownBytes.{Appends, Keeps}
 use Rattle.fixed_worth.specs.Device.{ReceivedPrefix, SentOrHeld, PutFailed}
 
 -- ---- all of a piece, or a prefix of it
-
--- both pieces, one after the other, are the text of both
-pub both_sent : (a b c : Option (List ℕ)) (xs ys : List ℕ) → Appends a b xs → Appends b c ys → Appends a c (xs ++ ys)
-both_sent = Appends-trans
-
--- nothing received is a prefix of any text
-pub nothing_is_prefix : (a b : Option (List ℕ)) (xs : List ℕ) → Keeps a b → ReceivedPrefix a b xs
-nothing_is_prefix a b xs same = (0, omega arith, Appends-kept a a b [] (Appends-nil a) same)
-
--- the whole text is a prefix of itself
-pub whole_is_prefix : (a b : Option (List ℕ)) (xs : List ℕ) → Appends a b xs → ReceivedPrefix a b xs
-whole_is_prefix a b xs sent = (length xs, omega arith, subst (Appends a b) (sym (take-length xs)) sent)
 
 -- a prefix of the first piece is a prefix of both together
 pub prefix_of_first : (a b : Option (List ℕ)) (xs ys : List ℕ) → ReceivedPrefix a b xs → ReceivedPrefix a b (xs ++ ys)

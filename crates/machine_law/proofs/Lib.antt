@@ -23,4 +23,3 @@ pub mod ActiveRuns
 pub mod Rows
 pub mod Naturality
 pub mod WorkedRun
-pub mod Through

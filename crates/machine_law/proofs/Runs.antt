@@ -9,11 +9,7 @@ use Rattle.machine_law.specs.declared.operations.Operation.{Operation}
 use Rattle.machine_law.specs.declared.operations.Operation.TheVariants.{Idle, Scan, PushDue, TakeDue, GiveDue, RaiseDue}
 use Rattle.machine_law.specs.declared.events.Event.{Event}
 use Rattle.machine_law.specs.States.{State}
-use Rattle.machine_law.specs.Steps.{next_kind, push_amount, pushed_by, given_by, advance, advance_by, Step, Run}
-
--- the step that is next for b
-pub step_next : (net : NetView) (s : State) (b : ℕ) → b < length net.worths → Step net s (record { block = b; kind = next_kind net s b }) (advance net s b)
-step_next net s b l = record { block = l; kind = refl; after = refl }
+use Rattle.machine_law.specs.Steps.{push_amount, pushed_by, given_by, advance_by, Step, Run}
 
 -- a step leads to one state only
 pub step_unique : (net : NetView) (s : State) (e : Event) (t u : State) → Step net s e t → Step net s e u → t ≡ u

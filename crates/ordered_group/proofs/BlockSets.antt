@@ -1,19 +1,14 @@
 -- Worths, numbers and sums of sets of blocks.
-use Rattle.std.proofs.Common.{◌≡◌, ℕ, zero, suc, ◌<◌, ◌≤◌, Bool, true, false, cond, ◌==◌, refl, sym, ap, ap₂, ◌∙◌, arith, ℤ, pos, ◌+ℤ◌, ◌≤ℤ◌, ◌<ℤ◌, inl, inr, below_more, Ordering}
-use Rattle.std.specs.declared.cmp.Ordering.TheVariants.{Less, Equal, Greater}
-use Rattle.std.specs.Ordering.{MatchOrdering, int_cmp}
-use Rattle.std.specs.Cmp.{int_ranks}
+use Rattle.std.proofs.Common.{◌≡◌, ℕ, zero, suc, ◌<◌, ◌≤◌, Bool, true, false, cond, ◌==◌, refl, sym, ap, ap₂, ◌∙◌, arith, ℤ, pos, ◌+ℤ◌, ◌≤ℤ◌, ◌<ℤ◌, inl, inr, below_more}
 use Rattle.std.proofs.lemmas.Int.{ints}
-use Rattle.std.proofs.lemmas.Bool.{cases_eq, cases_order, eq-eqb, ne_eqb}
-use Rattle.ordered_group.specs.Amount.{Amount, plus, AtMost, Below, Amount_eq}
-use Rattle.ordered_group.specs.Sums.{where_so}
-use Rattle.ordered_group.specs.Sets.{worth_in, count_in, group_sum, IsBefore}
+use Rattle.std.proofs.lemmas.Bool.{cases_eq, eq-eqb, ne_eqb}
+use Rattle.ordered_group.specs.Amount.{Amount}
+use Rattle.ordered_group.specs.Sets.{worth_in, count_in}
 use Rattle.ordered_group.specs.Block.{worth_block}
 use Rattle.ordered_group.specs.LawProofs.{worth_told}
 pub use Rattle.ordered_group.specs.ScaledProofs.{count_in-most}
 use Rattle.ordered_group.specs.Laws.{SumsTellWorth, BlocksTellWorth, SumsOrderSets}
-use Rattle.ordered_group.proofs.Totals.Sets.{union, intersection, within_first, within_second, total-one, two_sets}
-use Rattle.ordered_group.proofs.Totals.Ranges.{total-same}
+use Rattle.ordered_group.proofs.Totals.Sets.{union, intersection, total-one, two_sets}
 
 -- equal sets are worth the same, have as many blocks, and have one sum
 pub worth_in-same : (v : ℕ → ℤ) (e c : ℕ → Bool) (n : ℕ) → ((b : ℕ) → b < n → e b ≡ c b) → worth_in v e n ≡ worth_in v c n
@@ -23,9 +18,6 @@ worth_in-same v e c (suc n) h = rw (worth_in-same v e c n (λ b l. h b (omega (a
 pub count_in-same : (e c : ℕ → Bool) (n : ℕ) → ((b : ℕ) → b < n → e b ≡ c b) → count_in e n ≡ count_in c n
 count_in-same e c zero h = refl
 count_in-same e c (suc n) h = rw (count_in-same e c n (λ b l. h b (omega (arith, l))), h n (omega arith)) refl
-
-pub group_sum-same : (block : ℤ → ℕ → Amount) (v : ℕ → ℤ) (e c : ℕ → Bool) (n : ℕ) → ((b : ℕ) → b < n → e b ≡ c b) → group_sum block v e n ≡ group_sum block v c n
-group_sum-same block v e c n h = total-same _ _ n (λ b l. ap (λ t. where_so t (block (v b) n)) (h b l))
 
 -- the union and the intersection are worth together what both sets are
 pub worth_of_two : (v : ℕ → ℤ) (e c : ℕ → Bool) (n : ℕ) → worth_in v (union e c) n +ℤ worth_in v (intersection e c) n ≡ worth_in v e n +ℤ worth_in v c n
@@ -95,41 +87,3 @@ count_in-within a e (suc n) s =
       omega (arith, i.0, t.0),
       λ p b l. below_more (λ k. a k ≡ e k) n (i.1 (omega (arith, i.0, t.0, p))) (t.1 (omega (arith, i.0, t.0, p))) b (omega (arith, l)),
     )
-
-unordered : (v : ℕ → ℤ) (e c : ℕ → Bool) (n : ℕ) (o : Ordering) → MatchOrdering o (worth_in v e n <ℤ worth_in v c n) (worth_in v e n ≡ worth_in v c n) (worth_in v c n <ℤ worth_in v e n) → ¬ (IsBefore v n e c) → ¬ (IsBefore v n c e) → (worth_in v e n ≡ worth_in v c n) × (count_in e n ≡ count_in c n)
-unordered v e c n Less r h k = absurd (h (inl r))
-unordered v e c n Equal r h k = (
-  r,
-  elim (cases_order (count_in e n) (count_in c n)) [
-    | inl i ↦ i
-    | inr d ↦ elim d [ inl l ↦ absurd (k (inr (sym r, l))) | inr l ↦ absurd (h (inr (r, l))) ]
-  ],
-)
-unordered v e c n Greater r h k = absurd (k (inl r))
-
-not_below : (x y : Amount) → x ≡ y → Below x y → ⊥
-not_below x y e h = absurd (omega (arith, ints, h, ap (λ a. a.w) e, ap (λ a. a.c) e))
-
--- u and i make two of g, and neither is above it
-meet : (u i c g : Amount) → AtMost u g → AtMost i g → c ≡ g → plus u i ≡ plus c g → i ≡ g
-meet u i c g p q h e = Amount_eq i g (omega (arith, ints, p, q, ap (λ a. a.w) h, ap (λ a. a.w) e)) (omega (arith, ints, p, q, ap (λ a. a.w) h, ap (λ a. a.w) e, ap (λ a. a.c) h, ap (λ a. a.c) e))
-
-module _ (block : ℤ → ℕ → Amount) (orders : SumsOrderSets block) (v : ℕ → ℤ) where
-  -- where sums are ordered as the sets, sets with one sum are worth the same and have as many blocks
-  pub same_sums : (e c : ℕ → Bool) (n : ℕ) → group_sum block v e n ≡ group_sum block v c n → (worth_in v e n ≡ worth_in v c n) × (count_in e n ≡ count_in c n)
-  same_sums e c n h =
-      unordered v e c n (int_cmp (worth_in v e n) (worth_in v c n)) (int_ranks (worth_in v e n) (worth_in v c n))
-      (λ i. not_below _ _ h ((orders v e c n).1 i))
-      (λ i. not_below _ _ (sym h) ((orders v c e n).1 i))
-
-  -- and where one of them is within the other, they are one set
-  pub same_within : (a e : ℕ → Bool) (n : ℕ) → ((b : ℕ) → b < n → a b ≡ true → e b ≡ true) → group_sum block v a n ≡ group_sum block v e n → (b : ℕ) → b < n → a b ≡ e b
-  same_within a e n s h = (count_in-within a e n s).1 (same_sums a e n h).1
-
-  -- two sets with one sum that neither their union nor their intersection exceeds are one set
-  pub one_greatest : (e c : ℕ → Bool) (n : ℕ) → AtMost (group_sum block v (union c e) n) (group_sum block v e n) → AtMost (group_sum block v (intersection c e) n) (group_sum block v e n) → group_sum block v c n ≡ group_sum block v e n → (b : ℕ) → b < n → c b ≡ e b
-  one_greatest e c n u i same b l =
-      let m = meet _ _ _ _ u i same (two_sets (λ k. block (v k) n) c e n) in
-      let in_e = same_within (intersection c e) e n (λ k h t. within_second c e k t) m b l in
-      let in_c = same_within (intersection c e) c n (λ k h t. within_first c e k t) (m ∙ sym same) b l in
-      sym in_c ∙ in_e

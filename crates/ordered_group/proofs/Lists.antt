@@ -1,9 +1,8 @@
 -- Lists of values, and of the amounts that they stand for.
-use Rattle.std.proofs.Common.{◌≡◌, ℕ, suc, ◌<◌, List, [], ◌∷◌, ◌++◌, length, get_or, map, sym, refl, ap, subst, ◌∙◌, arith}
-use Rattle.std.proofs.lemmas.List.{get_or-map, get_or_push, get_or_append_left, length-append}
-use Rattle.ordered_group.specs.Amount.{Amount, zero_amount, plus, AtMost}
-use Rattle.ordered_group.specs.Sums.{total, amount_at}
-use Rattle.ordered_group.proofs.Totals.Ranges.{total-same}
+use Rattle.std.proofs.Common.{◌≡◌, ℕ, ◌<◌, List, [], ◌∷◌, ◌++◌, length, get_or, map, sym, ap, subst, ◌∙◌}
+use Rattle.std.proofs.lemmas.List.{get_or-map}
+use Rattle.ordered_group.specs.Amount.{Amount, zero_amount, AtMost}
+use Rattle.ordered_group.specs.Sums.{amount_at}
 
 -- the amount at i is that of the value that was read there
 pub at_map : {X : Type 0} (f : X → Amount) (xs : List X) (i : ℕ) (x : X) → i < length xs → x ≡ get_or xs i x → amount_at (map f xs) i ≡ f x
@@ -22,17 +21,3 @@ at_least_here f xs i x z h e k p = rw k (here_from_map f (λ a. AtMost zero_amou
 
 pub at_least_there : {X : Type 0} (f : X → Amount) (xs : List X) (i : ℕ) (x z : X) → i < length xs → x ≡ get_or xs i x → f z ≡ zero_amount → AtMost (f z) (f x) → AtMost zero_amount (amount_at (map f xs) i)
 at_least_there f xs i x z h e k p = map_from_here f (λ a. AtMost zero_amount a) xs i x h e (rw k at p)
-
--- one more amount at the end of a list
-pub amount_at-push : (xs : List Amount) (x : Amount) → amount_at (xs ++ x ∷ []) (length xs) ≡ x
-amount_at-push xs x = get_or_push xs x zero_amount (length xs) refl
-
-pub amount_at-append : (xs ys : List Amount) (i : ℕ) → i < length xs → amount_at (xs ++ ys) i ≡ amount_at xs i
-amount_at-append xs ys i h = get_or_append_left xs ys zero_amount i h
-
--- and of its sum
-pub total-push : (xs : List Amount) (x : Amount) → total (amount_at (xs ++ x ∷ [])) (length (xs ++ x ∷ [])) ≡ plus (total (amount_at xs) (length xs)) x
-total-push xs x =
-    let n : length (xs ++ x ∷ []) ≡ suc (length xs) = omega (arith, length-append xs (x ∷ [])) in
-    let front = total-same (amount_at (xs ++ x ∷ [])) (amount_at xs) (length xs) (λ i h. amount_at-append xs (x ∷ []) i h) in
-    ap (total (amount_at (xs ++ x ∷ []))) n ∙ rw (front, amount_at-push xs x) refl

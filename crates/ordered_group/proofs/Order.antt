@@ -1,7 +1,7 @@
 -- The order of amounts: what comparing two answers, and what follows for the greater and the lesser.
 use Rattle.std.proofs.Common.{◌≡◌, ◌↔◌, true, sym, refl, ap, arith, ◌<ℤ◌, ◌⊎◌, inl, inr, Ordering}
 use Rattle.std.specs.declared.cmp.Ordering.TheVariants.{Less, Equal, Greater}
-use Rattle.std.specs.Ordering.{MatchOrdering, is_le, is_eq, ordering_then, int_cmp}
+use Rattle.std.specs.Ordering.{MatchOrdering, is_eq, ordering_then, int_cmp}
 use Rattle.std.specs.Cmp.{int_ranks}
 use Rattle.std.proofs.lemmas.Int.{ints}
 use Rattle.ordered_group.specs.Amount.{Amount, zero_amount, plus, minus, AtMost, Below, Amount_eq, amount_cmp, larger, larger_of, least, lesser_of, positive, negative}
@@ -35,18 +35,10 @@ parts x p q (inr h) (inr k) = Amount_eq _ _ (omega (arith, ints, ap (λ a. a.w) 
 pub positive-negative : (x : Amount) → x ≡ minus (positive x) (negative x)
 positive-negative x = parts x (positive x) (negative x) (larger_is x zero_amount) (larger_is (minus zero_amount x) zero_amount)
 
-ranked_le : (x y : Amount) (o : Ordering) → MatchOrdering o (Below x y) (x ≡ y) (Below y x) → (is_le o ≡ true) ↔ AtMost x y
-ranked_le x y Less h = (λ e. record { worths = h.worths; counts = λ e. omega (arith, ints, h.counts e) }, λ k. refl)
-ranked_le x y Equal h = (λ e. record { worths = omega (arith, ints, ap (λ a. a.w) h); counts = λ e. omega (arith, ints, ap (λ a. a.c) h) }, λ k. refl)
-ranked_le x y Greater h = (λ e. absurd cc, λ k. absurd (omega (arith, ints, h, k)))
-
 ranked_eq : (x y : Amount) (o : Ordering) → MatchOrdering o (Below x y) (x ≡ y) (Below y x) → (is_eq o ≡ true) ↔ (x ≡ y)
 ranked_eq x y Less h = (λ e. absurd cc, λ k. absurd (omega (arith, ints, h, ap (λ a. a.w) k, ap (λ a. a.c) k)))
 ranked_eq x y Equal h = (λ e. h, λ k. refl)
 ranked_eq x y Greater h = (λ e. absurd cc, λ k. absurd (omega (arith, ints, h, ap (λ a. a.w) k, ap (λ a. a.c) k)))
-
-pub is_le_tells : (x y : Amount) → (is_le (amount_cmp x y) ≡ true) ↔ AtMost x y
-is_le_tells x y = ranked_le x y (amount_cmp x y) (amount_ranks x y)
 
 pub is_eq_tells : (x y : Amount) → (is_eq (amount_cmp x y) ≡ true) ↔ (x ≡ y)
 is_eq_tells x y = ranked_eq x y (amount_cmp x y) (amount_ranks x y)
@@ -84,9 +76,6 @@ below_cases x y Greater h = inr h
 pub most_or_below : (x y : Amount) → AtMost x y ⊎ Below y x
 most_or_below x y = below_cases x y (amount_cmp x y) (amount_ranks x y)
 
-pub Below-from_not : (x y : Amount) → ¬ (AtMost x y) → Below y x
-Below-from_not x y h = elim (most_or_below x y) [ inl k ↦ absurd (h k) | inr k ↦ k ]
-
 lesser_cases : (x y : Amount) (o : Ordering) → MatchOrdering o (Below x y) (x ≡ y) (Below y x) → ((lesser_of o x y ≡ x) × AtMost x y) ⊎ ((lesser_of o x y ≡ y) × AtMost y x)
 lesser_cases x y Less h = inl (refl, Below-most x y h)
 lesser_cases x y Equal h = inl (refl, AtMost-same x y h)
@@ -101,10 +90,6 @@ least-left x y = elim (least_is x y) [ inl h ↦ AtMost-same _ _ h.0 | inr h ↦
 
 pub least-right : (x y : Amount) → AtMost (least x y) y
 least-right x y = elim (least_is x y) [ inl h ↦ rw h.0 h.1 | inr h ↦ AtMost-same _ _ h.0 ]
-
--- the greater of two is at least each
-pub larger-left : (x y : Amount) → AtMost x (larger x y)
-larger-left x y = elim (larger_is x y) [ inl h ↦ rw h.0 h.1 | inr h ↦ AtMost-same _ _ (sym h.0) ]
 
 pub larger-right : (x y : Amount) → AtMost y (larger x y)
 larger-right x y = elim (larger_is x y) [ inl h ↦ AtMost-same _ _ (sym h.0) | inr h ↦ rw h.0 h.1 ]

@@ -1,9 +1,8 @@
 -- One step of a loop that sums amounts, and what fits on the way.
 use Rattle.std.proofs.Common.{◌≡◌, ℕ, ◌+◌, Bool, true, false, ◌==◌, sym, refl, ap, subst, ◌∙◌, add-one}
-use Rattle.std.proofs.lemmas.Bool.{eq-eqb, ne_eqb}
 use Rattle.ordered_group.specs.Amount.{Amount, zero_amount, plus, FitsPair}
-use Rattle.ordered_group.specs.Sums.{total, where_so, at_end, SumFits}
-use Rattle.ordered_group.proofs.Totals.Ranges.{plus-assoc, plus-zero_right}
+use Rattle.ordered_group.specs.Sums.{total, where_so, SumFits}
+use Rattle.ordered_group.proofs.Totals.Ranges.{plus-zero_right}
 use Rattle.ordered_group.proofs.Totals.Sets.{where_at, where_not}
 use Rattle.std.proofs.Common.{below_more}
 
@@ -18,29 +17,12 @@ set_step e w i old new x h p q r = total_step (λ b. where_so (e b) (w b)) i old
 pub set_skip : (e : ℕ → Bool) (w : ℕ → Amount) (i : ℕ) (old : Amount) → e i ≡ false → old ≡ total (λ b. where_so (e b) (w b)) i → old ≡ total (λ b. where_so (e b) (w b)) (i + 1)
 set_skip e w i old h p = total_step (λ b. where_so (e b) (w b)) i old old zero_amount p (where_not (e i) (w i) h) (sym (plus-zero_right old))
 
--- the same of a start and a sum over a set
-pub so_far_more : (test : ℕ → Bool) (f : ℕ → Amount) (start : Amount) (i : ℕ) → test i ≡ true → plus (plus start (total (λ k. where_so (test k) (f k)) i)) (f i) ≡ plus start (total (λ k. where_so (test k) (f k)) (i + 1))
-so_far_more test f start i h = rw (add-one i, where_at (test i) (f i) h) (plus-assoc start _ (f i))
-
-pub so_far_same : (test : ℕ → Bool) (f : ℕ → Amount) (start : Amount) (i : ℕ) → test i ≡ false → plus start (total (λ k. where_so (test k) (f k)) i) ≡ plus start (total (λ k. where_so (test k) (f k)) (i + 1))
-so_far_same test f start i h = rw (add-one i, where_not (test i) (f i) h) (ap (plus start) (sym (plus-zero_right (total (λ k. where_so (test k) (f k)) i))))
-
--- and of what ends at b
-pub sum_step : (start : Amount) (end : ℕ → ℕ) (f : ℕ → Amount) (b i : ℕ) (old new x : Amount) → end i ≡ b → old ≡ plus start (at_end end f i b) → f i ≡ x → new ≡ plus old x → new ≡ plus start (at_end end f (i + 1) b)
-sum_step start end f b i old new x h p q r = r ∙ rw (p, ← q) (so_far_more (λ k. end k == b) f start i (eq-eqb (end i) b h))
-
-pub sum_skip : (start : Amount) (end : ℕ → ℕ) (f : ℕ → Amount) (b i : ℕ) (old : Amount) → (end i ≡ b → ⊥) → old ≡ plus start (at_end end f i b) → old ≡ plus start (at_end end f (i + 1) b)
-sum_skip start end f b i old h p = p ∙ so_far_same (λ k. end k == b) f start i (ne_eqb (end i) b h)
-
 -- what fits under one name fits under another
 pub fits_same : (x y : Amount) → x ≡ y → FitsPair y → FitsPair x
 fits_same x y e h = let P : Amount → Type 0 = λ a. FitsPair a in subst P (sym e) h
 
 pub fits_there : (old x t y : Amount) → old ≡ t → y ≡ x → FitsPair (plus old x) → FitsPair (plus t y)
 fits_there old x t y p q h = fits_same (plus t y) (plus old x) (ap (λ a. plus a y) (sym p) ∙ ap (plus old) q) h
-
-pub fits_step : (start : Amount) (end : ℕ → ℕ) (f : ℕ → Amount) (b i : ℕ) (old x : Amount) → old ≡ plus start (at_end end f i b) → f i ≡ x → FitsPair (plus old x) → FitsPair (plus (plus start (at_end end f i b)) (f i))
-fits_step start end f b i old x p q h = fits_there old x (plus start (at_end end f i b)) (f i) p q h
 
 -- the sums on the way, one term further
 pub SumFits_step : (g : ℕ → Amount) (i : ℕ) (old x : Amount) → SumFits g i → old ≡ total g i → g i ≡ x → FitsPair (plus old x) → SumFits g (i + 1)

@@ -1,13 +1,12 @@
 -- Reading line after line.
-use Rattle.std.proofs.Common.{◌≡◌, ℕ, ◌+◌, ◌<◌, ◌≤◌, Bool, true, false, List, [], ◌∷◌, ◌++◌, length, get_or, Option, Some, None, refl, sym, ap, ◌∙◌, subst, arith, append_assoc, append-nil}
+use Rattle.std.proofs.Common.{◌≡◌, ℕ, ◌+◌, ◌<◌, ◌≤◌, Bool, false, List, [], ◌∷◌, ◌++◌, length, get_or, Option, Some, None, refl, sym, ap, ◌∙◌, subst, arith, append_assoc, append-nil}
 use Rattle.std.specs.Prelude.{nat_lt}
 use Rattle.std.proofs.lemmas.Bool.Decides.{nat_tests}
 use Rattle.std.proofs.lemmas.List.Concat.{flat_map-append}
-use Rattle.fixed_worth.specs.Text.{Left, BeginsTooLong, fields_of, lines_of}
+use Rattle.fixed_worth.specs.Text.{Left, fields_of}
 use Rattle.std.specs.Option.{option_or}
 use Rattle.fixed_worth.specs.declared.limits.TheConstants.{LINE_BYTES}
 use Rattle.prec_file.specs.declared.prec_fault.PrecFault.{PrecFault}
-use Rattle.prec_file.specs.declared.prec_fault.PrecFault.TheVariants.{Text}
 use Rattle.fixed_worth.specs.Record.{Line, numbered, is_skipped}
 use Rattle.prec_file.specs.Records.{block_of, pairs_in, blocks_in, record_fault, fault_behind, has, blocks_of, pairs_of, first_fault, fault_of, listed}
 use Rattle.prec_file.specs.Internal.{marked}
@@ -60,29 +59,6 @@ goes_on n text seen more pairs others left next line g e f h i w p m =
       pairs_so = p ∙ ap (λ (xs : List (ℕ × ℕ)). xs ++ pairs_in (fields_of line)) g.pairs_so ∙ sym ps;
       seen_so = λ b j. ap (λ (xs : List Bool). get_or xs b false) m ∙ mark (is_skipped (fields_of line)) n seen (blocks_of g.before) (block_of (fields_of line)) e (record_block n _ (length pairs) next.number (fields_of line) w) g.seen_so b j ∙ ap (λ (xs : List ℕ). has xs b) (sym bs);
     }
-
-begins_long : (n k : ℕ) (before : List Line) (lines : List (List ℕ)) → BeginsTooLong lines → first_fault n before (numbered k lines) ≡ Some (Text (k + 1))
-begins_long n k before [] h = absurd h
-begins_long n k before (line ∷ lines) h = let t : nat_lt LINE_BYTES (length line) ≡ true = grind (arith, nat_tests) in rw t refl
-
-pub too_long : (n : ℕ) (text : List ℕ) (seen : List Bool) (pairs : List (ℕ × ℕ)) (left : Left) → ReadSoFar n text seen pairs left → BeginsTooLong left.lines → fault_of n text ≡ Some (Text (left.number + 1))
-too_long n text seen pairs left g h = sym g.fault ∙ begins_long n left.number g.before left.lines h
-
-pub done : (n : ℕ) (text : List ℕ) (seen : List Bool) (pairs : List (ℕ × ℕ)) (left : Left) → ReadSoFar n text seen pairs left → left.lines ≡ [] → (fault_of n text ≡ None) × (pairs ≡ listed text)
-done n text seen pairs left g e =
-    let none : pairs_of (numbered left.number left.lines) ≡ [] = rw e refl in (
-      sym g.fault ∙ ap (λ (ls : List (List ℕ)). first_fault n g.before (numbered left.number ls)) e,
-      sym (append-nil pairs) ∙ ap (λ (xs : List (ℕ × ℕ)). pairs ++ xs) (sym none) ∙ g.all,
-    )
-
-pub begins : (n : ℕ) (text : List ℕ) (seen : List Bool) (left : Left) → left.lines ≡ lines_of text → left.number ≡ 0 → ((b : ℕ) → b < n → get_or seen b false ≡ false) → ReadSoFar n text seen [] left
-begins n text seen left e f h = record {
-  before = [];
-  fault = rw (e, f) refl;
-  all = rw (e, f) refl;
-  pairs_so = refl;
-  seen_so = h;
-}
 
 -- The same, where the reader has the line's number apart.
 pub step_on : (n k : ℕ) (text : List ℕ) (seen more : List Bool) (pairs others : List (ℕ × ℕ)) (left next : Left) (line : List ℕ) → ReadSoFar n text seen pairs left → length seen ≡ n → k ≡ next.number

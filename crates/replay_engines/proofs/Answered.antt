@@ -36,12 +36,6 @@ untraced texts n name trace w engine.Stranger mine h = absurd h
 
 -- ---- a mine of values
 
-pub trace_answer : (o r s w : Option (List ℕ)) (values : upit.UpitView) (rests : RestsView) (n : ℕ) (name : Group) (e : EngineFault) → n ≡ length values.values → IfSome o (λ u. ReadsUpit u values) → IfSome r (λ p. ReadsPrec n p rests) → IfSome s (λ t. TraceReadFails t e) → IfSome o (λ u. IfSome r (λ p. IfSome s (λ t. Replays (mine_texts u p) name t w w (Err e))))
-trace_answer None r s w values rests n name e l a b h = tt
-trace_answer (Some u) None s w values rests n name e l a b h = tt
-trace_answer (Some u) (Some p) None w values rests n name e l a b h = tt
-trace_answer (Some u) (Some p) (Some t) w values rests n name e l a b h = untraced (mine_texts u p) rests.blocks name t w e (read_both u p values rests n l a b).mine h
-
 -- what holds of any texts of what was read holds of these
 pub replay_answer : (o r s old new : Option (List ℕ)) (values : upit.UpitView) (rests : RestsView) (events shown : List Event) (n : ℕ) (name : Group) (slice worths : List ℤ) (result : Result Verdict EngineFault) → n ≡ length values.values → IfSome o (λ u. ReadsUpit u values) → IfSome r (λ p. ReadsPrec n p rests) → IfSome s (λ t. ReadsTrace t events)
     → slice ≡ worths → worths ≡ billionths_of values.values → shown ≡ events → ((texts : MineTexts) (trace : List ℕ) → AreRead texts slice rests → ReadsTrace trace shown → Replays texts name trace old new result) → IfSome o (λ u. IfSome r (λ p. IfSome s (λ t. Replays (mine_texts u p) name t old new result)))

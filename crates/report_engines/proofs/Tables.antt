@@ -21,7 +21,6 @@ use Rattle.bench_report.specs.Written.{table_text}
 use Rattle.engines.specs.declared.judgement.Verdict.TheVariants.{No}
 use Rattle.engines.specs.declared.effort.Effort.{Effort}
 use Rattle.engines.specs.declared.solving.Unsolved.{Unsolved}
-use Rattle.engines.specs.declared.solving.Unsolved.TheVariants.{Unsettled, TooLarge, GaveUp, NoMemory, NoThread, Stranger}
 use Rattle.engines.specs.declared.engine_fault.EngineFault.{EngineFault}
 use Rattle.engines.specs.declared.priced_inputs.ChargeColumns.{ChargeColumns}
 use Rattle.engines.specs.declared.priced_inputs.ChargeColumns.TheVariants.{Plain, Mill}
@@ -35,7 +34,7 @@ use Rattle.shell_engines.specs.SeriesTexts.{factors_said}
 use Rattle.shell_engines.specs.Settling.{IsSettled, NoSeriesStands}
 use Rattle.shell_engines.specs.Internal.{IsWant}
 use Rattle.shell_engines.specs.Shells.{mine_at_factor, ShellsFail}
-use Rattle.shell_engines.proofs.Lifted.{mine_is, nested, is_no_table, no_net_answer}
+use Rattle.shell_engines.proofs.Lifted.{of_want, mine_is, nested, is_no_table, no_net_answer}
 use Rattle.report_engines.specs.ReportTexts.{ReportBlocksRead, report_factor, report_blocks}
 use Rattle.report_engines.specs.Reports.{IsReport, AnswersReport, ReportFails}
 use Rattle.report_engines.specs.Internal.{tonnes_place, IsReportRead, TellsWhy, IsFaultOf, verdict_of, text_of}
@@ -116,19 +115,11 @@ module _ (s t p : List ℕ) (prices : PricesView) (rests : RestsView) (factors :
   is_none : (effort : Effort) (k : ℕ) (why : Unsolved) (line : List ℕ) → NoSeriesStands scaled_block rests prices factors effort (none.Unsolved k why) → IsLineOf k why line → AnswersReport s t p effort No line
   is_none effort k why line h spelled = (blocks_read, is_no_table s t p prices rests factors read.series effort k why h.1.0 line h.0 h.1.1 h.1.2 spelled)
 
-  wanted : (why : Unsolved) (e : EngineFault) → IsWant why e → ReportFails s t p e
-  wanted Unsettled e is = subst (ReportFails s t p) (sym is) tt
-  wanted TooLarge e is = subst (ReportFails s t p) (sym is) tt
-  wanted GaveUp e is = subst (ReportFails s t p) (sym is) tt
-  wanted NoMemory e is = subst (ReportFails s t p) (sym is) tt
-  wanted NoThread e is = subst (ReportFails s t p) (sym is) tt
-  wanted Stranger e is = subst (ReportFails s t p) (sym is) tt
-
   -- the answer where no pit is proved at a factor
   none_answer : (effort : Effort) (k : ℕ) (why : Unsolved) (answer : Result Outcome EngineFault) → NoSeriesStands scaled_block rests prices factors effort (none.Unsolved k why) → MatchResult answer (λ o. (verdict_of o ≡ No) × IsLineOf k why (text_of o)) (IsWant why)
       → MatchResult answer (λ o. AnswersReport s t p effort (verdict_of o) (text_of o)) (ReportFails s t p)
   none_answer effort k why (Ok o) h line = subst (λ (v : Verdict). AnswersReport s t p effort v (text_of o)) (sym line.0) (is_none effort k why (text_of o) h line.1)
-  none_answer effort k why (Err e) h want = wanted why e want
+  none_answer effort k why (Err e) h want = of_want (ReportFails s t p) tt tt tt why e want
 
   net_fails : (fault : NetFault) → ShellsFail s t p (of_model fault) → ReportFails s t p (of_model fault)
   net_fails net_fault.WrongLength h = (blocks_read, h)

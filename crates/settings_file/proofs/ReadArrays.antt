@@ -18,10 +18,6 @@ after xs (Some ys) = Some (xs ++ ys)
 after xs None = None
 
 module _ {V : Type 0} where
-  after_nothing : (o : Option (List V)) → after [] o ≡ o
-  after_nothing (Some ys) = refl
-  after_nothing None = refl
-
   after_one : (xs : List V) (v : V) (o : Option (List V)) → after xs (put_first (Some v) o) ≡ after (xs ++ v ∷ []) o
   after_one xs v (Some ys) = ap Some (sym (append_assoc xs (v ∷ []) ys))
   after_one xs v None = refl
@@ -32,9 +28,6 @@ module _ {V : Type 0} where
         → all_read reads (items_view (drop i vs)) ≡ put_first (reads (view (get_or vs i d))) (all_read reads (items_view (drop (i + 1) vs)))
     unfolding all_read
     all_read-drop vs i d h = ap (all_read reads) (items_view-drop vs i d h)
-
-    pub read-start : (vs : List Value) → all_read reads (items_view vs) ≡ after [] (all_read reads (items_view (drop 0 vs)))
-    read-start vs = sym (after_nothing _)
 
     -- one more is read
     pub read-next : (vs : List Value) (xs : List V) (i : ℕ) (d : Value) (v : V) → i < length vs → reads (view (get_or vs i d)) ≡ Some v

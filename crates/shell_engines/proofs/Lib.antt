@@ -4,5 +4,4 @@ pub mod Growing
 pub mod Lifted
 pub mod Answering
 pub mod Answers
-pub mod WordEnds
 pub mod Proving

@@ -20,6 +20,7 @@ use Rattle.engines.specs.declared.solving.Unsolved.TheVariants.{Unsettled, TooLa
 use Rattle.engines.specs.declared.judgement.Verdict.{Verdict}
 use Rattle.engines.specs.declared.judgement.Verdict.TheVariants.{No}
 use Rattle.engines.specs.declared.engine_fault.EngineFault.{EngineFault}
+use Rattle.engines.specs.declared.engine_fault.EngineFault.TheVariants as engine
 use Rattle.engines.specs.Mines.{priced_texts, rests_by, mine_of, DenoteMine}
 use Rattle.engines.specs.ReadMines.{ArePricesRead, of_model}
 use Rattle.engines.specs.FaultStands.{NetFails, ModelFails}
@@ -34,6 +35,15 @@ use Rattle.shell_engines.specs.Internal.{IsWant}
 use Rattle.shell_engines.specs.declared.no_series.NoSeries.TheVariants as none
 use Rattle.shell_engines.specs.declared.series_engine.Answer.{Answer}
 use Rattle.shell_engines.specs.Shells.{shell_group, mine_at_factor, AreNested, IsShellTable, IsNoTable, NoNetAt, AnswersShells, ShellsFail}
+
+-- what holds of each fault that a reason can make holds of the one that it makes
+pub of_want : (F : EngineFault → Type 0) → F engine.Memory → F engine.Thread → F engine.Stranger → (why : Unsolved) (e : EngineFault) → IsWant why e → F e
+of_want F m t s Unsettled e is = subst F (sym is) m
+of_want F m t s TooLarge e is = subst F (sym is) m
+of_want F m t s GaveUp e is = subst F (sym is) m
+of_want F m t s NoMemory e is = subst F (sym is) m
+of_want F m t s NoThread e is = subst F (sym is) t
+of_want F m t s Stranger e is = subst F (sym is) s
 
 -- two tests that are true together are the same
 same_test : (t u : Bool) → (IsTrue t → IsTrue u) → (IsTrue u → IsTrue t) → t ≡ u
@@ -100,20 +110,12 @@ module _ (s t p : List ℕ) (table : PricesView) (rests : RestsView) (factors : 
     spelled = spelled;
   }
 
-  wanted : (why : Unsolved) (e : EngineFault) → IsWant why e → ShellsFail s t p e
-  wanted Unsettled e is = subst (ShellsFail s t p) (sym is) tt
-  wanted TooLarge e is = subst (ShellsFail s t p) (sym is) tt
-  wanted GaveUp e is = subst (ShellsFail s t p) (sym is) tt
-  wanted NoMemory e is = subst (ShellsFail s t p) (sym is) tt
-  wanted NoThread e is = subst (ShellsFail s t p) (sym is) tt
-  wanted Stranger e is = subst (ShellsFail s t p) (sym is) tt
-
   -- the answer where no pit is proved at a factor
   pub no_pit_answer : (effort : Effort) (factor : ℕ) (why : Unsolved) (answer : Result Answer EngineFault) → NoSeriesStands scaled_block rests table factors effort (none.Unsolved factor why) → MatchResult answer (λ a. (a.verdict ≡ No) × IsLineOf factor why a.text.items) (IsWant why)
       → MatchResult answer (λ a. AnswersShells s t p effort a.verdict a.text.items) (ShellsFail s t p)
   no_pit_answer effort factor why (Ok a) h line =
       subst (λ (v : Verdict). AnswersShells s t p effort v a.text.items) (sym line.0) (is_no_table effort factor why h.1.0 a.text.items h.0 h.1.1 h.1.2 line.1)
-  no_pit_answer effort factor why (Err e) h is = wanted why e is
+  no_pit_answer effort factor why (Err e) h is = of_want (ShellsFail s t p) tt tt tt why e is
 
   -- an amount of the mine doesn't fit at a factor
   no_net : (factor : ℕ) (fault : NetFault) → Contains factors factor → ModelFails (priced_texts s t p factor) rests.blocks shell_group fault → NoNetAt s t p fault

@@ -138,6 +138,3 @@ pub cone_wider : (k levels run rise : ℕ) (e : PatternFault) → k ≤ levels �
 cone_wider k levels run rise (NotUpward i) l h = h
 cone_wider k levels run rise TooMany l h = more_weaker MOST_OFFSETS _ _ (λ o c. let w = c.within in record { above = c.above; within = omega (arith, ints, w, l); near = c.near }) h
 cone_wider k levels run rise NoMemory l h = tt
-
-pub below_first : (run rise : ℕ) (o : Offset) → IsBelowLevel run rise (pos 1) o → ⊥
-below_first run rise o h = let a = h.above in let b = h.below in omega (arith, ints, a, b)

@@ -2,7 +2,7 @@
 use Rattle.std.proofs.Common.{◌≡◌, ℕ, ◌+◌, ◌*◌, ◌/◌, ◌^◌, ◌<◌, ◌≤◌, inl, inr, pos, sym, ap, subst, ◌∙◌, arith, unsigned_abs}
 use Rattle.std.proofs.lemmas.Nat.{mul-le, mul-lt}
 use Rattle.std.proofs.lemmas.Bool.{cases_lt}
-use Rattle.std.proofs.Math.Nat.{mul_comm, mul-mul-mul_comm, mul-le-mul_left, div-lt_iff_lt-mul, div-le_of_le-mul}
+use Rattle.std.proofs.Math.Nat.{mul_comm, mul-mul-mul_comm, mul-le-mul_left, div-lt_iff_lt-mul}
 use Rattle.slope.specs.Offsets.{Offset}
 use Rattle.slope.specs.Patterns.{IsNear, square}
 use Rattle.slope.specs.Internal.{IsLevel}
@@ -15,13 +15,6 @@ distance_fits r a b h k l =
     let bb : b * b ≤ 1000000000000 = mul-le b b 1000000 1000000 l l in
     let all : r * r * (a * a + b * b) ≤ 2000000000000000000 = mul-le (r * r) (a * a + b * b) 1000000 2000000000000 rr (omega arith) in
     omega arith
-
-pub reach_small : (k n r : ℕ) → k ≤ 1000 → n ≤ 1000 → 1 ≤ r → k * n / r ≤ 1000000
-reach_small k n r h l s =
-    let kn : k * n ≤ 1000000 = mul-le k n 1000 1000 h l in
-    let up : 1 * 1000000 ≤ r * 1000000 = mul-le 1 1000000 r 1000000 s (omega arith) in
-    let most : k * n ≤ r * 1000000 = omega arith in
-    div-le_of_le-mul r most
 
 -- a side of a right triangle is at most its longest side
 within : (k n r a b : ℕ) → 1 ≤ r → r * r * (a * a + b * b) ≤ k * k * (n * n) → b ≤ k * n / r
@@ -53,6 +46,3 @@ near_first k reach run rise o l h e =
     let R : ℕ → Type 0 = λ x. rise * rise * x ≤ k * k * (run * run) in
     subst R (omega arith) (subst P (level_square o k e) h) in
     subst Q (sym l.furthest) (within k run rise (unsigned_abs o.1) (unsigned_abs o.0) l.some_rise turned)
-
-pub level_reach : (k reach run rise : ℕ) → IsLevel k reach run rise → reach ≤ 1000000
-level_reach k reach run rise l = let P : ℕ → Type 0 = λ x. x ≤ 1000000 in subst P (sym l.furthest) (reach_small k run rise l.few_levels l.small_run l.some_rise)

@@ -36,10 +36,6 @@ module _ {X : Type 0} (P Q : X → Type 0) (xs : List X) (c : Collects P xs) whe
     more = omega (arith, length-append xs (x ∷ []));
   }
 
--- nothing yet
-pub collected_none : {X : Type 0} (P : X → Type 0) → ((x : X) → P x → ⊥) → Collects P []
-collected_none P n = record { apart = λ i j d h l. absurd (omega arith); held = λ x p. absurd (n x p); only = λ x k. absurd (omega (arith, k.1)) }
-
 -- more than so many, by a wider property
 pub more_weaker : {X : Type 0} (most : ℕ) (P Q : X → Type 0) → ((x : X) → P x → Q x) → AreMoreThan most P → AreMoreThan most Q
 more_weaker most P Q f m = record { some = m.some; apart = m.apart; all = All-weaker P Q f m.some m.all; more = m.more }

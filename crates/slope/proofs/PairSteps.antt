@@ -11,7 +11,7 @@ use Rattle.prec_file.specs.Rests.{RestsView, KnownAt, ArePairsOf}
 use Rattle.slope.specs.Offsets.{Offset, IsPattern, IsRising, IsUpward, Before}
 use Rattle.slope.specs.Places.{place_of, AreApartBelow}
 use Rattle.slope.specs.Slopes.{upward, offset_between, IsSlopePair, AreSlopes, SlopeFaultStands}
-use Rattle.slope.specs.Internal.{Collects, IsPairBelow, IsPairUpTo, PairFaultStands, PairRefusalStands, IndexFaultStands}
+use Rattle.slope.specs.Internal.{Collects, IsPairBelow, IsPairUpTo, PairFaultStands, PairRefusalStands}
 use Rattle.slope.specs.declared.up.Up.{Up}
 use Rattle.slope.specs.declared.up.Up.TheVariants.{PlusZ, MinusZ}
 use Rattle.slope.specs.declared.slope_fault.SlopeFault.{SlopeFault}
@@ -122,9 +122,6 @@ module _ (m : BlocksView) (os : List Offset) (up : Up) (b i : ℕ) (ps : List (�
 pub pairs_ended : (m : BlocksView) (os : List Offset) (up : Up) (ps : List (ℕ × ℕ)) → Collects (IsPairBelow m os up m.blocks) ps → Collects (IsSlopePair m os up) ps
 pairs_ended m os up ps c = collected_same _ _ ps c (λ q h. h.slope) (λ q h. record { slope = h; below = h.bottom })
 
-pub none_below : (m : BlocksView) (os : List Offset) (up : Up) (q : ℕ × ℕ) → IsPairBelow m os up 0 q → ⊥
-none_below m os up q h = let l = h.below in omega (arith, l)
-
 level_height : (up : Up) (x : ℤ) → upward up (x -ℤ x) ≡ pos 0
 level_height PlusZ x = omega (arith, ints)
 level_height MinusZ x = omega (arith, ints)
@@ -157,9 +154,3 @@ pub slope_fault : (m : BlocksView) (os : List Offset) (up : Up) (e : SlopeFault)
 slope_fault m os up (SamePlace b c) apart h = absurd h
 slope_fault m os up TooMany apart h = (apart, h)
 slope_fault m os up NoMemory apart h = tt
-
--- so is the fault of the places
-pub place_fault : (m : BlocksView) (os : List Offset) (up : Up) (e : SlopeFault) → IndexFaultStands m e → SlopeFaultStands m os up e
-place_fault m os up (SamePlace b c) h = h
-place_fault m os up TooMany h = absurd h
-place_fault m os up NoMemory h = tt

@@ -27,10 +27,6 @@ pub line_held : (a b c d e : Option (List ℕ)) (p one two three q word digits :
 line_held a b c d e p one two three q word digits first second third last =
     held_both a d e p three q (word ++ (32 ∷ digits)) (10 ∷ []) (front_held a b c d p one two three word digits first second third) last
 
--- A write failed at one of the four.
-pub word_failed : (a b : Option (List ℕ)) (p word digits : List ℕ) → ReceivedPrefix a b (p ++ word) → ReceivedPrefix a b (p ++ ((word ++ (32 ∷ digits)) ++ (10 ∷ [])))
-word_failed a b p word digits h = prefix_in_first a b p (word ++ (32 ∷ digits)) (10 ∷ []) (prefix_in_first a b p word (32 ∷ digits) h)
-
 pub space_failed : (a b c : Option (List ℕ)) (p one word digits : List ℕ)
     → SentOrHeld a b one (p ++ word) → ReceivedPrefix b c (one ++ (32 ∷ [])) → ReceivedPrefix a c (p ++ ((word ++ (32 ∷ digits)) ++ (10 ∷ [])))
 space_failed a b c p one word digits first h =

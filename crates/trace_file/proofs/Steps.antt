@@ -10,7 +10,7 @@ use Rattle.machine_law.specs.declared.events.TheConstants.{MOST_EVENTS}
 use Rattle.trace_file.specs.declared.trace_fault.TraceFault.{TraceFault}
 use Rattle.trace_file.specs.declared.trace_fault.TraceFault.TheVariants.{Text, Truncated, TooMany, NoMemory}
 use Rattle.trace_file.specs.Lines.{parts, event_of}
-use Rattle.trace_file.specs.Faults.{UnlessMemory, events_of, rest_fault, end_fault, event_fault, line_fault, fault_behind, fault_in, fault_of}
+use Rattle.trace_file.specs.Faults.{UnlessMemory, events_of, end_fault, event_fault, line_fault, fault_behind, fault_in, fault_of}
 use Rattle.trace_file.specs.ReadBack.{IsWritten}
 use Rattle.trace_file.proofs.Parts.{some_part}
 use Rattle.trace_file.proofs.RoundTrip.{behind_line, read_is_written}
@@ -27,11 +27,6 @@ head_by text line behind t e f = ap fault_in e ∙ head_line line (parts 10 behi
 pub no_head : (text line behind : List ℕ) → parts 10 text ≡ line ∷ parts 10 behind → bytes_eq line (codes "PITTRACE 1") ≡ false → fault_of text ≡ Some (Text 1)
 no_head text line behind e f = head_by text line behind false e f
 
-pub head_passed : (text line behind : List ℕ) → parts 10 text ≡ line ∷ parts 10 behind → bytes_eq line (codes "PITTRACE 1") ≡ true → (fault_of text ≡ fault_behind 1 (parts 10 behind)) × (events_of text ≡ events_of behind)
-head_passed text line behind e f =
-    let is : line ≡ codes "PITTRACE 1" = (bytes_eq-Decides line (codes "PITTRACE 1")).0 f in
-    (head_by text line behind true e f, ap (filter_map event_of) (e ∙ ap (λ (l : List ℕ). l ∷ parts 10 behind) is))
-
 -- ---- the lines behind it
 
 -- The events so far, and what is left of the text.
@@ -39,14 +34,6 @@ pub record Going (text left : List ℕ) (es : List Event) : Type 0 where
   pub fault : fault_of text ≡ fault_behind (length es + 1) (parts 10 left)
   pub said : events_of text ≡ es ++ events_of left
   pub few : length es ≤ MOST_EVENTS
-
-pub going_begins : (text left : List ℕ) → fault_of text ≡ fault_behind 1 (parts 10 left) → events_of text ≡ events_of left → Going text left []
-going_begins text left f e = record { fault = f; said = e; few = omega arith }
-
-pub unended : (text left : List ℕ) (es : List Event) (k : ℕ) → Going text left es → k ≡ length es + 2 → parts 10 left ≡ left ∷ [] → fault_of text ≡ Some (rest_fault k left)
-unended text left es k g e p =
-    let n : length es + 1 + 1 ≡ k = omega (arith, e) in
-    g.fault ∙ ap (fault_behind (length es + 1)) p ∙ ap (λ (n : ℕ). Some (rest_fault n left)) n
 
 next_line : (text left line behind : List ℕ) (es : List Event) → Going text left es → parts 10 left ≡ line ∷ parts 10 behind
     → fault_of text ≡ line_fault (length es + 1) line (parts 10 behind) (fault_behind (length es + 1 + 1) (parts 10 behind))

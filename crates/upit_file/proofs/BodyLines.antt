@@ -1,10 +1,9 @@
 -- Reading the records line after line.
-use Rattle.std.proofs.Common.{◌≡◌, ℕ, ◌<◌, ◌≢◌, Bool, true, false, cond, eqb, List, [], ◌∷◌, ◌++◌, length, get_or, set, replicate, Option, Some, None, ℤ, pos, refl, sym, ap, ◌∙◌, subst, arith, append_assoc, get_or-set_same, get_or-set_other}
+use Rattle.std.proofs.Common.{◌≡◌, ℕ, ◌<◌, ◌≢◌, Bool, true, false, cond, eqb, List, [], ◌∷◌, ◌++◌, length, get_or, set, Option, Some, None, ℤ, pos, refl, sym, ap, ◌∙◌, subst, arith, append_assoc, get_or-set_same, get_or-set_other}
 use Rattle.std.specs.Prelude.{◌||◌, nat_lt, nat_le}
 use Rattle.std.specs.Option.{option_or}
 use Rattle.std.proofs.lemmas.Bool.{or_parts}
 use Rattle.std.proofs.lemmas.Bool.Decides.{nat_tests}
-use Rattle.std.proofs.lemmas.List.{length-replicate, get_or-replicate}
 use Rattle.std.proofs.lemmas.List.Folds.{list_any-append}
 use Rattle.std.proofs.Math.Bool.{or-false}
 use Rattle.std.proofs.Math.ListN.{length-set}
@@ -26,17 +25,6 @@ pub record Kept (n : ℕ) (all : List Line) (seen : List Bool) (values : List �
   pub worth : (b : ℕ) → b < n → get_or values b (pos 0) ≡ value_among before b
   pub all_seen : length seen ≡ n
   pub all_values : length values ≡ n
-
-pub begins : (n : ℕ) (all : List Line) (seen : List Bool) (values : List ℤ) (left : Left) → all ≡ numbered left.number left.lines → seen ≡ replicate n false → values ≡ replicate n (pos 0) → Kept n all seen values left
-begins n all seen values left e s v = record {
-  before = [];
-  fault = ap (λ (ls : List Line). first_fault n [] (before_end ls)) (sym e);
-  whole = ap before_end (sym e);
-  marks = λ b i. ap (λ (xs : List Bool). get_or xs b false) s ∙ get_or-replicate n b false false i;
-  worth = λ b i. ap (λ (xs : List ℤ). get_or xs b (pos 0)) v ∙ get_or-replicate n b (pos 0) (pos 0) i;
-  all_seen = ap length s ∙ length-replicate n false;
-  all_values = ap length v ∙ length-replicate n (pos 0);
-}
 
 pub has-push : (before : List Line) (l : Line) (b : ℕ) → has_record (before ++ l ∷ []) b ≡ (has_record before b || is_record_of b (fields_in l))
 has-push before l b = list_any-append (λ x. is_record_of b (fields_in x)) before (l ∷ []) ∙ ap (λ t. has_record before b || t) (or-false (is_record_of b (fields_in l)))

@@ -1,45 +1,22 @@
 -- A worth that is cut.
-use Rattle.std.proofs.Common.{inl, inr, ⊎_elim, ◌≡◌, ℕ, pos, ◌-ℤ◌, ◌<ℤ◌, ◌≤ℤ◌, ◌⊎◌, ◌+◌, ◌<◌, ◌^◌, List, [], ◌∷◌, ◌++◌, map, length, get_or, refl, ap, ap₂, sym, ◌∙◌, subst, arith}
+use Rattle.std.proofs.Common.{inl, inr, ⊎_elim, ◌≡◌, ℕ, pos, ◌-ℤ◌, ◌<ℤ◌, ◌≤ℤ◌, ◌⊎◌, ◌+◌, ◌<◌, ◌^◌, List, [], ◌∷◌, ◌++◌, map, length, get_or, ap, ap₂, sym, ◌∙◌, subst, arith}
 use Rattle.std.proofs.lemmas.Int.{ints}
 use Rattle.std.specs.Prelude.{FitsSigned}
 use Rattle.std.specs.Int.{w128}
 use Rattle.std.proofs.lemmas.Bool.{cases_eq}
 use Rattle.std.proofs.lemmas.List.{get_or-append-add, get_or_append_left, length-map}
 use mathlib.Core.List.{map-append}
-use Rattle.ordered_group.specs.Amount.{Amount, zero_amount, plus, minus, AtMost, Below, positive, negative, FitsPair}
+use Rattle.ordered_group.specs.Amount.{Amount, zero_amount, plus, minus, AtMost, positive, FitsPair}
 use Rattle.ordered_group.specs.Sums.{amount_at, total, SumFits}
 use Rattle.ordered_group.specs.declared.scaled.Scaled.{Scaled}
-use Rattle.ordered_group.proofs.Order.{AtMost-refl, Below-most}
-use Rattle.ordered_group.proofs.Signs.{positive-of_most, positive-of_NonNeg, sign_or}
 use Rattle.closure_net.specs.Network.{NetView, IsNet}
 use Rattle.closure_net.specs.FaultStands.{NetFaultStands, OppositeOverflows, PositivesOverflow}
 use Rattle.closure_net.specs.declared.net.NetFault.{NetFault}
 use Rattle.closure_net.specs.declared.net.NetFault.TheVariants.{WrongLength, TooLarge, NoMemory}
 use Rattle.ordered_group.proofs.Totals.{total-same}
 use Rattle.machine_law.specs.Conservation.{all_given}
-use Rattle.machine_law.proofs.Numbers.{equal}
 use Rattle.word_runner.specs.Words.{units}
-use Rattle.word_runner.specs.Tells.{scaled_parts, IsCut, IsCutWorth, AreCut, AreWithin, AreGains, IsCutNet, cut_to}
-
-pub cut_not : (w : Amount) (k : ℕ) → w.c ≡ pos 0 → (pos 0 -ℤ pos k) ≤ℤ w.w → IsCutWorth w k w
-cut_not w k wc l = record { positives = refl; less = AtMost-refl (negative w); fits = λ x h g. h; within = least_of (sign_or (minus zero_amount w)); is = inl refl }
-  where
-    least_of : AtMost (minus zero_amount w) zero_amount ⊎ Below zero_amount (minus zero_amount w) → AtMost (negative w) (units k)
-    least_of (inl h) = subst (λ (z : Amount). AtMost z (units k)) (sym (positive-of_most (minus zero_amount w) h)) (record { worths = omega (arith, ints); counts = λ i. omega (arith, ints) })
-    least_of (inr h) = subst (λ (z : Amount). AtMost z (units k)) (sym (positive-of_NonNeg (minus zero_amount w) (Below-most _ _ h))) (record { worths = omega (arith, ints, l); counts = λ i. omega (arith, ints, wc) })
-
-pub cut_here : (w c : Amount) (k : ℕ) → c.w ≡ pos 0 -ℤ pos k → c.c ≡ pos 0 → w.c ≡ pos 0 → w.w <ℤ (pos 0 -ℤ pos k) → IsCutWorth w k c
-cut_here w c k cw cc' wc l =
-    let is : minus zero_amount c ≡ units k = equal (record { w = omega (arith, ints, cw); c = omega (arith, ints, cc') }) in
-    let nc : negative c ≡ units k = positive-of_NonNeg (minus zero_amount c) (record { worths = omega (arith, ints, cw); counts = λ i. omega (arith, ints, cc') }) ∙ is in
-    let nw : negative w ≡ minus zero_amount w = positive-of_NonNeg (minus zero_amount w) (record { worths = omega (arith, ints, l); counts = λ i. omega (arith, ints, wc) }) in
-    record {
-      positives = positive-of_most c (record { worths = omega (arith, ints, cw); counts = λ i. omega (arith, ints, cc') }) ∙ sym (positive-of_most w (record { worths = omega (arith, ints, l); counts = λ i. omega (arith, ints, wc) }));
-      less = subst (λ (z : Amount). AtMost z (negative w)) (sym nc) (subst (AtMost (units k)) (sym nw) (record { worths = omega (arith, ints, l); counts = λ i. omega (arith, ints, wc) }));
-      fits = λ x h g. subst (AtMost x) (sym nc) g;
-      within = subst (λ (z : Amount). AtMost z (units k)) (sym nc) (AtMost-refl (units k));
-      is = inr (λ i. record { w = cw i; c = cc' i });
-    }
+use Rattle.word_runner.specs.Tells.{scaled_parts, IsCut, AreCut, AreWithin, AreGains, IsCutNet, cut_to}
 
 pub pushed_all : (P : ℕ → Amount → Type 0) (xs ys : List Scaled) (x : Scaled) (n : ℕ) → ys ≡ xs ++ x ∷ [] → length xs ≡ n → ((j : ℕ) → j < n → P j (amount_at (map scaled_parts xs) j)) → P n (scaled_parts x) → (j : ℕ) → j < n + 1 → P j (amount_at (map scaled_parts ys) j)
 pushed_all P xs ys x n is size old new j l =

@@ -9,7 +9,7 @@ pub mod Told
 pub mod Begins
 pub mod Settles
 pub mod Looks
-pub mod Served
+pub mod FreeSeats
 pub mod Lists
 pub mod Uncut
 pub mod Cuts

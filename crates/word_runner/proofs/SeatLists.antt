@@ -1,26 +1,9 @@
 -- One or two seats in a list.
-use Rattle.std.proofs.Common.{inl, inr, ◌⊎◌, ◌≡◌, ◌≢◌, ℕ, zero, suc, ◌+◌, ◌<◌, ◌≤◌, List, [], ◌∷◌, ◌++◌, length, refl, ap, sym, ◌∙◌, subst, arith}
+use Rattle.std.proofs.Common.{inl, inr, ◌⊎◌, ◌≡◌, ◌≢◌, ℕ, ◌+◌, ◌<◌, ◌≤◌, List, [], ◌∷◌, ◌++◌, length, ap, sym, ◌∙◌, subst, arith}
 use Rattle.std.proofs.lemmas.List.{length-append, append-nil}
-use mathlib.Core.Option.{some, some-injective, some-ne-none}
 use lib.ListN.{get_elem?}
 use Rattle.machine_law.specs.declared.operations.Operation.TheVariants.{Idle}
-use Rattle.word_runner.specs.Tells.{Own, WordsView, IsFirst, AreFirst, IsServed, IsWorker, AreSeats}
-
--- what holds of the one of a list
-one_of : (P : ℕ → Own → Type 0) (s : Own) → P 0 s → (k : ℕ) (x : Own) → get_elem? (s ∷ []) k ≡ some x → P k x
-one_of P s h zero x e = subst (P 0) (some-injective s x e) h
-one_of P s h (suc k) x e = absurd (some-ne-none x (sym e))
-
--- and of the two
-two_of : (P : ℕ → Own → Type 0) (s t : Own) → P 0 s → P 1 t → (k : ℕ) (x : Own) → get_elem? (s ∷ t ∷ []) k ≡ some x → P k x
-two_of P s t h g zero x e = subst (P 0) (some-injective s x e) h
-two_of P s t h g (suc k) x e = one_of (λ j y. P (suc j) y) t g k x e
-
-pub first_one : (w : WordsView) (n : ℕ) (xs : List Own) (s : Own) → xs ≡ s ∷ [] → n ≡ 1 → IsFirst w 0 1 s → AreFirst w n xs
-first_one w n xs s e is h = subst (λ (z : ℕ × List Own). AreFirst w z.0 z.1) (λ i. (sym is i, sym e i)) (record { size = refl; each = one_of (λ k x. IsFirst w k 1 x) s h })
-
-pub first_two : (w : WordsView) (n : ℕ) (xs : List Own) (s t : Own) → xs ≡ s ∷ t ∷ [] → n ≡ 2 → IsFirst w 0 2 s → IsFirst w 1 2 t → AreFirst w n xs
-first_two w n xs s t e is h g = subst (λ (z : ℕ × List Own). AreFirst w z.0 z.1) (λ i. (sym is i, sym e i)) (record { size = refl; each = two_of (λ k x. IsFirst w k 2 x) s t h g })
+use Rattle.word_runner.specs.Tells.{Own, WordsView, AreFirst, IsServed, IsWorker, AreSeats}
 
 pub served_one : (w : WordsView) (xs : List Own) (s : Own) → xs ≡ s ∷ [] → AreSeats w xs → IsServed w.shared 0 1 s
 served_one w xs s e a =

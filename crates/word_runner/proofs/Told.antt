@@ -6,7 +6,7 @@ use Rattle.machine_law.specs.declared.operations.Operation.{Operation}
 use Rattle.machine_law.specs.declared.operations.Operation.TheVariants.{Idle, Scan, PushDue, TakeDue, GiveDue, RaiseDue}
 use Rattle.word_runner.specs.declared.view.View.{View}
 use Rattle.word_runner.specs.Words.{count, after, labels_after, stopped_after, width, first_view, Sat, turned, IsPlaced, RaisesTooFar, SomeFlowIsTooLarge, SomeLabelIsTooLarge}
-use Rattle.word_runner.specs.Tells.{Own, WordsView, IsFirst, HasTurned, HasLoaded, IsSame, IsTold}
+use Rattle.word_runner.specs.Tells.{Own, WordsView, IsFirst, HasTurned, IsSame, IsTold}
 use Rattle.std.proofs.lemmas.List.{length-replicate}
 
 length_after : (labels : List ℕ) (b : ℕ) (o : Operation ℕ) → length (labels_after labels b o) ≡ length labels
@@ -34,22 +34,6 @@ told_next s s' labels labels' block b o o' stopped stopped' x h t e el eo es =
       free = e.slots ∙ h.free;
       flow = λ r. inl (subst SomeFlowIsTooLarge (sym net) (t.large.flow (ap (λ (w : View). w.stopped) t.is ∙ ap (λ (z : Operation ℕ). stopped_after z x) h.operation_is ∙ sym es ∙ r)));
       label = λ r. subst SomeLabelIsTooLarge (sym net) (t.large.label (subst RaisesTooFar (sym op) r));
-    }
-
--- the same after a load of an arrival
-pub told_loaded : (s s' : Seat (Unit {0}) View) (labels : List ℕ) (block : ℕ) (o : Operation ℕ) (stopped : Bool) (i x : ℕ) → IsTold s labels block o stopped → HasLoaded i s.me.0 x s'.me.0 → IsSame s s' → IsTold s' labels block o stopped
-told_loaded s s' labels block o stopped i x h t e =
-    let net : s'.me.0.net ≡ s.me.0.net = ap (λ (w : View). w.net) t in
-    record {
-      labels_are = ap (λ (w : View). w.labels) t ∙ h.labels_are;
-      block_is = ap (λ (w : View). w.block) t ∙ h.block_is;
-      operation_is = ap (λ (w : View). w.operation) t ∙ h.operation_is;
-      wide = h.wide ∙ ap count (sym net);
-      runs = λ r. ap (λ (w : View). w.stopped) t ∙ h.runs r;
-      placed = subst (λ (n : NetView). IsPlaced n block o) (sym net) h.placed;
-      free = e.slots ∙ h.free;
-      flow = λ r. subst (λ (n : NetView). SomeFlowIsTooLarge n ⊎ SomeLabelIsTooLarge n) (sym net) (h.flow r);
-      label = λ r. subst SomeLabelIsTooLarge (sym net) (h.label r);
     }
 
 -- and before the first step

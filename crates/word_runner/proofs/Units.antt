@@ -49,13 +49,6 @@ least_units a b = go (nat_lt b a) refl
       | inr h ↦ let m = h.1 in h.0 ∙ equal (record { w = omega (arith, ints, m, l); c = refl })
     ]
 
-pub smaller_left : (a b : ℕ) → smaller a b ≤ a
-smaller_left a b = go (nat_lt b a) refl
-  where
-    go : (y : Bool) → nat_lt b a ≡ y → (if y then b else a) ≤ a
-    go true e = let l = ltb-true b a e in omega (arith, l)
-    go false e = omega arith
-
 pub smaller_right : (a b : ℕ) → smaller a b ≤ b
 smaller_right a b = go (nat_lt b a) refl
   where

@@ -49,9 +49,6 @@ pub lost : (net : NetView) (limit room : ℕ) (all : Bool) (fault : SolveFault) 
 lost net limit room true fault why history e w h = subst (λ x. IsAuditLoss net limit room x history) (sym (w ∙ ap NoFlow e)) h
 lost net limit room false fault why history e w h = subst (λ x. IsAuditLoss net limit room x history) (sym (w ∙ ap NoFlow e)) (subst (λ xs. IsSomeHistory net limit room xs) (sym h) (no_steps net limit room))
 
-pub no_memory : (net : NetView) (limit room : ℕ) (why : AuditEnd) (history : List Event) → why ≡ NoFlow NoMemory → history ≡ [] → IsAuditLoss net limit room why history
-no_memory net limit room why history w h = subst (λ x. IsAuditLoss net limit room x history) (sym w) h
-
 pub no_thread : (audit : AuditView) (net : NetView) (limit room : ℕ) (why : AuditEnd) (history : List Event) → IsAuditLeft net limit room audit → why ≡ NoFlow NoThread → history ≡ audit.history → IsAuditLoss net limit room why history
 no_thread audit net limit room why history is w h =
     let kept = is_history_of audit net limit room is.audited is.net_is is.within is.room_is in
@@ -110,14 +107,6 @@ module _ (first new : AuditView) (limit steps : ℕ) (e : steps ≡ most_steps l
       }
 
 -- ---- what the whole run answers
-pub lost_stands : (net : NetView) (workers limit room : ℕ) (why : AuditEnd) (history : List Event) → IsAuditLoss net limit room why history → AuditFaultStands net workers limit room why history
-lost_stands net workers limit room (NoFlow BadWorkers) history h = absurd h
-lost_stands net workers limit room (NoFlow Unsettled) history h = absurd h
-lost_stands net workers limit room (NoFlow TooLarge) history h = absurd h
-lost_stands net workers limit room (NoFlow StrangerNet) history h = h
-lost_stands net workers limit room (NoFlow NoMemory) history h = h
-lost_stands net workers limit room (NoFlow NoThread) history h = h
-lost_stands net workers limit room HistoryFull history h = absurd h
 
 run_stands : (net : NetView) (workers limit room : ℕ) (why : AuditEnd) (history : List Event) → AuditRunFaultStands net limit room why history → AuditFaultStands net workers limit room why history
 run_stands net workers limit room (NoFlow BadWorkers) history h = absurd h
