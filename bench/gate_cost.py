@@ -104,7 +104,7 @@ def sizes(crate):
 
 
 def row(name, counts, seconds):
-    return "| %s | %s | %s |" % (name, " | ".join("{:,}".format(count) for count in counts), " | ".join("%.0f s" % it for it in seconds))
+    return "| %s | %s | %s |" % (name, " | ".join("{:,}".format(count) for count in counts), " | ".join("{:,.0f} s".format(it) for it in seconds))
 
 
 def print_table(seconds):
