@@ -25,15 +25,17 @@ pub fn check_command<'a>(alloc: Global) -> Result<Command<'a>, AllocError> {
         .about(ABOUT)
         .long_about(DETAILS)
         .after_help(STATUSES);
-    with_model(alloc, command)?
-        .arg(
-            Arg::new(alloc, "certificate")
-                .value_name("CERT")
-                .required(true)
-                .action(ArgAction::Set)
-                .help("The pit and its flow: a PITCERT text"),
-        )?
-        .arg(verbose_option(alloc))
+    with_certificate(alloc, with_model(alloc, command)?)
+}
+
+// The file of the certificate.
+fn with_certificate<'a>(alloc: Global, command: Command<'a>) -> Result<Command<'a>, AllocError> {
+    let certificate = Arg::new(alloc, "certificate")
+        .value_name("CERT")
+        .required(true)
+        .action(ArgAction::Set)
+        .help("The pit and its flow: a PITCERT text");
+    command.arg(certificate)?.arg(verbose_option(alloc))
 }
 
 /// The words that were given.

@@ -28,6 +28,14 @@ pub fn named_option<'a>(alloc: Global, name: &'a str, shown: &'a str, help: &'a 
         .help(help)
 }
 
+/// The command with one option more, where memory wasn't refused for that option.
+pub fn with_option<'a>(
+    command: Command<'a>,
+    option: Result<Arg<'a>, AllocError>,
+) -> Result<Command<'a>, AllocError> {
+    command.arg(option?)
+}
+
 /// An option that must be given and names a file.
 pub fn file_option<'a>(alloc: Global, name: &'a str, help: &'a str) -> Arg<'a> {
     named_option(alloc, name, "FILE", help).required(true)
@@ -60,19 +68,42 @@ pub enum ModelWords<'a> {
 
 /// The options that name the files of a mine: its precedence, and its values or its settings and blocks.
 pub fn with_model<'a>(alloc: Global, command: Command<'a>) -> Result<Command<'a>, AllocError> {
-    command
-        .arg(file_option(alloc, "prec", PREC_HELP))?
-        .arg(named_option(alloc, "upit", "FILE", UPIT_HELP).required_unless_present("blocks")?)?
-        .arg(
-            named_option(alloc, "blocks", "FILE", PRICED_BLOCKS_HELP)
-                .requires_arg("settings")?
-                .conflicts_with("upit")?,
-        )?
-        .arg(
-            named_option(alloc, "settings", "FILE", SETTINGS_HELP)
-                .requires_arg("blocks")?
-                .conflicts_with("upit")?,
-        )
+    with_prices(alloc, with_values(alloc, command)?)
+}
+
+/// The same, and the option that names the factor of a priced model.
+pub fn with_model_at_factor<'a>(
+    alloc: Global,
+    command: Command<'a>,
+) -> Result<Command<'a>, AllocError> {
+    with_option(with_model(alloc, command)?, factor_option(alloc))
+}
+
+// The precedence, and the values.
+fn with_values<'a>(alloc: Global, command: Command<'a>) -> Result<Command<'a>, AllocError> {
+    let command = command.arg(file_option(alloc, "prec", PREC_HELP))?;
+    let upit = named_option(alloc, "upit", "FILE", UPIT_HELP);
+    with_option(command, upit.required_unless_present("blocks"))
+}
+
+// The blocks and the settings of a priced model.
+fn with_prices<'a>(alloc: Global, command: Command<'a>) -> Result<Command<'a>, AllocError> {
+    let blocks = priced_option(alloc, "blocks", PRICED_BLOCKS_HELP, "settings");
+    let command = with_option(command, blocks)?;
+    let settings = priced_option(alloc, "settings", SETTINGS_HELP, "blocks");
+    with_option(command, settings)
+}
+
+// An option that names a file of a priced model, which needs the other one.
+fn priced_option<'a>(
+    alloc: Global,
+    name: &'a str,
+    help: &'a str,
+    other: &'a str,
+) -> Result<Arg<'a>, AllocError> {
+    named_option(alloc, name, "FILE", help)
+        .requires_arg(other)?
+        .conflicts_with("upit")
 }
 
 /// The files that were given.
@@ -85,8 +116,8 @@ pub fn model_words<'a>(words: &ArgMatches<'a>) -> ModelWords<'a> {
     }
 }
 
-/// The option that names the factor of a priced model, which needs one.
-pub fn factor_option<'a>(alloc: Global) -> Result<Arg<'a>, AllocError> {
+// The option that names the factor of a priced model, which needs one.
+fn factor_option<'a>(alloc: Global) -> Result<Arg<'a>, AllocError> {
     named_option(
         alloc,
         "factor",

@@ -1,8 +1,7 @@
 //! The command `replay`.
 
 use crate::options::{
-    ModelWords, STATUSES, factor_option, group_option, model_words, text_of, verbose_option,
-    with_model,
+    ModelWords, STATUSES, group_option, model_words, text_of, verbose_option, with_model_at_factor,
 };
 use clap::{Arg, ArgAction, ArgMatches, Command};
 use std::alloc::{AllocError, Global};
@@ -31,17 +30,18 @@ pub fn replay_command<'a>(alloc: Global) -> Result<Command<'a>, AllocError> {
         .about(ABOUT)
         .long_about(DETAILS)
         .after_help(STATUSES);
-    with_model(alloc, command)?
-        .arg(factor_option(alloc)?)?
-        .arg(group_option(alloc))?
-        .arg(
-            Arg::new(alloc, "trace")
-                .value_name("TRACE")
-                .required(true)
-                .action(ArgAction::Set)
-                .help("The steps of the run: a PITTRACE text"),
-        )?
-        .arg(verbose_option(alloc))
+    let command = with_model_at_factor(alloc, command)?.arg(group_option(alloc));
+    with_trace(alloc, command?)
+}
+
+// The file of the trace.
+fn with_trace<'a>(alloc: Global, command: Command<'a>) -> Result<Command<'a>, AllocError> {
+    let trace = Arg::new(alloc, "trace")
+        .value_name("TRACE")
+        .required(true)
+        .action(ArgAction::Set)
+        .help("The steps of the run: a PITTRACE text");
+    command.arg(trace)?.arg(verbose_option(alloc))
 }
 
 /// The words that were given.

@@ -61,21 +61,22 @@ fn parsed<'a>(alloc: Global, words: &'a [String]) -> Result<Request<'a>, Error> 
 }
 
 fn pit_command<'a>(alloc: Global) -> Result<Command<'a>, AllocError> {
-    let check = check_command(alloc)?;
-    let replay = replay_command(alloc)?;
-    let report = report_command(alloc)?;
-    let shells = shells_command(alloc)?;
-    let slopes = slopes_command(alloc)?;
-    let solve = solve_command(alloc)?;
-    Command::new(alloc, "pit")
+    let command = Command::new(alloc, "pit")
         .about(ABOUT)
         .version(VERSION)
         .after_help(STATUSES)
-        .subcommand_required(true)
-        .subcommand(check)?
-        .subcommand(slopes)?
-        .subcommand(solve)?
-        .subcommand(shells)?
-        .subcommand(report)?
-        .subcommand(replay)
+        .subcommand_required(true);
+    let command = with_command(command, check_command(alloc))?;
+    let command = with_command(command, slopes_command(alloc))?;
+    let command = with_command(command, solve_command(alloc))?;
+    let command = with_command(command, shells_command(alloc))?;
+    let command = with_command(command, report_command(alloc))?;
+    with_command(command, replay_command(alloc))
+}
+
+fn with_command<'a>(
+    command: Command<'a>,
+    below: Result<Command<'a>, AllocError>,
+) -> Result<Command<'a>, AllocError> {
+    command.subcommand(below?)
 }

@@ -46,24 +46,39 @@ pub fn with_series<'a>(
     command: Command<'a>,
     settings_help: &'a str,
 ) -> Result<Command<'a>, AllocError> {
+    let command = with_files(alloc, command, settings_help)?;
+    with_progress(alloc, with_effort(alloc, command)?)
+}
+
+// The files.
+fn with_files<'a>(
+    alloc: Global,
+    command: Command<'a>,
+    settings_help: &'a str,
+) -> Result<Command<'a>, AllocError> {
     command
         .arg(file_option(alloc, "prec", PREC_HELP))?
         .arg(file_option(alloc, "blocks", PRICED_BLOCKS_HELP))?
-        .arg(file_option(alloc, "settings", settings_help))?
-        .arg(method_option(
-            alloc,
-            "Which engine makes the flow: auto (the default), pseudoflow or push-relabel",
-        )
-        .long_help(METHODS))?
+        .arg(file_option(alloc, "settings", settings_help))
+}
+
+// The options that say how each pit is found.
+fn with_effort<'a>(alloc: Global, command: Command<'a>) -> Result<Command<'a>, AllocError> {
+    let methods = "Which engine makes the flow: auto (the default), pseudoflow or push-relabel";
+    let workers =
+        "How many factors pseudoflow solves at a time, or the threads of the push-relabel machine, from 1 to 64 (1 by default)";
+    command
+        .arg(method_option(alloc, methods).long_help(METHODS))?
         .arg(steps_option(alloc))?
-        .arg(workers_option(
-            alloc,
-            "How many factors pseudoflow solves at a time, or the threads of the push-relabel machine, from 1 to 64 (1 by default)",
-        ))?
-        .arg(progress_option(
-            alloc,
-            "Tells on standard error at which factor a pit is proved, and how far a run of the machine is",
-        ))?
+        .arg(workers_option(alloc, workers))
+}
+
+// The options of what is told on the way.
+fn with_progress<'a>(alloc: Global, command: Command<'a>) -> Result<Command<'a>, AllocError> {
+    let progress =
+        "Tells on standard error at which factor a pit is proved, and how far a run of the machine is";
+    command
+        .arg(progress_option(alloc, progress))?
         .arg(verbose_option(alloc))
 }
 

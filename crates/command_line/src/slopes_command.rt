@@ -1,6 +1,6 @@
 //! The command `slopes`.
 
-use crate::options::{STATUSES, file_option, named_option, text_of, verbose_option};
+use crate::options::{STATUSES, file_option, named_option, text_of, verbose_option, with_option};
 use clap::{ArgMatches, Command};
 use std::alloc::{AllocError, Global};
 
@@ -43,29 +43,28 @@ pub struct SlopesWords<'a> {
 
 /// The command.
 pub fn slopes_command<'a>(alloc: Global) -> Result<Command<'a>, AllocError> {
-    Command::new(alloc, "slopes")
+    let command = Command::new(alloc, "slopes")
         .about(ABOUT)
         .long_about(DETAILS)
-        .after_help(STATUSES)
+        .after_help(STATUSES);
+    with_direction(alloc, with_pattern(alloc, command)?)?.arg(verbose_option(alloc))
+}
+
+// The file of the blocks, and the option that names the pattern.
+fn with_pattern<'a>(alloc: Global, command: Command<'a>) -> Result<Command<'a>, AllocError> {
+    let pattern =
+        "Which blocks above a block are its predecessors: five, nine, cone:LEVELS:RUN:RISE or settings";
+    command
         .arg(file_option(alloc, "blocks", "Where the blocks are: MineLib's .blocks"))?
-        .arg(named_option(
-            alloc,
-            "pattern",
-            "PATTERN",
-            "Which blocks above a block are its predecessors: five, nine, cone:LEVELS:RUN:RISE or settings",
-        )
-        .required(true))?
-        .arg(named_option(
-            alloc,
-            "up",
-            "WAY",
-            "Which way is up: plus, where a greater z is higher (the default), or minus",
-        ))?
-        .arg(named_option(alloc, "settings", "FILE", SETTINGS_HELP).required_if_eq(
-            "pattern",
-            OF_SETTINGS,
-        )?)?
-        .arg(verbose_option(alloc))
+        .arg(named_option(alloc, "pattern", "PATTERN", pattern).required(true))
+}
+
+// The option that says which way is up, and the file of settings.
+fn with_direction<'a>(alloc: Global, command: Command<'a>) -> Result<Command<'a>, AllocError> {
+    let up = "Which way is up: plus, where a greater z is higher (the default), or minus";
+    let command = command.arg(named_option(alloc, "up", "WAY", up))?;
+    let settings = named_option(alloc, "settings", "FILE", SETTINGS_HELP);
+    with_option(command, settings.required_if_eq("pattern", OF_SETTINGS))
 }
 
 /// The words that were given.

@@ -1,8 +1,8 @@
 //! The command `solve`.
 
 use crate::options::{
-    ModelWords, STATUSES, factor_option, group_option, method_option, model_words, named_option,
-    progress_option, steps_option, text_of, verbose_option, with_model, workers_option,
+    ModelWords, STATUSES, group_option, method_option, model_words, named_option, progress_option,
+    steps_option, text_of, verbose_option, with_model_at_factor, workers_option,
 };
 use clap::{ArgMatches, Command};
 use std::alloc::{AllocError, Global};
@@ -44,8 +44,8 @@ pub fn solve_command<'a>(alloc: Global) -> Result<Command<'a>, AllocError> {
         .about(ABOUT)
         .long_about(DETAILS)
         .after_help(STATUSES);
-    let command = with_model(alloc, command)?.arg(factor_option(alloc)?)?;
-    with_trace(alloc, with_limits(alloc, with_kinds(alloc, command)?)?)
+    let command = with_kinds(alloc, with_model_at_factor(alloc, command)?)?;
+    with_trace(alloc, with_limits(alloc, command)?)
 }
 
 // The options that say how it is solved.

@@ -71,23 +71,28 @@ pub fn declined_for(alloc: Global, wrong: WrongWord<'_>) -> Declined {
 }
 
 fn error_for(alloc: Global, wrong: WrongWord<'_>) -> Result<Error, AllocError> {
-    let shown = shown(wrong.option);
-    let taken = taken(wrong.command, wrong.option);
-    let word = wrong.word;
-    let text = format!(in alloc; "invalid value '{word}' for '{shown}': {taken}")?;
+    let text = text_for(alloc, wrong)?;
     let mut command = command_of(alloc, wrong.command)?;
     command.error(ErrorKind::ValueValidation, text.as_str())
 }
 
+fn text_for(alloc: Global, wrong: WrongWord<'_>) -> Result<String, AllocError> {
+    let shown = shown(wrong.option);
+    let taken = taken(wrong.command, wrong.option);
+    let word = wrong.word;
+    format!(in alloc; "invalid value '{word}' for '{shown}': {taken}")
+}
+
 // The command, by the name that its usage shows.
 fn command_of<'a>(alloc: Global, command: Commanded) -> Result<Command<'a>, AllocError> {
-    match command {
-        Commanded::Slopes => slopes_command(alloc)?.bin_name("pit slopes"),
-        Commanded::Solve => solve_command(alloc)?.bin_name("pit solve"),
-        Commanded::Replay => replay_command(alloc)?.bin_name("pit replay"),
-        Commanded::Series(SeriesCommand::Shells) => shells_command(alloc)?.bin_name("pit shells"),
-        Commanded::Series(SeriesCommand::Report) => report_command(alloc)?.bin_name("pit report"),
-    }
+    let (made, name) = match command {
+        Commanded::Slopes => (slopes_command(alloc), "pit slopes"),
+        Commanded::Solve => (solve_command(alloc), "pit solve"),
+        Commanded::Replay => (replay_command(alloc), "pit replay"),
+        Commanded::Series(SeriesCommand::Shells) => (shells_command(alloc), "pit shells"),
+        Commanded::Series(SeriesCommand::Report) => (report_command(alloc), "pit report"),
+    };
+    made?.bin_name(name)
 }
 
 // The option as the help shows it.

@@ -1,9 +1,9 @@
-//! The engines on files: all files of a command are opened before any is read.
+//! The engines on files, but for those of `solve`: all files of a command are opened before any is read.
 
-ghost use Rattle.std.specs.Prelude.{◌≡◌, IfOk};
 ghost use Rattle.engines.specs.Slopes.{IsChoice};
 
-use crate::told::{Told, made, opened, output};
+use crate::opened::{file, open_prices, open_values};
+use crate::told::output;
 use command_line::{CheckWords, ModelWords, ReplayWords, SeriesCommand, SeriesWords, SlopesWords};
 use engines::{
     Effort, EngineFault, PatternChoice, Verdict, check_engine, check_priced_engine, slopes_engine,
@@ -27,30 +27,47 @@ pub fn check_files<R: Files + Print + Eprint + Threads + Sync + AllocGlobal>(
     rt: &R,
     words: CheckWords<'_>,
 ) -> Result<Verdict, EngineFault> {
-    let verbose = words.verbose;
-    let alloc = rt.alloc();
-    let mut prec = file(rt, verbose, words.prec)?;
-    let mut certificate = file(rt, verbose, words.certificate)?;
-    let mut out = Counted::new(output(rt, verbose));
     match words.model {
-        ModelWords::Values { upit } => {
-            let mut upit = file(rt, verbose, upit)?;
-            check_engine(alloc, &mut upit, &mut prec, &mut certificate, &mut out)
-        }
-        ModelWords::Prices { settings, blocks } => {
-            let mut settings = file(rt, verbose, settings)?;
-            let mut blocks = file(rt, verbose, blocks)?;
-            check_priced_engine(
-                rt,
-                alloc,
-                &mut settings,
-                &mut blocks,
-                &mut prec,
-                &mut certificate,
-                &mut out,
-            )
-        }
+        ModelWords::Values { upit } => check_values(rt, words, upit),
+        ModelWords::Prices { settings, blocks } => check_prices(rt, words, settings, blocks),
     }
+}
+
+fn check_values<R: Files + Print + Eprint + AllocGlobal>(
+    rt: &R,
+    words: CheckWords<'_>,
+    upit: &str,
+) -> Result<Verdict, EngineFault> {
+    let mut mine = open_values(rt, words.verbose, words.prec, upit)?;
+    let mut certificate = file(rt, words.verbose, words.certificate)?;
+    let mut out = Counted::new(output(rt, words.verbose));
+    check_engine(
+        rt.alloc(),
+        &mut mine.upit,
+        &mut mine.prec,
+        &mut certificate,
+        &mut out,
+    )
+}
+
+fn check_prices<R: Files + Print + Eprint + Threads + Sync + AllocGlobal>(
+    rt: &R,
+    words: CheckWords<'_>,
+    settings: &str,
+    blocks: &str,
+) -> Result<Verdict, EngineFault> {
+    let mut mine = open_prices(rt, words.verbose, words.prec, settings, blocks)?;
+    let mut certificate = file(rt, words.verbose, words.certificate)?;
+    let mut out = Counted::new(output(rt, words.verbose));
+    check_priced_engine(
+        rt,
+        rt.alloc(),
+        &mut mine.settings,
+        &mut mine.blocks,
+        &mut mine.prec,
+        &mut certificate,
+        &mut out,
+    )
 }
 
 /// Repeats a run over the mine of files of values and of precedence from the file of its trace.
@@ -60,14 +77,13 @@ pub fn replay_files<R: Files + Print + Eprint + AllocGlobal>(
     upit: &str,
     group: Group,
 ) -> Result<Verdict, EngineFault> {
-    let mut prec = file(rt, words.verbose, words.prec)?;
+    let mut mine = open_values(rt, words.verbose, words.prec, upit)?;
     let mut trace = file(rt, words.verbose, words.trace)?;
-    let mut upit = file(rt, words.verbose, upit)?;
     let mut out = Counted::new(output(rt, words.verbose));
     replay_engine(
         rt.alloc(),
-        &mut upit,
-        &mut prec,
+        &mut mine.upit,
+        &mut mine.prec,
         &mut trace,
         group,
         &mut out,
@@ -83,17 +99,15 @@ pub fn replay_priced_files<R: Files + Print + Eprint + Threads + Sync + AllocGlo
     factor: Factor,
     group: Group,
 ) -> Result<Verdict, EngineFault> {
-    let mut prec = file(rt, words.verbose, words.prec)?;
+    let mut mine = open_prices(rt, words.verbose, words.prec, settings, blocks)?;
     let mut trace = file(rt, words.verbose, words.trace)?;
-    let mut settings = file(rt, words.verbose, settings)?;
-    let mut blocks = file(rt, words.verbose, blocks)?;
     let mut out = Counted::new(output(rt, words.verbose));
     replay_priced_engine(
         rt,
         rt.alloc(),
-        &mut settings,
-        &mut blocks,
-        &mut prec,
+        &mut mine.settings,
+        &mut mine.blocks,
+        &mut mine.prec,
         &mut trace,
         factor,
         group,
@@ -106,18 +120,16 @@ pub fn series_files<
     R: Files + Print + Eprint + Threads + Wait + Sync + AllocGlobal,
     T: Gate + Progress + SeriesProgress,
 >(rt: &R, words: SeriesWords<'_>, effort: Effort, watch: &T) -> Result<Verdict, EngineFault> {
-    let mut prec = file(rt, words.verbose, words.prec)?;
-    let mut settings = file(rt, words.verbose, words.settings)?;
-    let mut blocks = file(rt, words.verbose, words.blocks)?;
+    let mut mine = open_prices(rt, words.verbose, words.prec, words.settings, words.blocks)?;
     let mut out = Counted::new(output(rt, words.verbose));
     let alloc = rt.alloc();
     match words.command {
         SeriesCommand::Shells => shells_engine(
             rt,
             alloc,
-            &mut settings,
-            &mut blocks,
-            &mut prec,
+            &mut mine.settings,
+            &mut mine.blocks,
+            &mut mine.prec,
             effort,
             watch,
             &mut out,
@@ -125,9 +137,9 @@ pub fn series_files<
         SeriesCommand::Report => report_engine(
             rt,
             alloc,
-            &mut settings,
-            &mut blocks,
-            &mut prec,
+            &mut mine.settings,
+            &mut mine.blocks,
+            &mut mine.prec,
             effort,
             watch,
             &mut out,
@@ -160,32 +172,4 @@ pub fn listed_slopes_files<R: Files + Print + Eprint + AllocGlobal>(
     let mut blocks = file(rt, words.verbose, words.blocks)?;
     let mut out = Counted::new(output(rt, words.verbose));
     slopes_from_settings_engine(rt.alloc(), &mut settings, &mut blocks, up, &mut out)
-}
-
-/// A file whose failures are counted.
-pub fn file<'a, R: Files + Eprint>(
-    rt: &'a R,
-    verbose: bool,
-    name: &'a str,
-) -> Result<Counted<Told<'a, R, R::File>>, EngineFault>
-    ensures { IfOk result (λ counted. counted.failures ≡ 0) }
-{
-    match opened(rt, verbose, name) {
-        Ok(file) => Ok(Counted::new(file)),
-        Err(_) => Err(EngineFault::Device),
-    }
-}
-
-/// A new file, or an emptied one, whose failures are counted.
-pub fn made_file<'a, R: Files + Eprint>(
-    rt: &'a R,
-    verbose: bool,
-    name: &'a str,
-) -> Result<Counted<Told<'a, R, R::File>>, EngineFault>
-    ensures { IfOk result (λ counted. counted.failures ≡ 0) }
-{
-    match made(rt, verbose, name) {
-        Ok(file) => Ok(Counted::new(file)),
-        Err(_) => Err(EngineFault::Device),
-    }
 }

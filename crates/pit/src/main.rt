@@ -6,6 +6,7 @@
 
 mod effort_words;
 mod files;
+mod opened;
 mod progress;
 mod slopes_words;
 mod solve_words;
@@ -24,10 +25,11 @@ use files::{
 };
 use fixed_worth::Counted;
 use progress::Meter;
+use shells::Factor;
 use slopes_words::{pattern_asked, up_asked};
 use solve_words::{factor_asked, group_asked};
 use solving::{solve_prices, solve_values};
-use solving_asked::solving_asked;
+use solving_asked::{SolvingAsked, solving_asked};
 use std::process::ExitCode;
 use std::rt::{Clock, Env, Files};
 use std::sync::Wait;
@@ -102,29 +104,49 @@ fn solve<R: Files + Print + Eprint + Clock + Threads + Wait + Sync + AllocGlobal
         Ok(solving) => solving,
         Err(wrong) => return refused(rt, wrong),
     };
-    let verdict = match words.model {
+    match words.model {
         ModelWords::Values { upit } => {
-            if words.progress {
-                let meter = Meter::new(rt, solving.steps());
-                solve_values(rt, words, upit, solving, &meter)?
-            } else {
-                solve_values(rt, words, upit, solving, &Unwatched)?
-            }
+            Ok(Ending::Answered(values_solved(rt, words, upit, solving)?))
         }
         ModelWords::Prices { settings, blocks } => {
-            let factor = match factor_asked(Commanded::Solve, words.factor) {
-                Ok(factor) => factor,
-                Err(wrong) => return refused(rt, wrong),
-            };
-            if words.progress {
-                let meter = Meter::new(rt, solving.steps());
-                solve_prices(rt, words, settings, blocks, factor, solving, &meter)?
-            } else {
-                solve_prices(rt, words, settings, blocks, factor, solving, &Unwatched)?
+            match factor_asked(Commanded::Solve, words.factor) {
+                Ok(factor) => Ok(Ending::Answered(prices_solved(
+                    rt, words, settings, blocks, factor, solving,
+                )?)),
+                Err(wrong) => refused(rt, wrong),
             }
         }
-    };
-    Ok(Ending::Answered(verdict))
+    }
+}
+
+fn values_solved<R: Files + Print + Eprint + Clock + Threads + Wait + Sync + AllocGlobal>(
+    rt: &R,
+    words: SolveWords<'_>,
+    upit: &str,
+    solving: SolvingAsked<'_>,
+) -> Result<Verdict, EngineFault> {
+    if words.progress {
+        let meter = Meter::new(rt, solving.steps());
+        solve_values(rt, words, upit, solving, &meter)
+    } else {
+        solve_values(rt, words, upit, solving, &Unwatched)
+    }
+}
+
+fn prices_solved<R: Files + Print + Eprint + Clock + Threads + Wait + Sync + AllocGlobal>(
+    rt: &R,
+    words: SolveWords<'_>,
+    settings: &str,
+    blocks: &str,
+    factor: Factor,
+    solving: SolvingAsked<'_>,
+) -> Result<Verdict, EngineFault> {
+    if words.progress {
+        let meter = Meter::new(rt, solving.steps());
+        solve_prices(rt, words, settings, blocks, factor, solving, &meter)
+    } else {
+        solve_prices(rt, words, settings, blocks, factor, solving, &Unwatched)
+    }
 }
 
 // Repeats a run over the mine of files from its trace.

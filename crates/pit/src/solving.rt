@@ -1,6 +1,6 @@
 //! The engines of `solve` on files: all files are opened before any is read.
 
-use crate::files::{file, made_file};
+use crate::opened::{made_file, open_prices, open_values};
 use crate::solve_words::TraceAsked;
 use crate::solving_asked::SolvingAsked;
 use crate::told::output;
@@ -30,11 +30,14 @@ pub fn solve_values<
 ) -> Result<Verdict, EngineFault> {
     match solving {
         SolvingAsked::ByWords(effort) => words_files(rt, words, upit, effort, watch),
-        SolvingAsked::ByMethod {
+        SolvingAsked::ByMethod { group, effort } => {
+            solve_files(rt, words, upit, group, effort, watch)
+        }
+        SolvingAsked::Traced {
             group,
             effort,
             trace,
-        } => solve_files(rt, words, upit, group, effort, trace, watch),
+        } => trace_files(rt, words, upit, group, effort, trace, watch),
     }
 }
 
@@ -55,11 +58,14 @@ pub fn solve_prices<
         SolvingAsked::ByWords(effort) => {
             words_priced_files(rt, words, settings, blocks, factor, effort, watch)
         }
-        SolvingAsked::ByMethod {
+        SolvingAsked::ByMethod { group, effort } => solve_priced_files(
+            rt, words, settings, blocks, factor, group, effort, watch,
+        ),
+        SolvingAsked::Traced {
             group,
             effort,
             trace,
-        } => solve_priced_files(
+        } => trace_priced_files(
             rt, words, settings, blocks, factor, group, effort, trace, watch,
         ),
     }
@@ -73,14 +79,13 @@ fn words_files<R: Files + Print + Eprint + Threads + Wait + Sync + AllocGlobal, 
     effort: WordEffort,
     watch: &T,
 ) -> Result<Verdict, EngineFault> {
-    let mut prec = file(rt, words.verbose, words.prec)?;
-    let mut upit = file(rt, words.verbose, upit)?;
+    let mut mine = open_values(rt, words.verbose, words.prec, upit)?;
     let mut out = Counted::new(output(rt, words.verbose));
     solve_words_engine(
         rt,
         rt.alloc(),
-        &mut upit,
-        &mut prec,
+        &mut mine.upit,
+        &mut mine.prec,
         effort,
         watch,
         &mut out,
@@ -97,16 +102,14 @@ fn words_priced_files<R: Files + Print + Eprint + Threads + Wait + Sync + AllocG
     effort: WordEffort,
     watch: &T,
 ) -> Result<Verdict, EngineFault> {
-    let mut prec = file(rt, words.verbose, words.prec)?;
-    let mut settings = file(rt, words.verbose, settings)?;
-    let mut blocks = file(rt, words.verbose, blocks)?;
+    let mut mine = open_prices(rt, words.verbose, words.prec, settings, blocks)?;
     let mut out = Counted::new(output(rt, words.verbose));
     solve_priced_words_engine(
         rt,
         rt.alloc(),
-        &mut settings,
-        &mut blocks,
-        &mut prec,
+        &mut mine.settings,
+        &mut mine.blocks,
+        &mut mine.prec,
         factor,
         effort,
         watch,
@@ -114,32 +117,57 @@ fn words_priced_files<R: Files + Print + Eprint + Threads + Wait + Sync + AllocG
     )
 }
 
-// Solves the mine of files of values and of precedence, and writes the trace that is asked for.
+// Solves the mine of files of values and of precedence.
 fn solve_files<R: Files + Print + Eprint + Threads + Wait + Sync + AllocGlobal, T: Gate + Progress>(
     rt: &R,
     words: SolveWords<'_>,
     upit: &str,
     group: Group,
     effort: Effort,
-    asked: Option<TraceAsked<'_>>,
     watch: &T,
 ) -> Result<Verdict, EngineFault> {
-    let mut prec = file(rt, words.verbose, words.prec)?;
-    let mut upit = file(rt, words.verbose, upit)?;
+    let mut mine = open_values(rt, words.verbose, words.prec, upit)?;
     let mut out = Counted::new(output(rt, words.verbose));
-    let alloc = rt.alloc();
-    let Some(asked) = asked else {
-        return solve_engine(
-            rt, alloc, &mut upit, &mut prec, group, effort, watch, &mut out,
-        );
-    };
-    let mut trace = made_file(rt, words.verbose, asked.file)?;
-    solve_traced_engine(
-        rt, alloc, &mut upit, &mut prec, group, effort, asked.room, watch, &mut trace, &mut out,
+    solve_engine(
+        rt,
+        rt.alloc(),
+        &mut mine.upit,
+        &mut mine.prec,
+        group,
+        effort,
+        watch,
+        &mut out,
     )
 }
 
-// Solves the mine of files of settings, blocks and precedence, at a factor, and writes the trace that is asked for.
+// The same, and writes the trace of the run.
+fn trace_files<R: Files + Print + Eprint + Threads + Wait + Sync + AllocGlobal, T: Gate>(
+    rt: &R,
+    words: SolveWords<'_>,
+    upit: &str,
+    group: Group,
+    effort: Effort,
+    asked: TraceAsked<'_>,
+    watch: &T,
+) -> Result<Verdict, EngineFault> {
+    let mut mine = open_values(rt, words.verbose, words.prec, upit)?;
+    let mut trace = made_file(rt, words.verbose, asked.file)?;
+    let mut out = Counted::new(output(rt, words.verbose));
+    solve_traced_engine(
+        rt,
+        rt.alloc(),
+        &mut mine.upit,
+        &mut mine.prec,
+        group,
+        effort,
+        asked.room,
+        watch,
+        &mut trace,
+        &mut out,
+    )
+}
+
+// Solves the mine of files of settings, blocks and precedence, at a factor.
 fn solve_priced_files<
     R: Files + Print + Eprint + Threads + Wait + Sync + AllocGlobal,
     T: Gate + Progress,
@@ -151,35 +179,45 @@ fn solve_priced_files<
     factor: Factor,
     group: Group,
     effort: Effort,
-    asked: Option<TraceAsked<'_>>,
     watch: &T,
 ) -> Result<Verdict, EngineFault> {
-    let mut prec = file(rt, words.verbose, words.prec)?;
-    let mut settings = file(rt, words.verbose, settings)?;
-    let mut blocks = file(rt, words.verbose, blocks)?;
+    let mut mine = open_prices(rt, words.verbose, words.prec, settings, blocks)?;
     let mut out = Counted::new(output(rt, words.verbose));
-    let alloc = rt.alloc();
-    let Some(asked) = asked else {
-        return solve_priced_engine(
-            rt,
-            alloc,
-            &mut settings,
-            &mut blocks,
-            &mut prec,
-            factor,
-            group,
-            effort,
-            watch,
-            &mut out,
-        );
-    };
+    solve_priced_engine(
+        rt,
+        rt.alloc(),
+        &mut mine.settings,
+        &mut mine.blocks,
+        &mut mine.prec,
+        factor,
+        group,
+        effort,
+        watch,
+        &mut out,
+    )
+}
+
+// The same, and writes the trace of the run.
+fn trace_priced_files<R: Files + Print + Eprint + Threads + Wait + Sync + AllocGlobal, T: Gate>(
+    rt: &R,
+    words: SolveWords<'_>,
+    settings: &str,
+    blocks: &str,
+    factor: Factor,
+    group: Group,
+    effort: Effort,
+    asked: TraceAsked<'_>,
+    watch: &T,
+) -> Result<Verdict, EngineFault> {
+    let mut mine = open_prices(rt, words.verbose, words.prec, settings, blocks)?;
     let mut trace = made_file(rt, words.verbose, asked.file)?;
+    let mut out = Counted::new(output(rt, words.verbose));
     solve_traced_priced_engine(
         rt,
-        alloc,
-        &mut settings,
-        &mut blocks,
-        &mut prec,
+        rt.alloc(),
+        &mut mine.settings,
+        &mut mine.blocks,
+        &mut mine.prec,
         factor,
         group,
         effort,

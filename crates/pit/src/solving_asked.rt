@@ -16,8 +16,15 @@ pub enum SolvingAsked<'a> {
         group: Group,
         /// The method, the workers and the steps.
         effort: Effort,
-        /// The trace, where one is asked for.
-        trace: Option<TraceAsked<'a>>,
+    },
+    /// By the push-relabel machine, with the trace of its run.
+    Traced {
+        /// What amounts count.
+        group: Group,
+        /// The workers and the steps.
+        effort: Effort,
+        /// The trace.
+        trace: TraceAsked<'a>,
     },
     /// By a run without a lock.
     ByWords(WordEffort),
@@ -28,6 +35,7 @@ impl<'a> SolvingAsked<'a> {
     pub fn steps(self) -> u64 {
         match self {
             SolvingAsked::ByMethod { effort, .. } => effort.steps,
+            SolvingAsked::Traced { effort, .. } => effort.steps,
             SolvingAsked::ByWords(effort) => effort.steps,
         }
     }
@@ -38,12 +46,24 @@ pub fn solving_asked<'a>(words: SolveWords<'a>) -> Result<SolvingAsked<'a>, Wron
     let group = group_asked(Commanded::Solve, words.group)?;
     match words.method {
         Some(method) if asks_for_words(method) => words_asked(words, method, group),
-        _ => Ok(SolvingAsked::ByMethod {
-            group,
-            effort: effort_to_solve(words)?,
-            trace: trace_asked(words)?,
-        }),
+        _ => method_asked(words, group),
     }
+}
+
+// A run by a method, or one with a trace.
+fn method_asked<'a>(
+    words: SolveWords<'a>,
+    group: Group,
+) -> Result<SolvingAsked<'a>, WrongWord<'a>> {
+    let effort = effort_to_solve(words)?;
+    Ok(match trace_asked(words)? {
+        Some(trace) => SolvingAsked::Traced {
+            group,
+            effort,
+            trace,
+        },
+        None => SolvingAsked::ByMethod { group, effort },
+    })
 }
 
 // A run without a lock: it has amounts of one group, and no trace.

@@ -1,0 +1,103 @@
+//! The files of a mine, opened, with their failures counted.
+
+ghost use Rattle.std.specs.Prelude.{◌≡◌, IfOk};
+
+use crate::told::{Told, made, opened};
+use engines::EngineFault;
+use fixed_worth::Counted;
+use std::rt::Files;
+
+/// The files of a mine whose blocks have values.
+#[derive(Drop)]
+pub struct ValueFiles<D> {
+    /// MineLib's `.upit`.
+    pub upit: Counted<D>,
+    /// MineLib's `.prec`.
+    pub prec: Counted<D>,
+}
+
+/// The files of a mine whose blocks have prices.
+#[derive(Drop)]
+pub struct PricedFiles<D> {
+    /// Which columns are prices.
+    pub settings: Counted<D>,
+    /// MineLib's `.blocks`.
+    pub blocks: Counted<D>,
+    /// MineLib's `.prec`.
+    pub prec: Counted<D>,
+}
+
+/// Opens the files of a mine of values, that of the predecessors first.
+///
+/// # Errors
+/// `Device` where one can't be opened.
+pub fn open_values<'a, R: Files + Eprint>(
+    rt: &'a R,
+    verbose: bool,
+    prec: &'a str,
+    upit: &'a str,
+) -> Result<ValueFiles<Told<'a, R, R::File>>, EngineFault>
+    ensures { IfOk result (λ mine. (mine.prec.failures ≡ 0) × (mine.upit.failures ≡ 0)) }
+{
+    let prec = file(rt, verbose, prec)?;
+    let upit = file(rt, verbose, upit)?;
+    Ok(ValueFiles { upit, prec })
+}
+
+/// Opens the files of a mine of prices, that of the predecessors first.
+///
+/// # Errors
+/// `Device` where one can't be opened.
+pub fn open_prices<'a, R: Files + Eprint>(
+    rt: &'a R,
+    verbose: bool,
+    prec: &'a str,
+    settings: &'a str,
+    blocks: &'a str,
+) -> Result<PricedFiles<Told<'a, R, R::File>>, EngineFault>
+    ensures { IfOk result (λ mine.
+        (mine.prec.failures ≡ 0) × (mine.settings.failures ≡ 0) × (mine.blocks.failures ≡ 0)) }
+{
+    let prec = file(rt, verbose, prec)?;
+    let settings = file(rt, verbose, settings)?;
+    let blocks = file(rt, verbose, blocks)?;
+    Ok(PricedFiles {
+        settings,
+        blocks,
+        prec,
+    })
+}
+
+/// Opens a file to be read.
+///
+/// # Errors
+/// `Device` where it can't be opened.
+pub fn file<'a, R: Files + Eprint>(
+    rt: &'a R,
+    verbose: bool,
+    name: &'a str,
+) -> Result<Counted<Told<'a, R, R::File>>, EngineFault>
+    ensures { IfOk result (λ counted. counted.failures ≡ 0) }
+{
+    match opened(rt, verbose, name) {
+        Ok(file) => Ok(Counted::new(file)),
+        Err(_) => Err(EngineFault::Device),
+    }
+}
+
+/// Makes a file to be written, or empties the one that there is.
+///
+/// # Errors
+/// `Device` where it can't be made.
+pub fn made_file<'a, R: Files + Eprint>(
+    rt: &'a R,
+    verbose: bool,
+    name: &'a str,
+) -> Result<Counted<Told<'a, R, R::File>>, EngineFault>
+    ensures { IfOk result (λ counted. counted.failures ≡ 0) }
+{
+    match made(rt, verbose, name) {
+        Ok(file) => Ok(Counted::new(file)),
+        Err(_) => Err(EngineFault::Device),
+    }
+}
