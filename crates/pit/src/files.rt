@@ -2,7 +2,7 @@
 
 ghost use Rattle.engines.specs.Slopes.{IsChoice};
 
-use crate::opened::{file, open_prices, open_values};
+use crate::opened::{PricedFiles, ValueFiles, file, open_prices, open_values};
 use crate::told::output;
 use command_line::{CheckWords, ModelWords, ReplayWords, SeriesCommand, SeriesWords, SlopesWords};
 use engines::{
@@ -33,57 +33,55 @@ pub fn check_files<R: Files + Print + Eprint + Threads + Sync + AllocGlobal>(
     }
 }
 
-fn check_values<R: Files + Print + Eprint + AllocGlobal>(
-    rt: &R,
-    words: CheckWords<'_>,
-    upit: &str,
+fn check_values<'a, R: Files + Print + Eprint + AllocGlobal>(
+    rt: &'a R,
+    words: CheckWords<'a>,
+    upit: &'a str,
 ) -> Result<Verdict, EngineFault> {
-    let mut mine = open_values(rt, words.verbose, words.prec, upit)?;
+    let ValueFiles { mut upit, mut prec } = open_values(rt, words.verbose, words.prec, upit)?;
     let mut certificate = file(rt, words.verbose, words.certificate)?;
     let mut out = Counted::new(output(rt, words.verbose));
-    check_engine(
-        rt.alloc(),
-        &mut mine.upit,
-        &mut mine.prec,
-        &mut certificate,
-        &mut out,
-    )
+    check_engine(rt.alloc(), &mut upit, &mut prec, &mut certificate, &mut out)
 }
 
-fn check_prices<R: Files + Print + Eprint + Threads + Sync + AllocGlobal>(
-    rt: &R,
-    words: CheckWords<'_>,
-    settings: &str,
-    blocks: &str,
+fn check_prices<'a, R: Files + Print + Eprint + Threads + Sync + AllocGlobal>(
+    rt: &'a R,
+    words: CheckWords<'a>,
+    settings: &'a str,
+    blocks: &'a str,
 ) -> Result<Verdict, EngineFault> {
-    let mut mine = open_prices(rt, words.verbose, words.prec, settings, blocks)?;
+    let PricedFiles {
+        mut settings,
+        mut blocks,
+        mut prec,
+    } = open_prices(rt, words.verbose, words.prec, settings, blocks)?;
     let mut certificate = file(rt, words.verbose, words.certificate)?;
     let mut out = Counted::new(output(rt, words.verbose));
     check_priced_engine(
         rt,
         rt.alloc(),
-        &mut mine.settings,
-        &mut mine.blocks,
-        &mut mine.prec,
+        &mut settings,
+        &mut blocks,
+        &mut prec,
         &mut certificate,
         &mut out,
     )
 }
 
 /// Repeats a run over the mine of files of values and of precedence from the file of its trace.
-pub fn replay_files<R: Files + Print + Eprint + AllocGlobal>(
-    rt: &R,
-    words: ReplayWords<'_>,
-    upit: &str,
+pub fn replay_files<'a, R: Files + Print + Eprint + AllocGlobal>(
+    rt: &'a R,
+    words: ReplayWords<'a>,
+    upit: &'a str,
     group: Group,
 ) -> Result<Verdict, EngineFault> {
-    let mut mine = open_values(rt, words.verbose, words.prec, upit)?;
+    let ValueFiles { mut upit, mut prec } = open_values(rt, words.verbose, words.prec, upit)?;
     let mut trace = file(rt, words.verbose, words.trace)?;
     let mut out = Counted::new(output(rt, words.verbose));
     replay_engine(
         rt.alloc(),
-        &mut mine.upit,
-        &mut mine.prec,
+        &mut upit,
+        &mut prec,
         &mut trace,
         group,
         &mut out,
@@ -91,23 +89,27 @@ pub fn replay_files<R: Files + Print + Eprint + AllocGlobal>(
 }
 
 /// Repeats a run over the mine of files of settings, blocks and precedence, at a factor, from the file of its trace.
-pub fn replay_priced_files<R: Files + Print + Eprint + Threads + Sync + AllocGlobal>(
-    rt: &R,
-    words: ReplayWords<'_>,
-    settings: &str,
-    blocks: &str,
+pub fn replay_priced_files<'a, R: Files + Print + Eprint + Threads + Sync + AllocGlobal>(
+    rt: &'a R,
+    words: ReplayWords<'a>,
+    settings: &'a str,
+    blocks: &'a str,
     factor: Factor,
     group: Group,
 ) -> Result<Verdict, EngineFault> {
-    let mut mine = open_prices(rt, words.verbose, words.prec, settings, blocks)?;
+    let PricedFiles {
+        mut settings,
+        mut blocks,
+        mut prec,
+    } = open_prices(rt, words.verbose, words.prec, settings, blocks)?;
     let mut trace = file(rt, words.verbose, words.trace)?;
     let mut out = Counted::new(output(rt, words.verbose));
     replay_priced_engine(
         rt,
         rt.alloc(),
-        &mut mine.settings,
-        &mut mine.blocks,
-        &mut mine.prec,
+        &mut settings,
+        &mut blocks,
+        &mut prec,
         &mut trace,
         factor,
         group,
@@ -117,19 +119,24 @@ pub fn replay_priced_files<R: Files + Print + Eprint + Threads + Sync + AllocGlo
 
 /// Draws the shells of the mine of files of settings, blocks and precedence, or makes its bench table.
 pub fn series_files<
+    'a,
     R: Files + Print + Eprint + Threads + Wait + Sync + AllocGlobal,
     T: Gate + Progress + SeriesProgress,
->(rt: &R, words: SeriesWords<'_>, effort: Effort, watch: &T) -> Result<Verdict, EngineFault> {
-    let mut mine = open_prices(rt, words.verbose, words.prec, words.settings, words.blocks)?;
+>(rt: &'a R, words: SeriesWords<'a>, effort: Effort, watch: &T) -> Result<Verdict, EngineFault> {
+    let PricedFiles {
+        mut settings,
+        mut blocks,
+        mut prec,
+    } = open_prices(rt, words.verbose, words.prec, words.settings, words.blocks)?;
     let mut out = Counted::new(output(rt, words.verbose));
     let alloc = rt.alloc();
     match words.command {
         SeriesCommand::Shells => shells_engine(
             rt,
             alloc,
-            &mut mine.settings,
-            &mut mine.blocks,
-            &mut mine.prec,
+            &mut settings,
+            &mut blocks,
+            &mut prec,
             effort,
             watch,
             &mut out,
@@ -137,9 +144,9 @@ pub fn series_files<
         SeriesCommand::Report => report_engine(
             rt,
             alloc,
-            &mut mine.settings,
-            &mut mine.blocks,
-            &mut mine.prec,
+            &mut settings,
+            &mut blocks,
+            &mut prec,
             effort,
             watch,
             &mut out,

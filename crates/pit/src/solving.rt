@@ -1,6 +1,6 @@
 //! The engines of `solve` on files: all files are opened before any is read.
 
-use crate::opened::{made_file, open_prices, open_values};
+use crate::opened::{PricedFiles, ValueFiles, made_file, open_prices, open_values};
 use crate::solve_words::TraceAsked;
 use crate::solving_asked::SolvingAsked;
 use crate::told::output;
@@ -72,20 +72,20 @@ pub fn solve_prices<
 }
 
 // Solves the mine of values by a run without a lock.
-fn words_files<R: Files + Print + Eprint + Threads + Wait + Sync + AllocGlobal, T: Gate>(
-    rt: &R,
-    words: SolveWords<'_>,
-    upit: &str,
+fn words_files<'a, R: Files + Print + Eprint + Threads + Wait + Sync + AllocGlobal, T: Gate>(
+    rt: &'a R,
+    words: SolveWords<'a>,
+    upit: &'a str,
     effort: WordEffort,
     watch: &T,
 ) -> Result<Verdict, EngineFault> {
-    let mut mine = open_values(rt, words.verbose, words.prec, upit)?;
+    let ValueFiles { mut upit, mut prec } = open_values(rt, words.verbose, words.prec, upit)?;
     let mut out = Counted::new(output(rt, words.verbose));
     solve_words_engine(
         rt,
         rt.alloc(),
-        &mut mine.upit,
-        &mut mine.prec,
+        &mut upit,
+        &mut prec,
         effort,
         watch,
         &mut out,
@@ -93,23 +93,27 @@ fn words_files<R: Files + Print + Eprint + Threads + Wait + Sync + AllocGlobal, 
 }
 
 // Solves the mine of prices by a run without a lock.
-fn words_priced_files<R: Files + Print + Eprint + Threads + Wait + Sync + AllocGlobal, T: Gate>(
-    rt: &R,
-    words: SolveWords<'_>,
-    settings: &str,
-    blocks: &str,
+fn words_priced_files<'a, R: Files + Print + Eprint + Threads + Wait + Sync + AllocGlobal, T: Gate>(
+    rt: &'a R,
+    words: SolveWords<'a>,
+    settings: &'a str,
+    blocks: &'a str,
     factor: Factor,
     effort: WordEffort,
     watch: &T,
 ) -> Result<Verdict, EngineFault> {
-    let mut mine = open_prices(rt, words.verbose, words.prec, settings, blocks)?;
+    let PricedFiles {
+        mut settings,
+        mut blocks,
+        mut prec,
+    } = open_prices(rt, words.verbose, words.prec, settings, blocks)?;
     let mut out = Counted::new(output(rt, words.verbose));
     solve_priced_words_engine(
         rt,
         rt.alloc(),
-        &mut mine.settings,
-        &mut mine.blocks,
-        &mut mine.prec,
+        &mut settings,
+        &mut blocks,
+        &mut prec,
         factor,
         effort,
         watch,
@@ -118,21 +122,25 @@ fn words_priced_files<R: Files + Print + Eprint + Threads + Wait + Sync + AllocG
 }
 
 // Solves the mine of files of values and of precedence.
-fn solve_files<R: Files + Print + Eprint + Threads + Wait + Sync + AllocGlobal, T: Gate + Progress>(
-    rt: &R,
-    words: SolveWords<'_>,
-    upit: &str,
+fn solve_files<
+    'a,
+    R: Files + Print + Eprint + Threads + Wait + Sync + AllocGlobal,
+    T: Gate + Progress,
+>(
+    rt: &'a R,
+    words: SolveWords<'a>,
+    upit: &'a str,
     group: Group,
     effort: Effort,
     watch: &T,
 ) -> Result<Verdict, EngineFault> {
-    let mut mine = open_values(rt, words.verbose, words.prec, upit)?;
+    let ValueFiles { mut upit, mut prec } = open_values(rt, words.verbose, words.prec, upit)?;
     let mut out = Counted::new(output(rt, words.verbose));
     solve_engine(
         rt,
         rt.alloc(),
-        &mut mine.upit,
-        &mut mine.prec,
+        &mut upit,
+        &mut prec,
         group,
         effort,
         watch,
@@ -141,23 +149,23 @@ fn solve_files<R: Files + Print + Eprint + Threads + Wait + Sync + AllocGlobal, 
 }
 
 // The same, and writes the trace of the run.
-fn trace_files<R: Files + Print + Eprint + Threads + Wait + Sync + AllocGlobal, T: Gate>(
-    rt: &R,
-    words: SolveWords<'_>,
-    upit: &str,
+fn trace_files<'a, R: Files + Print + Eprint + Threads + Wait + Sync + AllocGlobal, T: Gate>(
+    rt: &'a R,
+    words: SolveWords<'a>,
+    upit: &'a str,
     group: Group,
     effort: Effort,
-    asked: TraceAsked<'_>,
+    asked: TraceAsked<'a>,
     watch: &T,
 ) -> Result<Verdict, EngineFault> {
-    let mut mine = open_values(rt, words.verbose, words.prec, upit)?;
+    let ValueFiles { mut upit, mut prec } = open_values(rt, words.verbose, words.prec, upit)?;
     let mut trace = made_file(rt, words.verbose, asked.file)?;
     let mut out = Counted::new(output(rt, words.verbose));
     solve_traced_engine(
         rt,
         rt.alloc(),
-        &mut mine.upit,
-        &mut mine.prec,
+        &mut upit,
+        &mut prec,
         group,
         effort,
         asked.room,
@@ -169,26 +177,31 @@ fn trace_files<R: Files + Print + Eprint + Threads + Wait + Sync + AllocGlobal, 
 
 // Solves the mine of files of settings, blocks and precedence, at a factor.
 fn solve_priced_files<
+    'a,
     R: Files + Print + Eprint + Threads + Wait + Sync + AllocGlobal,
     T: Gate + Progress,
 >(
-    rt: &R,
-    words: SolveWords<'_>,
-    settings: &str,
-    blocks: &str,
+    rt: &'a R,
+    words: SolveWords<'a>,
+    settings: &'a str,
+    blocks: &'a str,
     factor: Factor,
     group: Group,
     effort: Effort,
     watch: &T,
 ) -> Result<Verdict, EngineFault> {
-    let mut mine = open_prices(rt, words.verbose, words.prec, settings, blocks)?;
+    let PricedFiles {
+        mut settings,
+        mut blocks,
+        mut prec,
+    } = open_prices(rt, words.verbose, words.prec, settings, blocks)?;
     let mut out = Counted::new(output(rt, words.verbose));
     solve_priced_engine(
         rt,
         rt.alloc(),
-        &mut mine.settings,
-        &mut mine.blocks,
-        &mut mine.prec,
+        &mut settings,
+        &mut blocks,
+        &mut prec,
         factor,
         group,
         effort,
@@ -198,26 +211,30 @@ fn solve_priced_files<
 }
 
 // The same, and writes the trace of the run.
-fn trace_priced_files<R: Files + Print + Eprint + Threads + Wait + Sync + AllocGlobal, T: Gate>(
-    rt: &R,
-    words: SolveWords<'_>,
-    settings: &str,
-    blocks: &str,
+fn trace_priced_files<'a, R: Files + Print + Eprint + Threads + Wait + Sync + AllocGlobal, T: Gate>(
+    rt: &'a R,
+    words: SolveWords<'a>,
+    settings: &'a str,
+    blocks: &'a str,
     factor: Factor,
     group: Group,
     effort: Effort,
-    asked: TraceAsked<'_>,
+    asked: TraceAsked<'a>,
     watch: &T,
 ) -> Result<Verdict, EngineFault> {
-    let mut mine = open_prices(rt, words.verbose, words.prec, settings, blocks)?;
+    let PricedFiles {
+        mut settings,
+        mut blocks,
+        mut prec,
+    } = open_prices(rt, words.verbose, words.prec, settings, blocks)?;
     let mut trace = made_file(rt, words.verbose, asked.file)?;
     let mut out = Counted::new(output(rt, words.verbose));
     solve_traced_priced_engine(
         rt,
         rt.alloc(),
-        &mut mine.settings,
-        &mut mine.blocks,
-        &mut mine.prec,
+        &mut settings,
+        &mut blocks,
+        &mut prec,
         factor,
         group,
         effort,
