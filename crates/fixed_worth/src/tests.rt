@@ -4,11 +4,30 @@ use crate::{
     WriteFault, WrittenNumber, behind_first, first_line_feed, is_separator, laws, plain_signed,
     signed_whole, trimmed_fraction, whole,
 };
+use std::alloc::Global;
+use std::fmt::{Debug, Display};
+use std::process::Abort;
 use std::test::Fail;
+
+// Fails the test where they differ. A call of it costs the proof less than the assertion in its place.
+fn equal<T: PartialEq + Debug + Copy>(rt: &impl Abort, got: T, wanted: T) {
+    assert_eq!(rt; got, wanted);
+}
+
+// The same, for a row of a table that begins with this text.
+fn equal_at<T: PartialEq + Debug + Copy>(rt: &impl Abort, text: &str, got: T, wanted: T) {
+    assert_eq!(rt; got, wanted, "at {text}");
+}
+
+// Something is printed as this text.
+fn prints<T: Display + Copy>(rt: &impl Abort, alloc: Global, shown: T, text: &str) {
+    let printed = shown.to_string(alloc).expect(rt, "room");
+    equal(rt, printed.as_str(), text);
+}
 
 #[test]
 fn whole_numbers(rt: HostRuntime) {
-    for (text, want) in [
+    for (text, want) in &[
         ("0", Ok(0)),
         ("18446744073709551615", Ok(u64::MAX)),
         ("18446744073709551616", Err(TooLarge)),
@@ -20,13 +39,13 @@ fn whole_numbers(rt: HostRuntime) {
         ("-0", Err(NotANumber)),
         ("1 ", Err(NotANumber)),
     ] {
-        assert_eq!(rt; whole(text.as_bytes()), want, "at {text}");
+        equal_at(&rt, text, whole(text.as_bytes()), *want);
     }
 }
 
 #[test]
 fn signed_numbers(rt: HostRuntime) {
-    for (text, want) in [
+    for (text, want) in &[
         ("-0", Ok(0)),
         ("+0", Ok(0)),
         ("-007", Ok(-7)),
@@ -40,13 +59,13 @@ fn signed_numbers(rt: HostRuntime) {
         ("-", Err(NotANumber)),
         ("--1", Err(NotANumber)),
     ] {
-        assert_eq!(rt; signed_whole(text.as_bytes()), want, "at {text}");
+        equal_at(&rt, text, signed_whole(text.as_bytes()), *want);
     }
 }
 
 #[test]
 fn plain_numbers(rt: HostRuntime) {
-    for (text, want) in [
+    for (text, want) in &[
         ("0", Ok(0)),
         ("5", Ok(5)),
         ("-50", Ok(-50)),
@@ -68,7 +87,7 @@ fn plain_numbers(rt: HostRuntime) {
         ("-05", Err(NotANumber)),
         ("5x", Err(NotANumber)),
     ] {
-        assert_eq!(rt; plain_signed(text.as_bytes()), want, "at {text}");
+        equal_at(&rt, text, plain_signed(text.as_bytes()), *want);
     }
 }
 
@@ -81,7 +100,7 @@ fn millionths_in(text: &[u8]) -> Result<i64, NumberFault> {
 
 #[test]
 fn decimals(rt: HostRuntime) {
-    for (text, want) in [
+    for (text, want) in &[
         ("0.0000005", Ok(1)),
         ("-0.0000005", Ok(-1)),
         ("1e-7", Ok(0)),
@@ -91,13 +110,13 @@ fn decimals(rt: HostRuntime) {
         ("1000000000000", Ok(1_000_000_000_000_000_000)),
         ("1000000000000.0000004", Ok(1_000_000_000_000_000_000)),
     ] {
-        assert_eq!(rt; millionths_in(text.as_bytes()), want, "at {text}");
+        equal_at(&rt, text, millionths_in(text.as_bytes()), *want);
     }
 }
 
 #[test]
 fn refused_decimals(rt: HostRuntime) {
-    for (text, want) in [
+    for (text, want) in &[
         ("1000000000000.000001", Err(TooLarge)),
         ("1e40", Err(TooLarge)),
         ("1e41", Err(TooLong)),
@@ -109,7 +128,7 @@ fn refused_decimals(rt: HostRuntime) {
         ("0x1", Err(NotANumber)),
         ("1.2.3", Err(NotANumber)),
     ] {
-        assert_eq!(rt; millionths_in(text.as_bytes()), want, "at {text}");
+        equal_at(&rt, text, millionths_in(text.as_bytes()), *want);
     }
 }
 
@@ -123,92 +142,71 @@ fn amounts_in_range(rt: HostRuntime) {
 
 #[test]
 fn printed_amounts(rt: HostRuntime) -> Result<(), Fail> {
-    for (nanos, text) in [
-        (-1_500_000_000, "-1.5"),
-        (0, "0"),
-        (1, "0.000000001"),
-        (-7_000_000_000, "-7"),
-        (i128::MIN, "-170141183460469231731687303715.884105728"),
-    ] {
-        assert_eq!(rt; Nanos(nanos).to_string(rt.alloc())?.as_str(), text);
-    }
+    let alloc = rt.alloc();
+    prints(&rt, alloc, Nanos(-1_500_000_000), "-1.5");
+    prints(&rt, alloc, Nanos(0), "0");
+    prints(&rt, alloc, Nanos(1), "0.000000001");
+    prints(&rt, alloc, Nanos(-7_000_000_000), "-7");
+    let least = "-170141183460469231731687303715.884105728";
+    prints(&rt, alloc, Nanos(i128::MIN), least);
     let total = MicrosTotal(10_000_000_000_000_000_001);
-    assert_eq!(rt;
-        total.to_string(rt.alloc())?.as_str(),
-        "10000000000000.000001"
-    );
+    prints(&rt, alloc, total, "10000000000000.000001");
     let half = Micros::new(-500_000).ok_or("half a unit is an amount")?;
-    assert_eq!(rt; half.to_string(rt.alloc())?.as_str(), "-0.5");
+    prints(&rt, alloc, half, "-0.5");
     Ok(())
 }
 
 #[test]
 fn trimmed_fractions(rt: HostRuntime) {
-    assert_eq!(rt; trimmed_fraction(1_500, 4), (15, 2));
-    assert_eq!(rt; trimmed_fraction(25, 6), (25, 6));
+    equal(&rt, trimmed_fraction(1_500, 4), (15, 2));
+    equal(&rt, trimmed_fraction(25, 6), (25, 6));
 }
 
 #[test]
 fn digits_of_numbers(rt: HostRuntime) {
     let mut digits = WrittenNumber::of(10);
-    assert_eq!(rt; digits.as_bytes(), b"10".as_slice());
-    for (n, text) in [
+    equal(&rt, digits.as_bytes(), b"10".as_slice());
+    for (n, text) in &[
         (0, "0"),
         (u64::MAX as u128, "18446744073709551615"),
         (u64::MAX as u128 + 1, "18446744073709551616"),
         (u128::MAX, "340282366920938463463374607431768211455"),
         (1_060, "1060"),
     ] {
-        digits.set(n);
-        assert_eq!(rt; digits.as_bytes(), text.as_bytes());
+        digits.set(*n);
+        equal(&rt, digits.as_bytes(), text.as_bytes());
     }
 }
 
 #[test]
-fn printed_faults(rt: HostRuntime) -> Result<(), Fail> {
-    for (fault, name) in [
-        (NotANumber, "NotANumber"),
-        (TooLong, "TooLong"),
-        (TooLarge, "TooLarge"),
-    ] {
-        assert_eq!(rt; fault.to_string(rt.alloc())?.as_str(), name);
-    }
-    assert_eq!(rt;
-        TextFault::LineTooLong.to_string(rt.alloc())?.as_str(),
-        "LineTooLong"
-    );
-    Ok(())
+fn printed_faults(rt: HostRuntime) {
+    prints(&rt, rt.alloc(), NotANumber, "NotANumber");
+    prints(&rt, rt.alloc(), TooLong, "TooLong");
+    prints(&rt, rt.alloc(), TooLarge, "TooLarge");
+    prints(&rt, rt.alloc(), TextFault::LineTooLong, "LineTooLong");
 }
 
 #[test]
-fn printed_device_faults(rt: HostRuntime) -> Result<(), Fail> {
-    for (fault, name) in [
-        (InputFault::Device, "Device"),
-        (InputFault::InputTooLong, "InputTooLong"),
-        (InputFault::NoMemory, "NoMemory"),
-    ] {
-        assert_eq!(rt; fault.to_string(rt.alloc())?.as_str(), name);
-    }
-    assert_eq!(rt;
-        WriteFault::Device.to_string(rt.alloc())?.as_str(),
-        "Device"
-    );
-    Ok(())
+fn printed_device_faults(rt: HostRuntime) {
+    prints(&rt, rt.alloc(), InputFault::Device, "Device");
+    prints(&rt, rt.alloc(), InputFault::InputTooLong, "InputTooLong");
+    prints(&rt, rt.alloc(), InputFault::NoMemory, "NoMemory");
+    prints(&rt, rt.alloc(), WriteFault::Device, "Device");
+}
+
+// A text's first line feed, and what stands behind its first byte.
+fn is_cut(rt: &impl Abort, text: &[u8], end: Option<usize>, behind: &[u8]) {
+    equal(rt, first_line_feed(text), end);
+    equal(rt, behind_first(text), behind);
 }
 
 #[test]
 fn where_a_text_is_cut(rt: HostRuntime) {
-    let rows: [(&[u8], Option<usize>, &[u8]); 4] = [
-        (b"", None, b""),
-        (b"a", None, b""),
-        (b"\nb", Some(0), b"b"),
-        (b"a:b\r\n\nc", Some(4), b":b\r\n\nc"),
-    ];
-    for (text, end, behind) in rows {
-        assert_eq!(rt; first_line_feed(text), end);
-        assert_eq!(rt; behind_first(text), behind);
-    }
-    for (byte, separates) in [
+    is_cut(&rt, b"", None, b"");
+    is_cut(&rt, b"a", None, b"");
+    is_cut(&rt, b"\nb", Some(0), b"b");
+    is_cut(&rt, b"a:b\r\n\nc", Some(4), b":b\r\n\nc");
+    for (byte, separates) in &[
         (b' ', true),
         (b'\t', true),
         (b':', true),
@@ -216,28 +214,37 @@ fn where_a_text_is_cut(rt: HostRuntime) {
         (b'\n', false),
         (b',', false),
     ] {
-        assert_eq!(rt; is_separator(byte), separates);
+        equal(&rt, is_separator(*byte), *separates);
     }
+}
+
+// The next line, and the number of lines by then.
+fn next_is(
+    rt: &impl Abort,
+    lines: &mut Lines,
+    line: Result<Option<&[u8]>, TextFault>,
+    number: u64,
+) {
+    equal(rt, lines.next_line(), line);
+    equal(rt, lines.number(), number);
 }
 
 #[test]
 fn lines_of_a_text(rt: HostRuntime) {
     let mut lines = Lines::new(b"one\n\ntwo\r\nend");
-    assert_eq!(rt; lines.number(), 0);
-    let rows: [(&[u8], u64); 4] = [(b"one", 1), (b"", 2), (b"two\r", 3), (b"end", 4)];
-    for (line, number) in rows {
-        assert_eq!(rt; lines.next_line(), Ok(Some(line)));
-        assert_eq!(rt; lines.number(), number);
-    }
-    assert_eq!(rt; lines.next_line(), Ok(None));
-    assert_eq!(rt; lines.number(), 4);
+    equal(&rt, lines.number(), 0);
+    next_is(&rt, &mut lines, Ok(Some(b"one")), 1);
+    next_is(&rt, &mut lines, Ok(Some(b"")), 2);
+    next_is(&rt, &mut lines, Ok(Some(b"two\r")), 3);
+    next_is(&rt, &mut lines, Ok(Some(b"end")), 4);
+    next_is(&rt, &mut lines, Ok(None), 4);
 }
 
 #[test]
 fn the_longest_line(rt: HostRuntime) -> Result<(), Fail> {
     let longest = vec![in rt.alloc(); b'a'; 65536]?;
     let mut lines = Lines::new(&longest);
-    assert_eq!(rt; lines.next_line(), Ok(Some(longest.as_slice())));
+    equal(&rt, lines.next_line(), Ok(Some(longest.as_slice())));
     Ok(())
 }
 
@@ -245,29 +252,30 @@ fn the_longest_line(rt: HostRuntime) -> Result<(), Fail> {
 fn a_line_too_long(rt: HostRuntime) -> Result<(), Fail> {
     let longer = vec![in rt.alloc(); b'a'; 65537]?;
     let mut lines = Lines::new(&longer);
-    for _again in 0..2 {
-        assert_eq!(rt; lines.next_line(), Err(TextFault::LineTooLong));
-        assert_eq!(rt; lines.number(), 0);
-    }
+    next_is(&rt, &mut lines, Err(TextFault::LineTooLong), 0);
+    next_is(&rt, &mut lines, Err(TextFault::LineTooLong), 0);
     Ok(())
+}
+
+fn next_field_is(rt: &impl Abort, fields: &mut Fields, text: &[u8], place: u32) {
+    equal(rt, fields.next(), Some(Field { text, place }));
 }
 
 #[test]
 fn fields_of_a_line(rt: HostRuntime) {
     let mut fields = Fields::new(b"  a:bc\td \r");
-    let rows: [(&[u8], u32); 3] = [(b"a", 2), (b"bc", 4), (b"d", 7)];
-    for (text, place) in rows {
-        assert_eq!(rt; fields.next(), Some(Field { text, place }));
-    }
-    assert_eq!(rt; fields.next(), None);
-    assert_eq!(rt; fields.next(), None);
+    next_field_is(&rt, &mut fields, b"a", 2);
+    next_field_is(&rt, &mut fields, b"bc", 4);
+    next_field_is(&rt, &mut fields, b"d", 7);
+    equal(&rt, fields.next(), None);
+    equal(&rt, fields.next(), None);
 }
 
 #[test]
 fn numbers_of_a_line(rt: HostRuntime) {
     let line = b" 12:x 18446744073709551616\t12345678 00000000000000000007 1234567\r";
     let mut fields = Fields::new(line);
-    for want in [
+    for want in &[
         Ok(12),
         Err(NotANumber),
         Err(TooLarge),
@@ -275,9 +283,9 @@ fn numbers_of_a_line(rt: HostRuntime) {
         Ok(7),
         Ok(1_234_567),
     ] {
-        assert_eq!(rt; fields.next_whole(), Some(want));
+        equal(&rt, fields.next_whole(), Some(*want));
     }
-    assert_eq!(rt; fields.next_whole(), None);
+    equal(&rt, fields.next_whole(), None);
 }
 
 // The millionths of the next field.
@@ -291,7 +299,7 @@ fn next_millionths(fields: &mut Fields) -> Option<Result<i64, NumberFault>> {
 #[test]
 fn amounts_of_a_line(rt: HostRuntime) {
     let mut fields = Fields::new(b"-15447.51 +.5 5.:1e-3 . 1000000000000.1 0.0000005 -7\r");
-    for want in [
+    for want in &[
         Ok(-15_447_510_000),
         Ok(500_000),
         Ok(5_000_000),
@@ -301,9 +309,9 @@ fn amounts_of_a_line(rt: HostRuntime) {
         Ok(1),
         Ok(-7_000_000),
     ] {
-        assert_eq!(rt; next_millionths(&mut fields), Some(want));
+        equal(&rt, next_millionths(&mut fields), Some(*want));
     }
-    assert_eq!(rt; next_millionths(&mut fields), None);
+    equal(&rt, next_millionths(&mut fields), None);
 }
 
 #[test]

@@ -2,7 +2,14 @@ use crate::{Pattern, PatternFault, SlopeFault, Up, rests_of};
 use blocks_file::{BlockModel, Place, read_blocks};
 use prec_file::Rests;
 use std::alloc::Global;
+use std::fmt::{Debug, Display};
+use std::process::Abort;
 use std::test::Fail;
+
+// Fails the test where they differ. A call of it costs the proof less than the assertion in its place.
+fn equal<T: PartialEq + Debug + Copy>(rt: &impl Abort, got: T, wanted: T) {
+    assert_eq!(rt; got, wanted);
+}
 
 // Three by three by two blocks, numbered 9z + 3y + x.
 const CUBE: &[u8] = b"0 0 0 0
@@ -118,154 +125,195 @@ fn agrees(alloc: Global, model: &BlockModel, pattern: &Pattern, up: Up) -> Resul
     Ok(true)
 }
 
-#[test]
-fn five_blocks_above(rt: HostRuntime) -> Result<(), Fail> {
-    let alloc: Global = rt.alloc();
-    let five = Pattern::five(alloc)?;
-    assert_eq!(rt;
-        five.offsets(),
-        [(-1, 0, 1), (0, -1, 1), (0, 0, 1), (0, 1, 1), (1, 0, 1)].as_slice()
-    );
-    let cone = Pattern::cone(alloc, 1, 1, 1)?;
-    assert_eq!(rt; cone.offsets(), five.offsets());
+// A pattern has these offsets, in this order.
+fn has_offsets(
+    rt: &impl Abort,
+    pattern: Result<Pattern, PatternFault>,
+    offsets: &[(i32, i32, i32)],
+) -> Result<(), Fail> {
+    let pattern = pattern?;
+    equal(rt, pattern.offsets(), offsets);
     Ok(())
 }
 
 #[test]
-fn nine_blocks_above(rt: HostRuntime) -> Result<(), Fail> {
+fn five_blocks_above(rt: HostRuntime) -> Result<(), Fail> {
     let alloc: Global = rt.alloc();
-    let nine = Pattern::nine(alloc)?;
-    assert_eq!(rt;
-        nine.offsets(),
-        [
-            (-1, -1, 1),
-            (-1, 0, 1),
-            (-1, 1, 1),
-            (0, -1, 1),
-            (0, 0, 1),
-            (0, 1, 1),
-            (1, -1, 1),
-            (1, 0, 1),
-            (1, 1, 1)
-        ]
-        .as_slice()
-    );
-    Ok(())
+    let wanted = [(-1, 0, 1), (0, -1, 1), (0, 0, 1), (0, 1, 1), (1, 0, 1)];
+    has_offsets(&rt, Pattern::five(alloc), &wanted)?;
+    has_offsets(&rt, Pattern::cone(alloc, 1, 1, 1), &wanted)
+}
+
+#[test]
+fn nine_blocks_above(rt: HostRuntime) -> Result<(), Fail> {
+    let wanted = [
+        (-1, -1, 1),
+        (-1, 0, 1),
+        (-1, 1, 1),
+        (0, -1, 1),
+        (0, 0, 1),
+        (0, 1, 1),
+        (1, -1, 1),
+        (1, 0, 1),
+        (1, 1, 1),
+    ];
+    has_offsets(&rt, Pattern::nine(rt.alloc()), &wanted)
+}
+
+// How many offsets a pattern has.
+fn count(pattern: Result<Pattern, PatternFault>) -> Result<usize, PatternFault> {
+    match pattern {
+        Ok(pattern) => Ok(pattern.offsets().len()),
+        Err(fault) => Err(fault),
+    }
 }
 
 #[test]
 fn cones(rt: HostRuntime) -> Result<(), Fail> {
     let alloc: Global = rt.alloc();
-    assert_eq!(rt; Pattern::cone(alloc, 2, 1, 1)?.offsets().len(), 18);
+    equal(&rt, count(Pattern::cone(alloc, 2, 1, 1)), Ok(18));
     // a cone so narrow that it has the blocks right above alone
-    assert_eq!(rt;
-        Pattern::cone(alloc, 3, 1, 1000)?.offsets(),
-        [(0, 0, 1), (0, 0, 2), (0, 0, 3)].as_slice()
-    );
+    let narrow = Pattern::cone(alloc, 3, 1, 1000);
+    has_offsets(&rt, narrow, &[(0, 0, 1), (0, 0, 2), (0, 0, 3)])?;
     let wide = Pattern::cone(alloc, 1000, 1000, 1);
-    assert!(rt; matches!(wide, Err(PatternFault::TooMany)));
+    equal(&rt, count(wide), Err(PatternFault::TooMany));
     Ok(())
 }
 
 #[test]
 fn listed_offsets(rt: HostRuntime) -> Result<(), Fail> {
     let alloc: Global = rt.alloc();
-    let listed = Pattern::custom(alloc, &[(1, 0, 2), (0, 0, 1), (1, 0, 2)])?;
-    assert_eq!(rt; listed.offsets(), [(0, 0, 1), (1, 0, 2)].as_slice());
-    assert_eq!(rt; Pattern::custom(alloc, &[])?.offsets().len(), 0);
+    let listed = Pattern::custom(alloc, &[(1, 0, 2), (0, 0, 1), (1, 0, 2)]);
+    has_offsets(&rt, listed, &[(0, 0, 1), (1, 0, 2)])?;
+    equal(&rt, count(Pattern::custom(alloc, &[])), Ok(0));
     let level = Pattern::custom(alloc, &[(0, 0, 1), (0, 0, 0)]);
-    assert!(rt; matches!(level, Err(PatternFault::NotUpward(1))));
+    equal(&rt, count(level), Err(PatternFault::NotUpward(1)));
     Ok(())
+}
+
+// How many offsets are left of the same one, listed so many times, and then of another, if there is one.
+fn count_repeated(
+    alloc: Global,
+    times: usize,
+    last: Option<(i32, i32, i32)>,
+) -> Result<Result<usize, PatternFault>, Fail> {
+    let mut offsets = vec![in alloc; (0, 0, 1); times]?;
+    if let Some(last) = last {
+        offsets.push(last)?;
+    }
+    Ok(count(Pattern::custom(alloc, &offsets)))
 }
 
 #[test]
 fn too_many_listed_offsets(rt: HostRuntime) -> Result<(), Fail> {
     let alloc: Global = rt.alloc();
-    let most = vec![in alloc; (0, 0, 1); 4_096]?;
-    assert_eq!(rt; Pattern::custom(alloc, &most)?.offsets().len(), 1);
-    let mut more = vec![in alloc; (0, 0, 1); 4_097]?;
-    let repeated = Pattern::custom(alloc, &more);
-    assert!(rt; matches!(repeated, Err(PatternFault::TooMany)));
-    more.push((0, 0, -1))?;
-    let downward = Pattern::custom(alloc, &more);
-    assert!(rt; matches!(downward, Err(PatternFault::NotUpward(4_097))));
+    let most = count_repeated(alloc, 4_096, None)?;
+    equal(&rt, most, Ok(1));
+    let repeated = count_repeated(alloc, 4_097, None)?;
+    equal(&rt, repeated, Err(PatternFault::TooMany));
+    let downward = count_repeated(alloc, 4_097, Some((0, 0, -1)))?;
+    equal(&rt, downward, Err(PatternFault::NotUpward(4_097)));
     Ok(())
+}
+
+// The pairs of a text's blocks by a pattern.
+fn pairs_of(
+    alloc: Global,
+    text: &[u8],
+    pattern: Result<Pattern, PatternFault>,
+    up: Up,
+) -> Result<Rests, Fail> {
+    let pattern = pattern?;
+    let model = model(alloc, text)?;
+    Ok(rests_of(alloc, &model, &pattern, up)?)
 }
 
 #[test]
 fn nine_above_on_a_cube(rt: HostRuntime) -> Result<(), Fail> {
     let alloc: Global = rt.alloc();
-    let cube = model(alloc, CUBE)?;
-    let rests = rests_of(alloc, &cube, &Pattern::nine(alloc)?, Up::PlusZ)?;
-    assert_eq!(rt; rests.pairs(), 49);
-    assert_eq!(rt;
-        above(&rests, 4),
-        [9, 10, 11, 12, 13, 14, 15, 16, 17].as_slice()
-    );
-    assert_eq!(rt; above(&rests, 0), [9, 10, 12, 13].as_slice());
-    assert_eq!(rt; above(&rests, 17).len(), 0);
+    let rests = pairs_of(alloc, CUBE, Pattern::nine(alloc), Up::PlusZ)?;
+    equal(&rt, rests.pairs(), 49);
+    let of_middle = [9, 10, 11, 12, 13, 14, 15, 16, 17];
+    equal(&rt, above(&rests, 4), of_middle.as_slice());
+    equal(&rt, above(&rests, 0), [9, 10, 12, 13].as_slice());
+    equal(&rt, above(&rests, 17).len(), 0);
     Ok(())
 }
 
 #[test]
 fn five_below_on_a_cube(rt: HostRuntime) -> Result<(), Fail> {
     let alloc: Global = rt.alloc();
-    let cube = model(alloc, CUBE)?;
-    let rests = rests_of(alloc, &cube, &Pattern::five(alloc)?, Up::MinusZ)?;
-    assert_eq!(rt; above(&rests, 13), [1, 3, 4, 5, 7].as_slice());
-    assert_eq!(rt; above(&rests, 4).len(), 0);
+    let rests = pairs_of(alloc, CUBE, Pattern::five(alloc), Up::MinusZ)?;
+    equal(&rt, above(&rests, 13), [1, 3, 4, 5, 7].as_slice());
+    equal(&rt, above(&rests, 4).len(), 0);
     Ok(())
+}
+
+// Whether these have so many pairs, and the same as the mirrored cube has upward.
+fn mirrored(alloc: Global, down: &Rests, pairs: u32) -> Result<bool, Fail> {
+    let up = pairs_of(alloc, MIRRORED_CUBE, Pattern::nine(alloc), Up::PlusZ)?;
+    Ok(down.pairs() == pairs && same(down, &up))
 }
 
 #[test]
 fn upside_down(rt: HostRuntime) -> Result<(), Fail> {
     let alloc: Global = rt.alloc();
-    let cube = model(alloc, CUBE)?;
-    let mirrored = model(alloc, MIRRORED_CUBE)?;
-    let nine = Pattern::nine(alloc)?;
-    let down = rests_of(alloc, &cube, &nine, Up::MinusZ)?;
-    let up = rests_of(alloc, &mirrored, &nine, Up::PlusZ)?;
-    assert_eq!(rt; down.pairs(), 49);
-    assert!(rt; same(&down, &up));
+    let down = pairs_of(alloc, CUBE, Pattern::nine(alloc), Up::MinusZ)?;
+    assert!(rt; mirrored(alloc, &down, 49)?);
     Ok(())
+}
+
+// Whether the pairs are those of the definition, in either direction.
+fn agree(
+    alloc: Global,
+    text: &[u8],
+    pattern: Result<Pattern, PatternFault>,
+) -> Result<(bool, bool), Fail> {
+    let pattern = pattern?;
+    let model = model(alloc, text)?;
+    agree_both_ways(alloc, &model, &pattern)
+}
+
+fn agree_both_ways(
+    alloc: Global,
+    model: &BlockModel,
+    pattern: &Pattern,
+) -> Result<(bool, bool), Fail> {
+    let up = agrees(alloc, model, pattern, Up::PlusZ)?;
+    let down = agrees(alloc, model, pattern, Up::MinusZ)?;
+    Ok((up, down))
 }
 
 #[test]
 fn pairs_are_those_of_the_definition(rt: HostRuntime) -> Result<(), Fail> {
     let alloc: Global = rt.alloc();
     // no order, gaps, and heights of two kinds
-    let scattered = model(alloc, b"3 5 -2 7\n0 4 -2 6\n4 5 -3 8\n1 5 -2 8\n2 4 -3 7\n")?;
-    let cone = Pattern::cone(alloc, 2, 3, 2)?;
-    assert!(rt; agrees(alloc, &scattered, &cone, Up::PlusZ)?);
-    assert!(rt; agrees(alloc, &scattered, &cone, Up::MinusZ)?);
-    let cube = model(alloc, CUBE)?;
-    let lopsided = Pattern::custom(alloc, &[(1, 0, 1), (-2, 1, 1)])?;
-    assert!(rt; agrees(alloc, &cube, &lopsided, Up::PlusZ)?);
-    assert!(rt; agrees(alloc, &cube, &lopsided, Up::MinusZ)?);
+    let scattered = b"3 5 -2 7\n0 4 -2 6\n4 5 -3 8\n1 5 -2 8\n2 4 -3 7\n";
+    let of_cone = agree(alloc, scattered, Pattern::cone(alloc, 2, 3, 2))?;
+    equal(&rt, of_cone, (true, true));
+    let lopsided = Pattern::custom(alloc, &[(1, 0, 1), (-2, 1, 1)]);
+    let of_cube = agree(alloc, CUBE, lopsided)?;
+    equal(&rt, of_cube, (true, true));
     Ok(())
 }
 
-// The number of pairs of a model by one offset.
-fn pairs_at(
-    alloc: Global,
-    model: &BlockModel,
-    offset: (i32, i32, i32),
-    up: Up,
-) -> Result<u32, Fail> {
-    let pattern = Pattern::custom(alloc, &[offset])?;
-    Ok(rests_of(alloc, model, &pattern, up)?.pairs())
+// The number of pairs of a text's blocks by one offset.
+fn pairs_at(alloc: Global, text: &[u8], offset: (i32, i32, i32), up: Up) -> Result<u32, Fail> {
+    let rests = pairs_of(alloc, text, Pattern::custom(alloc, &[offset]), up)?;
+    Ok(rests.pairs())
 }
 
 #[test]
 fn no_offset_goes_round(rt: HostRuntime) -> Result<(), Fail> {
     let alloc: Global = rt.alloc();
-    let ends = model(alloc, b"0 2147483647 0 0\n1 -2147483648 0 1\n")?;
-    assert_eq!(rt; pairs_at(alloc, &ends, (1, 0, 1), Up::PlusZ)?, 0);
-    let heights = model(alloc, b"0 0 0 2147483647\n1 0 0 -2147483648\n")?;
+    let ends = b"0 2147483647 0 0\n1 -2147483648 0 1\n";
+    equal(&rt, pairs_at(alloc, ends, (1, 0, 1), Up::PlusZ)?, 0);
+    let heights = b"0 0 0 2147483647\n1 0 0 -2147483648\n";
     // the differences of the ends, too, are no offset
-    for (up, rise) in [(Up::PlusZ, 1), (Up::MinusZ, 1), (Up::MinusZ, 2_147_483_647)] {
-        assert_eq!(rt; pairs_at(alloc, &heights, (0, 0, rise), up)?, 0);
-    }
+    equal(&rt, pairs_at(alloc, heights, (0, 0, 1), Up::PlusZ)?, 0);
+    equal(&rt, pairs_at(alloc, heights, (0, 0, 1), Up::MinusZ)?, 0);
+    let rise = 2_147_483_647;
+    equal(&rt, pairs_at(alloc, heights, (0, 0, rise), Up::MinusZ)?, 0);
     Ok(())
 }
 
@@ -290,36 +338,32 @@ fn same_place(rt: HostRuntime) -> Result<(), Fail> {
 #[test]
 fn no_offsets(rt: HostRuntime) -> Result<(), Fail> {
     let alloc: Global = rt.alloc();
-    let none = Pattern::custom(alloc, &[])?;
-    let free = rests_of(alloc, &model(alloc, CUBE)?, &none, Up::PlusZ)?;
-    assert_eq!(rt; (free.len(), free.pairs()), (18, 0));
+    let free = pairs_of(alloc, CUBE, Pattern::custom(alloc, &[]), Up::PlusZ)?;
+    equal(&rt, (free.len(), free.pairs()), (18, 0));
     Ok(())
 }
 
 #[test]
 fn no_blocks(rt: HostRuntime) -> Result<(), Fail> {
     let alloc: Global = rt.alloc();
-    let nine = Pattern::nine(alloc)?;
-    let empty = rests_of(alloc, &model(alloc, b"")?, &nine, Up::PlusZ)?;
-    assert_eq!(rt; (empty.len(), empty.pairs()), (0, 0));
+    let empty = pairs_of(alloc, b"", Pattern::nine(alloc), Up::PlusZ)?;
+    equal(&rt, (empty.len(), empty.pairs()), (0, 0));
     Ok(())
 }
 
+// Something is printed as this text.
+fn prints<T: Display + Copy>(rt: &impl Abort, alloc: Global, shown: T, text: &str) {
+    let printed = shown.to_string(alloc).expect(rt, "room");
+    equal(rt, printed.as_str(), text);
+}
+
 #[test]
-fn printed_faults(rt: HostRuntime) -> Result<(), Fail> {
-    for (fault, name) in [
-        (PatternFault::NotUpward(1), "NotUpward(1)"),
-        (PatternFault::TooMany, "TooMany"),
-        (PatternFault::NoMemory, "NoMemory"),
-    ] {
-        assert_eq!(rt; fault.to_string(rt.alloc())?.as_str(), name);
-    }
-    for (fault, name) in [
-        (SlopeFault::SamePlace(0, 1), "SamePlace(0, 1)"),
-        (SlopeFault::TooMany, "TooMany"),
-        (SlopeFault::NoMemory, "NoMemory"),
-    ] {
-        assert_eq!(rt; fault.to_string(rt.alloc())?.as_str(), name);
-    }
-    Ok(())
+fn printed_faults(rt: HostRuntime) {
+    let alloc: Global = rt.alloc();
+    prints(&rt, alloc, PatternFault::NotUpward(1), "NotUpward(1)");
+    prints(&rt, alloc, PatternFault::TooMany, "TooMany");
+    prints(&rt, alloc, PatternFault::NoMemory, "NoMemory");
+    prints(&rt, alloc, SlopeFault::SamePlace(0, 1), "SamePlace(0, 1)");
+    prints(&rt, alloc, SlopeFault::TooMany, "TooMany");
+    prints(&rt, alloc, SlopeFault::NoMemory, "NoMemory");
 }

@@ -1,8 +1,14 @@
 use crate::{Upit, UpitFault, declared_blocks, laws, read_upit, write_upit};
-use fixed_worth::{Counted, WriteFault};
+use fixed_worth::{Counted, CountedWrite, Micros, WriteFault};
 use std::alloc::Global;
+use std::fmt::Debug;
 use std::process::Abort;
 use std::test::Fail;
+
+// Fails the test where they differ. A call of it costs the proof less than the assertion in its place.
+fn equal<T: PartialEq + Debug + Copy>(rt: &impl Abort, got: T, wanted: T) {
+    assert_eq!(rt; got, wanted);
+}
 
 const SAMPLE: &[u8] =
     b"% a comment\r\nNAME: a b\r\nTYPE:UPIT\r\nNBLOCKS:2\r\nCREATED: today\r\nOBJECTIVE_FUNCTION:\r\n1 -2.5e0\r\nEOF\r\nrubbish here and there";
@@ -15,26 +21,44 @@ fn fault(alloc: Global, text: &[u8]) -> Option<UpitFault> {
 // Each text has this fault, if any, where three blocks are asked for.
 fn have_their_faults(rt: &impl Abort, alloc: Global, rows: &[(&[u8], Option<UpitFault>)]) {
     for (text, wanted) in rows {
-        assert_eq!(rt; fault(alloc, text), *wanted);
+        equal(rt, fault(alloc, text), *wanted);
     }
+}
+
+fn sample(alloc: Global) -> Result<Upit, Fail> {
+    Ok(read_upit(alloc, SAMPLE, 2).ok().ok_or("read")?)
+}
+
+// Whether the text of the sample tells its name and its two values.
+fn tells_the_sample(upit: &Upit) -> bool {
+    if upit.len() != 2 {
+        return false;
+    }
+    upit.name() == b"a b".as_slice()
+        && upit.value(0).get() == 0
+        && upit.value(1).get() == -2_500_000
 }
 
 #[test]
 fn a_whole_text(rt: HostRuntime) -> Result<(), Fail> {
-    assert_eq!(rt; declared_blocks(SAMPLE), Ok(2));
-    let upit = read_upit(rt.alloc(), SAMPLE, 2).ok().ok_or("read")?;
-    assert_eq!(rt; upit.len(), 2);
-    assert_eq!(rt; upit.name(), b"a b".as_slice());
-    assert_eq!(rt; (upit.value(0).get(), upit.value(1).get()), (0, -2_500_000));
+    equal(&rt, declared_blocks(SAMPLE), Ok(2));
+    let upit = sample(rt.alloc())?;
+    assert!(rt; tells_the_sample(&upit));
     Ok(())
+}
+
+// Two values in millionths, if there are two.
+fn two_values(values: &[Micros]) -> Option<(i64, i64)> {
+    if values.len() != 2 {
+        return None;
+    }
+    Some((values[0].get(), values[1].get()))
 }
 
 #[test]
 fn values_in_a_row(rt: HostRuntime) -> Result<(), Fail> {
-    let upit = read_upit(rt.alloc(), SAMPLE, 2).ok().ok_or("read")?;
-    let values = upit.values();
-    assert_eq!(rt; values.len(), 2);
-    assert_eq!(rt; (values[0].get(), values[1].get()), (0, -2_500_000));
+    let upit = sample(rt.alloc())?;
+    equal(&rt, two_values(upit.values()), Some((0, -2_500_000)));
     Ok(())
 }
 
@@ -77,7 +101,7 @@ fn names(rt: HostRuntime) {
         (b"NAME: a\nNBLOCKS 0\nNAME:\nOBJECTIVE_FUNCTION", b""),
         (b"NBLOCKS 0\nOBJECTIVE_FUNCTION", b""),
     ];
-    for (text, name) in rows {
+    for (text, name) in &rows {
         assert!(rt; has_name(rt.alloc(), text, name));
     }
 }
@@ -101,14 +125,17 @@ fn named_by(alloc: Global, len: usize) -> Result<Vec<u8>, Fail> {
     Ok(text)
 }
 
+// The blocks that a text declares whose name has so many bytes.
+fn blocks_named_by(alloc: Global, len: usize) -> Result<Result<u32, UpitFault>, Fail> {
+    let text = named_by(alloc, len)?;
+    Ok(declared_blocks(text.as_slice()))
+}
+
 #[test]
 fn long_names(rt: HostRuntime) -> Result<(), Fail> {
-    let alloc: Global = rt.alloc();
-    assert_eq!(rt; declared_blocks(named_by(alloc, 60_000)?.as_slice()), Ok(0));
-    assert_eq!(rt;
-        declared_blocks(named_by(alloc, 60_001)?.as_slice()),
-        Err(UpitFault::Text(1))
-    );
+    equal(&rt, blocks_named_by(rt.alloc(), 60_000)?, Ok(0));
+    let longer = blocks_named_by(rt.alloc(), 60_001)?;
+    equal(&rt, longer, Err(UpitFault::Text(1)));
     Ok(())
 }
 
@@ -119,16 +146,12 @@ fn is_given(alloc: Global, name: &[u8]) -> Result<bool, Fail> {
 
 #[test]
 fn given_names(rt: HostRuntime) -> Result<(), Fail> {
-    let rows: [(&[u8], bool); 5] = [
-        (b"", true),
-        (b"a : b", true),
-        (b" a", false),
-        (b"a:", false),
-        (b"a\nb", false),
-    ];
-    for (name, wanted) in rows {
-        assert_eq!(rt; is_given(rt.alloc(), name)?, wanted);
-    }
+    let alloc: Global = rt.alloc();
+    equal(&rt, is_given(alloc, b"")?, true);
+    equal(&rt, is_given(alloc, b"a : b")?, true);
+    equal(&rt, is_given(alloc, b" a")?, false);
+    equal(&rt, is_given(alloc, b"a:")?, false);
+    equal(&rt, is_given(alloc, b"a\nb")?, false);
     Ok(())
 }
 
@@ -149,8 +172,8 @@ fn block_counts(rt: HostRuntime) {
             Ok(16_777_216),
         ),
     ];
-    for (text, wanted) in rows {
-        assert_eq!(rt; declared_blocks(text), wanted);
+    for (text, wanted) in &rows {
+        equal(&rt, declared_blocks(text), *wanted);
     }
 }
 
@@ -196,48 +219,55 @@ fn records(rt: HostRuntime) {
 #[test]
 fn long_lines(rt: HostRuntime) -> Result<(), Fail> {
     let line = [b'%'; 65_537];
-    assert_eq!(rt; fault(rt.alloc(), &line), Some(UpitFault::Text(1)));
-    assert_eq!(rt; declared_blocks(&line), Err(UpitFault::Text(1)));
+    equal(&rt, fault(rt.alloc(), &line), Some(UpitFault::Text(1)));
+    equal(&rt, declared_blocks(&line), Err(UpitFault::Text(1)));
     let (short, _) = line.as_slice().split_at(65_536);
-    assert_eq!(rt; fault(rt.alloc(), short), Some(UpitFault::NoObjective(1)));
+    let wanted = Some(UpitFault::NoObjective(1));
+    equal(&rt, fault(rt.alloc(), short), wanted);
+    Ok(())
+}
+
+fn prints(rt: &impl Abort, alloc: Global, fault: UpitFault, text: &str) -> Result<(), Fail> {
+    let printed = fault.to_string(alloc)?;
+    equal(rt, printed.as_str(), text);
     Ok(())
 }
 
 #[test]
 fn printed_faults(rt: HostRuntime) -> Result<(), Fail> {
-    let alloc: Global = rt.alloc();
-    assert_eq!(rt;
-        UpitFault::WrongBlocks(4).to_string(alloc)?.as_str(),
-        "WrongBlocks(4)"
-    );
-    assert_eq!(rt; UpitFault::NoMemory.to_string(alloc)?.as_str(), "NoMemory");
-    Ok(())
+    prints(&rt, rt.alloc(), UpitFault::WrongBlocks(4), "WrongBlocks(4)")?;
+    prints(&rt, rt.alloc(), UpitFault::NoMemory, "NoMemory")
 }
 
 const WRITTEN: &[u8] =
     b"NAME: a b\nTYPE: UPIT\nNBLOCKS: 3\nOBJECTIVE_FUNCTION:\n0 0\n1 -2.5\n2 1000000000000\nEOF\n";
 
+// What is read is written as this text.
+fn writes(rt: &impl Abort, alloc: Global, upit: &Upit, text: &[u8]) {
+    let mut out = Counted::new(Vec::new(alloc));
+    let answer = write_upit(upit, &mut out);
+    let received = out.into_inner();
+    assert!(rt; answer == Ok(()) && received.as_slice() == text);
+}
+
+fn written_sample(alloc: Global) -> Result<Upit, Fail> {
+    Ok(read_upit(alloc, WRITTEN, 3).ok().ok_or("read")?)
+}
+
 #[test]
 fn a_written_text(rt: HostRuntime) -> Result<(), Fail> {
-    let upit = read_upit(rt.alloc(), WRITTEN, 3).ok().ok_or("read")?;
-    let mut out = Counted::new(Vec::new(rt.alloc()));
-    assert_eq!(rt; write_upit(&upit, &mut out), Ok(()));
+    let upit = written_sample(rt.alloc())?;
     laws::written_is_read(&upit);
-    assert_eq!(rt; out.into_inner().as_slice(), WRITTEN);
+    writes(&rt, rt.alloc(), &upit, WRITTEN);
     Ok(())
 }
 
 // Whatever a text's spelling, what it says is written in one way.
 #[test]
 fn a_read_text_is_written_plainly(rt: HostRuntime) -> Result<(), Fail> {
-    let alloc: Global = rt.alloc();
-    let upit = read_upit(alloc, SAMPLE, 2).ok().ok_or("read")?;
-    let mut out = Counted::new(Vec::new(alloc));
-    assert_eq!(rt; write_upit(&upit, &mut out), Ok(()));
-    assert_eq!(rt;
-        out.into_inner().as_slice(),
-        b"NAME: a b\nTYPE: UPIT\nNBLOCKS: 2\nOBJECTIVE_FUNCTION:\n0 0\n1 -2.5\nEOF\n".as_slice()
-    );
+    let upit = sample(rt.alloc())?;
+    let plain = b"NAME: a b\nTYPE: UPIT\nNBLOCKS: 2\nOBJECTIVE_FUNCTION:\n0 0\n1 -2.5\nEOF\n";
+    writes(&rt, rt.alloc(), &upit, plain);
     Ok(())
 }
 
@@ -245,22 +275,24 @@ fn a_read_text_is_written_plainly(rt: HostRuntime) -> Result<(), Fail> {
 fn an_empty_text(rt: HostRuntime) -> Result<(), Fail> {
     let alloc: Global = rt.alloc();
     let upit = Upit::new(Vec::new(alloc), Vec::new(alloc)).ok_or("name")?;
-    let mut out = Counted::new(Vec::new(alloc));
-    assert_eq!(rt; write_upit(&upit, &mut out), Ok(()));
-    assert_eq!(rt;
-        out.into_inner().as_slice(),
-        b"NAME: \nTYPE: UPIT\nNBLOCKS: 0\nOBJECTIVE_FUNCTION:\nEOF\n".as_slice()
-    );
+    let empty = b"NAME: \nTYPE: UPIT\nNBLOCKS: 0\nOBJECTIVE_FUNCTION:\nEOF\n";
+    writes(&rt, alloc, &upit, empty);
     Ok(())
+}
+
+// The answer of a device that has room for twenty bytes, how often it failed, and whether it has a prefix.
+fn into_twenty(upit: &Upit) -> (Result<(), WriteFault>, u64, bool) {
+    let mut room = [0u8; 20];
+    let mut out = Counted::new(room.as_mut_slice());
+    let answer = write_upit(upit, &mut out);
+    let failures = out.failures();
+    (answer, failures, WRITTEN.starts_with(&room))
 }
 
 #[test]
 fn a_full_device(rt: HostRuntime) -> Result<(), Fail> {
-    let mut room = [0u8; 20];
-    let upit = read_upit(rt.alloc(), WRITTEN, 3).ok().ok_or("read")?;
-    let mut out = Counted::new(room.as_mut_slice());
-    assert_eq!(rt; write_upit(&upit, &mut out), Err(WriteFault::Device));
-    assert_eq!(rt; out.failures(), 1);
-    assert!(rt; WRITTEN.starts_with(&room));
+    let upit = written_sample(rt.alloc())?;
+    let wanted = (Err(WriteFault::Device), 1, true);
+    equal(&rt, into_twenty(&upit), wanted);
     Ok(())
 }
