@@ -1,5 +1,7 @@
-ghost use Rattle.std.specs.Prelude.{◌≤◌};
+ghost use Rattle.std.specs.Prelude.{◌≤◌, length, IfOk};
+ghost use Rattle.check_pit.specs.Certificate.{Covers};
 
+use crate::check_tests::{is_printed, rests_of, same};
 use crate::reading::header;
 use crate::{CertFault, Certificate, Header, Price, read_certificate, write_certificate};
 use closure_net::Flow;
@@ -16,28 +18,48 @@ const WORTH: &[u8] =
 const PAIR: &[u8] =
     b"PITCERT 1\nBLOCKS 3\nPRICE OBJECTIVE\nGROUP PAIR\nPIT 0\nPIT 1\nPIT 2\nSOURCE 0 6000000000 -1\nSOURCE 1 4000000000 2\nREST 0 2 6000000000 -1\nREST 1 2 4000000000 2\nSINK 2 10000000000 1\nEND\n";
 
+const HEADER: &[u8] = b"PITCERT 1\nBLOCKS 3\nPRICE OBJECTIVE\nGROUP WORTH\n";
+
 // Three blocks, of which the first two rest on the last.
-fn rests(alloc: Global) -> Result<Rests, Fail> {
-    let rests = Rests::from_pairs(alloc, 3, [(0, 2), (1, 2)].as_slice())
-        .ok()
-        .ok_or("rests")?;
-    Ok(rests)
+pub fn rests(alloc: Global) -> Result<Rests, Fail> {
+    rests_of(alloc, 3, &[(0, 2), (1, 2)])
 }
 
-fn fault(alloc: Global, text: &[u8]) -> Result<Option<CertFault>, Fail> {
+pub fn read_over<G: OrderedGroup>(
+    alloc: Global,
+    text: &[u8],
+    rests: &Rests,
+) -> Result<Certificate<G>, Fail>
+    ensures { IfOk result (λ c. Covers rests.now.blocks (length rests.now.pairs) c.flow) }
+{
+    let Ok(read) = read_certificate(alloc, text, rests) else {
+        return Err(Fail::from("read"));
+    };
+    Ok(read)
+}
+
+// The certificate of the three blocks that a text is.
+fn read<G: OrderedGroup>(alloc: Global, text: &[u8]) -> Result<Certificate<G>, Fail> {
     let rests = rests(alloc)?;
-    let read: Result<Certificate<Worth>, CertFault> = read_certificate(alloc, text, &rests);
+    read_over(alloc, text, &rests)
+}
+
+// The fault of a text as a certificate of the three blocks.
+pub fn fault_in<G: OrderedGroup>(alloc: Global, text: &[u8]) -> Result<Option<CertFault>, Fail> {
+    let rests = rests(alloc)?;
+    let read: Result<Certificate<G>, CertFault> = read_certificate(alloc, text, &rests);
     Ok(read.err())
 }
 
-// The header, and these lines behind it.
-fn with_header(alloc: Global, body: &[u8]) -> Result<Vec<u8>, Fail> {
-    let mut text = Vec::from_slice(
-        alloc,
-        b"PITCERT 1\nBLOCKS 3\nPRICE OBJECTIVE\nGROUP WORTH\n".as_slice(),
-    )?;
-    text.extend_from_slice(body)?;
-    Ok(text)
+fn fault(alloc: Global, text: &[u8]) -> Result<Option<CertFault>, Fail> {
+    fault_in::<Worth>(alloc, text)
+}
+
+// The fault of a text with more behind it.
+fn fault_with(alloc: Global, text: &[u8], more: &[u8]) -> Result<Option<CertFault>, Fail> {
+    let mut whole = Vec::from_slice(alloc, text)?;
+    whole.extend_from_slice(more)?;
+    fault(alloc, &whole)
 }
 
 // Lines behind the header, and the fault that they are.
@@ -45,7 +67,7 @@ type Row = (&'static [u8], Option<CertFault>);
 
 fn have_their_faults(rt: &impl Abort, alloc: Global, rows: &[Row]) -> Result<(), Fail> {
     for (body, wanted) in rows {
-        assert_eq!(rt; fault(alloc, &with_header(alloc, body)?)?, *wanted);
+        same(rt, fault_with(alloc, HEADER, body)?, *wanted);
     }
     Ok(())
 }
@@ -59,32 +81,38 @@ fn carries<G: OrderedGroup>(flow: &Flow<G>, source: &[G], rest: &[G; 2], sink: &
         && [over.at(0), over.at(1)] == *rest
 }
 
+// Fails the test where a certificate doesn't say the pit of all three blocks and these amounts.
+fn says<G: OrderedGroup>(
+    rt: &impl Abort,
+    read: &Certificate<G>,
+    source: &[G],
+    rest: &[G; 2],
+    sink: &[G],
+) {
+    same(rt, read.pit.blocks(), [0, 1, 2].as_slice());
+    same(rt, carries(&read.flow, source, rest, sink), true);
+}
+
 #[test]
 fn worth_is_read(rt: HostRuntime) -> Result<(), Fail> {
-    let alloc: Global = rt.alloc();
-    let rests = rests(alloc)?;
-    let read: Certificate<Worth> = read_certificate(alloc, WORTH, &rests).ok().ok_or("read")?;
-    assert_eq!(rt; (read.blocks, read.price), (3, Price::Objective));
-    assert_eq!(rt; read.pit.blocks(), [0, 1, 2].as_slice());
     let amount = |nanos| Worth { nanos };
     let rest = [amount(6_000_000_000), amount(4_000_000_000)];
     let source = [rest[0], rest[1], amount(0)];
     let sink = [amount(0), amount(0), amount(10_000_000_000)];
-    assert!(rt; carries(&read.flow, &source, &rest, &sink));
+    let read = read::<Worth>(rt.alloc(), WORTH)?;
+    same(&rt, (read.blocks, read.price), (3, Price::Objective));
+    says(&rt, &read, &source, &rest, &sink);
     Ok(())
 }
 
 #[test]
 fn pairs_are_read(rt: HostRuntime) -> Result<(), Fail> {
-    let alloc: Global = rt.alloc();
-    let rests = rests(alloc)?;
-    let read: Certificate<WorthSize> = read_certificate(alloc, PAIR, &rests).ok().ok_or("read")?;
-    assert_eq!(rt; read.pit.blocks(), [0, 1, 2].as_slice());
     let amount = |nanos, size| WorthSize { nanos, size };
     let rest = [amount(6_000_000_000, -1), amount(4_000_000_000, 2)];
     let source = [rest[0], rest[1], amount(0, 0)];
     let sink = [amount(0, 0), amount(0, 0), amount(10_000_000_000, 1)];
-    assert!(rt; carries(&read.flow, &source, &rest, &sink));
+    let read = read::<WorthSize>(rt.alloc(), PAIR)?;
+    says(&rt, &read, &source, &rest, &sink);
     Ok(())
 }
 
@@ -104,11 +132,12 @@ fn texts_that_stop_early_are_truncated(rt: HostRuntime) -> Result<(), Fail> {
 
 #[test]
 fn nothing_stands_behind_the_end(rt: HostRuntime) -> Result<(), Fail> {
-    let alloc: Global = rt.alloc();
     for more in [b"END\n".as_slice(), b"\n".as_slice(), b"x".as_slice()] {
-        let mut text = Vec::from_slice(alloc, WORTH)?;
-        text.extend_from_slice(more)?;
-        assert_eq!(rt; fault(alloc, &text)?, Some(CertFault::Text(14)));
+        same(
+            &rt,
+            fault_with(rt.alloc(), WORTH, more)?,
+            Some(CertFault::Text(14)),
+        );
     }
     Ok(())
 }
@@ -151,14 +180,24 @@ fn numbers_have_one_spelling(rt: HostRuntime) -> Result<(), Fail> {
     have_their_faults(&rt, rt.alloc(), &rows)
 }
 
+// The fault of so many bytes without an end of a line behind the header.
+fn fault_of_line(alloc: Global, length: usize) -> Result<Option<CertFault>, Fail> {
+    let line: Vec<u8> = vec![in alloc; b'x'; length]?;
+    fault_with(alloc, HEADER, &line)
+}
+
 #[test]
 fn lines_are_short(rt: HostRuntime) -> Result<(), Fail> {
-    let alloc: Global = rt.alloc();
-    let long: Vec<u8> = vec![in alloc; b'x'; 65_537]?;
-    let line = with_header(alloc, &long)?;
-    assert_eq!(rt; fault(alloc, &line)?, Some(CertFault::Text(5)));
-    let line = with_header(alloc, &long[..65_536])?;
-    assert_eq!(rt; fault(alloc, &line)?, Some(CertFault::Truncated));
+    same(
+        &rt,
+        fault_of_line(rt.alloc(), 65_537)?,
+        Some(CertFault::Text(5)),
+    );
+    same(
+        &rt,
+        fault_of_line(rt.alloc(), 65_536)?,
+        Some(CertFault::Truncated),
+    );
     Ok(())
 }
 
@@ -171,7 +210,7 @@ fn a_text_begins_with_its_header(rt: HostRuntime) -> Result<(), Fail> {
         (b"PITCERT 1\nBLOCKS 4\n", CertFault::Number(2)),
     ];
     for (text, wanted) in texts {
-        assert_eq!(rt; fault(rt.alloc(), text)?, Some(wanted));
+        same(&rt, fault(rt.alloc(), text)?, Some(wanted));
     }
     Ok(())
 }
@@ -183,21 +222,21 @@ fn headers_are_read(rt: HostRuntime) {
         price: Price::Objective,
         group: Group::Worth,
     };
-    assert_eq!(rt; header(WORTH), Ok(wanted));
+    same(&rt, header(WORTH), Ok(wanted));
     let priced = Header {
         blocks: 16_777_216,
         price: Price::Factor(10_000),
         group: Group::Pair,
     };
     let text = b"PITCERT 1\nBLOCKS 16777216\nPRICE 10000\nGROUP PAIR\nx";
-    assert_eq!(rt; header(text.as_slice()), Ok(priced));
+    same(&rt, header(text.as_slice()), Ok(priced));
     let milled = Header {
         blocks: 1,
         price: Price::Mill(200),
         group: Group::Scaled,
     };
     let text = b"PITCERT 2\nBLOCKS 1\nPRICE MILL 200\nGROUP SCALED\n";
-    assert_eq!(rt; header(text.as_slice()), Ok(milled));
+    same(&rt, header(text.as_slice()), Ok(milled));
 }
 
 #[test]
@@ -230,37 +269,59 @@ fn headers_have_faults(rt: HostRuntime) {
         (b"PITCERT 1\nBLOCKS 3\nPRICE 5\n", CertFault::Truncated),
     ];
     for (text, wanted) in texts {
-        assert_eq!(rt; header(text), Err(wanted));
+        same(&rt, header(text), Err(wanted));
     }
 }
 
-// The text of a certificate that is read over these pairs and written again.
-fn rewritten<G: OrderedGroup>(
+fn written<G: OrderedGroup>(
+    alloc: Global,
+    read: &Certificate<G>,
+    rests: &Rests,
+) -> Result<Vec<u8>, Fail>
+    requires { Covers rests.now.blocks (length rests.now.pairs) read.now.flow }
+{
+    let mut out = Counted::new(Vec::new(alloc));
+    let Ok(()) = write_certificate(read, rests, &mut out) else {
+        return Err(Fail::from("written"));
+    };
+    Ok(out.into_inner())
+}
+
+// Fails the test where a certificate isn't written as its text.
+pub fn is_written_as<G: OrderedGroup>(
+    rt: &impl Abort,
+    alloc: Global,
+    read: &Certificate<G>,
+    rests: &Rests,
+    text: &[u8],
+) -> Result<(), Fail>
+    requires { Covers rests.now.blocks (length rests.now.pairs) read.now.flow }
+{
+    let written = written(alloc, read, rests)?;
+    same(rt, written.as_slice(), text);
+    Ok(())
+}
+
+// Fails the test where a text that is read over these pairs isn't written again as it was.
+fn is_rewritten<G: OrderedGroup>(
+    rt: &impl Abort,
     alloc: Global,
     n: u32,
     pairs: &[(u32, u32)],
     text: &[u8],
-) -> Result<Vec<u8>, Fail>
+) -> Result<(), Fail>
     requires { n ≤ MOST_BLOCKS }
 {
-    let rests = Rests::from_pairs(alloc, n, pairs).ok().ok_or("rests")?;
-    let read: Certificate<G> = read_certificate(alloc, text, &rests).ok().ok_or("read")?;
-    let mut out = Counted::new(Vec::new(alloc));
-    write_certificate(&read, &rests, &mut out)
-        .ok()
-        .ok_or("written")?;
-    Ok(out.into_inner())
+    let rests = rests_of(alloc, n, pairs)?;
+    let read = read_over::<G>(alloc, text, &rests)?;
+    is_written_as(rt, alloc, &read, &rests, text)
 }
 
 #[test]
 fn written_as_it_was_read(rt: HostRuntime) -> Result<(), Fail> {
-    let alloc: Global = rt.alloc();
     let pairs = [(0, 2), (1, 2)];
-    let worth = rewritten::<Worth>(alloc, 3, &pairs, WORTH)?;
-    assert_eq!(rt; worth.as_slice(), WORTH);
-    let pair = rewritten::<WorthSize>(alloc, 3, &pairs, PAIR)?;
-    assert_eq!(rt; pair.as_slice(), PAIR);
-    Ok(())
+    is_rewritten::<Worth>(&rt, rt.alloc(), 3, &pairs, WORTH)?;
+    is_rewritten::<WorthSize>(&rt, rt.alloc(), 3, &pairs, PAIR)
 }
 
 #[test]
@@ -304,8 +365,7 @@ fn worked_certificates_are_written_as_they_were_read(rt: HostRuntime) -> Result<
     ];
     for (n, pairs, text) in worked {
         if n <= 2 {
-            let again = rewritten::<WorthSize>(rt.alloc(), n, pairs, text)?;
-            assert_eq!(rt; again.as_slice(), text);
+            is_rewritten::<WorthSize>(&rt, rt.alloc(), n, pairs, text)?;
         }
     }
     Ok(())
@@ -319,7 +379,7 @@ fn faults_are_printed(rt: HostRuntime) -> Result<(), Fail> {
         (CertFault::Truncated, "Truncated"),
     ];
     for (fault, name) in names {
-        assert_eq!(rt; fault.to_string(rt.alloc())?.as_str(), name);
+        is_printed(&rt, rt.alloc(), &fault, name)?;
     }
     Ok(())
 }

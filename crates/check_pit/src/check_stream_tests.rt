@@ -29,6 +29,24 @@ fn with_header(alloc: Global, body: &[u8]) -> Result<Vec<u8>, Fail> {
     Ok(text)
 }
 
+// Reads the header, which has to be one of worths and sizes, for the net.
+fn pass_header(stream: &mut CertStream<Device<'_>>, net: &Net<WorthSize>) -> Result<(), Fail>
+    requires { stream.old.lines.from.failures ≡ 0 }
+    ensures few { IfOk result (λ _. stream.new.lines.from.failures ≡ 0) }
+    ensures read { IfOk result (λ _. IsReadFor (length net.now.worths) group.Pair stream.new.header stream.new.fault) }
+{
+    let Ok(header) = stream.header() else {
+        return Err(Fail::from("header"));
+    };
+    let Group::Pair = header.group else {
+        return Err(Fail::from("group"));
+    };
+    if header.blocks != net.len() {
+        return Err(Fail::from("blocks"));
+    }
+    Ok(())
+}
+
 // A text of which each read gives at most 16 bytes and one read fails, behind its header.
 fn stream_of<'a>(
     alloc: Global,
@@ -41,15 +59,7 @@ fn stream_of<'a>(
 {
     let device = Failing::new(text, 16, fails_at, Failure::Broken);
     let mut stream = CertStream::new(alloc, Counted::new(device))?;
-    let Ok(header) = stream.header() else {
-        return Err(Fail::from("header"));
-    };
-    let Group::Pair = header.group else {
-        return Err(Fail::from("group"));
-    };
-    if header.blocks != net.len() {
-        return Err(Fail::from("blocks"));
-    }
+    pass_header(&mut stream, net)?;
     Ok(stream)
 }
 
@@ -62,7 +72,23 @@ fn worth_of(
     }
 }
 
-// What a check of three blocks answers, where one read of the text fails.
+// What a check of lines behind the header answers in this room, where one read of the text fails.
+fn answer_in(
+    alloc: Global,
+    room: &mut Room<WorthSize>,
+    net: &Net<WorthSize>,
+    body: &[u8],
+    fails_at: u64,
+) -> Result<Result<WorthSize, StreamFault>, Fail> {
+    if !room.is_for(net.len()) {
+        return Err(Fail::from("room"));
+    }
+    let text = with_header(alloc, body)?;
+    let mut stream = stream_of(alloc, &text, fails_at, net)?;
+    Ok(worth_of(check_stream(&mut stream, net, room)))
+}
+
+// The same of three blocks, in a room of their own.
 fn answer_of(
     alloc: Global,
     body: &[u8],
@@ -70,25 +96,60 @@ fn answer_of(
 ) -> Result<Result<WorthSize, StreamFault>, Fail> {
     let net = three_blocks(alloc)?;
     let mut room = Room::new(alloc, &net)?;
-    let text = with_header(alloc, body)?;
-    let mut stream = stream_of(alloc, &text, fails_at, &net)?;
-    Ok(worth_of(check_stream(&mut stream, &net, &mut room)))
+    answer_in(alloc, &mut room, &net, body, fails_at)
 }
 
-// Two checks of the text, one after the other.
+// Two checks of the stream, one after the other.
+fn both_answers(
+    stream: &mut CertStream<Device<'_>>,
+    net: &Net<WorthSize>,
+    room: &mut Room<WorthSize>,
+    other: &mut Room<WorthSize>,
+) -> [Result<WorthSize, StreamFault>; 2]
+    requires few { stream.old.lines.from.failures ≡ 0 }
+    requires read { IsReadFor (length net.now.worths) group.Pair stream.old.header stream.old.fault }
+    requires room { length room.old.balances ≡ length net.now.worths }
+    requires other { length other.old.balances ≡ length net.now.worths }
+{
+    let first = worth_of(check_stream(stream, net, room));
+    let second = worth_of(check_stream(stream, net, other));
+    [first, second]
+}
+
+// The same, in two rooms.
+fn answers_in_rooms(
+    alloc: Global,
+    stream: &mut CertStream<Device<'_>>,
+    net: &Net<WorthSize>,
+) -> Result<[Result<WorthSize, StreamFault>; 2], Fail>
+    requires few { stream.old.lines.from.failures ≡ 0 }
+    requires read { IsReadFor (length net.now.worths) group.Pair stream.old.header stream.old.fault }
+{
+    let mut room = Room::new(alloc, net)?;
+    let mut other = Room::new(alloc, net)?;
+    Ok(both_answers(stream, net, &mut room, &mut other))
+}
+
+// Two checks of a text, where one read of it fails.
+fn answers_over(
+    alloc: Global,
+    text: &[u8],
+    fails_at: u64,
+    net: &Net<WorthSize>,
+) -> Result<[Result<WorthSize, StreamFault>; 2], Fail> {
+    let mut stream = stream_of(alloc, text, fails_at, net)?;
+    answers_in_rooms(alloc, &mut stream, net)
+}
+
+// The same of three blocks, and lines behind the header.
 fn answers_of(
     alloc: Global,
     body: &[u8],
     fails_at: u64,
 ) -> Result<[Result<WorthSize, StreamFault>; 2], Fail> {
     let net = three_blocks(alloc)?;
-    let mut room = Room::new(alloc, &net)?;
-    let mut other = Room::new(alloc, &net)?;
     let text = with_header(alloc, body)?;
-    let mut stream = stream_of(alloc, &text, fails_at, &net)?;
-    let first = worth_of(check_stream(&mut stream, &net, &mut room));
-    let second = worth_of(check_stream(&mut stream, &net, &mut other));
-    Ok([first, second])
+    answers_over(alloc, &text, fails_at, &net)
 }
 
 // Lines behind the header, and what a check of them answers.
@@ -162,19 +223,25 @@ fn faults_of_a_pit_come_in_their_order(rt: HostRuntime) -> Result<(), Fail> {
     have_their_answers(&rt, rt.alloc(), rows.as_slice())
 }
 
-#[test]
-fn one_room_serves_one_check_after_another(rt: HostRuntime) -> Result<(), Fail> {
-    let alloc = rt.alloc();
-    let net = three_blocks(alloc)?;
-    let mut room = Room::new(alloc, &net)?;
-    let unbalanced = with_header(alloc, b"PIT 0\nPIT 2\nSOURCE 0 6 -1\nEND\n")?;
-    let mut stream = stream_of(alloc, &unbalanced, 0, &net)?;
-    let first = worth_of(check_stream(&mut stream, &net, &mut room));
+// Fails the test where this room of the three blocks doesn't serve two checks.
+fn serves_both(
+    rt: &impl Abort,
+    alloc: Global,
+    room: &mut Room<WorthSize>,
+    net: &Net<WorthSize>,
+) -> Result<(), Fail> {
+    let unbalanced = b"PIT 0\nPIT 2\nSOURCE 0 6 -1\nEND\n";
+    let first = answer_in(alloc, room, net, unbalanced, 0)?;
     assert!(rt; first == refused(PitFault::Unbalanced(0)));
     assert!(rt; room.is_for(net.len()));
-    let whole = with_header(alloc, WHOLE)?;
-    let mut stream = stream_of(alloc, &whole, 0, &net)?;
-    let second = worth_of(check_stream(&mut stream, &net, &mut room));
+    let second = answer_in(alloc, room, net, WHOLE, 0)?;
     assert!(rt; second == Ok(WorthSize { nanos: 1, size: -3 }));
     Ok(())
+}
+
+#[test]
+fn one_room_serves_one_check_after_another(rt: HostRuntime) -> Result<(), Fail> {
+    let net = three_blocks(rt.alloc())?;
+    let mut room = Room::new(rt.alloc(), &net)?;
+    serves_both(&rt, rt.alloc(), &mut room, &net)
 }

@@ -8,7 +8,42 @@ use fixed_worth::MOST_BLOCKS;
 use ordered_group::{OrderedGroup, Worth, WorthSize};
 use prec_file::Rests;
 use std::alloc::Global;
+use std::fmt::{Debug, Display};
+use std::process::Abort;
 use std::test::Fail;
+
+// Fails the test where they differ.
+pub fn same<T: PartialEq + Debug + Drop>(rt: &impl Abort, got: T, wanted: T) {
+    assert_eq!(rt; got, wanted);
+}
+
+// Fails the test where a fault isn't printed so.
+pub fn is_printed(
+    rt: &impl Abort,
+    alloc: Global,
+    fault: &impl Display,
+    wanted: &str,
+) -> Result<(), Fail> {
+    let printed = fault.to_string(alloc)?;
+    same(rt, printed.as_str(), wanted);
+    Ok(())
+}
+
+pub fn rests_of(alloc: Global, n: u32, pairs: &[(u32, u32)]) -> Result<Rests, Fail>
+    requires { n ≤ MOST_BLOCKS }
+{
+    let Ok(rests) = Rests::from_pairs(alloc, n, pairs) else {
+        return Err(Fail::from("rests"));
+    };
+    Ok(rests)
+}
+
+fn net_with<G: OrderedGroup>(rests: Rests, worths: Vec<G>) -> Result<Net<G>, Fail> {
+    let Ok(net) = Net::build(rests, worths) else {
+        return Err(Fail::from("net"));
+    };
+    Ok(net)
+}
 
 fn net_of<G: OrderedGroup>(
     alloc: Global,
@@ -17,13 +52,9 @@ fn net_of<G: OrderedGroup>(
 ) -> Result<Net<G>, Fail>
     requires { length worths.now ≤ MOST_BLOCKS }
 {
-    let rests = Rests::from_pairs(alloc, worths.len() as u32, pairs)
-        .ok()
-        .ok_or("rests")?;
-    Net::build(rests, Vec::from_slice(alloc, worths)?)
-        .ok()
-        .ok_or("net")
-        .map_err(Fail::from)
+    let rests = rests_of(alloc, worths.len() as u32, pairs)?;
+    let worths = Vec::from_slice(alloc, worths)?;
+    net_with(rests, worths)
 }
 
 fn flow_of<G: OrderedGroup>(
@@ -60,8 +91,18 @@ fn fault_of<G: OrderedGroup>(alloc: Global, case: &Case<'_, G>) -> Result<Option
 {
     let net = net_of(alloc, case.pairs, case.worths)?;
     let pit = pit_of(alloc, case.pit)?;
+    fault_over(alloc, &net, &pit, case)
+}
+
+// The fault of the flow of a case over this net, for this pit.
+fn fault_over<G: OrderedGroup>(
+    alloc: Global,
+    net: &Net<G>,
+    pit: &Pit,
+    case: &Case<'_, G>,
+) -> Result<Option<PitFault>, Fail> {
     let flow = flow_of(alloc, case.source, case.rest, case.sink)?;
-    Ok(check(&net, &pit, &flow).err())
+    Ok(check(net, pit, &flow).err())
 }
 
 fn size(nanos: i128, size: i128) -> WorthSize {
@@ -91,17 +132,27 @@ fn full_flow(alloc: Global) -> Result<Flow<WorthSize>, Fail> {
     )
 }
 
+// Fails the test where the pit of the three blocks isn't accepted, with its worth.
+fn is_accepted(
+    rt: &impl Abort,
+    net: &Net<WorthSize>,
+    pit: &Pit,
+    flow: &Flow<WorthSize>,
+) -> Result<(), Fail> {
+    let accepted = check(net, pit, flow).ok().ok_or("refused")?;
+    same(rt, accepted.worth(), size(1, -3));
+    same(rt, accepted.pit().blocks(), [0, 1, 2].as_slice());
+    same(rt, accepted.net().rests().len(), 3);
+    Ok(())
+}
+
 #[test]
 fn greatest_pit_is_accepted(rt: HostRuntime) -> Result<(), Fail> {
     let alloc = rt.alloc();
     let net = three_blocks(alloc)?;
     let pit = pit_of(alloc, &[0, 1, 2])?;
     let flow = full_flow(alloc)?;
-    let accepted = check(&net, &pit, &flow).ok().ok_or("refused")?;
-    assert_eq!(rt; accepted.worth(), size(1, -3));
-    assert_eq!(rt; accepted.pit().blocks(), [0, 1, 2].as_slice());
-    assert_eq!(rt; accepted.net().rests().len(), 3);
-    Ok(())
+    is_accepted(&rt, &net, &pit, &flow)
 }
 
 #[test]
@@ -115,7 +166,7 @@ fn open_pit_is_refused(rt: HostRuntime) -> Result<(), Fail> {
         sink: &[size(0, 0), size(0, 0), size(10, 1)],
     };
     let open = Some(PitFault::NotClosed(0, 2));
-    assert_eq!(rt; fault_of(rt.alloc(), &case)?, open);
+    same(&rt, fault_of(rt.alloc(), &case)?, open);
     Ok(())
 }
 
@@ -129,7 +180,7 @@ fn short_flow_is_refused(rt: HostRuntime) -> Result<(), Fail> {
         rest: &[size(6, -1)],
         sink: &[size(0, 0), size(0, 0), size(10, 1)],
     };
-    assert_eq!(rt; fault_of(rt.alloc(), &case)?, Some(PitFault::WrongSize));
+    same(&rt, fault_of(rt.alloc(), &case)?, Some(PitFault::WrongSize));
     Ok(())
 }
 
@@ -143,7 +194,7 @@ fn stranger_to_the_net_is_refused(rt: HostRuntime) -> Result<(), Fail> {
         rest: &[size(6, -1), size(4, 2)],
         sink: &[size(0, 0), size(0, 0), size(10, 1)],
     };
-    assert_eq!(rt; fault_of(rt.alloc(), &case)?, Some(PitFault::WrongSize));
+    same(&rt, fault_of(rt.alloc(), &case)?, Some(PitFault::WrongSize));
     Ok(())
 }
 
@@ -157,7 +208,7 @@ fn negative_flow_is_refused(rt: HostRuntime) -> Result<(), Fail> {
         rest: &[worth(-5)],
         sink: &[worth(0), worth(0)],
     };
-    assert_eq!(rt; fault_of(rt.alloc(), &case)?, Some(PitFault::Negative));
+    same(&rt, fault_of(rt.alloc(), &case)?, Some(PitFault::Negative));
     Ok(())
 }
 
@@ -172,7 +223,7 @@ fn sink_beyond_a_capacity_is_refused(rt: HostRuntime) -> Result<(), Fail> {
         sink: &[size(0, 0), size(0, 0), size(11, -2)],
     };
     let over = Some(PitFault::OverCapacity(2));
-    assert_eq!(rt; fault_of(rt.alloc(), &case)?, over);
+    same(&rt, fault_of(rt.alloc(), &case)?, over);
     Ok(())
 }
 
@@ -187,7 +238,7 @@ fn unbalanced_block_is_refused(rt: HostRuntime) -> Result<(), Fail> {
         sink: &[worth(0), worth(5)],
     };
     let unbalanced = Some(PitFault::Unbalanced(0));
-    assert_eq!(rt; fault_of(rt.alloc(), &case)?, unbalanced);
+    same(&rt, fault_of(rt.alloc(), &case)?, unbalanced);
     Ok(())
 }
 
@@ -201,7 +252,7 @@ fn sums_that_do_not_fit_are_refused(rt: HostRuntime) -> Result<(), Fail> {
         rest: &[worth(i128::MAX), worth(i128::MAX)],
         sink: &[worth(0), worth(0), worth(0)],
     };
-    assert_eq!(rt; fault_of(rt.alloc(), &case)?, Some(PitFault::TooLarge));
+    same(&rt, fault_of(rt.alloc(), &case)?, Some(PitFault::TooLarge));
     Ok(())
 }
 
@@ -215,7 +266,7 @@ fn pit_of_no_use_is_not_tight(rt: HostRuntime) -> Result<(), Fail> {
         rest: &[size(10, -1)],
         sink: &[size(0, 0), size(10, -1)],
     };
-    assert_eq!(rt; fault_of(rt.alloc(), &case)?, Some(PitFault::NotTight));
+    same(&rt, fault_of(rt.alloc(), &case)?, Some(PitFault::NotTight));
     Ok(())
 }
 
@@ -228,7 +279,7 @@ fn faults_are_printed_by_name(rt: HostRuntime) -> Result<(), Fail> {
         (PitFault::Negative, "Negative"),
     ];
     for (fault, name) in names {
-        assert_eq!(rt; fault.to_string(rt.alloc())?.as_str(), name);
+        is_printed(&rt, rt.alloc(), &fault, name)?;
     }
     Ok(())
 }
