@@ -14,7 +14,7 @@ use slope::{PatternFault, SlopeFault};
 use std::alloc::Global;
 use std::io;
 use std::io::{Error, ErrorKind, Read, Write};
-use std::test::Fail;
+use std::process::Abort;
 use upit_file::UpitFault;
 
 /// A reader of bytes, or one whose every call fails.
@@ -57,33 +57,49 @@ impl Write for Failing {
     }
 }
 
+// An answer, and what was written.
+type Answered = (Result<Verdict, EngineFault>, Vec<u8>);
+
+// Fails the test where the answer is another, or another text was written.
+fn says(rt: &impl Abort, answered: Answered, verdict: Verdict, text: &[u8]) {
+    let (answer, written) = answered;
+    assert_eq!(rt; (answer, written.as_slice()), (Ok(verdict), text));
+}
+
+fn stored(alloc: Global) -> Answered {
+    let mut out = Counted::new(Vec::new(alloc));
+    let answer = stored_check(alloc, &mut out);
+    (answer, out.into_inner())
+}
+
 #[test]
-fn the_stored_run_is_accepted(rt: HostRuntime) -> Result<(), Fail> {
-    let mut out = Counted::new(Vec::new(rt.alloc()));
-    assert_eq!(rt; stored_check(rt.alloc(), &mut out), Ok(Verdict::Done));
-    let text = out.into_inner();
-    assert_eq!(rt; text.as_slice(), b"ACCEPTED 3 1\n".as_slice());
-    Ok(())
+fn the_stored_run_is_accepted(rt: HostRuntime) {
+    says(&rt, stored(rt.alloc()), Verdict::Done, b"ACCEPTED 3 1\n");
+}
+
+// The answer to another certificate of the stored mine.
+fn checked(alloc: Global, certificate: &[u8]) -> Answered {
+    let mut out = Counted::new(Vec::new(alloc));
+    let answer = check_engine(
+        alloc,
+        &mut Counted::new(VALUES),
+        &mut Counted::new(PRECEDENCE),
+        &mut Counted::new(certificate),
+        &mut out,
+    );
+    (answer, out.into_inner())
 }
 
 #[test]
 fn a_pit_that_is_not_closed_is_refused(rt: HostRuntime) {
     let certificate =
         b"PITCERT 1\nBLOCKS 3\nPRICE OBJECTIVE\nGROUP PAIR\nPIT 0\nPIT 1\nSOURCE 0 6000000000 -1\nSOURCE 1 4000000000 2\nREST 0 2 6000000000 -1\nREST 1 2 4000000000 2\nSINK 2 10000000000 1\nEND\n";
-    let mut out = Counted::new(Vec::new(rt.alloc()));
-    let answer = check_engine(
-        rt.alloc(),
-        &mut Counted::new(VALUES),
-        &mut Counted::new(PRECEDENCE),
-        &mut Counted::new(certificate.as_slice()),
-        &mut out,
-    );
-    assert!(rt; answer == Ok(Verdict::No));
-    assert!(rt; out.into_inner().as_slice() == b"REFUSED NotClosed(0, 2)\n".as_slice());
+    let answered = checked(rt.alloc(), certificate);
+    says(&rt, answered, Verdict::No, b"REFUSED NotClosed(0, 2)\n");
 }
 
 // The answer to the stored certificate and what it wrote, where the reader of this number fails.
-fn checked_with_failing(alloc: Global, failing: usize) -> (Result<Verdict, EngineFault>, Vec<u8>) {
+fn checked_with_failing(alloc: Global, failing: usize) -> Answered {
     let mut out = Counted::new(Vec::new(alloc));
     let answer = check_engine(
         alloc,
@@ -95,14 +111,19 @@ fn checked_with_failing(alloc: Global, failing: usize) -> (Result<Verdict, Engin
     (answer, out.into_inner())
 }
 
+// The answer, and whether something was written.
+fn answer_with_failing(alloc: Global, failing: usize) -> (Result<Verdict, EngineFault>, bool) {
+    let (answer, written) = checked_with_failing(alloc, failing);
+    (answer, !written.is_empty())
+}
+
 #[test]
 fn a_failed_read_of_any_input_writes_nothing(rt: HostRuntime) {
     for failing in 0..3 {
-        let (answer, written) = checked_with_failing(rt.alloc(), failing);
-        assert!(rt; answer == Err(EngineFault::Device) && written.is_empty());
+        let answer = answer_with_failing(rt.alloc(), failing);
+        assert!(rt; answer == (Err(EngineFault::Device), false));
     }
-    let (answer, written) = checked_with_failing(rt.alloc(), 3);
-    assert!(rt; answer == Ok(Verdict::Done) && !written.is_empty());
+    assert!(rt; answer_with_failing(rt.alloc(), 3) == (Ok(Verdict::Done), true));
 }
 
 #[test]

@@ -14,7 +14,6 @@ use prec_file::Rests;
 use std::alloc::Global;
 use std::process::Abort;
 use std::sync::Wait;
-use std::test::Fail;
 use std::thread::Threads;
 use workers::{Locked, Shared, TurnBoard};
 
@@ -46,49 +45,55 @@ impl Numbers {
     }
 }
 
+fn add_pair(rt: &impl Abort, pairs: &mut Vec<(u32, u32)>, b: u32, p: u32) {
+    pairs.push((b, p)).expect(rt, "memory");
+}
+
 // The pairs of one block.
 fn add_pairs(
+    rt: &impl Abort,
     pairs: &mut Vec<(u32, u32)>,
     numbers: &mut Numbers,
     shape: Shape,
     n: u32,
     b: u32,
-) -> Result<(), Fail> {
+) {
     let next = b.wrapping_add(1);
     match shape {
-        Shape::Chain if next < n => pairs.push((b, next))?,
-        Shape::Star if b > 0 => pairs.push((b, 0))?,
-        Shape::Cycle => pairs.push((b, if next < n { next } else { 0 }))?,
+        Shape::Chain if next < n => add_pair(rt, pairs, b, next),
+        Shape::Star if b > 0 => add_pair(rt, pairs, b, 0),
+        Shape::Cycle => add_pair(rt, pairs, b, if next < n { next } else { 0 }),
         Shape::Scattered => {
             for _ in 0..numbers.below(5) {
-                pairs.push((b, numbers.below(n)))?;
+                add_pair(rt, pairs, b, numbers.below(n));
             }
         }
         _ => {}
     }
-    Ok(())
 }
 
 fn pairs_of(
+    rt: &impl Abort,
     alloc: Global,
     numbers: &mut Numbers,
     shape: Shape,
     n: u32,
-) -> Result<Vec<(u32, u32)>, Fail> {
+) -> Vec<(u32, u32)> {
     let mut pairs = Vec::new(alloc);
     for b in 0..n {
-        add_pairs(&mut pairs, numbers, shape, n, b)?;
+        add_pairs(rt, &mut pairs, numbers, shape, n, b);
     }
-    Ok(pairs)
+    pairs
 }
 
 // A worth for each block, from -10 to 10; where some are nothing, each other block is worth nothing.
 fn nanos_of(
+    rt: &impl Abort,
     alloc: Global,
     numbers: &mut Numbers,
     n: u32,
     some_nothing: bool,
-) -> Result<Vec<i128>, Fail> {
+) -> Vec<i128> {
     let mut nanos = Vec::new(alloc);
     for b in 0..n {
         let worth = if some_nothing && b % 2 == 0 {
@@ -96,43 +101,47 @@ fn nanos_of(
         } else {
             i128::from(numbers.below(21)).wrapping_sub(10)
         };
-        nanos.push(worth)?;
+        nanos.push(worth).expect(rt, "memory");
     }
-    Ok(nanos)
+    nanos
 }
 
 fn net_of<G: OrderedGroup>(
+    rt: &impl Abort,
     alloc: Global,
     n: u32,
     pairs: &[(u32, u32)],
     nanos: &[i128],
-) -> Result<Net<G>, Fail>
+) -> Net<G>
     requires { n ≤ MOST_BLOCKS }
 {
-    let rests = Rests::from_pairs(alloc, n, pairs).ok().ok_or("pairs")?;
-    Ok(Net::of_worths(alloc, rests, nanos).ok().ok_or("worths")?)
+    let rests = Rests::from_pairs(alloc, n, pairs).ok().expect(rt, "pairs");
+    Net::of_worths(alloc, rests, nanos)
+        .ok()
+        .expect(rt, "worths")
 }
 
 // The pit by pseudoflow itself: a fall-back on the machine would hide its mistakes.
-fn quickly<G: OrderedGroup>(alloc: Global, net: &Net<G>) -> Result<Solution<G>, Fail> {
+fn quickly<G: OrderedGroup>(rt: &impl Abort, alloc: Global, net: &Net<G>) -> Solution<G> {
     let found = by_pseudoflow(alloc, net, TURNS, &Unwatched);
-    Ok(found.ok().ok_or("memory")?.ok_or("pseudoflow gave up")?)
+    found
+        .ok()
+        .expect(rt, "memory")
+        .expect(rt, "pseudoflow gave up")
 }
 
-fn by_steps<G: OrderedGroup, R: Threads + Wait + Sync>(
+fn by_steps<G: OrderedGroup, R: Threads + Wait + Sync + Abort>(
     rt: &R,
     alloc: Global,
     net: &Net<G>,
-) -> Result<Solution<G>, Fail>
+) -> Solution<G>
 where
     Locked<TurnBoard<G>>: Shared,
 {
     let effort = Effort::new(Method::PushRelabel, 1, TURNS);
-    Ok(
-        by_machine(rt, alloc, net, effort, &Unwatched)
-            .ok()
-            .ok_or("machine")?,
-    )
+    by_machine(rt, alloc, net, effort, &Unwatched)
+        .ok()
+        .expect(rt, "machine")
 }
 
 fn holds(set: u32, b: u32) -> bool {
@@ -181,6 +190,13 @@ fn set_of(pit: &Pit) -> u32 {
     set
 }
 
+// Fails the test where the pit isn't closed, or isn't the best of all.
+fn is_best(rt: &impl Abort, pit: &Pit, pairs: &[(u32, u32)], nanos: &[i128], best: (i128, u32)) {
+    let set = set_of(pit);
+    assert!(rt; is_closed(set, pairs));
+    assert_eq!(rt; (worth_of(set, nanos), set.count_ones()), best);
+}
+
 // Both engines find the best of all closed sets of the net, in amounts of the group G.
 fn both_find_the_best<G: OrderedGroup, R: Threads + Wait + Sync + Abort>(
     rt: &R,
@@ -188,24 +204,38 @@ fn both_find_the_best<G: OrderedGroup, R: Threads + Wait + Sync + Abort>(
     n: u32,
     pairs: &[(u32, u32)],
     nanos: &[i128],
-) -> Result<(), Fail>
+)
 where
     Locked<TurnBoard<G>>: Shared,
     requires { n ≤ MOST_BLOCKS }
 {
-    let net: Net<G> = net_of(alloc, n, pairs, nanos)?;
+    let net: Net<G> = net_of(rt, alloc, n, pairs, nanos);
     let best = best_of_all(n, pairs, nanos);
-    for pit in [quickly(alloc, &net)?.pit, by_steps(rt, alloc, &net)?.pit] {
-        let set = set_of(&pit);
-        assert!(rt; is_closed(set, pairs));
-        assert_eq!(rt; (worth_of(set, nanos), set.count_ones()), best);
-    }
-    Ok(())
+    let quick = quickly(rt, alloc, &net);
+    is_best(rt, &quick.pit, pairs, nanos, best);
+    let slow = by_steps(rt, alloc, &net);
+    is_best(rt, &slow.pit, pairs, nanos, best);
+}
+
+// The same of the next net of this shape, in amounts of two groups.
+fn on_a_small_net<R: AllocGlobal + Threads + Wait + Sync + Abort>(
+    rt: &R,
+    numbers: &mut Numbers,
+    shape: Shape,
+    n: u32,
+    some_nothing: bool,
+)
+    requires { n ≤ MOST_BLOCKS }
+{
+    let alloc = rt.alloc();
+    let pairs = pairs_of(rt, alloc, numbers, shape, n);
+    let nanos = nanos_of(rt, alloc, numbers, n, some_nothing);
+    both_find_the_best::<WorthSize, R>(rt, alloc, n, &pairs, &nanos);
+    both_find_the_best::<Worth, R>(rt, alloc, n, &pairs, &nanos);
 }
 
 #[test]
-fn small_nets_against_all_closed_sets(rt: HostRuntime) -> Result<(), Fail> {
-    let alloc = rt.alloc();
+fn small_nets_against_all_closed_sets(rt: HostRuntime) {
     let mut numbers = Numbers { last: 2026 };
     for i in 0..204u32 {
         let n = i / 17 + 1;
@@ -214,42 +244,56 @@ fn small_nets_against_all_closed_sets(rt: HostRuntime) -> Result<(), Fail> {
             1 => Shape::Star,
             _ => Shape::Cycle,
         };
-        let pairs = pairs_of(alloc, &mut numbers, shape, n)?;
-        let nanos = nanos_of(alloc, &mut numbers, n, i % 4 == 3)?;
-        both_find_the_best::<WorthSize, HostRuntime>(&rt, alloc, n, &pairs, &nanos)?;
-        both_find_the_best::<Worth, HostRuntime>(&rt, alloc, n, &pairs, &nanos)?;
+        on_a_small_net(&rt, &mut numbers, shape, n, i % 4 == 3);
     }
-    Ok(())
+}
+
+// Fails the test where the engines find different pits of the next scattered net.
+fn on_a_scattered_net<R: AllocGlobal + Threads + Wait + Sync + Abort>(
+    rt: &R,
+    numbers: &mut Numbers,
+    n: u32,
+    some_nothing: bool,
+)
+    requires { n ≤ MOST_BLOCKS }
+{
+    let alloc = rt.alloc();
+    let pairs = pairs_of(rt, alloc, numbers, Shape::Scattered, n);
+    let nanos = nanos_of(rt, alloc, numbers, n, some_nothing);
+    let net: Net<WorthSize> = net_of(rt, alloc, n, &pairs, &nanos);
+    let quick = quickly(rt, alloc, &net);
+    let slow = by_steps(rt, alloc, &net);
+    assert!(rt; quick.pit.blocks() == slow.pit.blocks());
 }
 
 #[test]
-fn both_engines_find_the_same_pit(rt: HostRuntime) -> Result<(), Fail> {
-    let alloc = rt.alloc();
+fn both_engines_find_the_same_pit(rt: HostRuntime) {
     let mut numbers = Numbers { last: 1976 };
     for i in 0..500u32 {
         let n = numbers.below(251).saturating_add(50).min(300);
-        let pairs = pairs_of(alloc, &mut numbers, Shape::Scattered, n)?;
-        let nanos = nanos_of(alloc, &mut numbers, n, i % 4 == 3)?;
-        let net: Net<WorthSize> = net_of(alloc, n, &pairs, &nanos)?;
-        let quick = quickly(alloc, &net)?;
-        let slow = by_steps(&rt, alloc, &net)?;
-        assert!(rt; quick.pit.blocks() == slow.pit.blocks());
+        on_a_scattered_net(&rt, &mut numbers, n, i % 4 == 3);
     }
-    Ok(())
+}
+
+// The worths of 2,000 blocks worth 1 each and of 2,000 that cost as much.
+fn worths_of_halves(rt: &impl Abort, alloc: Global) -> Vec<i128> {
+    let mut nanos = Vec::new(alloc);
+    for b in 0..4_000u32 {
+        let worth = if b < 2_000 { 1i128 } else { -1i128 };
+        nanos.push(worth).expect(rt, "memory");
+    }
+    nanos
 }
 
 // A chain of 2,000 blocks worth 1 each, and below them 2,000 that cost as much: pseudoflow takes a number of turns that
 // grows with the square of the blocks, and ends.
 #[test]
-fn a_slow_chain_ends(rt: HostRuntime) -> Result<(), Fail> {
+fn a_slow_chain_ends(rt: HostRuntime) {
     let alloc = rt.alloc();
     let mut numbers = Numbers { last: 1 };
-    let pairs = pairs_of(alloc, &mut numbers, Shape::Chain, 4_000)?;
-    let mut nanos = Vec::new(alloc);
-    for b in 0..4_000u32 {
-        nanos.push(if b < 2_000 { 1i128 } else { -1i128 })?;
-    }
-    let net: Net<WorthSize> = net_of(alloc, 4_000, &pairs, &nanos)?;
-    assert!(rt; quickly(alloc, &net)?.pit.blocks().is_empty());
-    Ok(())
+    let pairs = pairs_of(&rt, alloc, &mut numbers, Shape::Chain, 4_000);
+    let nanos = worths_of_halves(&rt, alloc);
+    let net: Net<WorthSize> = net_of(&rt, alloc, 4_000, &pairs, &nanos);
+    let quick = quickly(&rt, alloc, &net);
+    assert!(rt; quick.pit.blocks().is_empty());
 }

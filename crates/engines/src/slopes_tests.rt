@@ -134,20 +134,24 @@ fn a_cube_by_five_where_a_smaller_z_is_higher(rt: HostRuntime) {
     assert!(rt; writes(rt.alloc(), CUBE, cone, Up::MinusZ, FIVE_MINUS));
 }
 
+// Whether the engine of listed offsets writes this precedence of the cube.
+fn writes_by_settings(alloc: Global, settings: &[u8], up: Up, text: &[u8]) -> bool {
+    let mut out = Counted::new(Vec::new(alloc));
+    let given = slopes_from_settings_engine(
+        alloc,
+        &mut Counted::new(settings),
+        &mut Counted::new(CUBE),
+        up,
+        &mut out,
+    );
+    given == Ok(Verdict::Done) && out.into_inner().as_slice() == text
+}
+
 #[test]
 fn a_cube_by_listed_offsets(rt: HostRuntime) {
     let settings: &[u8] =
         b"offsets = [[1, 0, 1], [0, 0, 1], [0, 0, 1], [-1, 0, 1], [0, -1, 1], [0, 1, 1]]";
-    let mut out = Counted::new(Vec::new(rt.alloc()));
-    let given = slopes_from_settings_engine(
-        rt.alloc(),
-        &mut Counted::new(settings),
-        &mut Counted::new(CUBE),
-        Up::MinusZ,
-        &mut out,
-    );
-    assert!(rt; given == Ok(Verdict::Done));
-    assert!(rt; out.into_inner().as_slice() == FIVE_MINUS);
+    assert!(rt; writes_by_settings(rt.alloc(), settings, Up::MinusZ, FIVE_MINUS));
 }
 
 #[test]

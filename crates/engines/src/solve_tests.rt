@@ -11,11 +11,18 @@ use fixed_worth::Counted;
 use ordered_group::Group;
 use prec_file::PrecFault;
 use pseudoflow::Progress;
+use std::fmt::Debug;
+use std::process::Abort;
 use std::sync::Wait;
 use std::sync::atomic::{AtomicU64, Ordering};
 use std::thread::Threads;
 use upit_file::UpitFault;
 use workers::Gate;
+
+// Fails the test where they differ.
+fn same<T: PartialEq + Debug + Drop>(rt: &impl Abort, got: T, wanted: T) {
+    assert_eq!(rt; got, wanted);
+}
 
 const TWO: &[u8] = b"NBLOCKS: 2\nOBJECTIVE_FUNCTION:\n0 10\n1 -10\n";
 
@@ -92,9 +99,7 @@ fn the_effort_and_the_gate_are_handed_on(rt: HostRuntime) {
         ),
     ];
     for (effort, seen) in rows {
-        let (answer, who) = watched(&rt, effort);
-        assert!(rt; answer == Ok(Verdict::Done));
-        assert!(rt; who == seen);
+        same(&rt, watched(&rt, effort), (Ok(Verdict::Done), seen));
     }
 }
 
@@ -166,28 +171,39 @@ fn worth_alone_where_it_is_asked_for(rt: HostRuntime) {
     assert!(rt; writes(&rt, ONE, b"", Group::Worth, certificate));
 }
 
+// What the engine answers for a mine without precedence.
+fn answer_in<R: AllocGlobal + Threads + Wait + Sync>(
+    rt: &R,
+    upit: &[u8],
+    steps: u64,
+) -> Result<Verdict, EngineFault> {
+    let (answer, _text) = solved(rt, upit, b"", Group::Pair, steps);
+    answer
+}
+
 // Without blocks one step is enough, and a block worth nothing takes less than a hundred.
 #[test]
 fn few_steps(rt: HostRuntime) {
     let none = b"NBLOCKS: 0\nOBJECTIVE_FUNCTION:\n";
-    let (answer, _text) = solved(&rt, none, b"", Group::Pair, 1);
-    assert!(rt; answer == Ok(Verdict::Done));
+    same(&rt, answer_in(&rt, none, 1), Ok(Verdict::Done));
     let nothing = b"NBLOCKS: 1\nOBJECTIVE_FUNCTION:\n0 0\n";
-    let (answer, _text) = solved(&rt, nothing, b"", Group::Pair, 100);
-    assert!(rt; answer == Ok(Verdict::Done));
+    same(&rt, answer_in(&rt, nothing, 100), Ok(Verdict::Done));
+}
+
+// Whether the engine doesn't settle the mine, and says so.
+fn is_unsettled<R: AllocGlobal + Threads + Wait + Sync>(rt: &R, upit: &[u8], steps: u64) -> bool {
+    let (answer, text) = solved(rt, upit, b"", Group::Pair, steps);
+    answer == Ok(Verdict::No) && text.as_slice() == b"UNSETTLED\n".as_slice()
 }
 
 #[test]
 fn too_few_steps(rt: HostRuntime) {
-    let (answer, text) = solved(&rt, ONE, b"", Group::Pair, 9);
-    assert!(rt; answer == Ok(Verdict::No));
-    assert!(rt; text.as_slice() == b"UNSETTLED\n".as_slice());
+    assert!(rt; is_unsettled(&rt, ONE, 9));
 }
 
 #[test]
 fn steps_enough(rt: HostRuntime) {
-    let (answer, _text) = solved(&rt, ONE, b"", Group::Pair, 10);
-    assert!(rt; answer == Ok(Verdict::Done));
+    same(&rt, answer_in(&rt, ONE, 10), Ok(Verdict::Done));
 }
 
 // Whether the engine answers this fault, and writes nothing.
@@ -218,7 +234,7 @@ fn words_of_groups(rt: HostRuntime) {
         (b"PAIR", None),
     ];
     for (word, group) in rows {
-        assert_eq!(rt; group_named(word), group);
+        same(&rt, group_named(word), group);
     }
 }
 
@@ -231,7 +247,7 @@ fn words_of_steps(rt: HostRuntime) {
         (b"x", None),
     ];
     for (word, steps) in rows {
-        assert_eq!(rt; steps_named(word), steps);
+        same(&rt, steps_named(word), steps);
     }
 }
 
@@ -244,7 +260,7 @@ fn words_of_workers(rt: HostRuntime) {
         (b"65", None),
     ];
     for (word, workers) in rows {
-        assert_eq!(rt; workers_named(word), workers);
+        same(&rt, workers_named(word), workers);
     }
 }
 
@@ -257,6 +273,6 @@ fn words_of_methods(rt: HostRuntime) {
         (b"push_relabel", None),
     ];
     for (word, method) in rows {
-        assert_eq!(rt; method_named(word), method);
+        same(&rt, method_named(word), method);
     }
 }
