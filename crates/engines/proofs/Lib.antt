@@ -1,4 +1,5 @@
 pub mod Counted
+pub mod Failed
 pub mod Told
 pub mod Listed
 pub mod Judged

@@ -1,3 +1,5 @@
+use Rattle.std.proofs.Common.{refl}
+use Rattle.engines.proofs.Failed.{raised, stayed, went, memory_alone, first_of_three, second_of_three, third_of_three}
 use Rattle.engines.proofs.Solutions.{solve_answer}
 use Rattle.engines.proofs.solving_engine.solve_engine.Goals as goal
 
@@ -5,3 +7,30 @@ pub returns-clause-answer : goal.returns-clause-answer
 returns-clause-answer g c =
     solve_answer (g.U.Read.remaining c.args.upit.now) (g.P.Read.remaining c.args.prec.now) (g.W.Write.contents c.args.out.now) (g.W.Write.contents c.solve_mine.new.out) c.in_ok-upit.upit c.in_ok-rests.rests c.len.result c.args.group c.args.effort.method c.args.effort.steps c.as_slice.result.now c.in_ok-nanos.nanos.items c.solve_mine.result
     c.len.ensures.value c.in_ok-upit.ensures.read c.in_ok-rests.ensures.read c.as_slice.ensures.value c.in_ok-nanos.ensures c.solve_mine.ensures.answer
+
+pub returns-in_err-upit-clause-device : goal.returns-in_err-upit-clause-device
+returns-in_err-upit-clause-device g c = λ d.
+    first_of_three (g.U.CountedRead.failed c.args.upit.now) (g.P.CountedRead.failed c.args.prec.now) (g.W.CountedWrite.failed c.args.out.now) (g.U.CountedRead.failed c.upit_from.new.from) (g.P.CountedRead.failed c.args.prec.now) (g.W.CountedWrite.failed c.args.out.now) (raised c.from_residual.result c.in_err-upit.field-0.0 c.from_residual.ensures.1 c.in_err-upit.ensures.device.0 d) refl refl
+
+pub returns-in_err-upit-clause-kept : goal.returns-in_err-upit-clause-kept
+returns-in_err-upit-clause-kept g c = λ n. (stayed c.from_residual.result c.in_err-upit.field-0.0 c.from_residual.ensures.1 c.in_err-upit.ensures.kept n, refl, refl)
+
+pub returns-in_err-rests-clause-device : goal.returns-in_err-rests-clause-device
+returns-in_err-rests-clause-device g c = λ d.
+    second_of_three (g.U.CountedRead.failed c.args.upit.now) (g.P.CountedRead.failed c.args.prec.now) (g.W.CountedWrite.failed c.args.out.now) (g.U.CountedRead.failed c.upit_from.new.from) (g.P.CountedRead.failed c.rests_from.new.from) (g.W.CountedWrite.failed c.args.out.now) (went c.in_ok-upit.upit c.in_ok-upit.ensures.kept) (raised c.from_residual-in_err-rests.result c.in_err-rests.field-0.0 c.from_residual-in_err-rests.ensures.1 c.in_err-rests.ensures.device.0 d) refl
+
+pub returns-in_err-rests-clause-kept : goal.returns-in_err-rests-clause-kept
+returns-in_err-rests-clause-kept g c = λ n. ((went c.in_ok-upit.upit c.in_ok-upit.ensures.kept), stayed c.from_residual-in_err-rests.result c.in_err-rests.field-0.0 c.from_residual-in_err-rests.ensures.1 c.in_err-rests.ensures.kept n, refl)
+
+pub returns-in_err-nanos-clause-device : goal.returns-in_err-nanos-clause-device
+returns-in_err-nanos-clause-device g c = λ d. absurd (memory_alone c.from_residual-in_err-nanos.result c.from_residual-in_err-nanos.ensures.1 d)
+
+pub returns-in_err-nanos-clause-kept : goal.returns-in_err-nanos-clause-kept
+returns-in_err-nanos-clause-kept g c = λ n. ((went c.in_ok-upit.upit c.in_ok-upit.ensures.kept), (went c.in_ok-rests.rests c.in_ok-rests.ensures.kept), refl)
+
+pub returns-clause-device : goal.returns-clause-device
+returns-clause-device g c = λ d.
+    third_of_three (g.U.CountedRead.failed c.args.upit.now) (g.P.CountedRead.failed c.args.prec.now) (g.W.CountedWrite.failed c.args.out.now) (g.U.CountedRead.failed c.upit_from.new.from) (g.P.CountedRead.failed c.rests_from.new.from) (g.W.CountedWrite.failed c.solve_mine.new.out) (went c.in_ok-upit.upit c.in_ok-upit.ensures.kept) (went c.in_ok-rests.rests c.in_ok-rests.ensures.kept) (c.solve_mine.ensures.device.0 d)
+
+pub returns-clause-kept : goal.returns-clause-kept
+returns-clause-kept g c = λ n. ((went c.in_ok-upit.upit c.in_ok-upit.ensures.kept), (went c.in_ok-rests.rests c.in_ok-rests.ensures.kept), c.solve_mine.ensures.kept n)
