@@ -6,7 +6,8 @@ use fixed_worth::Counted;
 use ordered_group::Group;
 use shells::Factor;
 use std::alloc::Global;
-use std::test::Fail;
+use std::process::Abort;
+use std::thread::Threads;
 
 const UPIT: &[u8] = b"NBLOCKS: 1\nOBJECTIVE_FUNCTION:\n0 5\n";
 
@@ -44,23 +45,32 @@ fn replayed(alloc: Global, trace: &[u8]) -> (Result<Verdict, EngineFault>, Vec<u
     (answer, out.into_inner())
 }
 
+// Fails the test where the answer is another, or another text was written.
+fn says(
+    rt: &impl Abort,
+    answered: (Result<Verdict, EngineFault>, Vec<u8>),
+    answer: Result<Verdict, EngineFault>,
+    text: &[u8],
+) {
+    let (given, written) = answered;
+    assert_eq!(rt; (given, written.as_slice()), (answer, text));
+}
+
 #[test]
 fn what_comes_of_a_trace(rt: HostRuntime) {
     for (trace, text, verdict) in &ANSWERS {
-        let (answer, written) = replayed(rt.alloc(), trace);
-        assert!(rt; answer == Ok(*verdict));
-        assert!(rt; written.as_slice() == *text);
+        says(&rt, replayed(rt.alloc(), trace), Ok(*verdict), text);
     }
 }
 
-// A revenue of 20 counts half, and the cost is 5.
-#[test]
-fn a_run_at_half_the_revenues(rt: HostRuntime) -> Result<(), Fail> {
+fn replayed_at<R: AllocGlobal + Threads + Sync>(
+    rt: &R,
+    factor: Factor,
+) -> (Result<Verdict, EngineFault>, Vec<u8>) {
     let alloc = rt.alloc();
     let mut out = Counted::new(Vec::new(alloc));
-    let factor = Factor::new(500).ok_or("factor")?;
     let answer = replay_priced_engine(
-        &rt,
+        rt,
         alloc,
         &mut Counted::new(b"revenue = 0\ncost = 1\n".as_slice()),
         &mut Counted::new(b"0 0 0 0 20 5\n".as_slice()),
@@ -70,9 +80,13 @@ fn a_run_at_half_the_revenues(rt: HostRuntime) -> Result<(), Fail> {
         Group::Worth,
         &mut out,
     );
-    assert!(rt; answer == Ok(Verdict::Done));
-    assert!(rt;
-        out.into_inner().as_slice() == b"REPLAYED 10 QUIET\nACCEPTED 1 5 GROUP WORTH\n".as_slice()
-    );
-    Ok(())
+    (answer, out.into_inner())
+}
+
+// A revenue of 20 counts half, and the cost is 5.
+#[test]
+fn a_run_at_half_the_revenues(rt: HostRuntime) {
+    let factor = Factor::new(500).expect(&rt, "factor");
+    let text = b"REPLAYED 10 QUIET\nACCEPTED 1 5 GROUP WORTH\n";
+    says(&rt, replayed_at(&rt, factor), Ok(Verdict::Done), text);
 }
