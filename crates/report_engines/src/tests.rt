@@ -4,6 +4,7 @@ use crate::report_engine;
 use engines::{Effort, EngineFault, Method, Problem, Unwatched, Verdict};
 use fixed_worth::Counted;
 use settings_file::{Key, SettingsFault};
+use std::process::Abort;
 use std::sync::Wait;
 use std::thread::Threads;
 
@@ -42,38 +43,44 @@ fn reported_of<R: AllocGlobal + Threads + Wait + Sync>(
     (answer, out.into_inner())
 }
 
+// Fails the test where the answer is another, or another text was written.
+fn says(
+    rt: &impl Abort,
+    answered: (Result<Verdict, EngineFault>, Vec<u8>),
+    answer: Result<Verdict, EngineFault>,
+    text: &[u8],
+) {
+    let (given, written) = answered;
+    assert_eq!(rt; (given, written.as_slice()), (answer, text));
+}
+
 // At 500 thousandths the third block is worth 1, and at 1,000 the first two together too.
 #[test]
 fn shells_by_bench_at_the_last_factor(rt: HostRuntime) {
     let settings = b"revenue = 0\ncost = 1\ntonnes = 2\nfactors = [500, 1000]\n";
     let table = b"z,shell,blocks,tonnes,worth\n0,1000,1,100,6\n1,500,1,60,3\n1,1000,1,80.5,-5\n";
-    let (answer, text) = reported(&rt, settings);
-    assert!(rt; answer == Ok(Verdict::Done));
-    assert!(rt; text.as_slice() == table.as_slice());
+    says(&rt, reported(&rt, settings), Ok(Verdict::Done), table);
 }
 
 #[test]
 fn worths_at_the_factor_of_the_report(rt: HostRuntime) {
     let settings = b"revenue = 0\ncost = 1\ntonnes = 2\nfactors = [500, 1000]\nreport = 500\n";
     let table = b"z,shell,blocks,tonnes,worth\n0,1000,1,100,1\n1,500,1,60,1\n1,1000,1,80.5,-5\n";
-    let (answer, text) = reported(&rt, settings);
-    assert!(rt; answer == Ok(Verdict::Done));
-    assert!(rt; text.as_slice() == table.as_slice());
+    says(&rt, reported(&rt, settings), Ok(Verdict::Done), table);
 }
 
 #[test]
 fn tonnes_are_missing_before_factors(rt: HostRuntime) {
-    let (answer, text) = reported(&rt, b"revenue = 0\ncost = 1\n");
+    let answered = reported(&rt, b"revenue = 0\ncost = 1\n");
     let missing = EngineFault::Settings(Problem::Fault(SettingsFault::Missing(Key::Tonnes)));
-    assert!(rt; answer == Err(missing));
-    assert!(rt; text.is_empty());
+    says(&rt, answered, Err(missing), b"");
 }
 
 // At 200 thousandths the block is waste, and at 1,000 it pays for the mill.
 #[test]
 fn a_block_for_the_mill(rt: HostRuntime) {
     let settings = b"revenue = 0\nprocessing = 1\nmining = 2\ntonnes = 3\nfactors = [200, 1000]\n";
-    let (answer, text) = reported_of(&rt, settings, b"0 0 0 0 10 3 2 7\n", b"");
-    assert!(rt; answer == Ok(Verdict::Done));
-    assert!(rt; text.as_slice() == b"z,shell,blocks,tonnes,worth\n0,1000,1,7,5\n".as_slice());
+    let table = b"z,shell,blocks,tonnes,worth\n0,1000,1,7,5\n";
+    let answered = reported_of(&rt, settings, b"0 0 0 0 10 3 2 7\n", b"");
+    says(&rt, answered, Ok(Verdict::Done), table);
 }
