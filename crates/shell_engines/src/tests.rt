@@ -5,6 +5,7 @@ use engines::{Effort, EngineFault, Method, Problem, Verdict};
 use fixed_worth::Counted;
 use pseudoflow::Progress;
 use settings_file::{Key, SettingsFault};
+use std::process::Abort;
 use std::sync::Wait;
 use std::sync::atomic::{AtomicU64, Ordering};
 use std::thread::Threads;
@@ -59,6 +60,17 @@ fn drawn<R: AllocGlobal + Threads + Wait + Sync>(
     (answer, out.into_inner(), told.sum.load(Ordering::SeqCst))
 }
 
+// Fails the test where the answer is another, or another text was written.
+fn says(
+    rt: &impl Abort,
+    answered: (Result<Verdict, EngineFault>, Vec<u8>),
+    answer: Result<Verdict, EngineFault>,
+    text: &[u8],
+) {
+    let (given, written) = answered;
+    assert_eq!(rt; (given, written.as_slice()), (answer, text));
+}
+
 // While one worker waits for a processor the other goes round its blocks, each look a turn: no small limit will do.
 const MANY_TURNS: u64 = 1_000_000_000;
 
@@ -74,8 +86,8 @@ fn two_shells_by_every_engine(rt: HostRuntime) {
     ];
     for effort in efforts {
         let (answer, text, told) = drawn(&rt, settings, effort);
-        assert!(rt; answer == Ok(Verdict::Done));
-        assert!(rt; text.as_slice() == b"SHELL 500 1 1\nSHELL 1000 3 4\n".as_slice());
+        let shells = b"SHELL 500 1 1\nSHELL 1000 3 4\n";
+        says(&rt, (answer, text), Ok(Verdict::Done), shells);
         assert_eq!(rt; told, 2_500);
     }
 }
@@ -86,8 +98,7 @@ fn a_factor_that_is_not_settled_leaves_nothing_written(rt: HostRuntime) {
     let settings = b"revenue = 0\ncost = 1\nfactors = [0, 1000]\n";
     let few = Effort::new(Method::PushRelabel, 1, 1);
     let (answer, text, _told) = drawn(&rt, settings, few);
-    assert!(rt; answer == Ok(Verdict::No));
-    assert!(rt; text.as_slice() == b"UNSETTLED 1000\n".as_slice());
+    says(&rt, (answer, text), Ok(Verdict::No), b"UNSETTLED 1000\n");
 }
 
 #[test]
@@ -96,7 +107,6 @@ fn factors_are_needed(rt: HostRuntime) {
     let texts: [&[u8]; 2] = [b"revenue = 0\ncost = 1\n", b"revenue = 0\nprocessing = 1\n"];
     for settings in texts {
         let (answer, text, _told) = drawn(&rt, settings, Effort::new(Method::Auto, 1, 1_000));
-        assert!(rt; answer == Err(missing));
-        assert!(rt; text.is_empty());
+        says(&rt, (answer, text), Err(missing), b"");
     }
 }
