@@ -7,10 +7,20 @@ use crate::test_nets::{
 };
 use crate::{Board, End, Turn};
 use closure_net::{Flow, Net, pit_of};
-use ordered_group::{Worth, WorthSize};
+use ordered_group::{OrderedGroup, Worth, WorthSize};
 use std::alloc::Global;
+use std::fmt::Debug;
 use std::process::Abort;
-use std::test::Fail;
+
+// Fails the test where they differ.
+pub fn same<T: PartialEq + Debug + Drop>(rt: &impl Abort, got: T, wanted: T) {
+    assert_eq!(rt; got, wanted);
+}
+
+// Fails the test where it is false.
+pub fn holds(rt: &impl Abort, fact: bool) {
+    assert!(rt; fact);
+}
 
 // A first step of a block: the operation that it begins goes on.
 fn begins(block: u32) -> Turn {
@@ -22,8 +32,16 @@ fn ends(block: u32) -> Turn {
     Turn::Stepped { block, more: false }
 }
 
-// The turn of a worker with this own block, that looks from a block on, up to a limit of steps.
-fn takes(
+// A worker's turn: its own block, from which block it looks, up to how many steps, and what it answers.
+type Asked = (Option<u32>, u32, u64, Turn);
+
+fn takes(rt: &impl Abort, board: &mut Board<WorthSize>, rows: &[Asked]) {
+    for (own, from, steps, answer) in rows {
+        takes_one(rt, board, *own, *from, *steps, *answer);
+    }
+}
+
+fn takes_one(
     rt: &impl Abort,
     board: &mut Board<WorthSize>,
     own: Option<u32>,
@@ -31,94 +49,115 @@ fn takes(
     steps: u64,
     answer: Turn,
 ) {
-    assert_eq!(rt; board.turn(own, from, steps), answer);
+    assert_eq!(rt;
+        board.turn(own, from, steps),
+        answer,
+        "{own:?} {from} {steps}"
+    );
 }
 
 fn has_made(rt: &impl Abort, board: &Board<WorthSize>, steps: u64) {
-    assert_eq!(rt; board.count(), steps);
+    same(rt, board.count(), steps);
 }
 
 // Blocks worth 6 and 5 rest on one worth -10.
-fn board_of_dear_waste(alloc: Global) -> Result<Board<WorthSize>, Fail> {
-    let net: Net<WorthSize> = two_on_dear_waste(alloc)?;
-    Ok(Board::open(alloc, &net)?)
+fn board_of_dear_waste(rt: &impl Abort, alloc: Global) -> Board<WorthSize> {
+    let net: Net<WorthSize> = two_on_dear_waste(rt, alloc);
+    Board::open(alloc, &net).expect(rt, "memory")
 }
 
 // A block worth 10 rests on one worth -10.
-fn board_of_no_use(alloc: Global) -> Result<Board<WorthSize>, Fail> {
-    let net: Net<WorthSize> = worth_what_it_costs(alloc)?;
-    Ok(Board::open(alloc, &net)?)
+fn board_of_no_use(rt: &impl Abort, alloc: Global) -> Board<WorthSize> {
+    let net: Net<WorthSize> = worth_what_it_costs(rt, alloc);
+    Board::open(alloc, &net).expect(rt, "memory")
 }
 
 #[test]
-fn an_own_block_goes_before_those_that_wait(rt: HostRuntime) -> Result<(), Fail> {
-    let mut board = board_of_dear_waste(rt.alloc())?;
-    takes(&rt, &mut board, None, 1, 100, begins(1));
-    takes(&rt, &mut board, Some(1), 0, 100, begins(1));
-    takes(&rt, &mut board, Some(2), 0, 100, begins(0));
+fn an_own_block_goes_before_those_that_wait(rt: HostRuntime) {
+    let rows = [
+        (None, 1, 100, begins(1)),
+        (Some(1), 0, 100, begins(1)),
+        (Some(2), 0, 100, begins(0)),
+    ];
+    let mut board = board_of_dear_waste(&rt, rt.alloc());
+    takes(&rt, &mut board, &rows);
     has_made(&rt, &board, 3);
-    Ok(())
 }
 
 #[test]
-fn an_own_block_behind_the_last_is_none(rt: HostRuntime) -> Result<(), Fail> {
-    let mut board = board_of_dear_waste(rt.alloc())?;
-    takes(&rt, &mut board, Some(3), 1, 100, begins(1));
-    takes(&rt, &mut board, Some(u32::MAX), 3, 100, begins(0));
-    Ok(())
+fn an_own_block_behind_the_last_is_none(rt: HostRuntime) {
+    let rows = [
+        (Some(3), 1, 100, begins(1)),
+        (Some(u32::MAX), 3, 100, begins(0)),
+    ];
+    let mut board = board_of_dear_waste(&rt, rt.alloc());
+    takes(&rt, &mut board, &rows);
 }
 
 #[test]
-fn a_look_from_behind_the_last_begins_at_the_first(rt: HostRuntime) -> Result<(), Fail> {
-    let mut board = board_of_dear_waste(rt.alloc())?;
-    takes(&rt, &mut board, None, u32::MAX, 100, begins(0));
-    Ok(())
+fn a_look_from_behind_the_last_begins_at_the_first(rt: HostRuntime) {
+    let rows = [(None, u32::MAX, 100, begins(0))];
+    let mut board = board_of_dear_waste(&rt, rt.alloc());
+    takes(&rt, &mut board, &rows);
 }
 
 #[test]
-fn all_with_excess_are_at_work(rt: HostRuntime) -> Result<(), Fail> {
-    let mut board = board_of_no_use(rt.alloc())?;
-    takes(&rt, &mut board, None, 0, 100, begins(0));
-    takes(&rt, &mut board, None, 0, 100, Turn::Idle);
-    takes(&rt, &mut board, Some(1), 0, 100, Turn::Idle);
+fn all_with_excess_are_at_work(rt: HostRuntime) {
+    let rows = [
+        (None, 0, 100, begins(0)),
+        (None, 0, 100, Turn::Idle),
+        (Some(1), 0, 100, Turn::Idle),
+    ];
+    let mut board = board_of_no_use(&rt, rt.alloc());
+    takes(&rt, &mut board, &rows);
     has_made(&rt, &board, 1);
-    Ok(())
 }
 
 // At its limit there is no turn, whoever waits.
 #[test]
-fn a_board_has_a_limit(rt: HostRuntime) -> Result<(), Fail> {
-    let mut board = board_of_no_use(rt.alloc())?;
-    takes(&rt, &mut board, None, 0, 100, begins(0));
-    takes(&rt, &mut board, None, 0, 1, Turn::Ended(End::Limit));
-    takes(&rt, &mut board, Some(0), 0, 1, Turn::Ended(End::Limit));
-    takes(&rt, &mut board, Some(0), 0, 2, begins(0));
-    Ok(())
+fn a_board_has_a_limit(rt: HostRuntime) {
+    let rows = [
+        (None, 0, 100, begins(0)),
+        (None, 0, 1, Turn::Ended(End::Limit)),
+        (Some(0), 0, 1, Turn::Ended(End::Limit)),
+        (Some(0), 0, 2, begins(0)),
+    ];
+    let mut board = board_of_no_use(&rt, rt.alloc());
+    takes(&rt, &mut board, &rows);
 }
 
-// A board after the whole run of one worker.
-fn board_after_a_run(alloc: Global) -> Result<Board<WorthSize>, Fail> {
-    let mut board = board_of_no_use(alloc)?;
+// The turns of one worker until the run ends.
+fn take_all_turns(board: &mut Board<WorthSize>) {
     let mut own = None;
     for _turn in 0..1_000 {
         match board.turn(own, 0, 1_000) {
             Turn::Stepped { block, more } => own = if more { Some(block) } else { None },
             Turn::Idle => own = None,
-            Turn::Ended(_) => return Ok(board),
+            Turn::Ended(_) => return,
         }
     }
-    Ok(board)
+}
+
+// A board after the whole run of one worker.
+fn board_after_a_run(rt: &impl Abort, alloc: Global) -> Board<WorthSize> {
+    let mut board = board_of_no_use(rt, alloc);
+    take_all_turns(&mut board);
+    board
+}
+
+// It tells that it is quiet, below its limit and at it.
+fn stays_quiet(rt: &impl Abort, board: &mut Board<WorthSize>) {
+    holds(rt, board.quiet());
+    let steps = board.count();
+    takes_one(rt, board, None, 0, 0, Turn::Ended(End::Quiet));
+    takes_one(rt, board, Some(0), 1, steps, Turn::Ended(End::Quiet));
+    has_made(rt, board, steps);
 }
 
 #[test]
-fn a_quiet_board_is_not_at_its_limit(rt: HostRuntime) -> Result<(), Fail> {
-    let mut board = board_after_a_run(rt.alloc())?;
-    assert!(rt; board.quiet());
-    let steps = board.count();
-    takes(&rt, &mut board, None, 0, 0, Turn::Ended(End::Quiet));
-    takes(&rt, &mut board, Some(0), 1, steps, Turn::Ended(End::Quiet));
-    has_made(&rt, &board, steps);
-    Ok(())
+fn a_quiet_board_is_not_at_its_limit(rt: HostRuntime) {
+    let mut board = board_after_a_run(&rt, rt.alloc());
+    stays_quiet(&rt, &mut board);
 }
 
 // How many turns of a block come one after the other, and whether its operation ends with them: two
@@ -160,22 +199,25 @@ fn takes_turns(rt: &impl Abort, board: &mut Board<Worth>, block: u32, turns: u64
     }
 }
 
-// A board at which all of these turns were taken.
-fn board_after_the_turns(rt: &impl Abort, alloc: Global) -> Result<Board<Worth>, Fail> {
-    let net: Net<Worth> = two_on_waste(alloc)?;
-    let mut board = Board::open(alloc, &net)?;
+fn takes_stretches(rt: &impl Abort, board: &mut Board<Worth>) {
     for (block, turns, ends) in STRETCHES {
-        takes_turns(rt, &mut board, block, turns, ends);
+        takes_turns(rt, board, block, turns, ends);
     }
-    Ok(board)
+}
+
+// A board at which all of these turns were taken.
+fn board_after_the_turns(rt: &impl Abort, alloc: Global) -> Board<Worth> {
+    let net: Net<Worth> = two_on_waste(rt, alloc);
+    let mut board = Board::open(alloc, &net).expect(rt, "memory");
+    takes_stretches(rt, &mut board);
+    board
 }
 
 #[test]
-fn turns_of_several_workers_make_a_board_quiet(rt: HostRuntime) -> Result<(), Fail> {
-    let mut board = board_after_the_turns(&rt, rt.alloc())?;
-    assert_eq!(rt; board.count(), 140);
-    assert_eq!(rt; board.turn(None, 0, 140), Turn::Ended(End::Quiet));
-    Ok(())
+fn turns_of_several_workers_make_a_board_quiet(rt: HostRuntime) {
+    let mut board = board_after_the_turns(&rt, rt.alloc());
+    same(&rt, board.count(), 140);
+    same(&rt, board.turn(None, 0, 140), Turn::Ended(End::Quiet));
 }
 
 // One unit goes from the source over block 1 into the sink.
@@ -187,13 +229,33 @@ fn is_flow_of_one(flow: &Flow<Worth>) -> bool {
     flow.source() == [one, none, none].as_slice() && flow.sink() == [none, one, none].as_slice()
 }
 
+// The net and the flow of a board that is quiet.
+pub fn settled<G: OrderedGroup>(rt: &impl Abort, board: Board<G>) -> (Net<G>, Flow<G>) {
+    match board.settle() {
+        Ok(settled) => settled,
+        Err(_) => panic!(rt; "a board that isn't quiet"),
+    }
+}
+
+// The pit that a flow leaves.
+pub fn leaves<G: OrderedGroup>(
+    rt: &impl Abort,
+    alloc: Global,
+    net: &Net<G>,
+    flow: &Flow<G>,
+    pit: &[u32],
+) {
+    assert!(rt; flow.fits(net));
+    let left = pit_of(alloc, net, flow).expect(rt, "memory");
+    assert!(rt; left.blocks() == pit);
+}
+
 #[test]
-fn turns_of_several_workers_make_a_flow(rt: HostRuntime) -> Result<(), Fail> {
-    let board = board_after_the_turns(&rt, rt.alloc())?;
-    let (net, flow) = board.settle().ok().ok_or("quiet")?;
-    assert!(rt; is_flow_of_one(&flow) && flow.fits(&net));
-    assert!(rt; pit_of(rt.alloc(), &net, &flow)?.blocks() == [0, 1, 2].as_slice());
-    Ok(())
+fn turns_of_several_workers_make_a_flow(rt: HostRuntime) {
+    let board = board_after_the_turns(&rt, rt.alloc());
+    let (net, flow) = settled(&rt, board);
+    holds(&rt, is_flow_of_one(&flow));
+    leaves(&rt, rt.alloc(), &net, &flow, &[0, 1, 2]);
 }
 
 // The first steps of a block, each of that block.
@@ -205,35 +267,49 @@ fn makes_steps(rt: &impl Abort, board: &mut Board<WorthSize>, block: u32, steps:
 }
 
 // A board after 24 steps, whose next one leads to a size beyond its type.
-fn board_before_a_sum_too_large(rt: &impl Abort, alloc: Global) -> Result<Board<WorthSize>, Fail> {
-    let net = sizes_too_large(alloc)?;
-    let mut board = Board::open(alloc, &net)?;
+fn board_before_a_sum_too_large(rt: &impl Abort, alloc: Global) -> Board<WorthSize> {
+    let net = sizes_too_large(rt, alloc);
+    let mut board = Board::open(alloc, &net).expect(rt, "memory");
     makes_steps(rt, &mut board, 0, 12);
     makes_steps(rt, &mut board, 1, 12);
-    Ok(board)
+    board
 }
 
 #[test]
-fn a_sum_too_large_ends_the_run(rt: HostRuntime) -> Result<(), Fail> {
-    let mut board = board_before_a_sum_too_large(&rt, rt.alloc())?;
+fn a_sum_too_large_ends_the_run(rt: HostRuntime) {
     let stuck = Turn::Ended(End::Stuck);
-    takes(&rt, &mut board, Some(1), 1, 100, stuck);
-    takes(&rt, &mut board, Some(1), 1, 100, stuck);
-    // it is stuck for every worker, at its limit too
-    takes(&rt, &mut board, None, 0, 100, stuck);
-    takes(&rt, &mut board, None, 0, 24, stuck);
+    let rows = [
+        (Some(1), 1, 100, stuck),
+        (Some(1), 1, 100, stuck),
+        // it is stuck for every worker, at its limit too
+        (None, 0, 100, stuck),
+        (None, 0, 24, stuck),
+    ];
+    let mut board = board_before_a_sum_too_large(&rt, rt.alloc());
+    takes(&rt, &mut board, &rows);
     has_made(&rt, &board, 24);
-    Ok(())
 }
 
-#[test]
-fn a_board_that_is_not_quiet_stays(rt: HostRuntime) -> Result<(), Fail> {
-    let mut board = board_of_no_use(rt.alloc())?;
-    takes(&rt, &mut board, None, 0, 100, begins(0));
-    let board = board.settle().err().ok_or("a flow")?;
+// The board that isn't quiet, as it is given back.
+fn unsettled(rt: &impl Abort, board: Board<WorthSize>) -> Board<WorthSize> {
+    match board.settle() {
+        Ok(_) => panic!(rt; "a flow"),
+        Err(board) => board,
+    }
+}
+
+// One step was made, of block 0.
+fn is_at_work(rt: &impl Abort, board: &Board<WorthSize>) {
     assert_eq!(rt; (board.count(), board.quiet()), (1, false));
     assert!(rt; 0 < board.len() && board.has_operation(0));
-    Ok(())
+}
+
+#[test]
+fn a_board_that_is_not_quiet_stays(rt: HostRuntime) {
+    let mut board = board_of_no_use(&rt, rt.alloc());
+    takes_one(&rt, &mut board, None, 0, 100, begins(0));
+    let board = unsettled(&rt, board);
+    is_at_work(&rt, &board);
 }
 
 // All that block 0 has goes over the one pair into the sink at block 1.
@@ -251,27 +327,37 @@ fn carries_all(flow: &Flow<WorthSize>) -> bool {
 }
 
 #[test]
-fn a_quiet_board_gives_its_flow(rt: HostRuntime) -> Result<(), Fail> {
-    let board = board_after_a_run(rt.alloc())?;
-    let (net, flow) = board.settle().ok().ok_or("quiet")?;
-    assert!(rt; carries_all(&flow) && flow.fits(&net));
-    assert!(rt; pit_of(rt.alloc(), &net, &flow)?.is_empty());
-    Ok(())
+fn a_quiet_board_gives_its_flow(rt: HostRuntime) {
+    let board = board_after_a_run(&rt, rt.alloc());
+    let (net, flow) = settled(&rt, board);
+    holds(&rt, carries_all(&flow));
+    leaves(&rt, rt.alloc(), &net, &flow, &[]);
+}
+
+fn is_of_no_use(rt: &impl Abort, alloc: Global, net: &Net<WorthSize>) {
+    let wanted = worth_what_it_costs(rt, alloc);
+    holds(rt, net.same_as(&wanted));
 }
 
 #[test]
-fn a_quiet_board_gives_its_net_back(rt: HostRuntime) -> Result<(), Fail> {
-    let board = board_after_a_run(rt.alloc())?;
-    let (net, _flow) = board.settle().ok().ok_or("quiet")?;
-    assert!(rt; net.same_as(&worth_what_it_costs(rt.alloc())?));
-    Ok(())
+fn a_quiet_board_gives_its_net_back(rt: HostRuntime) {
+    let board = board_after_a_run(&rt, rt.alloc());
+    let (net, _flow) = settled(&rt, board);
+    is_of_no_use(&rt, rt.alloc(), &net);
+}
+
+fn is_over(rt: &impl Abort, board: &Board<WorthSize>, net: Net<WorthSize>, over: bool) {
+    same(rt, board.is_over(&net), over);
+}
+
+fn is_over_its_net(rt: &impl Abort, alloc: Global, board: &Board<WorthSize>) {
+    same(rt, board.len(), 2);
+    is_over(rt, board, worth_what_it_costs(rt, alloc), true);
+    is_over(rt, board, each_on_the_other(rt, alloc), false);
 }
 
 #[test]
-fn a_board_is_over_its_net_alone(rt: HostRuntime) -> Result<(), Fail> {
-    let board = board_of_no_use(rt.alloc())?;
-    assert_eq!(rt; board.len(), 2);
-    assert!(rt; board.is_over(&worth_what_it_costs(rt.alloc())?));
-    assert!(rt; !board.is_over(&each_on_the_other(rt.alloc())?));
-    Ok(())
+fn a_board_is_over_its_net_alone(rt: HostRuntime) {
+    let board = board_of_no_use(&rt, rt.alloc());
+    is_over_its_net(&rt, rt.alloc(), &board);
 }
