@@ -7,29 +7,51 @@ use closure_net::{Net, Pit, pit_of};
 use ordered_group::{OrderedGroup, Worth, WorthSize};
 use prec_file::Rests;
 use std::alloc::Global;
+use std::fmt::Debug;
 use std::process::Abort;
 use std::sync::atomic::{AtomicU32, Ordering};
-use std::test::Fail;
 
 // Many more turns than any of these nets takes.
 const AMPLE: u64 = 1 << 40;
 
+// Fails the test where they differ.
+fn same<T: PartialEq + Debug + Drop>(rt: &impl Abort, got: T, wanted: T) {
+    assert_eq!(rt; got, wanted);
+}
+
 fn net_of<G: OrderedGroup>(
+    rt: &impl Abort,
     alloc: Global,
     n: u32,
     pairs: &[(u32, u32)],
     nanos: &[i128],
-) -> Result<Net<G>, Fail>
+) -> Net<G>
     requires { n ≤ 10000 }
 {
-    let rests = Rests::from_pairs(alloc, n, pairs)?;
-    Ok(Net::of_worths(alloc, rests, nanos)?)
+    let rests = Rests::from_pairs(alloc, n, pairs).expect(rt, "pairs");
+    Net::of_worths(alloc, rests, nanos).expect(rt, "worths")
 }
 
 // The pit that the flow leaves.
-fn found<G: OrderedGroup>(alloc: Global, net: &Net<G>) -> Result<Pit, Fail> {
-    let flow = solve(alloc, net, AMPLE, &Silent)?;
-    Ok(pit_of(alloc, net, &flow)?)
+fn found<G: OrderedGroup>(rt: &impl Abort, alloc: Global, net: &Net<G>) -> Pit {
+    let flow = solve(alloc, net, AMPLE, &Silent).expect(rt, "a flow");
+    pit_of(alloc, net, &flow).expect(rt, "memory")
+}
+
+// The pit in one group.
+fn has_pit_in<G: OrderedGroup, R: Abort>(
+    rt: &R,
+    alloc: Global,
+    n: u32,
+    pairs: &[(u32, u32)],
+    nanos: &[i128],
+    pit: &[u32],
+)
+    requires { n ≤ 10000 }
+{
+    let net: Net<G> = net_of(rt, alloc, n, pairs, nanos);
+    let left = found(rt, alloc, &net);
+    assert!(rt; left.blocks() == pit);
 }
 
 // The same in both groups.
@@ -40,28 +62,25 @@ fn has_pit(
     pairs: &[(u32, u32)],
     nanos: &[i128],
     pit: &[u32],
-) -> Result<(), Fail>
+)
     requires { n ≤ 10000 }
 {
-    let by_size: Net<WorthSize> = net_of(alloc, n, pairs, nanos)?;
-    let by_worth: Net<Worth> = net_of(alloc, n, pairs, nanos)?;
-    assert!(rt; found(alloc, &by_size)?.blocks() == pit);
-    assert!(rt; found(alloc, &by_worth)?.blocks() == pit);
-    Ok(())
+    has_pit_in::<WorthSize, _>(rt, alloc, n, pairs, nanos, pit);
+    has_pit_in::<Worth, _>(rt, alloc, n, pairs, nanos, pit);
 }
 
 #[test]
-fn nets_without_pairs(rt: HostRuntime) -> Result<(), Fail> {
-    has_pit(&rt, rt.alloc(), 0, &[], &[], &[])?;
-    has_pit(&rt, rt.alloc(), 1, &[], &[0], &[])?;
-    has_pit(&rt, rt.alloc(), 1, &[], &[5], &[0])?;
-    has_pit(&rt, rt.alloc(), 4, &[], &[5, 0, -5, 1], &[0, 3])
+fn nets_without_pairs(rt: HostRuntime) {
+    has_pit(&rt, rt.alloc(), 0, &[], &[], &[]);
+    has_pit(&rt, rt.alloc(), 1, &[], &[0], &[]);
+    has_pit(&rt, rt.alloc(), 1, &[], &[5], &[0]);
+    has_pit(&rt, rt.alloc(), 4, &[], &[5, 0, -5, 1], &[0, 3]);
 }
 
 #[test]
-fn small_nets(rt: HostRuntime) -> Result<(), Fail> {
+fn small_nets(rt: HostRuntime) {
     let up = [(0, 2), (1, 2)];
-    has_pit(&rt, rt.alloc(), 3, &up, &[6, 5, -10], &[0, 1, 2])?;
+    has_pit(&rt, rt.alloc(), 3, &up, &[6, 5, -10], &[0, 1, 2]);
     has_pit(
         &rt,
         rt.alloc(),
@@ -69,32 +88,44 @@ fn small_nets(rt: HostRuntime) -> Result<(), Fail> {
         &[(0, 1), (2, 1)],
         &[4, -1, 4],
         &[0, 1, 2],
-    )?;
-    has_pit(&rt, rt.alloc(), 2, &[(0, 1)], &[10, -10], &[])?;
-    has_pit(&rt, rt.alloc(), 2, &[(0, 1), (1, 0)], &[3, -2], &[0, 1])
+    );
+    has_pit(&rt, rt.alloc(), 2, &[(0, 1)], &[10, -10], &[]);
+    has_pit(&rt, rt.alloc(), 2, &[(0, 1), (1, 0)], &[3, -2], &[0, 1]);
 }
 
 // 2,000 blocks of worth 2 under 2,000 of worth -1, each of which rests on the next one up, numbered from below or from
 // above.
-fn chain(alloc: Global, from_below: bool) -> Result<Net<WorthSize>, Fail> {
+fn chain(rt: &impl Abort, alloc: Global, from_below: bool) -> Net<WorthSize> {
     let mut nanos: Vec<i128> = Vec::new(alloc);
     let mut pairs: Vec<(u32, u32)> = Vec::new(alloc);
+    link_chain(rt, &mut nanos, &mut pairs, from_below);
+    net_of(rt, alloc, 4_000, &pairs, &nanos)
+}
+
+// Its worths and its pairs.
+fn link_chain(
+    rt: &impl Abort,
+    nanos: &mut Vec<i128>,
+    pairs: &mut Vec<(u32, u32)>,
+    from_below: bool,
+) {
     for b in 0..4_000 {
-        nanos.push(if from_below == (b < 2_000) { 2 } else { -1 })?;
+        let worth = if from_below == (b < 2_000) { 2 } else { -1 };
+        nanos.push(worth).expect(rt, "memory");
         if b > 0 {
-            pairs.push(if from_below { (b - 1, b) } else { (b, b - 1) })?;
+            let pair = if from_below { (b - 1, b) } else { (b, b - 1) };
+            pairs.push(pair).expect(rt, "memory");
         }
     }
-    net_of(alloc, 4_000, &pairs, &nanos)
 }
 
 #[test]
-fn bare_chains_end(rt: HostRuntime) -> Result<(), Fail> {
+fn bare_chains_end(rt: HostRuntime) {
     for from_below in [false, true] {
-        let net = chain(rt.alloc(), from_below)?;
-        assert_eq!(rt; found(rt.alloc(), &net)?.len(), 4_000);
+        let net = chain(&rt, rt.alloc(), from_below);
+        let pit = found(&rt, rt.alloc(), &net);
+        same(&rt, pit.len(), 4_000);
     }
-    Ok(())
 }
 
 // What was reported last.
@@ -112,30 +143,28 @@ impl Progress for Last {
 }
 
 #[test]
-fn every_block_is_settled_in_the_end(rt: HostRuntime) -> Result<(), Fail> {
-    let net: Net<Worth> = net_of(rt.alloc(), 2, &[(0, 1)], &[1, -2])?;
+fn every_block_is_settled_in_the_end(rt: HostRuntime) {
+    let net: Net<Worth> = net_of(&rt, rt.alloc(), 2, &[(0, 1)], &[1, -2]);
     let last = Last {
         settled: AtomicU32::new(0),
         blocks: AtomicU32::new(0),
     };
-    assert!(rt; solve(rt.alloc(), &net, AMPLE, &last).is_ok());
-    assert_eq!(rt; last.settled.load(Ordering::SeqCst), 2);
-    assert_eq!(rt; last.blocks.load(Ordering::SeqCst), 2);
-    Ok(())
+    same(&rt, solve(rt.alloc(), &net, AMPLE, &last).is_ok(), true);
+    same(&rt, last.settled.load(Ordering::SeqCst), 2);
+    same(&rt, last.blocks.load(Ordering::SeqCst), 2);
 }
 
 #[test]
-fn one_turn_is_too_few(rt: HostRuntime) -> Result<(), Fail> {
-    let net: Net<Worth> = net_of(rt.alloc(), 2, &[(0, 1)], &[1, -2])?;
+fn one_turn_is_too_few(rt: HostRuntime) {
+    let net: Net<Worth> = net_of(&rt, rt.alloc(), 2, &[(0, 1)], &[1, -2]);
     let fault = solve(rt.alloc(), &net, 1, &Silent).err();
-    assert_eq!(rt; fault, Some(PseudoflowFault::Unsettled));
-    Ok(())
+    same(&rt, fault, Some(PseudoflowFault::Unsettled));
 }
 
 // The sizes of two blocks whose sum is beyond their type.
 #[test]
-fn a_sum_is_too_large(rt: HostRuntime) -> Result<(), Fail> {
-    let rests = Rests::from_pairs(rt.alloc(), 2, &[(0, 1)])?;
+fn a_sum_is_too_large(rt: HostRuntime) {
+    let rests = Rests::from_pairs(rt.alloc(), 2, &[(0, 1)]).expect(&rt, "pairs");
     let worths = [
         WorthSize {
             nanos: 5,
@@ -143,9 +172,8 @@ fn a_sum_is_too_large(rt: HostRuntime) -> Result<(), Fail> {
         },
         WorthSize { nanos: -9, size: 1 },
     ];
-    let worths = Vec::from_slice(rt.alloc(), &worths)?;
-    let net = Net::build(rests, worths)?;
+    let worths = Vec::from_slice(rt.alloc(), &worths).expect(&rt, "memory");
+    let net = Net::build(rests, worths).expect(&rt, "net");
     let fault = solve(rt.alloc(), &net, AMPLE, &Silent).err();
-    assert_eq!(rt; fault, Some(PseudoflowFault::TooLarge));
-    Ok(())
+    same(&rt, fault, Some(PseudoflowFault::TooLarge));
 }
