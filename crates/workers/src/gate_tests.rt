@@ -1,6 +1,7 @@
 //! Gates that make workers wait for each other, and one that counts.
 
 use crate::test_nets::{two_on_dear_waste, two_on_waste};
+use crate::whole_run_tests::holds;
 use crate::{Gate, Locked, Shared, TurnBoard, solve};
 use closure_net::Net;
 use ordered_group::{OrderedGroup, Worth, WorthSize};
@@ -9,7 +10,6 @@ use std::process::Abort;
 use std::sync::Wait;
 use std::sync::atomic::Ordering::SeqCst;
 use std::sync::atomic::{AtomicBool, AtomicU64};
-use std::test::Fail;
 use std::thread;
 use std::thread::Threads;
 use std::time::{Clock, Duration};
@@ -67,16 +67,25 @@ impl<R: Clock + Sync + Drop> Gate for Meeting<R> {
     }
 }
 
+// Two workers see each other before this turn.
+fn meet_at<R: Abort + Clock + Threads + Wait + Sync + Copy + Drop>(
+    rt: R,
+    alloc: Global,
+    net: &Net<WorthSize>,
+    turn: u64,
+) {
+    let gate = Meeting::of(rt, 2, turn);
+    let solved = solve(&rt, alloc, net, 2, 10_000_000, &gate);
+    holds(&rt, gate.all_met());
+    holds(&rt, solved.is_ok());
+}
+
 #[test]
-fn both_workers_are_at_their_turns_at_once(rt: HostRuntime) -> Result<(), Fail> {
-    let net: Net<WorthSize> = two_on_dear_waste(rt.alloc())?;
+fn both_workers_are_at_their_turns_at_once(rt: HostRuntime) {
+    let net: Net<WorthSize> = two_on_dear_waste(&rt, rt.alloc());
     for turn in 0..2 {
-        let gate = Meeting::of(rt, 2, turn);
-        let solved = solve(&rt, rt.alloc(), &net, 2, 10_000_000, &gate);
-        assert!(rt; gate.all_met());
-        assert!(rt; solved.is_ok());
+        meet_at(rt, rt.alloc(), &net, turn);
     }
-    Ok(())
 }
 
 // Before its first turn worker 0 waits until worker 1 has taken twenty.
@@ -98,17 +107,16 @@ impl<R: Clock + Sync + Drop> Gate for HeldBack<R> {
 }
 
 #[test]
-fn a_worker_goes_on_while_another_waits(rt: HostRuntime) -> Result<(), Fail> {
-    let net: Net<WorthSize> = two_on_dear_waste(rt.alloc())?;
+fn a_worker_goes_on_while_another_waits(rt: HostRuntime) {
+    let net: Net<WorthSize> = two_on_dear_waste(&rt, rt.alloc());
     let gate = HeldBack {
         clock: rt,
         far: AtomicU64::new(0),
         seen: AtomicBool::new(false),
     };
     let solved = solve(&rt, rt.alloc(), &net, 2, 10_000_000, &gate);
-    assert!(rt; gate.seen.load(SeqCst));
-    assert!(rt; solved.is_ok());
-    Ok(())
+    holds(&rt, gate.seen.load(SeqCst));
+    holds(&rt, solved.is_ok());
 }
 
 // Counts the turns of all workers.
@@ -125,32 +133,41 @@ impl Gate for Counting {
 
 // Each step is a turn of a worker, which passed the gate. One worker finds a step in each turn, until
 // it finds that the run is quiet.
-fn counts_turns<G: OrderedGroup, R: Abort + Threads + Wait + Sync>(
+fn counts_turns_of<G: OrderedGroup, R: Abort + Threads + Wait + Sync>(
     rt: &R,
     alloc: Global,
     net: &Net<G>,
-) -> Result<(), Fail>
+    workers: u32,
+)
+where
+    Locked<TurnBoard<G>>: Shared,
+{
+    let gate = Counting {
+        turns: AtomicU64::new(0),
+    };
+    let solved = solve(rt, alloc, net, workers, 100_000, &gate).expect(rt, "solved");
+    let steps = solved.steps;
+    let turns = gate.turns.load(SeqCst);
+    holds(rt, 0 < steps && steps <= turns);
+    holds(rt, workers > 1 || turns == steps.wrapping_add(1));
+}
+
+fn counts_turns<G: OrderedGroup, R: Abort + Threads + Wait + Sync>(
+    rt: &R,
+    alloc: Global,
+    net: Net<G>,
+)
 where
     Locked<TurnBoard<G>>: Shared,
 {
     for workers in 1..3 {
-        let gate = Counting {
-            turns: AtomicU64::new(0),
-        };
-        let solved = solve(rt, alloc, net, workers, 100_000, &gate).ok();
-        let steps = solved.ok_or("solved")?.steps;
-        let turns = gate.turns.load(SeqCst);
-        assert!(rt; 0 < steps && steps <= turns);
-        assert!(rt; workers > 1 || turns == steps.wrapping_add(1));
+        counts_turns_of(rt, alloc, &net, workers);
     }
-    Ok(())
 }
 
 #[test]
-fn each_step_passes_the_gate(rt: HostRuntime) -> Result<(), Fail> {
+fn each_step_passes_the_gate(rt: HostRuntime) {
     let alloc = rt.alloc();
-    let net: Net<WorthSize> = two_on_dear_waste(alloc)?;
-    counts_turns(&rt, alloc, &net)?;
-    let net: Net<Worth> = two_on_waste(alloc)?;
-    counts_turns(&rt, alloc, &net)
+    counts_turns::<WorthSize, _>(&rt, alloc, two_on_dear_waste(&rt, alloc));
+    counts_turns::<Worth, _>(&rt, alloc, two_on_waste(&rt, alloc));
 }

@@ -2,44 +2,48 @@
 //! engines, which have both solvers.
 
 use crate::test_nets::{net_of, two_on_waste};
-use crate::{OpenGate, SolveFault, solve};
-use closure_net::Net;
+use crate::whole_run_tests::{holds, same};
+use crate::{OpenGate, SolveFault, Solved, solve};
+use closure_net::{Flow, Net};
 use ordered_group::{Worth, WorthSize};
-use std::test::Fail;
+use std::process::Abort;
 
-#[test]
-fn two_on_waste_leave_one_unit(rt: HostRuntime) -> Result<(), Fail> {
-    let net: Net<Worth> = two_on_waste(rt.alloc())?;
-    let ran = solve(&rt, rt.alloc(), &net, 1, 1_000_000, &OpenGate)
-        .ok()
-        .ok_or("run")?;
+// What a flow takes from the source.
+fn taken_by(flow: &Flow<Worth>) -> i128 {
     let mut taken = 0i128;
-    for amount in ran.flow.source() {
+    for amount in flow.source() {
         taken = taken.wrapping_add(amount.nanos);
     }
-    assert_eq!(rt; taken, 1_000_000_000);
-    Ok(())
+    taken
 }
 
 #[test]
-fn one_block_takes_ten_steps(rt: HostRuntime) -> Result<(), Fail> {
-    let alloc = rt.alloc();
-    let net: Net<WorthSize> = net_of(alloc, 1, &[], &[5_000_000_000])?;
-    assert_eq!(rt;
-        solve(&rt, alloc, &net, 1, 9, &OpenGate).err(),
-        Some(SolveFault::Unsettled)
-    );
-    let ran = solve(&rt, alloc, &net, 1, 10, &OpenGate).ok().ok_or("run")?;
-    assert_eq!(rt; ran.steps, 10);
-    assert!(rt; ran.flow.source() == [WorthSize { nanos: 0, size: 0 }].as_slice());
-    Ok(())
+fn two_on_waste_leave_one_unit(rt: HostRuntime) {
+    let net: Net<Worth> = two_on_waste(&rt, rt.alloc());
+    let ran = solve(&rt, rt.alloc(), &net, 1, 1_000_000, &OpenGate).expect(&rt, "run");
+    same(&rt, taken_by(&ran.flow), 1_000_000_000);
+}
+
+fn took_nothing_in_ten(rt: &impl Abort, ran: &Solved<WorthSize>) {
+    same(rt, ran.steps, 10);
+    let none = WorthSize { nanos: 0, size: 0 };
+    holds(rt, ran.flow.source() == [none].as_slice());
 }
 
 #[test]
-fn a_net_of_no_blocks_takes_none(rt: HostRuntime) -> Result<(), Fail> {
+fn one_block_takes_ten_steps(rt: HostRuntime) {
     let alloc = rt.alloc();
-    let net: Net<WorthSize> = net_of(alloc, 0, &[], &[])?;
-    let ran = solve(&rt, alloc, &net, 1, 1, &OpenGate).ok().ok_or("run")?;
-    assert_eq!(rt; ran.steps, 0);
-    Ok(())
+    let net: Net<WorthSize> = net_of(&rt, alloc, 1, &[], &[5_000_000_000]);
+    let fault = solve(&rt, alloc, &net, 1, 9, &OpenGate).err();
+    same(&rt, fault, Some(SolveFault::Unsettled));
+    let ran = solve(&rt, alloc, &net, 1, 10, &OpenGate).expect(&rt, "run");
+    took_nothing_in_ten(&rt, &ran);
+}
+
+#[test]
+fn a_net_of_no_blocks_takes_none(rt: HostRuntime) {
+    let alloc = rt.alloc();
+    let net: Net<WorthSize> = net_of(&rt, alloc, 0, &[], &[]);
+    let ran = solve(&rt, alloc, &net, 1, 1, &OpenGate).expect(&rt, "run");
+    same(&rt, ran.steps, 0);
 }

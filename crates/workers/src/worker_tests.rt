@@ -5,6 +5,7 @@ ghost use Rattle.std.specs.Prelude.{◌<◌};
 use crate::gate_tests::Meeting;
 use crate::solving::serve_all;
 use crate::test_nets::two_on_dear_waste;
+use crate::whole_run_tests::{holds, same};
 use crate::{Board, End, Gate, Locked, OpenGate, Shared, Turn, TurnBoard, serve};
 use closure_net::Net;
 use ordered_group::{OrderedGroup, Scaled, Worth, WorthSize};
@@ -13,7 +14,6 @@ use std::process::Abort;
 use std::sync::atomic::Ordering::SeqCst;
 use std::sync::atomic::{AtomicBool, AtomicU64};
 use std::sync::{Mutex, Wait};
-use std::test::Fail;
 
 // The first step of block 1: the operation that it begins goes on.
 const BEGUN: Turn = Turn::Stepped {
@@ -84,69 +84,47 @@ impl Shared for Script {
     }
 }
 
+// The question of a worker without a block, whose turns are ten.
+fn asks_from(rt: &impl Abort, asked: Option<Question>, from: u32) {
+    let question = Question {
+        own: None,
+        from,
+        steps: 10,
+    };
+    assert_eq!(rt; asked, Some(question));
+}
+
+// Block 2 while it is at work, and else the next one.
+fn keeps_its_block(rt: &impl Abort, asked: &Asked) {
+    asks_from(rt, asked.questions[0], 1);
+    same(rt, asked.questions[1].map(|q| q.own), Some(Some(2)));
+    asks_from(rt, asked.questions[2], 3);
+    asks_from(rt, asked.questions[3], 3);
+    same(rt, asked.count, 4);
+}
+
 #[test]
 fn a_worker_keeps_its_block_while_it_is_at_work(rt: HostRuntime) {
     let script = Script::new();
-    assert_eq!(rt; serve(&rt, &script, &OpenGate, 1, 4, 10), End::Quiet);
+    same(&rt, serve(&rt, &script, &OpenGate, 1, 4, 10), End::Quiet);
     let asked = script.asked.into_inner();
-    let steps = 10;
-    assert_eq!(rt;
-        asked.questions[0],
-        Some(Question {
-            own: None,
-            from: 1,
-            steps
-        })
-    );
-    assert_eq!(rt; asked.questions[1].map(|q| q.own), Some(Some(2)));
-    assert_eq!(rt;
-        asked.questions[2],
-        Some(Question {
-            own: None,
-            from: 3,
-            steps
-        })
-    );
-    assert_eq!(rt;
-        asked.questions[3],
-        Some(Question {
-            own: None,
-            from: 3,
-            steps
-        })
-    );
-    assert_eq!(rt; asked.count, 4);
+    keeps_its_block(&rt, &asked);
 }
 
 #[test]
 fn a_worker_ends_after_its_turns(rt: HostRuntime) {
     let script = Script::new();
-    assert_eq!(rt; serve(&rt, &script, &OpenGate, 1, 4, 2), End::Limit);
-    assert_eq!(rt; script.asked.into_inner().count, 2);
+    same(&rt, serve(&rt, &script, &OpenGate, 1, 4, 2), End::Limit);
+    same(&rt, script.asked.into_inner().count, 2);
 }
 
 #[test]
 fn a_worker_of_no_blocks_asks_from_the_first(rt: HostRuntime) {
     let script = Script::new();
-    assert_eq!(rt; serve(&rt, &script, &OpenGate, 1, 0, 10), End::Quiet);
+    same(&rt, serve(&rt, &script, &OpenGate, 1, 0, 10), End::Quiet);
     let asked = script.asked.into_inner();
-    let steps = 10;
-    assert_eq!(rt;
-        asked.questions[0],
-        Some(Question {
-            own: None,
-            from: 0,
-            steps
-        })
-    );
-    assert_eq!(rt;
-        asked.questions[2],
-        Some(Question {
-            own: None,
-            from: 0,
-            steps
-        })
-    );
+    asks_from(&rt, asked.questions[0], 0);
+    asks_from(&rt, asked.questions[2], 0);
 }
 
 // Idle for whoever asks, a hundred times. Both the gate and what is behind it: a question is in its turn
@@ -190,12 +168,13 @@ impl Shared for Idler {
 #[test]
 fn idle_turns_are_counted_and_pass_the_gate_first(rt: HostRuntime) {
     let idler = Idler::new();
-    assert_eq!(rt; serve(&rt, &idler, &idler, 3, 4, 5), End::Limit);
-    assert_eq!(rt;
+    same(&rt, serve(&rt, &idler, &idler, 3, 4, 5), End::Limit);
+    same(
+        &rt,
         (idler.passed.load(SeqCst), idler.asked.load(SeqCst)),
-        (5, 5)
+        (5, 5),
     );
-    assert!(rt; !idler.out_of_turn.load(SeqCst));
+    holds(&rt, !idler.out_of_turn.load(SeqCst));
 }
 
 // Notes the blocks from which workers look: each of 64 blocks has a binary digit of its own.
@@ -219,44 +198,69 @@ fn sixty_four_workers_are_started(rt: HostRuntime) {
         from: AtomicU64::new(0),
     };
     let gate = Meeting::of(rt, 64, 0);
-    assert!(rt; serve_all(&rt, &looks, &gate, 64, 64, 1));
-    assert!(rt; gate.all_met());
-    assert_eq!(rt; looks.from.load(SeqCst), u64::MAX);
+    holds(&rt, serve_all(&rt, &looks, &gate, 64, 64, 1));
+    holds(&rt, gate.all_met());
+    same(&rt, looks.from.load(SeqCst), u64::MAX);
 }
 
 // A turn under the lock makes one step, of the block that is asked for.
 fn makes_a_step<S: Shared, R: Abort + Wait>(rt: &R, shared: &S) {
-    assert_eq!(rt; shared.act(rt, None, 1, 10), BEGUN);
+    same(rt, shared.act(rt, None, 1, 10), BEGUN);
 }
 
 // Turns under the lock make steps of a worker's own block, up to the limit.
-fn makes_two_steps<S: Shared, R: Abort + Wait>(rt: &R, shared: &S) {
-    assert_eq!(rt; shared.act(rt, None, 1, 2), BEGUN);
-    assert_eq!(rt; shared.act(rt, Some(1), 0, 2), BEGUN);
-    assert_eq!(rt; shared.act(rt, Some(1), 0, 2), Turn::Ended(End::Limit));
+fn makes_two_steps<S: Shared + Drop, R: Abort + Wait>(rt: &R, shared: S) {
+    same(rt, shared.act(rt, None, 1, 2), BEGUN);
+    same(rt, shared.act(rt, Some(1), 0, 2), BEGUN);
+    same(rt, shared.act(rt, Some(1), 0, 2), Turn::Ended(End::Limit));
 }
 
-// On a board, and on one that only turns change.
-fn makes_steps<G: OrderedGroup, R: Abort + Wait>(rt: &R, alloc: Global) -> Result<(), Fail>
+fn locked_board<G: OrderedGroup>(rt: &impl Abort, alloc: Global, net: &Net<G>) -> Locked<Board<G>> {
+    Locked::new(Board::open(alloc, net).expect(rt, "memory"))
+}
+
+fn locked_turn_board<G: OrderedGroup>(
+    rt: &impl Abort,
+    alloc: Global,
+    net: &Net<G>,
+) -> Locked<TurnBoard<G>> {
+    Locked::new(TurnBoard::open(alloc, net).expect(rt, "memory"))
+}
+
+fn on_a_board<G: OrderedGroup, R: Abort + Wait>(rt: &R, alloc: Global, net: &Net<G>)
+where
+    Locked<Board<G>>: Shared,
+{
+    let board = locked_board(rt, alloc, net);
+    makes_a_step(rt, &board);
+    same(rt, board.into_inner().count(), 1);
+    makes_two_steps(rt, locked_board(rt, alloc, net));
+}
+
+// On a board that only turns change.
+fn on_a_turn_board<G: OrderedGroup, R: Abort + Wait>(rt: &R, alloc: Global, net: &Net<G>)
+where
+    Locked<TurnBoard<G>>: Shared,
+{
+    let board = locked_turn_board(rt, alloc, net);
+    makes_a_step(rt, &board);
+    same(rt, board.into_inner().count(), 1);
+    makes_two_steps(rt, locked_turn_board(rt, alloc, net));
+}
+
+fn makes_steps<G: OrderedGroup, R: Abort + Wait>(rt: &R, alloc: Global)
 where
     Locked<Board<G>>: Shared,
     Locked<TurnBoard<G>>: Shared,
 {
-    let net: Net<G> = two_on_dear_waste(alloc)?;
-    let shared = Locked::new(Board::open(alloc, &net)?);
-    makes_a_step(rt, &shared);
-    assert_eq!(rt; shared.into_inner().count(), 1);
-    let shared = Locked::new(TurnBoard::open(alloc, &net)?);
-    makes_a_step(rt, &shared);
-    assert_eq!(rt; shared.into_inner().count(), 1);
-    makes_two_steps(rt, &Locked::new(Board::open(alloc, &net)?));
-    makes_two_steps(rt, &Locked::new(TurnBoard::open(alloc, &net)?));
-    Ok(())
+    let net: Net<G> = two_on_dear_waste(rt, alloc);
+    on_a_board(rt, alloc, &net);
+    on_a_turn_board(rt, alloc, &net);
 }
 
 #[test]
-fn turns_under_the_lock_make_steps(rt: HostRuntime) -> Result<(), Fail> {
-    makes_steps::<Worth, _>(&rt, rt.alloc())?;
-    makes_steps::<WorthSize, _>(&rt, rt.alloc())?;
-    makes_steps::<Scaled, _>(&rt, rt.alloc())
+fn turns_under_the_lock_make_steps(rt: HostRuntime) {
+    makes_steps::<Worth, _>(&rt, rt.alloc());
+    makes_steps::<WorthSize, _>(&rt, rt.alloc());
+    makes_steps::<Scaled, _>(&rt, rt.alloc());
 }
