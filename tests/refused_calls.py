@@ -38,6 +38,9 @@ KINDS = (
     ("write", "interrupted", ("device",)),
     ("write", "nothing", ("device",)),
 )
+# How long a run may take, and what stands for the status of one that takes longer.
+SECONDS = 120
+NO_ANSWER = "no answer"
 
 
 def shim(room):
@@ -62,8 +65,12 @@ def lay_out(case, folder):
 
 
 def run(program, words, folder, settings=None):
-    done = subprocess.run([str(program), *words], cwd=folder, stdin=subprocess.DEVNULL, stdout=subprocess.PIPE,
-                          stderr=subprocess.PIPE, timeout=120, env={**os.environ, **(settings or {})})
+    """The status, the output and the errors; the status NO_ANSWER where none came in time."""
+    try:
+        done = subprocess.run([str(program), *words], cwd=folder, stdin=subprocess.DEVNULL, stdout=subprocess.PIPE,
+                              stderr=subprocess.PIPE, timeout=SECONDS, env={**os.environ, **(settings or {})})
+    except subprocess.TimeoutExpired:
+        return NO_ANSWER, b"", b"no answer in %d seconds" % SECONDS
     return done.returncode, done.stdout, done.stderr
 
 
@@ -86,6 +93,8 @@ def tried(program, library, row, kind, how, lines):
         folder.mkdir()
         words = lay_out(HERE / "cases" / row, folder)
         ample = run(program, words, folder)
+        if ample[0] == NO_ANSWER:
+            return 1, ["no call fails: %s" % ample[2].decode()]
         mark = Path(room) / "mark"
         for number in count(1):
             answer = run(program, words, folder, {"LD_PRELOAD": str(library), "FAIL_KIND": kind, "FAIL_HOW": how,
@@ -94,7 +103,7 @@ def tried(program, library, row, kind, how, lines):
                 return number - 1, wrong
             mark.unlink()
             if not is_allowed(answer, ample, kind, lines):
-                wrong.append("call %d: status %d, output %r, errors %r" % (number, answer[0], answer[1][:80], answer[2][:200]))
+                wrong.append("call %d: status %s, output %r, errors %r" % (number, answer[0], answer[1][:80], answer[2][:200]))
 
 
 def try_all(program, is_told=False):
