@@ -8,7 +8,7 @@ const ABOUT: &str = "Checks a certificate: does its flow prove that its pit is t
 
 const DETAILS: &str = "Checks a certificate: does its flow prove that its pit is the best?
 
-Prints ACCEPTED, the number of blocks and the worth, or REFUSED and the reason. What is accepted is proved: with each block the pit holds all its predecessors, and no such pit is worth more; and, but with a certificate of GROUP WORTH, every other that is worth as much has more blocks. With --blocks and --settings the blocks are worth what their prices give at the factor that the certificate names; then, of two pits that are accepted over the same files, neither of GROUP WORTH, the one at the lower factor lies within the other.";
+Prints ACCEPTED, the number of blocks and the worth, or REFUSED and the reason. What is accepted is proved: with each block the pit holds all its predecessors, and no such pit is worth more; and, except with a certificate of GROUP WORTH, every other that is worth as much has more blocks. With --blocks and --settings the blocks are worth what their prices give at the factor that the certificate names; then, of two pits that are accepted over the same files, neither of GROUP WORTH, the one at the lower factor lies within the other.";
 
 /// The files of a check, and whether it is told why one failed.
 #[derive(Clone, Copy)]

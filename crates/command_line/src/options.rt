@@ -68,7 +68,8 @@ pub enum ModelWords<'a> {
 
 /// The options that name the files of a mine: its precedence, and its values or its settings and blocks.
 pub fn with_model<'a>(alloc: Global, command: Command<'a>) -> Result<Command<'a>, AllocError> {
-    with_prices(alloc, with_values(alloc, command)?)
+    let command = with_option(with_values(alloc, command)?, blocks_option(alloc))?;
+    with_option(command, settings_option(alloc))
 }
 
 /// The same, and the option that names the factor of a priced model.
@@ -76,7 +77,9 @@ pub fn with_model_at_factor<'a>(
     alloc: Global,
     command: Command<'a>,
 ) -> Result<Command<'a>, AllocError> {
-    with_option(with_model(alloc, command)?, factor_option(alloc))
+    let command = with_option(with_values(alloc, command)?, blocks_at_factor(alloc))?;
+    let command = with_option(command, settings_option(alloc))?;
+    with_option(command, factor_option(alloc))
 }
 
 // The precedence, and the values.
@@ -86,12 +89,19 @@ fn with_values<'a>(alloc: Global, command: Command<'a>) -> Result<Command<'a>, A
     with_option(command, upit.required_unless_present("blocks"))
 }
 
-// The blocks and the settings of a priced model.
-fn with_prices<'a>(alloc: Global, command: Command<'a>) -> Result<Command<'a>, AllocError> {
-    let blocks = priced_option(alloc, "blocks", PRICED_BLOCKS_HELP, "settings");
-    let command = with_option(command, blocks)?;
-    let settings = priced_option(alloc, "settings", SETTINGS_HELP, "blocks");
-    with_option(command, settings)
+// The blocks of a priced model.
+fn blocks_option<'a>(alloc: Global) -> Result<Arg<'a>, AllocError> {
+    priced_option(alloc, "blocks", PRICED_BLOCKS_HELP, "settings")
+}
+
+// The same, where a factor has to be named.
+fn blocks_at_factor<'a>(alloc: Global) -> Result<Arg<'a>, AllocError> {
+    blocks_option(alloc)?.requires_arg("factor")
+}
+
+// The settings of a priced model.
+fn settings_option<'a>(alloc: Global) -> Result<Arg<'a>, AllocError> {
+    priced_option(alloc, "settings", SETTINGS_HELP, "blocks")
 }
 
 // An option that names a file of a priced model, which needs the other one.
@@ -125,8 +135,7 @@ fn factor_option<'a>(alloc: Global) -> Result<Arg<'a>, AllocError> {
         "The share of the revenues that counts, in thousandths, from 0 to 10000; needed with --blocks",
     )
     .requires_arg("blocks")?
-    .conflicts_with("upit")?
-    .required_unless_present("upit")
+    .conflicts_with("upit")
 }
 
 /// The option that names what amounts count.
