@@ -1,10 +1,10 @@
-//! The pit that a flow proves, whatever engine made it: the one place where a solver's answer is trusted or not.
+//! The pit that a flow proves, whatever engine made it: the one place where a solver's flow is trusted or not.
 
 ghost use Rattle.std.specs.Prelude.{◌≡◌, IfOk, MatchResult, IsErrOf};
 ghost use Rattle.closure_net.specs.Network.{FlowFits};
-ghost use Rattle.check_pit.specs.Checks.{IsSound};
-ghost use Rattle.engines.specs.Certifying.{UncertifiedStands};
+ghost use Rattle.engines.specs.Certifying.{IsSolution, UncertifiedStands};
 
+use crate::judging::{size_of, worth_of};
 use check_pit::{PitFault, check};
 use closure_net::{Flow, Net, Pit, pit_of};
 use ordered_group::OrderedGroup;
@@ -17,6 +17,10 @@ pub struct Solution<G: OrderedGroup> {
     pub pit: Pit,
     /// The flow.
     pub flow: Flow<G>,
+    /// The number of the pit's blocks.
+    pub count: u32,
+    /// What they are worth, in billionths.
+    pub worth: i128,
 }
 
 /// Why a flow proves no pit.
@@ -28,7 +32,7 @@ pub enum Uncertified {
     Refused(PitFault),
 }
 
-/// Checks a flow of any origin, with the pit of the blocks that the source reaches in it, and gives both.
+/// Checks a flow of any origin, with the pit of the blocks that the source reaches in it, and returns both.
 ///
 /// Nothing is asked of the flow: it may have wrong lengths, negative amounts, or prove nothing. So an engine that
 /// makes flows needs no proof of being right.
@@ -42,7 +46,7 @@ pub fn certified<G: OrderedGroup>(
     flow: Flow<G>,
 ) -> Result<Solution<G>, Uncertified>
     ensures answer { MatchResult result
-        (λ s. IsSound net.now s.flow s.pit)
+        (λ s. IsSolution G.set_worth net.now s.flow s.pit s.count s.worth)
         (λ why. UncertifiedStands net.now flow why) }
     ensures same { IfOk result (λ s. s.flow ≡ flow) }
     ensures sized { IsErrOf result Uncertified.NoMemory → FlowFits net.now flow }
@@ -53,9 +57,17 @@ pub fn certified<G: OrderedGroup>(
     let Ok(pit) = pit_of(alloc, net, &flow) else {
         return Err(Uncertified::NoMemory);
     };
-    match check(net, &pit, &flow) {
-        Ok(_) => {}
+    let (count, worth) = match check(net, &pit, &flow) {
+        Ok(accepted) => {
+            let count = size_of(&accepted);
+            (count, worth_of(&accepted, count))
+        }
         Err(fault) => return Err(Uncertified::Refused(fault)),
-    }
-    Ok(Solution { pit, flow })
+    };
+    Ok(Solution {
+        pit,
+        flow,
+        count,
+        worth,
+    })
 }

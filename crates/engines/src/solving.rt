@@ -3,8 +3,8 @@
 ghost use Rattle.std.specs.Prelude.{◌≡◌, ◌+◌, ◌-◌, ◌^◌, ◌<◌, ◌↔◌, IfSome, MatchResult, OnOk, IfErr, IfOk, Ok, Err, IsErrOf};
 ghost use Rattle.std.specs.Io.KnownBytes.{Appends};
 ghost use Rattle.fixed_worth.specs.Device.{ReceivedPrefix};
-ghost use Rattle.check_pit.specs.Checks.{IsSound};
 ghost use Rattle.check_pit.specs.ReadBack.{IsPrice};
+ghost use Rattle.engines.specs.Certifying.{IsSolution};
 ghost use Rattle.engines.specs.Solving.{UnsolvedStands, MachineStands, SolvesNet, unsolved_by};
 
 use crate::certify::{Solution, Uncertified, certified};
@@ -59,7 +59,7 @@ pub fn by_pseudoflow<G: OrderedGroup, P: Progress>(
     turns: u64,
     progress: &P,
 ) -> Result<Option<Solution<G>>, AllocError>
-    ensures { IfOk result (λ found. IfSome found (λ s. IsSound net.now s.flow s.pit)) }
+    ensures { IfOk result (λ found. IfSome found (λ s. IsSolution G.set_worth net.now s.flow s.pit s.count s.worth)) }
 {
     let flow = match pseudoflow::solve(alloc, net, turns, progress) {
         Ok(flow) => flow,
@@ -84,7 +84,7 @@ pub fn by_machine<G: OrderedGroup, R: Threads + Wait + Sync, T: Gate>(
 where
     Locked<TurnBoard<G>>: Shared,
     ensures { MatchResult result
-        (λ s. IsSound net.now s.flow s.pit)
+        (λ s. IsSolution G.set_worth net.now s.flow s.pit s.count s.worth)
         (λ unsolved. MachineStands net.now effort.steps unsolved) }
 {
     // proof: the check of a closed pit that its flow makes tight can fail for a sum that overflows alone
@@ -113,7 +113,7 @@ fn by_machine_first<G: OrderedGroup, R: Threads + Wait + Sync, T: Gate + Progres
 where
     Locked<TurnBoard<G>>: Shared,
     ensures { MatchResult result
-        (λ s. IsSound net.now s.flow s.pit)
+        (λ s. IsSolution G.set_worth net.now s.flow s.pit s.count s.worth)
         (λ unsolved. MachineStands net.now effort.steps unsolved) }
 {
     match by_machine(rt, alloc, net, effort, gate) {
@@ -139,7 +139,7 @@ pub fn solution_of<G: OrderedGroup, R: Threads + Wait + Sync, T: Gate + Progress
 where
     Locked<TurnBoard<G>>: Shared,
     ensures { MatchResult result
-        (λ s. IsSound net.now s.flow s.pit)
+        (λ s. IsSolution G.set_worth net.now s.flow s.pit s.count s.worth)
         (λ unsolved. UnsolvedStands net.now effort.method effort.steps unsolved) }
 {
     if !effort.method.begins_with_pseudoflow(net.len()) {

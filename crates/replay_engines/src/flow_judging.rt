@@ -1,17 +1,16 @@
 //! What a check says of the flow of a quiet state.
 
 ghost use Rattle.std.specs.Prelude.{IfOk};
-ghost use Rattle.closure_net.specs.Network.{FlowFits};
 ghost use Rattle.machine_law.specs.Quiet.{IsSolved};
 ghost use Rattle.engines.specs.Mines.{MineTexts};
 ghost use Rattle.engines.specs.ReadMines.{IsGroupNamed};
 ghost use Rattle.engines.specs.Solving.{IsNetBy};
 ghost use Rattle.replay_engines.specs.Outcomes.{IsFlowJudged};
 
-use check_pit::{check, laws};
-use closure_net::{Flow, Net, pit_of};
+use check_pit::laws;
+use closure_net::{Flow, Net};
 use engines::Judgement;
-use engines::judging::{size_of, worth_of};
+use engines::certify::{Uncertified, certified};
 use ordered_group::OrderedGroup;
 use std::alloc::{AllocError, Global};
 
@@ -19,25 +18,20 @@ use std::alloc::{AllocError, Global};
 pub fn judge_flow<G: OrderedGroup>(
     alloc: Global,
     net: &Net<G>,
-    flow: &Flow<G>,
+    flow: Flow<G>,
 ) -> Result<Judgement, AllocError>
-    requires { FlowFits net.now flow.now }
-    ensures { IfOk result (λ judgement. (texts : MineTexts) → IsSolved net.now flow.now → IsNetBy texts G.name net.now → IsGroupNamed G.name G.block_parts G.counts
-        → IsFlowJudged texts G.name net.now flow.now judgement) }
+    ensures { IfOk result (λ judgement. (texts : MineTexts) → IsSolved net.now flow → IsNetBy texts G.name net.now → IsGroupNamed G.name G.block_parts G.counts
+        → IsFlowJudged texts G.name net.now flow judgement) }
 {
     // proof: the check of a closed pit that its flow makes tight can fail for a sum that overflows alone
     laws::tight_closed_pit_is_refused_for_size_only();
-    let pit = pit_of(alloc, net, flow)?;
-    match check(net, &pit, flow) {
-        Ok(accepted) => {
-            let count = size_of(&accepted);
-            let worth = worth_of(&accepted, count);
-            Ok(Judgement::Accepted {
-                group: G::group(),
-                count,
-                worth,
-            })
-        }
-        Err(fault) => Ok(Judgement::Refused(fault)),
+    match certified(alloc, net, flow) {
+        Ok(solution) => Ok(Judgement::Accepted {
+            group: G::group(),
+            count: solution.count,
+            worth: solution.worth,
+        }),
+        Err(Uncertified::Refused(fault)) => Ok(Judgement::Refused(fault)),
+        Err(Uncertified::NoMemory) => Err(AllocError),
     }
 }

@@ -97,7 +97,7 @@ fn outcome_over<G: OrderedGroup>(
     };
     match state.into_flow(net) {
         Ok(flow) => {
-            let judgement = judge_flow(alloc, net, &flow)?;
+            let judgement = judge_flow(alloc, net, flow)?;
             Ok(Outcome::Quiet { steps, judgement })
         }
         Err(_) => Ok(Outcome::Open { steps }),

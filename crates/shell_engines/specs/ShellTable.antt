@@ -23,6 +23,7 @@ pub record AreRowsOf (mine : ℕ → Mine) (factors : List ℕ) (rows : List She
 abbrev pub row_text : ShellRow → List ℕ
 row_text row = codes "SHELL " ++ (decimal row.factor ++ (codes " " ++ (decimal row.blocks ++ (codes " " ++ printed 9 row.worth))))
 
+-- the same with its line feed
 abbrev pub row_line : ShellRow → List ℕ
 row_line row = row_text row ++ 10 ∷ []
 

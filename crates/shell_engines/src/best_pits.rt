@@ -1,26 +1,22 @@
 //! The best pits of a mine at its factors, found and proved side by side.
 
-ghost use Rattle.std.specs.Prelude.{◌≡◌, ℕ, ◌<◌, All, Contains, length, IfNone, IfOk, IfSome, MatchResult};
+ghost use Rattle.std.specs.Prelude.{◌≡◌, ◌<◌, All, Contains, length, IfOk, IfSome, MatchResult};
 ghost use Rattle.ordered_group.specs.Block.{scaled_block};
 ghost use Rattle.settings_file.specs.Values.{AreFactors};
-ghost use Rattle.closure_net.specs.Network.{holds_of};
-ghost use Rattle.closure_net.specs.Closure.{IsGreatest};
-ghost use Rattle.closure_net.specs.Mine.{Mine, IsBest, IsNetOf};
-ghost use Rattle.check_pit.specs.Checks.{IsSound};
-ghost use Rattle.shell_engines.specs.ShellTable.{IsRowOf};
+ghost use Rattle.closure_net.specs.Network.{NetView};
+ghost use Rattle.engines.specs.Certifying.{IsSolution};
 ghost use Rattle.shell_engines.specs.Settling.{IsNetAt};
 ghost use Rattle.shell_engines.specs.Internal.{NoNetStands, IsBestOf, IsProved};
 
 use crate::announcing::SeriesProgress;
 use crate::no_series::NoSeries;
 use crate::shell_rows::ShellRow;
-use check_pit::{Accepted, check};
-use closure_net::{Net, Pit, laws, pit_of};
+use closure_net::{Net, Pit, laws};
 use engines::certify::Solution;
-use engines::judging::{size_of, worth_of};
+use engines::solving::by_pseudoflow;
 use ordered_group::{Scaled, SizeGroup};
 use prec_file::Rests;
-use pseudoflow::{PseudoflowFault, Silent};
+use pseudoflow::Silent;
 use shells::{Factor, Prices};
 use std::alloc::{AllocError, Global};
 use std::sync::atomic::{AtomicU64, Ordering};
@@ -61,53 +57,21 @@ pub fn net_at<R: Threads + Sync>(
     }
 }
 
-// The row of an accepted pit at a factor.
-fn row_of<G: SizeGroup>(factor: Factor, accepted: &Accepted<'_, G>) -> ShellRow
-    ensures factor { result.factor ≡ factor }
-    ensures row { (mine : Mine) → IsNetOf G.block_parts mine accepted.now.net → IsBest mine (holds_of accepted.now.pit) → IsRowOf mine result }
-    ensures greatest { IsGreatest accepted.now.net (holds_of accepted.now.pit) }
+/// The best pit at a factor, of a solution of the net at it.
+pub fn best_of<G: SizeGroup>(factor: Factor, solution: Solution<G>) -> BestPit
+    ensures { (net : NetView) → IsSolution G.set_worth net solution.flow solution.pit solution.count solution.worth → IsBestOf G.block_parts net factor result }
 {
-    // proof: the blocks of an accepted pit are the net's, and no closed set of it sums to more
-    let _pit = accepted.pit();
-    let blocks = size_of(accepted);
-    let worth = worth_of(accepted, blocks);
-    ShellRow {
+    // proof: a greatest closed set is the best pit, and its amounts tell its worth
+    laws::greatest_set_is_best_pit::<G>();
+    let row = ShellRow {
         factor: factor.get(),
-        blocks,
-        worth,
-    }
-}
-
-/// The pit of a net at a factor, where a check accepts it with the flow.
-pub fn best_by(net: &Net<Scaled>, factor: Factor, solution: Solution<Scaled>) -> Option<BestPit>
-    ensures best { IfSome result (IsBestOf scaled_block net.now factor) }
-    ensures none { IfNone result (¬ IsSound net.now solution.flow solution.pit) }
-{
-    laws::greatest_set_is_best_pit::<Scaled>();
-    let Solution { pit, flow } = solution;
-    let row = match check(net, &pit, &flow) {
-        Ok(accepted) => row_of(factor, &accepted),
-        Err(_) => return None,
+        blocks: solution.count,
+        worth: solution.worth,
     };
-    Some(BestPit { row, pit })
-}
-
-// A pit and a flow of pseudoflow's, if it gives a flow.
-fn attempt(
-    alloc: Global,
-    net: &Net<Scaled>,
-    turns: u64,
-) -> Result<Option<Solution<Scaled>>, AllocError> {
-    let flow = match pseudoflow::solve(alloc, net, turns, &Silent) {
-        Ok(flow) => flow,
-        Err(PseudoflowFault::NoMemory) => return Err(AllocError),
-        Err(_) => return Ok(None),
-    };
-    if !flow.fits(net) {
-        return Ok(None);
+    BestPit {
+        row,
+        pit: solution.pit,
     }
-    let pit = pit_of(alloc, net, &flow)?;
-    Ok(Some(Solution { pit, flow }))
 }
 
 // The best pit of a net at a factor, where pseudoflow finds it.
@@ -119,8 +83,8 @@ fn quick_best(
 ) -> Result<Option<BestPit>, AllocError>
     ensures { IfOk result (λ o. IfSome o (IsBestOf scaled_block net.now factor)) }
 {
-    match attempt(alloc, net, turns)? {
-        Some(solution) => Ok(best_by(net, factor, solution)),
+    match by_pseudoflow(alloc, net, turns, &Silent)? {
+        Some(solution) => Ok(Some(best_of(factor, solution))),
         None => Ok(None),
     }
 }

@@ -8,7 +8,7 @@ ghost use Rattle.shell_engines.specs.Settling.{IsSettled, NoSeriesStands};
 ghost use Rattle.shell_engines.specs.Internal.{IsAdded, IsProved};
 
 use crate::announcing::SeriesProgress;
-use crate::best_pits::{BestPit, best_by, best_in, found_beside, net_at};
+use crate::best_pits::{BestPit, best_in, best_of, found_beside, net_at};
 use crate::no_series::NoSeries;
 use crate::series_inputs::SeriesMine;
 use crate::shell_rows::ShellRow;
@@ -65,13 +65,9 @@ fn best_at<R: Threads + Wait + Sync, T: Gate + Progress>(
     if effort.method == Method::Pseudoflow {
         return Err(NoSeries::Unsolved(factor.get(), Unsolved::GaveUp));
     }
-    let solution = match solution_at(rt, alloc, &net, effort, gate) {
-        Ok(solution) => solution,
-        Err(why) => return Err(NoSeries::Unsolved(factor.get(), why)),
-    };
-    match best_by(&net, factor, solution) {
-        Some(best) => Ok(best),
-        None => unreachable!(),
+    match solution_at(rt, alloc, &net, effort, gate) {
+        Ok(solution) => Ok(best_of(factor, solution)),
+        Err(why) => Err(NoSeries::Unsolved(factor.get(), why)),
     }
 }
 

@@ -1,7 +1,8 @@
 //! The pit at a factor: the workers of the machine run without a lock where that can be.
 
 ghost use Rattle.std.specs.Prelude.{MatchResult};
-ghost use Rattle.check_pit.specs.Checks.{IsSound};
+ghost use Rattle.ordered_group.specs.Block.{scaled_worth};
+ghost use Rattle.engines.specs.Certifying.{IsSolution};
 ghost use Rattle.shell_engines.specs.Settling.{NotSolvedStands};
 
 use closure_net::Net;
@@ -26,7 +27,7 @@ pub fn solution_at<R: Threads + Wait + Sync, T: Gate + Progress>(
     gate: &T,
 ) -> Result<Solution<Scaled>, Unsolved>
     ensures { MatchResult result
-        (λ s. IsSound net.now s.flow s.pit)
+        (λ s. IsSolution scaled_worth net.now s.flow s.pit s.count s.worth)
         (λ why. NotSolvedStands net.now effort why) }
 {
     let Some(words) = WordEffort::new(effort.workers, effort.steps) else {

@@ -1,7 +1,8 @@
 //! The pit that a run without a lock proves.
 
 ghost use Rattle.std.specs.Prelude.{MatchResult};
-ghost use Rattle.check_pit.specs.Checks.{IsSound};
+ghost use Rattle.ordered_group.specs.Block.{scaled_worth};
+ghost use Rattle.engines.specs.Certifying.{IsSolution};
 ghost use Rattle.word_engines.specs.WordRuns.{WordsStand};
 
 use crate::laws;
@@ -30,7 +31,7 @@ pub fn by_words<R: Threads + Wait + Sync, T: Gate>(
     gate: &T,
 ) -> Result<Solution<Scaled>, Unsolved>
     ensures { MatchResult result
-        (λ s. IsSound net.now s.flow s.pit)
+        (λ s. IsSolution scaled_worth net.now s.flow s.pit s.count s.worth)
         (λ unsolved. WordsStand net.now effort.workers effort.steps unsolved) }
 {
     // proof: what the source reaches in the flow of a run is closed and tight, and the check of such a pit fails for its sums alone

@@ -90,6 +90,7 @@ pub(crate) fn mine_by_words<R: Threads + Wait + Sync, T: Gate, W: CountedWrite>(
     // proof: a greatest set of the net is the best pit
     laws::greatest_set_is_best_pit::<Scaled>();
     let net = Net::<Scaled>::of_worths(alloc, rests, nanos)?;
+    // proof: what is known of every net, that its pairs are of its blocks and in order
     let _worths = net.worths();
     net_by_words(rt, alloc, &net, price, effort, gate, out)
 }

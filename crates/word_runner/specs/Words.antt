@@ -172,6 +172,7 @@ is_idle (RaiseDue have best) = false
 abbrev pub operation_at : View → ℕ → Operation ℕ
 operation_at v b = if v.block == b then v.operation else Idle
 
+-- the view is of a seat at work, and block b is one that the seat serves
 pub record IsOwn (v : View) (b : ℕ) : Type 0 where
   pub live : v.live ≡ true
   pub serves : b % v.workers ≡ v.number
@@ -192,9 +193,12 @@ pub record IsMadeBy (net : NetView) (es : List Event) (v : View) : Type 0 where
   pub own : (b : ℕ) → b < count net → IsOwn v b → of_block b es ≡ of_block b v.made
   pub other : (b : ℕ) → b < count net → ¬ (IsOwn v b) → of_block b v.made ≡ []
 
+-- and so at each seat
 abbrev pub IsMade : NetView → List Event → List View → Type 0
 IsMade net es vs = (j : ℕ) (v : View) → get_elem? vs j ≡ some v → IsMadeBy net es v
 
+-- The rule that the words keep between any two operations on them: they show the state of some run of the machine over the net, of
+-- which each seat sees what its own blocks do and made their steps.
 pub record Ruled (net : NetView) (s : State (Unit {0}) View) : Type 0 where
   pub events : List Event
   pub machine : law.State
@@ -231,6 +235,7 @@ Sat = Me (Unit {0}) View
 abbrev pub block_of : View → ℕ → ℕ
 block_of v i = if is_idle v.operation then i - 2 else v.block
 
+-- the labels after the next step of block b, whose operation this is
 abbrev pub labels_after : List ℕ → ℕ → Operation ℕ → List ℕ
 labels_after labels b Idle = labels
 labels_after labels b (Scan have place read best) = labels

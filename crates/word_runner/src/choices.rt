@@ -3,38 +3,12 @@
 ghost use Rattle.std.specs.Prelude.{◌≡◌, ◌<◌, length};
 ghost use Rattle.closure_net.specs.Ports.{ports};
 ghost use Rattle.machine_law.specs.Residual.{label_beyond};
-ghost use Rattle.machine_law.specs.Reads.{better as better_of, ended as ended_by, passed as passed_by, chosen as chosen_by};
+ghost use Rattle.machine_law.specs.Reads.{passed as passed_by, chosen as chosen_by};
 ghost use Rattle.word_runner.specs.Words.{begun_at, seen_at, looked_at, smaller as smaller_of, push_units as units_of_push, after as after_step, IsPlaced};
 
 use closure_net::{Net, Port, PortKind};
-use machine_law::{Best, Operation};
+use machine_law::{Best, Operation, better, ended};
 use ordered_group::Scaled;
-
-// The better of two ports.
-fn better(best: Option<Best<u64>>, new: Best<u64>) -> Best<u64>
-    ensures { result ≡ better_of best new }
-{
-    match best {
-        None => new,
-        Some(old) => { if new.label < old.label { new } else { old } }
-    }
-}
-
-// The operation once all ports are passed.
-fn ended(label: u64, have: u64, best: Option<Best<u64>>) -> Operation<u64>
-    ensures { result ≡ ended_by label have best }
-{
-    match best {
-        None => Operation::Idle,
-        Some(best) => {
-            if best.label < label {
-                Operation::PushDue { have, best }
-            } else {
-                Operation::RaiseDue { have, best }
-            }
-        }
-    }
-}
 
 // The operation once the port at this place is passed.
 fn passed(count: u32, label: u64, have: u64, place: u32, best: Option<Best<u64>>) -> Operation<u64>
@@ -108,7 +82,9 @@ fn chosen(
         capacity,
         label: beyond,
     };
-    passed(count, label, have, place, Some(better(best, new)))
+    let mut lowest = best;
+    better(&mut lowest, new);
+    passed(count, label, have, place, lowest)
 }
 
 // The operation after the first read at a port.

@@ -47,6 +47,7 @@ pub fn cut_net(alloc: Global, net: &Net<Scaled>, most: u64) -> Result<Net<Scaled
     requires { (all_given net.now ≡ units most) × (most < 2 ^ 63) }
     ensures { IfOk result (λ n. IsCutNet net.now n × AreWithin n most × (all_given n ≡ units most)) }
 {
+    // proof: what is known of every net, that its pairs are of its blocks and in order
     let _net = net.worths();
     let worths = cut_worths(alloc, net, most)?;
     let rests = net.rests().copy(alloc)?;

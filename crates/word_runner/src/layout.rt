@@ -14,6 +14,7 @@ pub fn excess_word(net: &Net<Scaled>, x: u32) -> usize
     requires { x < length net.now.worths }
     ensures { (result ≡ excess_at net.now x) × (result < width net.now) }
 {
+    // proof: a net has at most `MOST_BLOCKS` blocks
     let _few = net.rests().len();
     2 + x as usize
 }
@@ -102,6 +103,7 @@ pub fn next_word(net: &Net<Scaled>, b: u32, operation: &Operation<u64>) -> usize
     requires placed { IsPlaced net.now b operation.now }
     ensures { (result ≡ word_of net.now b operation.now) × (result < width net.now) }
 {
+    // proof: the pairs of a net are of its blocks
     let _net = net.worths();
     match *operation {
         Operation::Idle => excess_word(net, b),

@@ -51,6 +51,7 @@ fn words_with(
     ensures { IfOk result (λ r. IsBegun net.now workers r.0 r.1) }
 {
     let cut = cut_net(alloc, net, total)?;
+    // proof: what is known of every net, that its pairs are of its blocks and in order
     let _cut = cut.worths();
     let loss = losses(alloc, &cut, total)?;
     let blocks = cut.len();

@@ -105,6 +105,7 @@ pub fn solve_words<R: Threads + Wait + Sync, T: Gate>(
     if workers < 1 || workers > 2 {
         return Err(SolveFault::BadWorkers);
     }
+    // proof: what is known of every net, that its pairs are of its blocks and in order
     let _net = net.worths();
     let (words, seat) = match words_of(alloc, net, workers) {
         Ok(begun) => begun,

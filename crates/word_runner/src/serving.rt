@@ -50,6 +50,7 @@ fn step_at(words: &Words, round: Round, _number: u32, _turn: u64) -> Result<Roun
         (λ next. IsRound words.now _number next.seat next.at next.steps (_turn + 1))
         (λ served. HasServed words.now _number words.now.workers (_turn + 1) served.seat served.steps) }
 {
+    // proof: a net has at most `MOST_BLOCKS` blocks
     let _few = words.net.rests().len();
     let Round {
         seat,
@@ -161,6 +162,7 @@ fn next_round(words: &Words, round: Round, number: u32, _turn: u64) -> Round
     requires over { (length words.now.cut.worths ≤ round.at) × (number < words.now.workers) }
     ensures { IsRound words.now number result.seat result.at result.steps _turn }
 {
+    // proof: the words are under their rule
     let _words = words.total;
     Round {
         seat: round.seat,

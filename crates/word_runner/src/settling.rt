@@ -133,6 +133,7 @@ impl Words {
             (λ flow. IsSettled self seats.items flow)
             (λ fault. SettleFaultStands self seats.items fault) }
     {
+        // proof: there are one or two workers, so one or two seats
         let _few = self.workers;
         let mut seats = seats;
         let Some(last) = seats.pop() else {

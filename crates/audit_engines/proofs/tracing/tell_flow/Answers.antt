@@ -17,11 +17,11 @@ returns-in_err-write_certificate-clause-answer g c = λ limit room history audit
     let s = c.in-Ok.solution in
     let p = err_from_is_err_and c.from_residual.result c.from_residual.ensures.1 in
     rw (p.1, p.2)
-    (cut_short g.G.OrderedGroup.counts g.G.OrderedGroup.name c.args.price c.args.net.now limit room history c.len.result s.pit s.flow c.args.flow c.rests.result.now.blocks c.rests.result.now.pairs c.in-Ok.ensures.answer c.in-Ok.ensures.same audit c.len.ensures c.rests.ensures.blocks c.rests.ensures.pairs
+    (cut_short g.G.OrderedGroup.counts g.G.OrderedGroup.name c.args.price c.args.net.now limit room history c.len.result s.pit s.flow c.args.flow c.rests.result.now.blocks c.rests.result.now.pairs c.in-Ok.ensures.answer.sound c.in-Ok.ensures.same audit c.len.ensures c.rests.ensures.blocks c.rests.ensures.pairs
     (g.W.Write.contents c.args.out.now) (g.W.Write.contents c.write_certificate.new.out) c.in_err-write_certificate.ensures.prefix)
 
 pub returns-clause-answer : goal.returns-clause-answer
 returns-clause-answer g c = λ limit room history audit.
     let s = c.in-Ok.solution in
-    certified g.G.OrderedGroup.counts g.G.OrderedGroup.name c.args.price c.args.net.now limit room history c.len.result s.pit s.flow c.args.flow c.rests.result.now.blocks c.rests.result.now.pairs c.in-Ok.ensures.answer c.in-Ok.ensures.same audit c.len.ensures c.rests.ensures.blocks c.rests.ensures.pairs
+    certified g.G.OrderedGroup.counts g.G.OrderedGroup.name c.args.price c.args.net.now limit room history c.len.result s.pit s.flow c.args.flow c.rests.result.now.blocks c.rests.result.now.pairs c.in-Ok.ensures.answer.sound c.in-Ok.ensures.same audit c.len.ensures c.rests.ensures.blocks c.rests.ensures.pairs
     (g.W.Write.contents c.args.out.now) (g.W.Write.contents c.write_certificate.new.out) (λ e. c.in_ok-write_certificate.ensures.read_back e c.requires.price) c.in_ok-write_certificate.ensures.sent

@@ -1,13 +1,16 @@
-use Rattle.std.proofs.Common.{rules, FitsSigned}
-use Rattle.std.specs.Int.{w128}
-use Rattle.std.proofs.lemmas.Int.{to_z-of_z}
-use Rattle.replay_engines.proofs.Flows.{flow_accepted}
+use Rattle.std.proofs.Common.{subst}
+use Rattle.engines.specs.declared.certify.Uncertified.{Uncertified}
+use Rattle.engines.specs.Certifying.{UncertifiedStands}
+use Rattle.replay_engines.proofs.Flows.{flow_accepted, flow_refused}
 use Rattle.replay_engines.proofs.flow_judging.judge_flow.Goals as goal
 
 pub returns-in-Ok : goal.returns-in-Ok
 returns-in-Ok g c = λ texts solved by named.
     let laws = g.met.G.OrderedGroup g.world.𝓛 g.world.𝓜 g.world.𝓡 ((λ s x. x), (λ x. x), (λ x. x), λ x. x) in
-    let fits : FitsSigned w128 c.worth_of-worth.result = search rules in
-    flow_accepted g.G.OrderedGroup.block_parts g.G.OrderedGroup.counts texts g.G.OrderedGroup.name c.args.net.now c.args.flow.now c.in_ok-pit.pit by named c.in_ok-pit.ensures.reached c.in-Ok.ensures.found.2
-    g.G.OrderedGroup.set_worth laws.tells_worth c.in-Ok.accepted.net c.in-Ok.accepted.pit c.in-Ok.ensures.found.0 c.in-Ok.ensures.found.1 c.size_of-count.ensures.ascending c.worth_of-worth.ensures.greatest
-    c.group.result c.size_of-count.result c.worth_of-worth.result _ c.group.ensures c.size_of-count.ensures.size c.worth_of-worth.ensures.worth (to_z-of_z w128 c.worth_of-worth.result fits)
+    flow_accepted g.G.OrderedGroup.block_parts g.G.OrderedGroup.counts texts g.G.OrderedGroup.name c.args.net.now c.args.flow c.in-Ok.solution.pit by named
+    g.G.OrderedGroup.set_worth laws.tells_worth c.group.result c.in-Ok.solution.count c.in-Ok.solution.worth c.group.ensures c.in-Ok.ensures.answer
+
+pub returns-in-Err-Refused : goal.returns-in-Err-Refused
+returns-in-Err-Refused g c = λ texts solved by named.
+    let refused = subst (λ (u : Uncertified). UncertifiedStands c.args.net.now c.args.flow u) c.in-Err-Refused.field-0-is c.in-Err-Refused.ensures.answer in
+    flow_refused c.tight_closed_pit_is_refused_for_size_only.ensures c.args.net.now c.args.flow c.in-Err-Refused.fault solved refused

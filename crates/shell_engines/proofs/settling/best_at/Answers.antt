@@ -15,4 +15,5 @@ pub returns-clause-best : goal.returns-clause-best
 returns-clause-best g c =
     let net = c.in_ok-net.net in
     let at = subst (λ (r : RestsView). IsNetAt scaled_block r.pairs c.args.prices.now c.args.factor net) c.in_ok-copy.ensures c.in_ok-net.ensures in
-    (c.in-Some.ensures.best.at, proved_by scaled_block c.args.rests.now.pairs c.args.prices.now c.args.factor net c.in-Some.best at c.in-Some.ensures.best)
+    let best = c.best_of.ensures net c.in-Ok.ensures in
+    (best.at, proved_by scaled_block c.args.rests.now.pairs c.args.prices.now c.args.factor net c.best_of.result at best)

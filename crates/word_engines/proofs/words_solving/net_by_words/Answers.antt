@@ -22,7 +22,7 @@ returns-in-Err-TooLarge-clause-answer g c =
 pub returns-clause-answer : goal.returns-clause-answer
 returns-clause-answer g c =
     let s = c.in-Ok.solution in
-    certified _ word_group c.args.price c.args.net.now PushRelabel c.args.effort.steps c.len.result s.pit s.flow c.rests.result.now.blocks c.rests.result.now.pairs c.in-Ok.ensures c.len.ensures c.rests.ensures.blocks c.rests.ensures.pairs
+    certified _ word_group c.args.price c.args.net.now PushRelabel c.args.effort.steps c.len.result s.pit s.flow c.rests.result.now.blocks c.rests.result.now.pairs c.in-Ok.ensures.sound c.len.ensures c.rests.ensures.blocks c.rests.ensures.pairs
     (g.W.Write.contents c.args.out.now) (g.W.Write.contents c.write_certificate.new.out) (λ e. c.in_ok-write_certificate.ensures.read_back e c.requires.price) c.in_ok-write_certificate.ensures.sent
 
 pub returns-in_err-write_certificate-clause-answer : goal.returns-in_err-write_certificate-clause-answer
@@ -30,4 +30,4 @@ returns-in_err-write_certificate-clause-answer g c =
     let s = c.in-Ok.solution in
     let p = err_from_is_err_and c.from_residual.result c.from_residual.ensures.1 in
     rw (p.1, p.2)
-    (cut_short c.args.price c.args.net.now c.args.effort.workers c.args.effort.steps (g.W.Write.contents c.args.out.now) (g.W.Write.contents c.write_certificate.new.out) c.len.result s.pit s.flow c.rests.result.now.pairs c.in-Ok.ensures c.len.ensures c.rests.ensures.pairs c.in_err-write_certificate.ensures.prefix)
+    (cut_short c.args.price c.args.net.now c.args.effort.workers c.args.effort.steps (g.W.Write.contents c.args.out.now) (g.W.Write.contents c.write_certificate.new.out) c.len.result s.pit s.flow c.rests.result.now.pairs c.in-Ok.ensures.sound c.len.ensures c.rests.ensures.pairs c.in_err-write_certificate.ensures.prefix)
