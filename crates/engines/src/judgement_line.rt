@@ -14,6 +14,9 @@ use std::alloc::{AllocError, Global};
 
 /// Writes the line of a judgement: `ACCEPTED`, the number of blocks and the worth, or `REFUSED` and
 /// the fault.
+///
+/// # Errors
+/// `Device` where a write fails; the writer then has a prefix of the line.
 pub fn write_judgement<W: CountedWrite>(
     alloc: Global,
     judgement: Judgement,
@@ -31,6 +34,9 @@ pub fn write_judgement<W: CountedWrite>(
 }
 
 /// The line of a judgement.
+///
+/// # Errors
+/// Memory was refused.
 pub fn line_of(alloc: Global, judgement: Judgement) -> Result<String, AllocError>
     ensures { IfOk result (λ line. string_bytes line ≡ judgement_line judgement) }
 {

@@ -37,6 +37,10 @@ use upit_file::Upit;
 
 /// What a certificate proves for the mine of these values and pairs, or why it can't be judged. It is read line by line, up
 /// to its end or to its first fault. The values are given back before the check takes memory.
+///
+/// # Errors
+/// `Certificate` with the first fault of the certificate, `WrongPrice` among them; `Model` where an amount of the net doesn't fit;
+/// `Device` where a read fails, and `Memory` where memory is refused.
 pub fn judge<C: CountedRead>(
     alloc: Global,
     upit: Upit,
@@ -96,6 +100,9 @@ fn judge_stream<C: CountedRead>(
 /// What a certificate proves for the mine of these prices, at the factor that it names, and of these pairs; or why it
 /// can't be judged. It is read line by line, up to its end or to its first fault. The prices are given back before the
 /// check takes memory.
+///
+/// # Errors
+/// Those of `judge`.
 pub fn judge_priced<R: Threads + Sync, C: CountedRead>(
     rt: &R,
     alloc: Global,

@@ -8,6 +8,9 @@ use std::alloc::{AllocError, Global};
 use upit_file::Upit;
 
 /// The value of each block in billionths.
+///
+/// # Errors
+/// Memory was refused.
 pub fn nanos_of(alloc: Global, upit: &Upit) -> Result<Vec<i128>, AllocError>
     ensures { IfOk result (λ v. v.items ≡ billionths_of upit.now.values) }
 {

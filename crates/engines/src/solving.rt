@@ -53,6 +53,10 @@ fn unsolved_by(fault: SolveFault) -> Unsolved
 }
 
 /// The pit that pseudoflow's flow proves. None where it gives no flow, or one that the check refuses.
+/// A turn is one look of its search, at a label, a block or a pair; it gives up where `turns` of them don't end it.
+///
+/// # Errors
+/// Memory was refused.
 pub fn by_pseudoflow<G: OrderedGroup, P: Progress>(
     alloc: Global,
     net: &Net<G>,
@@ -74,6 +78,10 @@ pub fn by_pseudoflow<G: OrderedGroup, P: Progress>(
 }
 
 /// The pit that a run of the push-relabel machine proves.
+///
+/// # Errors
+/// `Unsettled` where the effort's steps don't end the run, `TooLarge` where a number of a step or of the check doesn't fit;
+/// `NoMemory`, `NoThread`, and `Stranger` where the board came back as another's. `GaveUp` never.
 pub fn by_machine<G: OrderedGroup, R: Threads + Wait + Sync, T: Gate>(
     rt: &R,
     alloc: Global,
@@ -129,6 +137,9 @@ where
 }
 
 /// A pit of a net with a flow that proves it, made by the effort's method.
+///
+/// # Errors
+/// Those of `by_machine`; `GaveUp` where pseudoflow alone was asked for and proves no pit.
 pub fn solution_of<G: OrderedGroup, R: Threads + Wait + Sync, T: Gate + Progress>(
     rt: &R,
     alloc: Global,
@@ -154,6 +165,9 @@ where
 }
 
 /// Writes the certificate of a net at this price, or a line that says why there is none.
+///
+/// # Errors
+/// `Memory`, `Thread` and `Stranger`: then nothing was written. `Device` where a write fails: the writer then has a prefix.
 pub fn solve_net<G: OrderedGroup, R: Threads + Wait + Sync, T: Gate + Progress, W: CountedWrite>(
     rt: &R,
     alloc: Global,
@@ -193,6 +207,9 @@ where
 }
 
 /// Writes the line of an answer without a certificate.
+///
+/// # Errors
+/// `Device` where a write fails; the writer then has a prefix of the line.
 pub fn write_no<W: CountedWrite>(line: &[u8], out: &mut W) -> Result<Verdict, EngineFault>
     requires { W.failed out.old < 2 ^ 64 - 1 }
     ensures answer { MatchResult result

@@ -89,6 +89,9 @@ pub fn solve_engine<
 }
 
 /// The same, where the mine is read, and its blocks are worth so many billionths at a price.
+///
+/// # Errors
+/// `Model` where an amount of the mine's net doesn't fit; then those of `solve_net`.
 pub fn solve_mine<R: Threads + Wait + Sync, T: Gate + Progress, W: CountedWrite>(
     rt: &R,
     alloc: Global,

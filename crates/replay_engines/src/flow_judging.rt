@@ -15,6 +15,9 @@ use ordered_group::OrderedGroup;
 use std::alloc::{AllocError, Global};
 
 /// What a check says of a flow that solves a net, with the pit of the blocks that the source reaches in it.
+///
+/// # Errors
+/// Memory was refused.
 pub fn judge_flow<G: OrderedGroup>(
     alloc: Global,
     net: &Net<G>,

@@ -20,6 +20,10 @@ use prec_file::Rests;
 use std::alloc::{AllocError, Global};
 
 /// Makes the steps over the mine whose blocks are worth so many billionths, and writes what comes of them.
+///
+/// # Errors
+/// `Model` where an amount of the mine's net doesn't fit, `Memory` where memory is refused: then nothing was written. `Device`
+/// where a write fails: the writer then has a prefix.
 pub fn replay_mine<W: CountedWrite>(
     alloc: Global,
     nanos: &[i128],

@@ -16,6 +16,9 @@ use std::thread::Threads;
 
 /// The rows of the bench table of a series, with the worths of the blocks at a factor. At most 2^24 blocks have tonnes
 /// and worths that are small beside 128 bits, so that no sum overflows.
+///
+/// # Errors
+/// Memory was refused.
 pub fn rows_at(
     rt: &(impl Threads + Sync),
     alloc: Global,

@@ -36,6 +36,9 @@ fn line_of(alloc: Global, row: ShellRow) -> Result<String, AllocError>
 }
 
 /// The lines of the rows, one behind the other.
+///
+/// # Errors
+/// Memory was refused.
 pub fn table_of(alloc: Global, rows: &[ShellRow]) -> Result<Vec<u8>, AllocError>
     ensures { IfOk result (λ text. text.items ≡ table_text rows.now) }
 {
