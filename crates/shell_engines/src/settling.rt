@@ -3,7 +3,7 @@
 ghost use Rattle.std.specs.Prelude.{◌≡◌, ℕ, ◌+◌, ◌<◌, List, take, length, All, Contains, OnOk, IfOk, IfErr, MatchResult};
 ghost use Rattle.ordered_group.specs.Block.{scaled_block};
 ghost use Rattle.settings_file.specs.Values.{AreFactors};
-ghost use Rattle.shells.specs.Series.{IsAbove};
+ghost use Rattle.shells.specs.Series.{IsAbove, rests_in};
 ghost use Rattle.shell_engines.specs.Settling.{IsSettled, NoSeriesStands};
 ghost use Rattle.shell_engines.specs.Internal.{IsAdded, IsProved};
 
@@ -77,7 +77,6 @@ impl Shells {
         &mut self,
         rt: &R,
         alloc: Global,
-        rests: &Rests,
         factors: &[Factor],
         place: usize,
         found: &[BestPit],
@@ -86,16 +85,17 @@ impl Shells {
     ) -> Result<(), NoSeries>
         requires inside { place < length factors.now }
         requires form { AreFactors factors.now }
-        requires found { All (IsProved rests.now.pairs self.old.series.prices) found.now }
-        requires done { IsSettled rests.now.pairs self.old.series.prices (take place factors.now) self.old.series self.old.rows.items }
-        ensures settled { OnOk result (IsSettled rests.now.pairs self.old.series.prices (take (place + 1) factors.now) self.new.series self.new.rows.items) }
-        ensures fault { IfErr result (λ e. NoSeriesStands scaled_block rests.now self.old.series.prices factors.now effort e) }
+        requires found { All (IsProved self.old.series.pairs self.old.series.prices) found.now }
+        requires done { IsSettled self.old.series.pairs self.old.series.prices (take place factors.now) self.old.series self.old.rows.items }
+        ensures settled { OnOk result (IsSettled self.old.series.pairs self.old.series.prices (take (place + 1) factors.now) self.new.series self.new.rows.items) }
+        ensures fault { IfErr result (λ e. NoSeriesStands scaled_block (rests_in self.old.series) self.old.series.prices factors.now effort e) }
     {
         let factor = factors[place];
         if let Some(best) = best_in(found, factor) {
             return Ok(self.add(factor, best)?);
         }
-        let best = best_at(rt, alloc, self.series.prices(), rests, factor, effort, gate)?;
+        let series = &self.series;
+        let best = best_at(rt, alloc, series.prices(), series.rests(), factor, effort, gate)?;
         self.add(factor, &best)?;
         gate.settled(factor.get(), place as u32 + 1, factors.len() as u32);
         Ok(())
@@ -160,7 +160,7 @@ pub fn settle<R: Threads + Wait + Sync, T: Gate + Progress + SeriesProgress>(
         factors,
     } = mine;
     let found = found_first(rt, alloc, &prices, &rests, factors.as_slice(), effort, gate)?;
-    let series = match Series::open(alloc, rests.copy(alloc)?, prices) {
+    let series = match Series::open(alloc, rests, prices) {
         Ok(series) => series,
         Err(SeriesFault::NoMemory) => return Err(NoSeries::Memory),
         Err(_) => unreachable!("a mine has a price for each block"),
@@ -173,7 +173,6 @@ pub fn settle<R: Threads + Wait + Sync, T: Gate + Progress + SeriesProgress>(
         shells.settle_at(
             rt,
             alloc,
-            &rests,
             factors.as_slice(),
             place,
             found.as_slice(),

@@ -2,7 +2,7 @@
 use Rattle.std.specs.Prelude.{◌≡◌, ◌≢◌, ℕ, ℤ, ◌<◌, ◌≤◌, ◌==◌, ◌&&◌, ◌++◌, ◌∷◌, [], nat_le, Bool, false, cond, IsTrue, Option, Some, None, MatchOption, List, length, replicate, slice_index_or}
 use Rattle.std.specs.List.{list_any, Contains}
 use Rattle.fixed_worth.specs.declared.limits.TheConstants.{MOST_FACTORS}
-use Rattle.prec_file.specs.Rests.{IsRests}
+use Rattle.prec_file.specs.Rests.{RestsView, IsRests}
 use Rattle.ordered_group.specs.Amount.{Amount}
 use Rattle.ordered_group.specs.Sums.{amount_at}
 use Rattle.closure_net.specs.Network.{IsAscending, NetView}
@@ -29,6 +29,10 @@ pub record SeriesView : Type 0 where
   pub prices : PricesView
   pub factors : List ℕ
   pub shells : List (Option ℕ)
+
+-- who rests on whom
+abbrev pub rests_in : SeriesView → RestsView
+rests_in s = record { blocks = blocks_of s.prices; pairs = s.pairs }
 
 -- the shell of block b
 abbrev pub shell_at : List (Option ℕ) → ℕ → Option ℕ

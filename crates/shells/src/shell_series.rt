@@ -4,7 +4,7 @@ ghost use Rattle.std.specs.Prelude.{◌≡◌, ◌<◌, ◌≤◌, ◌↔◌, le
 ghost use Rattle.closure_net.specs.Mine.{IsBest};
 ghost use Rattle.closure_net.specs.Network.{holds_of};
 ghost use Rattle.shells.specs.Prices.{blocks_of};
-ghost use Rattle.shells.specs.Series.{mine_at, shell_at, opened, OpenFaultStands, IsAbove, IsOver, IsPushed, IsShell, IsSeries, PushFaultStands};
+ghost use Rattle.shells.specs.Series.{mine_at, rests_in, shell_at, opened, OpenFaultStands, IsAbove, IsOver, IsPushed, IsShell, IsSeries, PushFaultStands};
 
 use crate::marking::{give_shells, is_above_all};
 use crate::matching::is_over;
@@ -40,7 +40,7 @@ impl Model for Series {
 
     ghost view = { λ s. record { pairs = s.rests.pairs; prices = s.prices; factors = s.factors.items; shells = s.shells.items } };
 
-    ghost invariant = { λ s. IsHeld (record { pairs = s.rests.pairs; prices = s.prices; factors = s.factors.items; shells = s.shells.items }) (vec_capacity s.factors) };
+    ghost invariant = { λ s. IsHeld (record { pairs = s.rests.pairs; prices = s.prices; factors = s.factors.items; shells = s.shells.items }) (vec_capacity s.factors) s.rests.blocks };
 }
 
 impl Series {
@@ -167,6 +167,13 @@ impl Series {
         ensures series { IsSeries self.now }
     {
         self.factors.as_slice()
+    }
+
+    /// Who rests on whom.
+    pub fn rests(&self) -> &Rests
+        ensures { result.now ≡ rests_in self.now }
+    {
+        &self.rests
     }
 
     /// The prices.

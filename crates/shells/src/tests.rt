@@ -248,6 +248,7 @@ fn faults_are_told_in_order(rt: HostRuntime) {
 // Fails the test where a block isn't worth so much.
 fn all_worth(rt: &impl Abort, prices: &Prices, thousandths: u32, worth: i128) {
     let factor = factor_of(rt, thousandths);
+    assert!(rt; prices.len() > 0);
     for b in 0..prices.len() {
         assert_eq!(rt; prices.worth(b, factor), worth);
     }
@@ -330,6 +331,7 @@ fn many_prices(rt: &impl Abort, alloc: Global) -> Prices {
 
 // Fails the test where a block is worth something else.
 fn have_worths(rt: &impl Abort, prices: &Prices, factor: Factor, worths: &[i128]) {
+    assert!(rt; prices.len() as usize == worths.len());
     for b in 0..prices.len() {
         assert!(rt; worths.get(b as usize) == Some(&prices.worth(b, factor)));
     }

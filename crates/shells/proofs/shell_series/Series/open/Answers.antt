@@ -13,4 +13,5 @@ invariant_of-result c =
     record {
       series = rw (factors, shells) (opens c.args.rests.pairs c.args.prices rests c.len-blocks.ensures.table);
       reserved = omega (arith, c.in_ok-factors.ensures.capacity);
+      sized = blocks;
     }

@@ -24,8 +24,9 @@ invariant_of-self c =
       size = search (rules, c.give_shells.ensures.size, c.as_mut_slice.ensures.value);
       shells = search (rules, c.give_shells.ensures.each, c.as_mut_slice.ensures.value);
     } in
-    let held : IsHeld next (vec_capacity c.push_reserved.new.self) = record {
+    let held : IsHeld next (vec_capacity c.push_reserved.new.self) c.self.inside.rests.blocks = record {
       series = push_keeps old next c.args.k (holds_of c.args.pit.now) c.self.invariant.series above room best pushed;
       reserved = omega (arith, c.self.invariant.reserved, c.push_reserved.ensures.capacity);
+      sized = c.self.invariant.sized;
     } in
     rw (size, take-append_seam new (drop (length new) c.self.inside.shells.items)) held
