@@ -1,4 +1,5 @@
 pub mod Limits
+pub mod EngineFaults
 pub mod BlockTexts
 pub mod PricedTexts
 pub mod Mines

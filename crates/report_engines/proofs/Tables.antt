@@ -24,8 +24,8 @@ use Rattle.engines.specs.declared.solving.Unsolved.{Unsolved}
 use Rattle.engines.specs.declared.engine_fault.EngineFault.{EngineFault}
 use Rattle.engines.specs.declared.priced_inputs.ChargeColumns.{ChargeColumns}
 use Rattle.engines.specs.declared.priced_inputs.ChargeColumns.TheVariants.{Plain, Mill}
-use Rattle.engines.specs.PricedTexts.{columns_said, charge_list, cell, table_of}
-use Rattle.engines.specs.ReadMines.{of_model}
+use Rattle.engines.specs.PricedTexts.{columns_said, charge_list, place_beside, cell, table_of}
+use Rattle.engines.specs.EngineFaults.{of_model}
 use Rattle.shell_engines.specs.declared.shell_rows.ShellRow.{ShellRow}
 use Rattle.shell_engines.specs.declared.no_series.NoSeries.{NoSeries}
 use Rattle.shell_engines.specs.declared.no_series.NoSeries.TheVariants as none

@@ -13,7 +13,7 @@ use Rattle.engines.specs.declared.priced_inputs.ChargeColumns.{ChargeColumns}
 use Rattle.engines.specs.declared.priced_inputs.ChargeColumns.TheVariants.{Plain, Mill}
 use Rattle.engines.specs.PricedTexts.{columns_said, column_list, first_columns, SettingsFails}
 use Rattle.engines.specs.BlockTexts.{ReadsBlocks, BlocksFails}
-use Rattle.engines.specs.ReadMines.{of_model}
+use Rattle.engines.specs.EngineFaults.{of_model}
 use Rattle.shell_engines.specs.declared.no_series.NoSeries.{NoSeries}
 use Rattle.shell_engines.specs.declared.no_series.NoSeries.TheVariants as none
 use Rattle.shell_engines.specs.ShellTable.{IsLineOf}
