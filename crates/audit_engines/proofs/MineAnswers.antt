@@ -12,7 +12,8 @@ use Rattle.engines.specs.declared.engine_fault.EngineFault.{EngineFault}
 use Rattle.engines.specs.declared.engine_fault.EngineFault.TheVariants as engine
 use Rattle.engines.specs.declared.method.Method.TheVariants.{PushRelabel}
 use Rattle.engines.specs.Inputs.{PricedMineFails}
-use Rattle.engines.specs.ReadMines.{AreRead, IsGroupNamed, of_model}
+use Rattle.engines.specs.ReadMines.{AreRead, IsGroupNamed}
+use Rattle.engines.specs.EngineFaults.{of_model}
 use Rattle.engines.specs.Mines.{MineTexts, mine_texts, priced_texts, price_wanted}
 use Rattle.engines.specs.Solving.{IsNetBy, Solves}
 use Rattle.engines.proofs.Answered.{keeps_self}

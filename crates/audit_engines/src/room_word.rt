@@ -3,21 +3,15 @@
 ghost use Rattle.std.specs.Prelude.{◌≡◌};
 ghost use Rattle.audit_engines.specs.RoomWord.{room_of};
 
-use fixed_worth::whole;
+use engines::whole_within;
 use trace_file::MOST_EVENTS;
 
 /// The room that a word names: a whole number of steps from 1 to 2^24.
 pub fn room_named(word: &[u8]) -> Option<u32>
     ensures { result ≡ room_of word.now }
 {
-    match whole(word) {
-        Ok(number) => {
-            if 1 <= number && number <= MOST_EVENTS as u64 {
-                Some(number as u32)
-            } else {
-                None
-            }
-        }
-        Err(_) => None,
+    match whole_within(word, 1, MOST_EVENTS as u64) {
+        Some(number) => Some(number as u32),
+        None => None,
     }
 }

@@ -11,7 +11,8 @@ use Rattle.check_pit.specs.StreamView.{LineView}
 use Rattle.engines.specs.declared.engine_fault.EngineFault.{EngineFault}
 use Rattle.engines.specs.Mines.{MineTexts, DenoteMine}
 use Rattle.engines.specs.FaultStands.{Fails}
-use Rattle.engines.specs.Judging.{StandsBehind, of_certificate}
+use Rattle.engines.specs.Judging.{StandsBehind}
+use Rattle.engines.specs.EngineFaults.{of_certificate}
 
 -- what a device has left of its bytes, where they are known
 pub consumed : (rem : Option (List ℕ)) (old bytes : List ℕ) → Consumes (Some old) rem bytes → (left : List ℕ) × (rem ≡ Some left) × (old ≡ bytes ++ left)

@@ -25,8 +25,8 @@ use Rattle.closure_net.specs.declared.net.NetFault.{NetFault}
 use Rattle.closure_net.specs.declared.net.NetFault.TheVariants as net
 use Rattle.check_pit.specs.declared.cert_fault.CertFault.{CertFault}
 use Rattle.check_pit.specs.declared.cert_fault.CertFault.TheVariants as cert
-use Rattle.engines.specs.Judging.{of_certificate}
-use Rattle.engines.specs.ReadMines.{AreRead, IsGroupNamed, of_model}
+use Rattle.engines.specs.EngineFaults.{of_certificate, of_model}
+use Rattle.engines.specs.ReadMines.{AreRead, IsGroupNamed}
 use Rattle.engines.proofs.Told.{size_told, worth_told}
 use Rattle.engines.proofs.Listed.{listed_rests}
 

@@ -38,7 +38,8 @@ use Rattle.engines.specs.declared.priced_inputs.ChargeColumns.{ChargeColumns}
 use Rattle.engines.specs.declared.priced_inputs.ChargeColumns.TheVariants.{Plain, Mill}
 use Rattle.engines.specs.declared.priced_inputs.PriceColumns.{PriceColumns}
 use Rattle.engines.specs.Limits.{IsWithinLimit}
-use Rattle.engines.specs.ReadMines.{AreRead, ArePricesRead, of_settings}
+use Rattle.engines.specs.ReadMines.{AreRead, ArePricesRead}
+use Rattle.engines.specs.EngineFaults.{of_settings}
 
 -- the worths at a factor are those of the mine
 pub worths_priced : (settings text precedence : List ℕ) (table : PricesView) (rests : RestsView) (k : ℕ) → ArePricesRead settings text precedence table rests → AreRead (priced_texts settings text precedence k) (worths_at table k) rests

@@ -25,7 +25,8 @@ use Rattle.engines.specs.declared.judgement.Verdict.TheVariants.{Done, No}
 use Rattle.engines.specs.declared.engine_fault.EngineFault.{EngineFault}
 use Rattle.engines.specs.declared.engine_fault.EngineFault.TheVariants as engine
 use Rattle.engines.specs.Inputs.{ReadsUpit, ReadsPrec}
-use Rattle.engines.specs.ReadMines.{AreRead, IsGroupNamed, of_model, billionths_of}
+use Rattle.engines.specs.ReadMines.{AreRead, IsGroupNamed, billionths_of}
+use Rattle.engines.specs.EngineFaults.{of_model}
 use Rattle.engines.specs.Mines.{MineTexts, mine_texts, price_wanted, mine_of, DenoteMine}
 use Rattle.engines.specs.declared.method.Method.{Method}
 use Rattle.engines.specs.Solving.{IsNoOf, IsCertificateOf, AnswersNet, SolvesNet, IsCertificate, IsNetBy, AnswersMine, Solves}

@@ -36,7 +36,8 @@ use Rattle.engines.specs.ReadMines.{IsGroupNamed}
 use Rattle.engines.specs.Refusals.{LinesBegin, lines_for, flow_for, TextRefused}
 use Rattle.engines.specs.FaultStands.{Fails}
 use Rattle.engines.specs.Judgements.{IsRefused}
-use Rattle.engines.specs.Judging.{Judges, StandsBehind, of_certificate, of_stream}
+use Rattle.engines.specs.Judging.{Judges, StandsBehind, of_stream}
+use Rattle.engines.specs.EngineFaults.{of_certificate}
 use Rattle.engines.proofs.Judged.{HasRead, text_fails}
 use Rattle.engines.proofs.HeaderAnswers.{consumed}
 

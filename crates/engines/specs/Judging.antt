@@ -6,7 +6,6 @@ use Rattle.check_pit.specs.declared.header.Header.{Header}
 use Rattle.check_pit.specs.declared.header.Price.{Price}
 use Rattle.check_pit.specs.declared.header.Price.TheVariants.{Objective, Factor, Mill}
 use Rattle.check_pit.specs.declared.cert_fault.CertFault.{CertFault}
-use Rattle.check_pit.specs.declared.cert_fault.CertFault.TheVariants as cert
 use Rattle.check_pit.specs.declared.stream_fault.StreamFault.{StreamFault}
 use Rattle.check_pit.specs.declared.stream_fault.StreamFault.TheVariants as stream
 use Rattle.check_pit.specs.StreamView.{LineView}
@@ -16,6 +15,7 @@ use Rattle.engines.specs.declared.judgement.Judgement.TheVariants.{Refused}
 use Rattle.engines.specs.declared.engine_fault.EngineFault.{EngineFault}
 use Rattle.engines.specs.declared.engine_fault.EngineFault.TheVariants as engine
 use Rattle.engines.specs.declared.engine_fault.CertificateProblem.TheVariants as problem
+use Rattle.engines.specs.EngineFaults.{of_certificate}
 use Rattle.engines.specs.Mines.{MineTexts}
 use Rattle.engines.specs.Judgements.{IsJudged}
 use Rattle.engines.specs.FaultStands.{Fails}
@@ -37,11 +37,6 @@ factor_in certificate = factor_named (header_of (pieces_of certificate))
 abbrev pub Judges : MineTexts → List ℕ → Result Judgement EngineFault → Type 0
 Judges texts certificate (Ok judgement) = IsJudged texts certificate judgement
 Judges texts certificate (Err fault) = Fails texts certificate fault
-
--- the engine's fault of a certificate's: want of memory is one of its own
-abbrev pub of_certificate : CertFault → EngineFault
-of_certificate cert.NoMemory = engine.Memory
-of_certificate fault = engine.Certificate (problem.Fault fault)
 
 -- what is answered to a stream's fault: a fault of the pit is a judgement
 abbrev pub of_stream : StreamFault → Result Judgement EngineFault

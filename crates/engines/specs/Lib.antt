@@ -1,4 +1,5 @@
 pub mod Limits
+pub mod EngineFaults
 pub mod BlockTexts
 pub mod PricedTexts
 pub mod Mines
@@ -14,6 +15,7 @@ pub mod Statuses
 pub mod Verdicts
 pub mod Judging
 pub mod Slopes
+pub mod WholeNumbers
 pub mod PatternWords
 pub mod Nested
 pub mod Solving

@@ -53,21 +53,38 @@ abbrev pub slope_text : SlopeProblem → List ℕ
 slope_text (of.Pattern fault) = pattern_fault_text fault
 slope_text (of.Pairs fault) = slope_fault_text fault
 
--- what the fault is of, and the fault
+-- the word for what has the fault; what the machine fails at has none
+abbrev pub input_word : EngineFault → List ℕ
+input_word (engine.Blocks p) = codes "blocks "
+input_word (engine.Upit p) = codes "upit "
+input_word (engine.Prec p) = codes "prec "
+input_word (engine.Settings p) = codes "settings "
+input_word (engine.Prices fault) = codes "prices "
+input_word (engine.Slope p) = codes "slope "
+input_word (engine.Model fault) = codes "model "
+input_word (engine.Certificate p) = codes "certificate "
+input_word (engine.Trace p) = codes "trace "
+input_word _ = []
+
+-- the fault, without that word
+abbrev pub problem_words : EngineFault → List ℕ
+problem_words (engine.Blocks p) = problem_text blocks_fault_text p
+problem_words (engine.Upit p) = problem_text upit_fault_text p
+problem_words (engine.Prec p) = problem_text prec_fault_text p
+problem_words (engine.Settings p) = problem_text settings_fault_text p
+problem_words (engine.Prices fault) = prices_fault_text fault
+problem_words (engine.Slope p) = slope_text p
+problem_words (engine.Model fault) = net_fault_text fault
+problem_words (engine.Certificate p) = certificate_text p
+problem_words (engine.Trace p) = problem_text trace_fault_text p
+problem_words engine.Memory = codes "memory"
+problem_words engine.Device = codes "device"
+problem_words engine.Thread = codes "thread"
+problem_words engine.Stranger = codes "stranger"
+
+-- what has the fault, and the fault
 abbrev pub fault_words : EngineFault → List ℕ
-fault_words (engine.Blocks p) = codes "blocks " ++ problem_text blocks_fault_text p
-fault_words (engine.Upit p) = codes "upit " ++ problem_text upit_fault_text p
-fault_words (engine.Prec p) = codes "prec " ++ problem_text prec_fault_text p
-fault_words (engine.Settings p) = codes "settings " ++ problem_text settings_fault_text p
-fault_words (engine.Prices fault) = codes "prices " ++ prices_fault_text fault
-fault_words (engine.Slope p) = codes "slope " ++ slope_text p
-fault_words (engine.Model fault) = codes "model " ++ net_fault_text fault
-fault_words (engine.Certificate p) = codes "certificate " ++ certificate_text p
-fault_words (engine.Trace p) = codes "trace " ++ problem_text trace_fault_text p
-fault_words engine.Memory = codes "memory"
-fault_words engine.Device = codes "device"
-fault_words engine.Thread = codes "thread"
-fault_words engine.Stranger = codes "stranger"
+fault_words fault = input_word fault ++ problem_words fault
 
 -- the line of a fault
 abbrev pub fault_line : EngineFault → List ℕ

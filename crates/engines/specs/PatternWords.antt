@@ -1,28 +1,22 @@
 -- The words that name a pattern and a direction.
-use Rattle.std.specs.Prelude.{ℕ, ◌==◌, ◌&&◌, cond, List, [], ◌∷◌, codes, nat_le, Option, Some, None, Result, Ok, Err}
+use Rattle.std.specs.Prelude.{ℕ, ◌==◌, cond, List, [], ◌∷◌, codes, Option, Some, None}
 use Rattle.std.specs.Str.{bytes_eq}
 use Rattle.std.specs.List.{onto_first}
-use Rattle.fixed_worth.specs.declared.numerals.NumberFault.{NumberFault}
-use Rattle.fixed_worth.specs.Numeral.{whole_of}
 use Rattle.slope.specs.declared.up.Up.{Up}
 use Rattle.slope.specs.declared.up.Up.TheVariants.{PlusZ, MinusZ}
 use Rattle.slope.specs.declared.pattern.TheConstants.{MOST_CONE_NUMBER}
 use Rattle.engines.specs.declared.pattern_choice.PatternChoice.{PatternChoice}
 use Rattle.engines.specs.declared.pattern_choice.PatternChoice.TheVariants.{Five, Nine, Cone}
+use Rattle.engines.specs.WholeNumbers.{whole_within}
 
 -- the pieces of a word, which colons (58) divide: one more than there are colons
 abbrev pub pieces_of : List ℕ → List (List ℕ)
 pieces_of [] = [] ∷ []
 pieces_of (b ∷ bs) = cond (b == 58) ([] ∷ pieces_of bs) (onto_first b (pieces_of bs))
 
--- a whole number from 1 to 1,000
-abbrev pub small_number : Result ℕ NumberFault → Option ℕ
-small_number (Ok k) = cond (nat_le 1 k && nat_le k MOST_CONE_NUMBER) (Some k) None
-small_number (Err e) = None
-
--- the number of a cone that a piece is
+-- the number of a cone that a piece is: a whole number from 1 to 1,000
 abbrev pub cone_number_of : List ℕ → Option ℕ
-cone_number_of piece = small_number (whole_of piece)
+cone_number_of piece = whole_within piece 1 MOST_CONE_NUMBER
 
 -- the cone with these numbers, where all three are there
 abbrev pub cone_with : Option ℕ → Option ℕ → Option ℕ → Option PatternChoice

@@ -1,5 +1,5 @@
 -- What a text of settings and a text of blocks say together of prices.
-use Rattle.std.specs.Prelude.{◌≡◌, ℕ, ℤ, pos, Bool, true, false, List, [], ◌∷◌, ◌++◌, map, slice_index_or, Some, None, unwrap_or, Err}
+use Rattle.std.specs.Prelude.{◌≡◌, ℕ, ℤ, pos, Bool, true, false, List, [], ◌∷◌, ◌++◌, map, slice_index_or, Option, Some, None, unwrap_or, Err}
 use Rattle.std.specs.List.{range_with_len}
 use Rattle.blocks_file.specs.Records as blocks
 use Rattle.blocks_file.specs.Denotes.{BlocksView}
@@ -45,6 +45,16 @@ charge_list (Mill processing mining) = processing ∷ mining ∷ []
 
 abbrev pub column_list : PriceColumns → List ℕ
 column_list columns = columns.revenue ∷ charge_list columns.charges
+
+-- the same and, where another column is read beside them, that one behind them
+abbrev pub columns_beside : PriceColumns → Option ℕ → List ℕ
+columns_beside columns None = column_list columns
+columns_beside columns (Some other) = column_list columns ++ (other ∷ [])
+
+-- the place of that other column among them
+abbrev pub place_beside : ChargeColumns → ℕ
+place_beside (Plain cost) = 2
+place_beside (Mill processing mining) = 3
 
 abbrev pub price_columns : SettingsView → List ℕ
 price_columns s = column_list (columns_said s)

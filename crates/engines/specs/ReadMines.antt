@@ -7,14 +7,8 @@ use Rattle.prec_file.specs.Records as prec
 use Rattle.closure_net.specs.Network.{NetView}
 use Rattle.closure_net.specs.Closure.{IsGreatest}
 use Rattle.closure_net.specs.Mine.{Mine, IsNetOf}
-use Rattle.closure_net.specs.declared.net.NetFault.{NetFault}
-use Rattle.closure_net.specs.declared.net.NetFault.TheVariants as net_fault
-use Rattle.settings_file.specs.declared.faults.SettingsFault.{SettingsFault}
-use Rattle.settings_file.specs.declared.faults.SettingsFault.TheVariants as settings_fault
 use Rattle.shells.specs.Prices.{PricesView, blocks_of}
-use Rattle.engines.specs.declared.engine_fault.EngineFault.{EngineFault}
-use Rattle.engines.specs.declared.engine_fault.EngineFault.TheVariants as engine
-use Rattle.engines.specs.declared.engine_fault.Problem.TheVariants as problem
+pub use Rattle.engines.specs.EngineFaults.{of_model}
 use Rattle.engines.specs.PricedTexts.{table_of}
 use Rattle.engines.specs.Mines.{MineTexts, priced_texts, precedence_of, DenoteMine}
 use Rattle.engines.specs.Readings.{block_by, counts_by, IsProvedPit}
@@ -42,12 +36,3 @@ pub record IsGroupNamed (name : Group) (block : ℤ → ℕ → Amount) (counts 
   pub block_is : block_by name ≡ block
   pub counts_is : counts_by name ≡ counts
   pub proves : (mine : Mine) (net : NetView) (e : ℕ → Bool) → IsNetOf block mine net → IsGreatest net e → IsProvedPit name mine e
-
--- the engine's fault of a net's, and of settings: want of memory is one of its own
-abbrev pub of_model : NetFault → EngineFault
-of_model net_fault.NoMemory = engine.Memory
-of_model fault = engine.Model fault
-
-abbrev pub of_settings : SettingsFault → EngineFault
-of_settings settings_fault.NoMemory = engine.Memory
-of_settings fault = engine.Settings (problem.Fault fault)

@@ -147,11 +147,6 @@ GivesSlopes source text up old new (Err fault) = SlopesFail source text up fault
 
 -- ---- their parts
 
--- the fault of a pattern, as an engine answers it
-abbrev pub of_pattern : PatternFault → EngineFault
-of_pattern pattern.NoMemory = engine.Memory
-of_pattern fault = engine.Slope (of.Pattern fault)
-
 -- how making a pattern fails, where it may fail so
 abbrev pub PatternMakingFails : (PatternFault → Type 0) → EngineFault → Type 0
 PatternMakingFails Refused (engine.Slope (of.Pattern fault)) = Refused fault

@@ -153,23 +153,65 @@ impl From<WriteFault> for EngineFault {
     }
 }
 
-impl From<NetFault> for EngineFault {
+impl From<BlocksFault> for EngineFault {
     ghost use Rattle.std.specs.Prelude.{◌≡◌};
-    ghost use Rattle.engines.specs.ReadMines.{of_model};
+    ghost use Rattle.engines.specs.EngineFaults.{of_blocks};
 
-    ghost from_gives = { λ fault e. e ≡ of_model fault };
+    ghost from_gives = { λ fault e. e ≡ of_blocks fault };
 
-    fn from(fault: NetFault) -> EngineFault {
+    fn from(fault: BlocksFault) -> EngineFault {
         match fault {
-            NetFault::NoMemory => EngineFault::Memory,
-            fault => EngineFault::Model(fault),
+            BlocksFault::NoMemory => EngineFault::Memory,
+            fault => EngineFault::Blocks(Problem::Fault(fault)),
+        }
+    }
+}
+
+impl From<UpitFault> for EngineFault {
+    ghost use Rattle.std.specs.Prelude.{◌≡◌};
+    ghost use Rattle.engines.specs.EngineFaults.{of_upit};
+
+    ghost from_gives = { λ fault e. e ≡ of_upit fault };
+
+    fn from(fault: UpitFault) -> EngineFault {
+        match fault {
+            UpitFault::NoMemory => EngineFault::Memory,
+            fault => EngineFault::Upit(Problem::Fault(fault)),
+        }
+    }
+}
+
+impl From<PrecFault> for EngineFault {
+    ghost use Rattle.std.specs.Prelude.{◌≡◌};
+    ghost use Rattle.engines.specs.EngineFaults.{of_prec};
+
+    ghost from_gives = { λ fault e. e ≡ of_prec fault };
+
+    fn from(fault: PrecFault) -> EngineFault {
+        match fault {
+            PrecFault::NoMemory => EngineFault::Memory,
+            fault => EngineFault::Prec(Problem::Fault(fault)),
+        }
+    }
+}
+
+impl From<SettingsFault> for EngineFault {
+    ghost use Rattle.std.specs.Prelude.{◌≡◌};
+    ghost use Rattle.engines.specs.EngineFaults.{of_settings};
+
+    ghost from_gives = { λ fault e. e ≡ of_settings fault };
+
+    fn from(fault: SettingsFault) -> EngineFault {
+        match fault {
+            SettingsFault::NoMemory => EngineFault::Memory,
+            fault => EngineFault::Settings(Problem::Fault(fault)),
         }
     }
 }
 
 impl From<CertFault> for EngineFault {
     ghost use Rattle.std.specs.Prelude.{◌≡◌};
-    ghost use Rattle.engines.specs.Judging.{of_certificate};
+    ghost use Rattle.engines.specs.EngineFaults.{of_certificate};
 
     ghost from_gives = { λ fault e. e ≡ of_certificate fault };
 
@@ -181,16 +223,16 @@ impl From<CertFault> for EngineFault {
     }
 }
 
-impl From<SettingsFault> for EngineFault {
+impl From<TraceFault> for EngineFault {
     ghost use Rattle.std.specs.Prelude.{◌≡◌};
-    ghost use Rattle.engines.specs.ReadMines.{of_settings};
+    ghost use Rattle.engines.specs.EngineFaults.{of_trace};
 
-    ghost from_gives = { λ fault e. e ≡ of_settings fault };
+    ghost from_gives = { λ fault e. e ≡ of_trace fault };
 
-    fn from(fault: SettingsFault) -> EngineFault {
+    fn from(fault: TraceFault) -> EngineFault {
         match fault {
-            SettingsFault::NoMemory => EngineFault::Memory,
-            fault => EngineFault::Settings(Problem::Fault(fault)),
+            TraceFault::NoMemory => EngineFault::Memory,
+            fault => EngineFault::Trace(Problem::Fault(fault)),
         }
     }
 }
@@ -208,7 +250,7 @@ impl From<PricesFault> for EngineFault {
 
 impl From<PatternFault> for EngineFault {
     ghost use Rattle.std.specs.Prelude.{◌≡◌};
-    ghost use Rattle.engines.specs.Slopes.{of_pattern};
+    ghost use Rattle.engines.specs.EngineFaults.{of_pattern};
 
     ghost from_gives = { λ fault e. e ≡ of_pattern fault };
 
@@ -216,6 +258,34 @@ impl From<PatternFault> for EngineFault {
         match fault {
             PatternFault::NoMemory => EngineFault::Memory,
             fault => EngineFault::Slope(SlopeProblem::Pattern(fault)),
+        }
+    }
+}
+
+impl From<SlopeFault> for EngineFault {
+    ghost use Rattle.std.specs.Prelude.{◌≡◌};
+    ghost use Rattle.engines.specs.EngineFaults.{of_slope};
+
+    ghost from_gives = { λ fault e. e ≡ of_slope fault };
+
+    fn from(fault: SlopeFault) -> EngineFault {
+        match fault {
+            SlopeFault::NoMemory => EngineFault::Memory,
+            fault => EngineFault::Slope(SlopeProblem::Pairs(fault)),
+        }
+    }
+}
+
+impl From<NetFault> for EngineFault {
+    ghost use Rattle.std.specs.Prelude.{◌≡◌};
+    ghost use Rattle.engines.specs.EngineFaults.{of_model};
+
+    ghost from_gives = { λ fault e. e ≡ of_model fault };
+
+    fn from(fault: NetFault) -> EngineFault {
+        match fault {
+            NetFault::NoMemory => EngineFault::Memory,
+            fault => EngineFault::Model(fault),
         }
     }
 }

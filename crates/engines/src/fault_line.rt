@@ -14,7 +14,7 @@ ghost use Rattle.settings_file.specs.Keys.{key_name};
 ghost use Rattle.settings_file.specs.FaultText.{settings_fault_text};
 ghost use Rattle.shells.specs.FaultText.{prices_fault_text};
 ghost use Rattle.trace_file.specs.FaultText.{fault_text};
-ghost use Rattle.engines.specs.OutputLines.{fault_line, fault_words, problem_text, slope_text, certificate_text};
+ghost use Rattle.engines.specs.OutputLines.{fault_line, fault_words, input_word, problem_words, problem_text, slope_text, certificate_text};
 ghost use Rattle.engines.specs.Statuses.{status_of};
 
 use crate::engine_fault::{CertificateProblem, EngineFault, Problem, SlopeProblem};
@@ -63,49 +63,52 @@ pub fn write_fault<W: CountedWrite>(fault: &EngineFault, out: &mut W) -> Result<
     write_text(out, line.as_bytes())
 }
 
-// What the fault is of, and the fault.
+// What has the fault, and the fault.
 fn push_words(line: &mut ShortLine, fault: &EngineFault)
     requires { length line.old ≤ 16 }
     ensures text { line.new ≡ line.old ++ fault_words fault.now }
-    ensures length { length line.new ≤ length line.old + 100 }
+    ensures length { length line.new ≤ length line.old + 106 }
+{
+    line.push(input_word(fault).as_bytes());
+    push_problem(line, fault);
+}
+
+// The word for what has the fault, with a space behind it. What the machine fails at has none.
+fn input_word(fault: &EngineFault) -> &'static str
+    ensures word { result.now ≡ input_word fault.now }
+    ensures short { length result.now ≤ 12 }
 {
     match fault {
-        EngineFault::Blocks(problem) => {
-            line.push(b"blocks ");
-            push_blocks(line, problem);
-        }
-        EngineFault::Upit(problem) => {
-            line.push(b"upit ");
-            push_upit(line, problem);
-        }
-        EngineFault::Prec(problem) => {
-            line.push(b"prec ");
-            push_prec(line, problem);
-        }
-        EngineFault::Settings(problem) => {
-            line.push(b"settings ");
-            push_settings(line, problem);
-        }
-        EngineFault::Prices(fault) => {
-            line.push(b"prices ");
-            push_prices(line, fault);
-        }
-        EngineFault::Slope(problem) => {
-            line.push(b"slope ");
-            push_slope(line, problem);
-        }
-        EngineFault::Model(fault) => {
-            line.push(b"model ");
-            push_model(line, fault);
-        }
-        EngineFault::Certificate(problem) => {
-            line.push(b"certificate ");
-            push_certificate(line, problem);
-        }
-        EngineFault::Trace(problem) => {
-            line.push(b"trace ");
-            push_trace(line, problem);
-        }
+        EngineFault::Blocks(_) => "blocks ",
+        EngineFault::Upit(_) => "upit ",
+        EngineFault::Prec(_) => "prec ",
+        EngineFault::Settings(_) => "settings ",
+        EngineFault::Prices(_) => "prices ",
+        EngineFault::Slope(_) => "slope ",
+        EngineFault::Model(_) => "model ",
+        EngineFault::Certificate(_) => "certificate ",
+        EngineFault::Trace(_) => "trace ",
+        EngineFault::Memory | EngineFault::Device => "",
+        EngineFault::Thread | EngineFault::Stranger => "",
+    }
+}
+
+// The fault, without the word for what has it.
+fn push_problem(line: &mut ShortLine, fault: &EngineFault)
+    requires { length line.old ≤ 32 }
+    ensures text { line.new ≡ line.old ++ problem_words fault.now }
+    ensures length { length line.new ≤ length line.old + 94 }
+{
+    match fault {
+        EngineFault::Blocks(problem) => push_blocks(line, problem),
+        EngineFault::Upit(problem) => push_upit(line, problem),
+        EngineFault::Prec(problem) => push_prec(line, problem),
+        EngineFault::Settings(problem) => push_settings(line, problem),
+        EngineFault::Prices(fault) => push_prices(line, fault),
+        EngineFault::Slope(problem) => push_slope(line, problem),
+        EngineFault::Model(fault) => push_model(line, fault),
+        EngineFault::Certificate(problem) => push_certificate(line, problem),
+        EngineFault::Trace(problem) => push_trace(line, problem),
         EngineFault::Memory => line.push(b"memory"),
         EngineFault::Device => line.push(b"device"),
         EngineFault::Thread => line.push(b"thread"),

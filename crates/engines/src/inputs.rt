@@ -6,16 +6,19 @@ ghost use Rattle.engines.specs.BlockTexts.{ReadsBlocks, BlocksReadFails};
 ghost use Rattle.engines.specs.Inputs.{ReadsUpit, ListsPrec, ReadsPrec, UpitReadFails, PrecReadFails, TextFails};
 
 use crate::engine_fault::{EngineFault, Problem};
-use blocks_file::{BlockModel, BlocksFault, read_blocks};
+use blocks_file::{BlockModel, read_blocks};
 use fixed_worth::{CountedRead, InputFault, MOST_BLOCKS, read_whole};
-use prec_file::{ListedPairs, PrecFault, Predecessors, Rests, read_listed};
+use prec_file::{ListedPairs, Predecessors, Rests, read_listed};
 use std::alloc::Global;
-use upit_file::{Upit, UpitFault, declared_blocks, read_upit};
+use upit_file::{Upit, declared_blocks, read_upit};
 
 // The most bytes of an input.
 const LONGEST: u64 = 1 << 32;
 
-/// All bytes of an input; the fault of one that has too many is handed in.
+/// All bytes of an input.
+///
+/// # Errors
+/// `too_long` for more than 2^32 bytes, `Memory` where memory is refused, `Device` where a read fails.
 pub fn text_from<R: CountedRead>(
     alloc: Global,
     from: &mut R,
@@ -37,6 +40,10 @@ pub fn text_from<R: CountedRead>(
 }
 
 /// The blocks of a text with their places and the chosen columns, at most eight.
+///
+/// # Errors
+/// `Blocks` for more than 2^32 bytes, or for a fault of [`read_blocks`]. `Memory` where memory is refused, `Device`
+/// where a read fails.
 pub fn blocks_from<R: CountedRead>(
     alloc: Global,
     from: &mut R,
@@ -52,12 +59,15 @@ pub fn blocks_from<R: CountedRead>(
     let text = text_from(alloc, from, EngineFault::Blocks(Problem::InputTooLong))?;
     match read_blocks(alloc, text.as_slice(), columns) {
         Ok(model) => Ok(model),
-        Err(BlocksFault::NoMemory) => Err(EngineFault::Memory),
-        Err(fault) => Err(EngineFault::Blocks(Problem::Fault(fault))),
+        Err(fault) => Err(EngineFault::from(fault)),
     }
 }
 
 /// The values of the blocks, as many as the text declares.
+///
+/// # Errors
+/// `Upit` for more than 2^32 bytes, for a fault of [`declared_blocks`], or else for one of [`read_upit`]. `Memory` where
+/// memory is refused, `Device` where a read fails.
 pub fn upit_from<R: CountedRead>(alloc: Global, from: &mut R) -> Result<Upit, EngineFault>
     requires { R.failed from.old < 2 ^ 64 - 1 }
     ensures read { IfSome (R.remaining from.old) (λ text. MatchResult result (ReadsUpit text) (UpitReadFails text)) }
@@ -74,15 +84,8 @@ fn upit_of(alloc: Global, text: &[u8]) -> Result<Upit, EngineFault>
     ensures read { MatchResult result (ReadsUpit text.now) (UpitReadFails text.now) }
     ensures no_device { ¬ IsErrOf result EngineFault.Device }
 {
-    let blocks = match declared_blocks(text) {
-        Ok(blocks) => blocks,
-        Err(fault) => return Err(EngineFault::Upit(Problem::Fault(fault))),
-    };
-    match read_upit(alloc, text, blocks) {
-        Ok(upit) => Ok(upit),
-        Err(UpitFault::NoMemory) => Err(EngineFault::Memory),
-        Err(fault) => Err(EngineFault::Upit(Problem::Fault(fault))),
-    }
+    let blocks = declared_blocks(text)?;
+    Ok(read_upit(alloc, text, blocks)?)
 }
 
 // The pairs that a text lists. Its bytes are given back here, before the pairs are put in order and indexed.
@@ -101,12 +104,15 @@ fn listed_from<R: CountedRead>(
     let text = text_from(alloc, from, EngineFault::Prec(Problem::InputTooLong))?;
     match read_listed(alloc, text.as_slice(), n) {
         Ok(listed) => Ok(listed),
-        Err(PrecFault::NoMemory) => Err(EngineFault::Memory),
-        Err(fault) => Err(EngineFault::Prec(Problem::Fault(fault))),
+        Err(fault) => Err(EngineFault::from(fault)),
     }
 }
 
 /// What rests on what among n blocks.
+///
+/// # Errors
+/// `Prec` for more than 2^32 bytes, or for a fault of [`read_listed`]. `Memory` where memory is refused, `Device` where
+/// a read fails.
 pub fn rests_from<R: CountedRead>(alloc: Global, from: &mut R, n: u32) -> Result<Rests, EngineFault>
     requires blocks { n ≤ MOST_BLOCKS }
     requires room { R.failed from.old < 2 ^ 64 - 1 }
@@ -120,6 +126,9 @@ pub fn rests_from<R: CountedRead>(alloc: Global, from: &mut R, n: u32) -> Result
 }
 
 /// The predecessors of each of n blocks, without what only those need who look for a flow.
+///
+/// # Errors
+/// Those of [`rests_from`].
 pub fn predecessors_from<R: CountedRead>(
     alloc: Global,
     from: &mut R,

@@ -33,6 +33,7 @@ pub mod solving;
 mod solving_engine;
 mod stored_run;
 mod unwatched;
+mod whole_numbers;
 
 pub use checking::check_engine;
 pub use effort::Effort;
@@ -50,6 +51,7 @@ pub use solve_words::{factor_named, group_named, steps_named, workers_named};
 pub use solving_engine::solve_engine;
 pub use stored_run::stored_check;
 pub use unwatched::Unwatched;
+pub use whole_numbers::whole_within;
 
 #[cfg(test)]
 mod check_tests;

@@ -5,7 +5,8 @@ ghost use Rattle.engines.specs.PatternWords.{pieces_of, cone_number_of, cone_of,
 ghost use Rattle.engines.specs.Slopes.{IsConeNumber, IsChoice};
 
 use crate::pattern_choice::PatternChoice;
-use fixed_worth::{behind_first, whole};
+use crate::whole_numbers::whole_within;
+use fixed_worth::behind_first;
 use slope::{MOST_CONE_NUMBER, Up};
 
 fn first_colon(word: &[u8]) -> Option<usize>
@@ -32,15 +33,9 @@ fn cone_number(piece: &[u8]) -> Option<u32>
     ensures is { result ≡ cone_number_of piece.now }
     ensures small { IfSome result IsConeNumber }
 {
-    match whole(piece) {
-        Ok(number) => {
-            if 1 <= number && number <= MOST_CONE_NUMBER as u64 {
-                Some(number as u32)
-            } else {
-                None
-            }
-        }
-        Err(_) => None,
+    match whole_within(piece, 1, MOST_CONE_NUMBER as u64) {
+        Some(number) => Some(number as u32),
+        None => None,
     }
 }
 

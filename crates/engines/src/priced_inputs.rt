@@ -3,7 +3,7 @@
 ghost use Rattle.std.specs.Prelude.{◌≡◌, ◌+◌, ◌-◌, ◌^◌, ◌<◌, ◌↔◌, true, false, [], ◌∷◌, ◌++◌, length, None, IfOk, IfSome, MatchResult, IsErrOf};
 ghost use Rattle.settings_file.specs.Settings.{names_mill, first_missing};
 ghost use Rattle.engines.specs.Limits.{IsWithinLimit};
-ghost use Rattle.engines.specs.PricedTexts.{keys_by, charges_by, columns_said, charge_list, column_list, values_of, first_columns};
+ghost use Rattle.engines.specs.PricedTexts.{keys_by, charges_by, columns_said, charge_list, columns_beside, place_beside, values_of, first_columns};
 ghost use Rattle.engines.specs.BlockTexts.{ReadsBlocks, BlocksReadFails};
 ghost use Rattle.engines.specs.ReadMines.{ArePricesRead};
 ghost use Rattle.engines.specs.Inputs.{ReadsSettingsText, SettingsReadFails, IsMissing, ReadsPrices, PricesReadFail, ModelPricesFail, PricedMineFails};
@@ -18,6 +18,10 @@ use shells::Prices;
 use std::alloc::{AllocError, Global};
 
 /// The settings of a text. Whether the keys are there that a command needs is asked later.
+///
+/// # Errors
+/// `Settings` for more than 2^32 bytes, or for a fault of [`read_settings`]. `Memory` where memory is refused, `Device`
+/// where a read fails.
 pub fn settings_from<R: CountedRead>(alloc: Global, from: &mut R) -> Result<Settings, EngineFault>
     requires { R.failed from.old < 2 ^ 64 - 1 }
     ensures read { IfSome (R.remaining from.old) (λ text. MatchResult result (ReadsSettingsText text) (SettingsReadFails text)) }
@@ -129,6 +133,10 @@ pub fn missing(key: Key) -> EngineFault
 }
 
 /// The prices of the blocks of a text, in these columns.
+///
+/// # Errors
+/// In this order: `Blocks`, as of [`blocks_from`]; `Prices` for a negative revenue. `Memory` where memory is refused,
+/// `Device` where a read fails.
 pub fn prices_from<R: CountedRead>(
     alloc: Global,
     from: &mut R,
@@ -139,28 +147,47 @@ pub fn prices_from<R: CountedRead>(
     ensures device { IsErrOf result EngineFault.Device ↔ (R.failed from.new ≡ R.failed from.old + 1) }
     ensures kept { ¬ IsErrOf result EngineFault.Device → R.failed from.new ≡ R.failed from.old }
 {
-    let model = priced_blocks_from(alloc, from, columns)?;
+    let model = priced_blocks_from(alloc, from, columns, None)?;
     prices_of(alloc, &model, columns.charges)
 }
 
-// The blocks of a text with the columns of their prices.
-fn priced_blocks_from<R: CountedRead>(
+/// The blocks of a text with the columns of their prices and, where another column is asked for beside them, with that
+/// one behind them.
+///
+/// # Errors
+/// Those of [`blocks_from`].
+pub fn priced_blocks_from<R: CountedRead>(
     alloc: Global,
     from: &mut R,
     columns: PriceColumns,
+    beside: Option<u32>,
 ) -> Result<BlockModel, EngineFault>
     requires { R.failed from.old < 2 ^ 64 - 1 }
-    ensures read { IfSome (R.remaining from.old) (λ text. MatchResult result (ReadsBlocks (column_list columns) text) (BlocksReadFails (column_list columns) text)) }
-    ensures columns { IfOk result (λ model. length model.columns ≡ length (column_list columns)) }
+    ensures read { IfSome (R.remaining from.old) (λ text. MatchResult result (ReadsBlocks (columns_beside columns beside) text) (BlocksReadFails (columns_beside columns beside) text)) }
+    ensures columns { IfOk result (λ model. length model.columns ≡ length (columns_beside columns beside)) }
     ensures device { IsErrOf result EngineFault.Device ↔ (R.failed from.new ≡ R.failed from.old + 1) }
     ensures kept { ¬ IsErrOf result EngineFault.Device → R.failed from.new ≡ R.failed from.old }
 {
     let revenue = columns.revenue;
     match columns.charges {
-        ChargeColumns::Plain { cost } => blocks_from(alloc, from, &[revenue, cost]),
-        ChargeColumns::Mill { processing, mining } => {
-            blocks_from(alloc, from, &[revenue, processing, mining])
-        }
+        ChargeColumns::Plain { cost } => match beside {
+            None => blocks_from(alloc, from, &[revenue, cost]),
+            Some(other) => blocks_from(alloc, from, &[revenue, cost, other]),
+        },
+        ChargeColumns::Mill { processing, mining } => match beside {
+            None => blocks_from(alloc, from, &[revenue, processing, mining]),
+            Some(other) => blocks_from(alloc, from, &[revenue, processing, mining, other]),
+        },
+    }
+}
+
+/// The place among the columns of [`priced_blocks_from`] of the one that is read beside those of prices.
+pub fn place_beside(charges: ChargeColumns) -> u32
+    ensures { result ≡ place_beside charges }
+{
+    match charges {
+        ChargeColumns::Plain { .. } => 2,
+        ChargeColumns::Mill { .. } => 3,
     }
 }
 

@@ -8,15 +8,18 @@ ghost use Rattle.slope.specs.Offsets.{AreOffsets};
 ghost use Rattle.slope.specs.Slopes.{AreSlopes};
 ghost use Rattle.engines.specs.Slopes.{IsChoice, IsChosen, ChoiceFails, ListFails, PatternMakingFails, PairsMakingFail};
 
-use crate::engine_fault::{EngineFault, SlopeProblem};
+use crate::engine_fault::EngineFault;
 use crate::pattern_choice::PatternChoice;
 use blocks_file::BlockModel;
 use fixed_worth::CountedWrite;
 use prec_file::{PrecWriteFault, Rests, write_prec};
-use slope::{Pattern, SlopeFault, Up, laws, rests_of};
+use slope::{Pattern, Up, laws, rests_of};
 use std::alloc::Global;
 
-/// The pattern that a word names.
+/// The pattern that is chosen.
+///
+/// # Errors
+/// `Slope` with `TooMany` for a cone of more than 4,096 offsets. `Memory` where memory is refused.
 pub fn pattern_for(alloc: Global, choice: PatternChoice) -> Result<Pattern, EngineFault>
     requires { IsChoice choice }
     ensures made { MatchResult result (IsChosen choice) (PatternMakingFails (ChoiceFails choice)) }
@@ -31,6 +34,10 @@ pub fn pattern_for(alloc: Global, choice: PatternChoice) -> Result<Pattern, Engi
 }
 
 /// The pattern of listed offsets.
+///
+/// # Errors
+/// In this order: `Slope` with `NotUpward` for the first offset whose third number isn't at least 1, with `TooMany` for
+/// more than 4,096 listed offsets. `Memory` where memory is refused.
 pub fn pattern_listed(alloc: Global, listed: &[(i32, i32, i32)]) -> Result<Pattern, EngineFault>
     ensures made { MatchResult result (AreOffsets (Contains listed.now)) (PatternMakingFails (ListFails listed.now)) }
     ensures no_device { ¬ IsErrOf result EngineFault.Device }
@@ -39,6 +46,9 @@ pub fn pattern_listed(alloc: Global, listed: &[(i32, i32, i32)]) -> Result<Patte
 }
 
 /// Who rests on whom among the blocks of a model, by a pattern.
+///
+/// # Errors
+/// `Slope` for two blocks at one place, or for more than 2^27 pairs. `Memory` where memory is refused.
 pub fn slopes_of(
     alloc: Global,
     model: &BlockModel,
@@ -53,12 +63,14 @@ pub fn slopes_of(
     laws::slopes_are_narrow(pattern);
     match rests_of(alloc, model, pattern, up) {
         Ok(rests) => Ok(rests),
-        Err(SlopeFault::NoMemory) => Err(EngineFault::Memory),
-        Err(fault) => Err(EngineFault::Slope(SlopeProblem::Pairs(fault))),
+        Err(fault) => Err(EngineFault::from(fault)),
     }
 }
 
 /// Writes pairs as a precedence file.
+///
+/// # Errors
+/// `Device` where a write fails: the writer has then received a prefix of the text.
 pub fn write_slopes<W: CountedWrite>(rests: &Rests, out: &mut W) -> Result<(), EngineFault>
     requires narrow { AreNarrow rests.now }
     requires room { W.failed out.old < 2 ^ 64 - 1 }

@@ -3,8 +3,9 @@
 ghost use Rattle.std.specs.Prelude.{◌≡◌, ◌≤◌, IfSome};
 ghost use Rattle.engines.specs.SolveWords.{factor_of, group_of, steps_of, workers_of};
 
+use crate::whole_numbers::whole_within;
 use async_step::MOST_STEPS;
-use fixed_worth::{MOST_FACTOR, whole};
+use fixed_worth::MOST_FACTOR;
 use ordered_group::Group;
 use shells::Factor;
 use workers::MOST_WORKERS;
@@ -28,15 +29,9 @@ pub fn group_named(word: &[u8]) -> Option<Group>
 pub fn factor_named(word: &[u8]) -> Option<Factor>
     ensures { result ≡ factor_of word.now }
 {
-    match whole(word) {
-        Ok(number) => {
-            if number <= MOST_FACTOR as u64 {
-                Factor::new(number as u32)
-            } else {
-                None
-            }
-        }
-        Err(_) => None,
+    match whole_within(word, 0, MOST_FACTOR as u64) {
+        Some(number) => Factor::new(number as u32),
+        None => None,
     }
 }
 
@@ -44,16 +39,7 @@ pub fn factor_named(word: &[u8]) -> Option<Factor>
 pub fn steps_named(word: &[u8]) -> Option<u64>
     ensures { result ≡ steps_of word.now }
 {
-    match whole(word) {
-        Ok(number) => {
-            if 1 <= number && number <= MOST_STEPS {
-                Some(number)
-            } else {
-                None
-            }
-        }
-        Err(_) => None,
-    }
+    whole_within(word, 1, MOST_STEPS)
 }
 
 /// The number of workers that a word names: a whole number from 1 to 64.
@@ -61,14 +47,8 @@ pub fn workers_named(word: &[u8]) -> Option<u32>
     ensures is { result ≡ workers_of word.now }
     ensures range { IfSome result (λ workers. (1 ≤ workers) × (workers ≤ MOST_WORKERS)) }
 {
-    match whole(word) {
-        Ok(number) => {
-            if 1 <= number && number <= MOST_WORKERS as u64 {
-                Some(number as u32)
-            } else {
-                None
-            }
-        }
-        Err(_) => None,
+    match whole_within(word, 1, MOST_WORKERS as u64) {
+        Some(number) => Some(number as u32),
+        None => None,
     }
 }

@@ -10,33 +10,33 @@ use workers::MOST_WORKERS;
 // The most steps of a run, where no word says.
 const USUAL_STEPS: u64 = 1_000_000_000;
 
-// The words that say how a mine is solved, of a command that has them.
+// The words that say how much solving a mine may use, of a command that has them.
 #[derive(Clone, Copy)]
 struct EffortWords<'a> {
     command: Commanded,
-    method: Option<&'a str>,
     steps: Option<&'a str>,
     workers: Option<&'a str>,
 }
 
-/// How `solve` solves the mine. Steps and workers are the push-relabel machine's, so that `auto` leaves the choice to it
-/// where one of them is given.
-pub fn effort_to_solve<'a>(words: SolveWords<'a>) -> Result<Effort, WrongWord<'a>> {
+/// How `solve` solves the mine by a method. Steps and workers are the push-relabel machine's, so that `auto` leaves the
+/// choice to it where one of them is given.
+pub fn effort_to_solve<'a>(
+    words: SolveWords<'a>,
+    method: Method,
+) -> Result<Effort, WrongWord<'a>> {
     let limits_are_given = words.workers.is_some() || words.steps.is_some();
     let words = EffortWords {
         command: Commanded::Solve,
-        method: words.method,
         steps: words.steps,
         workers: words.workers,
     };
-    effort_asked(words, limits_are_given)
+    effort_asked(words, method.where_limits_are(limits_are_given))
 }
 
 /// How much a run of `solve` without a lock may use: it has one worker or two.
 pub fn effort_by_words<'a>(words: SolveWords<'a>) -> Result<WordEffort, WrongWord<'a>> {
     let asked = EffortWords {
         command: Commanded::Solve,
-        method: None,
         steps: words.steps,
         workers: words.workers,
     };
@@ -52,31 +52,31 @@ pub fn effort_by_words<'a>(words: SolveWords<'a>) -> Result<WordEffort, WrongWor
 /// How `shells` and `report` solve the mine at each factor. Workers are of use to both engines here, so that steps alone
 /// leave the choice to the push-relabel machine.
 pub fn effort_for_series<'a>(words: SeriesWords<'a>) -> Result<Effort, WrongWord<'a>> {
+    let command = Commanded::Series(words.command);
+    let method = method_asked(command, words.method)?;
     let limits_are_given = words.steps.is_some();
     let words = EffortWords {
-        command: Commanded::Series(words.command),
-        method: words.method,
+        command,
         steps: words.steps,
         workers: words.workers,
     };
-    effort_asked(words, limits_are_given)
+    effort_asked(words, method.where_limits_are(limits_are_given))
 }
 
-fn effort_asked<'a>(
-    words: EffortWords<'a>,
-    limits_are_given: bool,
-) -> Result<Effort, WrongWord<'a>> {
-    let method = method_asked(words)?.where_limits_are(limits_are_given);
+fn effort_asked<'a>(words: EffortWords<'a>, method: Method) -> Result<Effort, WrongWord<'a>> {
     let workers = workers_asked(words)?;
     let steps = steps_asked(words)?;
     Ok(Effort::new(method, workers, steps))
 }
 
-// The engine: by the mine's size, where no word says.
-fn method_asked<'a>(words: EffortWords<'a>) -> Result<Method, WrongWord<'a>> {
-    match words.method {
+/// The method: by the mine's size, where no word says.
+pub fn method_asked<'a>(
+    command: Commanded,
+    word: Option<&'a str>,
+) -> Result<Method, WrongWord<'a>> {
+    match word {
         Some(word) => method_named(word.as_bytes()).ok_or(WrongWord {
-            command: words.command,
+            command,
             option: NamedOption::Method,
             word,
         }),

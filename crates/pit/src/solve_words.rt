@@ -2,7 +2,7 @@
 
 use audit_engines::room_named;
 use command_line::{Commanded, NamedOption, SolveWords, WrongWord};
-use engines::{Method, factor_named, group_named, method_named};
+use engines::{Method, factor_named, group_named};
 use ordered_group::Group;
 use shells::Factor;
 use word_engines::names_words;
@@ -49,19 +49,21 @@ pub struct TraceAsked<'a> {
     pub room: u32,
 }
 
-/// The trace, where one is asked for: of the push-relabel machine alone, so that pseudoflow can't be asked for beside it.
-pub fn trace_asked<'a>(words: SolveWords<'a>) -> Result<Option<TraceAsked<'a>>, WrongWord<'a>> {
+/// The trace, where one is asked for beside a method: of the push-relabel machine alone, so that pseudoflow can't be
+/// asked for beside it.
+pub fn trace_asked<'a>(
+    words: SolveWords<'a>,
+    method: Method,
+) -> Result<Option<TraceAsked<'a>>, WrongWord<'a>> {
     let room = room_asked(words)?;
-    match (words.trace, words.method) {
-        (None, _) => Ok(None),
-        (Some(_), Some(word)) if method_named(word.as_bytes()) == Some(Method::Pseudoflow) => {
-            Err(WrongWord {
-                command: Commanded::Solve,
-                option: NamedOption::TracedMethod,
-                word,
-            })
-        }
-        (Some(file), _) => Ok(Some(TraceAsked { file, room })),
+    match words.trace {
+        None => Ok(None),
+        Some(_) if method == Method::Pseudoflow => Err(WrongWord {
+            command: Commanded::Solve,
+            option: NamedOption::TracedMethod,
+            word: words.method.unwrap_or(""),
+        }),
+        Some(file) => Ok(Some(TraceAsked { file, room })),
     }
 }
 

@@ -1,9 +1,9 @@
 //! How `solve` is to solve a mine, by its words, or the word that names nothing that there is.
 
-use crate::effort_words::{effort_by_words, effort_to_solve};
+use crate::effort_words::{effort_by_words, effort_to_solve, method_asked};
 use crate::solve_words::{TraceAsked, asks_for_words, group_asked, trace_asked};
 use command_line::{Commanded, NamedOption, SolveWords, WrongWord};
-use engines::Effort;
+use engines::{Effort, Method};
 use ordered_group::Group;
 use word_engines::WordEffort;
 
@@ -45,18 +45,22 @@ impl<'a> SolvingAsked<'a> {
 pub fn solving_asked<'a>(words: SolveWords<'a>) -> Result<SolvingAsked<'a>, WrongWord<'a>> {
     let group = group_asked(Commanded::Solve, words.group)?;
     match words.method {
-        Some(method) if asks_for_words(method) => words_asked(words, method, group),
-        _ => method_asked(words, group),
+        Some(word) if asks_for_words(word) => solving_by_words(words, word, group),
+        word => {
+            let method = method_asked(Commanded::Solve, word)?;
+            solving_by_method(words, method, group)
+        }
     }
 }
 
 // A run by a method, or one with a trace.
-fn method_asked<'a>(
+fn solving_by_method<'a>(
     words: SolveWords<'a>,
+    method: Method,
     group: Group,
 ) -> Result<SolvingAsked<'a>, WrongWord<'a>> {
-    let effort = effort_to_solve(words)?;
-    Ok(match trace_asked(words)? {
+    let effort = effort_to_solve(words, method)?;
+    Ok(match trace_asked(words, method)? {
         Some(trace) => SolvingAsked::Traced {
             group,
             effort,
@@ -67,7 +71,7 @@ fn method_asked<'a>(
 }
 
 // A run without a lock: it has amounts of one group, and no trace.
-fn words_asked<'a>(
+fn solving_by_words<'a>(
     words: SolveWords<'a>,
     method: &'a str,
     group: Group,

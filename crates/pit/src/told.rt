@@ -10,7 +10,7 @@ use std::rt::Files;
 #[derive(Drop)]
 pub struct Told<'a, R, D> {
     rt: &'a R,
-    is_asked: bool,
+    verbose: bool,
     name: &'a str,
     device: D,
 }
@@ -21,18 +21,18 @@ pub struct Told<'a, R, D> {
 /// That of the system, of which it tells.
 pub fn opened<'a, R: Files + Eprint>(
     rt: &'a R,
-    is_asked: bool,
+    verbose: bool,
     name: &'a str,
 ) -> io::Result<Told<'a, R, R::File>> {
     match File::open(rt, name) {
         Ok(device) => Ok(Told {
             rt,
-            is_asked,
+            verbose,
             name,
             device,
         }),
         Err(error) => {
-            tell(rt, is_asked, "open", name, error);
+            tell(rt, verbose, "open", name, error);
             Err(error)
         }
     }
@@ -44,28 +44,28 @@ pub fn opened<'a, R: Files + Eprint>(
 /// That of the system, of which it tells.
 pub fn made<'a, R: Files + Eprint>(
     rt: &'a R,
-    is_asked: bool,
+    verbose: bool,
     name: &'a str,
 ) -> io::Result<Told<'a, R, R::File>> {
     match File::create(rt, name) {
         Ok(device) => Ok(Told {
             rt,
-            is_asked,
+            verbose,
             name,
             device,
         }),
         Err(error) => {
-            tell(rt, is_asked, "make", name, error);
+            tell(rt, verbose, "make", name, error);
             Err(error)
         }
     }
 }
 
 /// Standard output.
-pub fn output<'a, R: Print + Eprint>(rt: &'a R, is_asked: bool) -> Told<'a, R, Printer<'a, R>> {
+pub fn output<'a, R: Print + Eprint>(rt: &'a R, verbose: bool) -> Told<'a, R, Printer<'a, R>> {
     Told {
         rt,
-        is_asked,
+        verbose,
         name: "standard output",
         device: io::writer(rt),
     }
@@ -76,7 +76,7 @@ impl<R: Eprint, D: Read> Read for Told<'_, R, D> {
         match self.device.read(buf) {
             Ok(count) => Ok(count),
             Err(error) => {
-                tell(self.rt, self.is_asked, "read", self.name, error);
+                tell(self.rt, self.verbose, "read", self.name, error);
                 Err(error)
             }
         }
@@ -88,7 +88,7 @@ impl<R: Eprint, D: Write> Write for Told<'_, R, D> {
         match self.device.write(buf) {
             Ok(count) => Ok(count),
             Err(error) => {
-                tell(self.rt, self.is_asked, "write to", self.name, error);
+                tell(self.rt, self.verbose, "write to", self.name, error);
                 Err(error)
             }
         }
@@ -101,8 +101,8 @@ impl<R: Eprint, D: Write> Write for Told<'_, R, D> {
 
 // Tells what couldn't be done with what, and why. The engine answers by the failure itself, so nothing depends on whether
 // anybody can be told.
-fn tell<R: Eprint>(rt: &R, is_asked: bool, what: &str, name: &str, why: io::Error) {
-    if is_asked {
+fn tell<R: Eprint>(rt: &R, verbose: bool, what: &str, name: &str, why: io::Error) {
+    if verbose {
         let _ = rt.eprintln(format_args!("reason: cannot {what} {name}: {why}"));
     }
 }

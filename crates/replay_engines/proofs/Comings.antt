@@ -11,7 +11,8 @@ use Rattle.engines.specs.declared.engine_fault.EngineFault.{EngineFault}
 use Rattle.engines.specs.declared.engine_fault.EngineFault.TheVariants as engine
 use Rattle.engines.specs.Checking.{LineFails}
 use Rattle.engines.specs.Mines.{MineTexts}
-use Rattle.engines.specs.ReadMines.{AreRead, IsGroupNamed, of_model}
+use Rattle.engines.specs.ReadMines.{AreRead, IsGroupNamed}
+use Rattle.engines.specs.EngineFaults.{of_model}
 use Rattle.engines.proofs.Judged.{worths_fail}
 use Rattle.replay_engines.specs.declared.outcome.Outcome.{Outcome}
 use Rattle.replay_engines.specs.TraceTexts.{ReadsTrace}

@@ -3,7 +3,6 @@ use Rattle.std.specs.Prelude.{◌≡◌, ℕ, List, Some, None}
 use Rattle.machine_law.specs.declared.events.Event.{Event}
 use Rattle.trace_file.specs.Faults.{events_of, fault_of}
 use Rattle.trace_file.specs.declared.trace_fault.TraceFault.{TraceFault}
-use Rattle.trace_file.specs.declared.trace_fault.TraceFault.TheVariants as trace_fault
 use Rattle.engines.specs.declared.engine_fault.Problem.{Problem}
 use Rattle.engines.specs.declared.engine_fault.Problem.TheVariants as problem
 use Rattle.engines.specs.declared.engine_fault.EngineFault.{EngineFault}
@@ -30,8 +29,3 @@ TraceReadFails text (engine.Trace p) = TraceFails text p
 TraceReadFails text engine.Memory = Unit {0}
 TraceReadFails text engine.Device = Unit {0}
 TraceReadFails text _ = ⊥
-
--- the engine's fault of a trace's: want of memory is one of its own
-abbrev pub of_trace : TraceFault → EngineFault
-of_trace trace_fault.NoMemory = engine.Memory
-of_trace fault = engine.Trace (problem.Fault fault)

@@ -2,14 +2,14 @@
 
 ghost use Rattle.std.specs.Prelude.{◌≡◌, ◌+◌, ◌-◌, ◌^◌, ◌<◌, ◌↔◌, IfSome, MatchResult, IsErrOf};
 ghost use Rattle.engines.specs.Limits.{IsWithinLimit};
-ghost use Rattle.replay_engines.specs.TraceTexts.{ReadsTrace, TraceReadFails, of_trace};
+ghost use Rattle.replay_engines.specs.TraceTexts.{ReadsTrace, TraceReadFails};
 
 use async_step::Event;
 use engines::inputs::text_from;
 use engines::{EngineFault, Problem};
 use fixed_worth::CountedRead;
 use std::alloc::Global;
-use trace_file::{TraceFault, read_trace};
+use trace_file::read_trace;
 
 /// The steps of a trace. The bytes of its text are given back here.
 ///
@@ -32,18 +32,5 @@ fn events_in(alloc: Global, text: &[u8]) -> Result<Vec<Event>, EngineFault>
     ensures read { MatchResult result (λ v. ReadsTrace text.now v.items) (TraceReadFails text.now) }
     ensures no_device { ¬ IsErrOf result EngineFault.Device }
 {
-    match read_trace(alloc, text) {
-        Ok(events) => Ok(events),
-        Err(fault) => Err(engine_fault_of(fault)),
-    }
-}
-
-// The engine's fault of a trace's: want of memory is one of its own.
-fn engine_fault_of(fault: TraceFault) -> EngineFault
-    ensures { result ≡ of_trace fault }
-{
-    match fault {
-        TraceFault::NoMemory => EngineFault::Memory,
-        fault => EngineFault::Trace(Problem::Fault(fault)),
-    }
+    Ok(read_trace(alloc, text)?)
 }

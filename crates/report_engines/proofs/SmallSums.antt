@@ -11,10 +11,10 @@ use Rattle.shells.specs.Prices.{PricesView, blocks_of, number_at, worth_after, w
 use Rattle.shells.specs.Series.{SeriesView}
 use Rattle.engines.specs.declared.priced_inputs.ChargeColumns.{ChargeColumns}
 use Rattle.engines.specs.declared.priced_inputs.ChargeColumns.TheVariants.{Plain, Mill}
-use Rattle.engines.specs.PricedTexts.{values_of, first_charges, first_columns}
+use Rattle.engines.specs.PricedTexts.{place_beside, values_of, first_charges, first_columns}
 use Rattle.bench_report.specs.Benches.{reported, blocks_at}
 use Rattle.bench_report.specs.FaultStands.{SameLengths, AllSumsFit, SomeSumOverflows}
-use Rattle.report_engines.specs.Internal.{tonnes_place, IsSmall, IsPricedModel}
+use Rattle.report_engines.specs.Internal.{IsSmall, IsPricedModel}
 
 -- the most that an amount of a block can be, either way
 abbrev most : ℕ
@@ -56,7 +56,7 @@ charge_bound : (m : BlocksView) (i b : ℕ) → IsSmall m i → b < m.blocks →
 charge_bound m i b h l = product_bound 1000 1000 (number_at (values_of m i) b) (omega arith) (value_bound m i b h l)
 
 -- what is left of so much that is earned
-left_bound : (charges : ChargeColumns) (m : BlocksView) (b : ℕ) (earned : ℤ) → ((i : ℕ) → i ≤ tonnes_place charges → IsSmall m i) → b < m.blocks → unsigned_abs earned ≤ 10000 * 10 ^ 18 → unsigned_abs (worth_after (first_charges charges m) b earned) ≤ most
+left_bound : (charges : ChargeColumns) (m : BlocksView) (b : ℕ) (earned : ℤ) → ((i : ℕ) → i ≤ place_beside charges → IsSmall m i) → b < m.blocks → unsigned_abs earned ≤ 10000 * 10 ^ 18 → unsigned_abs (worth_after (first_charges charges m) b earned) ≤ most
 left_bound (Plain cost) m b earned small l h = difference_bound earned (pos 1000 *ℤ number_at (values_of m 1) b) h (charge_bound m 1 b (small 1 (omega arith)) l)
 left_bound (Mill processing mining) m b earned small l h = mill_bound earned (pos 1000 *ℤ number_at (values_of m 1) b) (pos 1000 *ℤ number_at (values_of m 2) b) h (charge_bound m 1 b (small 1 (omega arith)) l) (charge_bound m 2 b (small 2 (omega arith)) l)
 
@@ -82,12 +82,12 @@ module _ (charges : ChargeColumns) (m : BlocksView) (prices : PricesView) (p : I
     of_worths = length-map-range_with_len (worth_at prices k) 0 (blocks_of prices) ∙ priced_size;
   }
 
-  pub sums_fit : (series : SeriesView) (k : ℕ) → m.blocks ≤ MOST_BLOCKS → k ≤ MOST_FACTOR → AllSumsFit (reported m series (tonnes_place charges) (worths_at prices k))
+  pub sums_fit : (series : SeriesView) (k : ℕ) → m.blocks ≤ MOST_BLOCKS → k ≤ MOST_FACTOR → AllSumsFit (reported m series (place_beside charges) (worths_at prices k))
   sums_fit series k few low z shell j l =
-      let r = reported m series (tonnes_place charges) (worths_at prices k) in (
-        sum_fits r.tonnes (blocks_at r z shell) m.blocks j few l (λ b k. let small = p.small (tonnes_place charges) (omega arith) b k in omega (arith, small)),
+      let r = reported m series (place_beside charges) (worths_at prices k) in (
+        sum_fits r.tonnes (blocks_at r z shell) m.blocks j few l (λ b k. let small = p.small (place_beside charges) (omega arith) b k in omega (arith, small)),
         sum_fits r.worth (blocks_at r z shell) m.blocks j few l (λ b h. worths_bound k b low h),
       )
 
-  pub none_overflows : (series : SeriesView) (k : ℕ) → m.blocks ≤ MOST_BLOCKS → k ≤ MOST_FACTOR → SomeSumOverflows (reported m series (tonnes_place charges) (worths_at prices k)) → ⊥
+  pub none_overflows : (series : SeriesView) (k : ℕ) → m.blocks ≤ MOST_BLOCKS → k ≤ MOST_FACTOR → SomeSumOverflows (reported m series (place_beside charges) (worths_at prices k)) → ⊥
   none_overflows series k few low o = o.4 (sums_fit series k few low o.0 o.1 o.2 o.3)

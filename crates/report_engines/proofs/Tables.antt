@@ -24,8 +24,8 @@ use Rattle.engines.specs.declared.solving.Unsolved.{Unsolved}
 use Rattle.engines.specs.declared.engine_fault.EngineFault.{EngineFault}
 use Rattle.engines.specs.declared.priced_inputs.ChargeColumns.{ChargeColumns}
 use Rattle.engines.specs.declared.priced_inputs.ChargeColumns.TheVariants.{Plain, Mill}
-use Rattle.engines.specs.PricedTexts.{columns_said, charge_list, cell, table_of}
-use Rattle.engines.specs.ReadMines.{of_model}
+use Rattle.engines.specs.PricedTexts.{columns_said, charge_list, place_beside, cell, table_of}
+use Rattle.engines.specs.EngineFaults.{of_model}
 use Rattle.shell_engines.specs.declared.shell_rows.ShellRow.{ShellRow}
 use Rattle.shell_engines.specs.declared.no_series.NoSeries.{NoSeries}
 use Rattle.shell_engines.specs.declared.no_series.NoSeries.TheVariants as none
@@ -37,18 +37,18 @@ use Rattle.shell_engines.specs.Shells.{mine_at_factor, ShellsFail}
 use Rattle.shell_engines.proofs.Lifted.{of_want, mine_is, nested, is_no_table, no_net_answer}
 use Rattle.report_engines.specs.ReportTexts.{ReportBlocksRead, report_factor, report_blocks}
 use Rattle.report_engines.specs.Reports.{IsReport, AnswersReport, ReportFails}
-use Rattle.report_engines.specs.Internal.{tonnes_place, IsReportRead, TellsWhy, IsFaultOf, verdict_of, text_of}
+use Rattle.report_engines.specs.Internal.{IsReportRead, TellsWhy, IsFaultOf, verdict_of, text_of}
 use Rattle.report_engines.specs.declared.reporting.Outcome.{Outcome}
 use Rattle.engines.specs.declared.judgement.Verdict.{Verdict}
 use Rattle.report_engines.proofs.SameBlocks.{AreAlike, table_same}
 use Rattle.report_engines.proofs.FirstShell.{first_is}
 
 -- the tonnes stand behind the columns of prices
-tonnes_chosen : (charges : ChargeColumns) (revenue tonnes : ℕ) → get_or (revenue ∷ (charge_list charges ++ (tonnes ∷ []))) (tonnes_place charges) 0 ≡ tonnes
+tonnes_chosen : (charges : ChargeColumns) (revenue tonnes : ℕ) → get_or (revenue ∷ (charge_list charges ++ (tonnes ∷ []))) (place_beside charges) 0 ≡ tonnes
 tonnes_chosen (Plain cost) revenue tonnes = refl
 tonnes_chosen (Mill processing mining) revenue tonnes = refl
 
-tonnes_within : (charges : ChargeColumns) (revenue tonnes : ℕ) → tonnes_place charges < length (revenue ∷ (charge_list charges ++ (tonnes ∷ [])))
+tonnes_within : (charges : ChargeColumns) (revenue tonnes : ℕ) → place_beside charges < length (revenue ∷ (charge_list charges ++ (tonnes ∷ [])))
 tonnes_within (Plain cost) revenue tonnes = omega arith
 tonnes_within (Mill processing mining) revenue tonnes = omega arith
 
@@ -72,16 +72,16 @@ module _ (s t p : List ℕ) (prices : PricesView) (rests : RestsView) (factors :
         sym (ap (λ (v : PricesView). get_or (worths_at v factor) b (pos 0)) settled.same_prices ∙ at ∙ ap (λ (v : PricesView). worth_at v factor b) read.series.mine.table ∙ ap (λ k. worth_at (table_of s t) k b) read.factor_is)
 
     -- the tonnes of a block are those of its record
-    tonnes_are : (b : ℕ) → b < m.blocks → get_or (get_or m.columns (tonnes_place charges) []) b (pos 0) ≡ cell t (unwrap_or (settings_of s).tonnes 0) b
+    tonnes_are : (b : ℕ) → b < m.blocks → get_or (get_or m.columns (place_beside charges) []) b (pos 0) ≡ cell t (unwrap_or (settings_of s).tonnes 0) b
     tonnes_are b l =
         let said = settings_of s in
         let kind = (columns_said said).charges in
         let Q : ℕ → Type 0 = λ i. get_or (get_or m.columns i []) b (pos 0) ≡ cell t (unwrap_or said.tonnes 0) b in
         let revenue = unwrap_or said.revenue 0 in
         let tonnes = unwrap_or said.tonnes 0 in
-        subst Q (sym (ap tonnes_place read.charges_are)) (read.blocks_are.2.value (tonnes_place kind) b (tonnes_within kind revenue tonnes) l ∙ ap (λ i. cell t i b) (tonnes_chosen kind revenue tonnes))
+        subst Q (sym (ap place_beside read.charges_are)) (read.blocks_are.2.value (place_beside kind) b (tonnes_within kind revenue tonnes) l ∙ ap (λ i. cell t i b) (tonnes_chosen kind revenue tonnes))
 
-    alike : AreAlike (reported m series (tonnes_place charges) (worths_at series.prices factor)) (report_blocks rests.blocks s t p (upto series.shells))
+    alike : AreAlike (reported m series (place_beside charges) (worths_at series.prices factor)) (report_blocks rests.blocks s t p (upto series.shells))
     alike = record {
       blocks = size_is;
       height = λ b l. sym (ap (λ (q : Place). q.z) (read.blocks_are.2.place b l));
@@ -98,7 +98,7 @@ module _ (s t p : List ℕ) (prices : PricesView) (rests : RestsView) (factors :
         let V : PricesView → Type 0 = λ v. B (mine_at series.pairs v k) in
         subst B (mine_is s t p prices rests read.series.mine k) (subst Q settled.same_pairs (subst V settled.same_prices (is.best k held)))
 
-    pub is_report : BestPitsAreNested → (rows : List BenchRow) → IsBenchTable (reported m series (tonnes_place charges) (worths_at series.prices factor)) rows → IsReport s t p (table_text rows)
+    pub is_report : BestPitsAreNested → (rows : List BenchRow) → IsBenchTable (reported m series (place_beside charges) (worths_at series.prices factor)) rows → IsReport s t p (table_text rows)
     is_report law rows table = record {
       size = rests.blocks;
       mine = read.series.mine.mine;

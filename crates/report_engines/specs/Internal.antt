@@ -10,10 +10,9 @@ use Rattle.engines.specs.declared.judgement.Verdict.TheVariants.{Done, No}
 use Rattle.engines.specs.declared.engine_fault.EngineFault.{EngineFault}
 use Rattle.engines.specs.declared.engine_fault.EngineFault.TheVariants as engine
 use Rattle.engines.specs.declared.priced_inputs.ChargeColumns.{ChargeColumns}
-use Rattle.engines.specs.declared.priced_inputs.ChargeColumns.TheVariants.{Plain, Mill}
-use Rattle.engines.specs.PricedTexts.{columns_said, column_list, first_columns, SettingsFails}
+use Rattle.engines.specs.PricedTexts.{columns_said, column_list, place_beside, first_columns, SettingsFails}
 use Rattle.engines.specs.BlockTexts.{ReadsBlocks, BlocksFails}
-use Rattle.engines.specs.ReadMines.{of_model}
+use Rattle.engines.specs.EngineFaults.{of_model}
 use Rattle.shell_engines.specs.declared.no_series.NoSeries.{NoSeries}
 use Rattle.shell_engines.specs.declared.no_series.NoSeries.TheVariants as none
 use Rattle.shell_engines.specs.ShellTable.{IsLineOf}
@@ -37,16 +36,11 @@ pub record IsReportRead (settings blocks precedence : List ℕ) (prices : Prices
 abbrev pub IsSmall : BlocksView → ℕ → Type 0
 IsSmall m i = (b : ℕ) → b < m.blocks → unsigned_abs (slice_index_or (slice_index_or m.columns i []) b (pos 0)) ≤ 10 ^ 18
 
--- the place of the tonnes among the columns that are chosen: behind those of prices
-abbrev pub tonnes_place : ChargeColumns → ℕ
-tonnes_place (Plain cost) = 2
-tonnes_place (Mill processing mining) = 3
-
 -- The prices are the first columns of a model, one more has tonnes, and no value of these is large.
 pub record IsPricedModel (charges : ChargeColumns) (m : BlocksView) (prices : PricesView) : Type 0 where
-  pub columns : tonnes_place charges < length m.columns
+  pub columns : place_beside charges < length m.columns
   pub prices_are : prices ≡ first_columns charges m
-  pub small : (i : ℕ) → i ≤ tonnes_place charges → IsSmall m i
+  pub small : (i : ℕ) → i ≤ place_beside charges → IsSmall m i
 
 -- the columns that settings name, and their list
 abbrev pub columns_by : SettingsView → ReportColumns

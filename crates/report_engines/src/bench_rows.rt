@@ -4,12 +4,12 @@ ghost use Rattle.std.specs.Prelude.{IfOk, OnOk};
 ghost use Rattle.shells.specs.Prices.{worths_at};
 ghost use Rattle.shells.specs.Series.{IsSeries};
 ghost use Rattle.bench_report.specs.Benches.{reported, IsBenchTable};
-ghost use Rattle.report_engines.specs.Internal.{tonnes_place, IsPricedModel};
+ghost use Rattle.engines.specs.PricedTexts.{place_beside};
+ghost use Rattle.report_engines.specs.Internal.{IsPricedModel};
 
-use crate::report_inputs::tonnes_place;
 use bench_report::{BenchRow, ReportFault, rows};
 use blocks_file::BlockModel;
-use engines::priced_inputs::ChargeColumns;
+use engines::priced_inputs::{ChargeColumns, place_beside};
 use shells::{Factor, Series};
 use std::alloc::{AllocError, Global};
 use std::thread::Threads;
@@ -28,7 +28,7 @@ pub fn rows_at(
     factor: Factor,
 ) -> Result<Vec<BenchRow>, AllocError>
     requires { IsPricedModel charges model.now series.now.prices }
-    ensures rows { IfOk result (λ rows. IsBenchTable (reported model.now series.now (tonnes_place charges) (worths_at series.now.prices factor)) rows.items) }
+    ensures rows { IfOk result (λ rows. IsBenchTable (reported model.now series.now (place_beside charges) (worths_at series.now.prices factor)) rows.items) }
     ensures series { OnOk result (IsSeries series.now) }
 {
     // proof: at each factor the blocks with a shell of at most that factor are the best pit
@@ -41,7 +41,7 @@ pub fn rows_at(
         alloc,
         model,
         series,
-        tonnes_place(charges),
+        place_beside(charges),
         worths.as_slice(),
     ) {
         Ok(rows) => Ok(rows),

@@ -5,15 +5,16 @@ ghost use Rattle.settings_file.specs.Settings.{first_missing};
 ghost use Rattle.settings_file.specs.Values.{AreFactors};
 ghost use Rattle.shells.specs.Prices.{blocks_of};
 ghost use Rattle.engines.specs.Inputs.{IsMissing};
-ghost use Rattle.engines.specs.BlockTexts.{ReadsBlocks, BlocksReadFails};
+ghost use Rattle.engines.specs.BlockTexts.{ReadsBlocks};
 ghost use Rattle.report_engines.specs.ReportTexts.{report_keys, factor_by, ReportMineFails};
-ghost use Rattle.report_engines.specs.Internal.{columns_by, report_list, tonnes_place, IsSaid, SaidFails, PricedModelFails, IsReportRead, IsSmall, IsPricedModel};
+ghost use Rattle.report_engines.specs.Internal.{columns_by, report_list, IsSaid, SaidFails, PricedModelFails, IsReportRead, IsSmall, IsPricedModel};
 
 use blocks_file::BlockModel;
 use engines::EngineFault;
-use engines::inputs::{blocks_from, rests_from};
+use engines::inputs::rests_from;
 use engines::priced_inputs::{
-    ChargeColumns, PriceColumns, price_columns, prices_of, settings_from,
+    ChargeColumns, PriceColumns, place_beside, price_columns, priced_blocks_from, prices_of,
+    settings_from,
 };
 use fixed_worth::CountedRead;
 use settings_file::{Key, Settings};
@@ -100,7 +101,7 @@ fn said_from<S: CountedRead>(alloc: Global, settings: &mut S) -> Result<Said, En
     })
 }
 
-// Reads a column of a model, and so finds that none of its values is large.
+// Reads a column of a model, for proofs alone: each of its values is a `Micros`, and so none is large.
 fn read_column(model: &BlockModel, i: u32)
     requires { i < length model.now.columns }
     ensures { IsSmall model.now i }
@@ -121,16 +122,6 @@ fn read_columns(model: &BlockModel, last: u32)
     }
 }
 
-/// The place of the tonnes among the chosen columns of a model: behind those of its prices.
-pub fn tonnes_place(charges: ChargeColumns) -> u32
-    ensures { result ≡ tonnes_place charges }
-{
-    match charges {
-        ChargeColumns::Plain { .. } => 2,
-        ChargeColumns::Mill { .. } => 3,
-    }
-}
-
 // Blocks with the columns of their prices and their tonnes, and these prices.
 #[derive(Drop)]
 struct PricedModel {
@@ -138,28 +129,6 @@ struct PricedModel {
     charges: ChargeColumns,
     prices: Prices,
     ghost priced: { IsPricedModel charges model prices },
-}
-
-// The blocks of a text with these columns.
-fn model_from<B: CountedRead>(
-    alloc: Global,
-    blocks: &mut B,
-    columns: ReportColumns,
-) -> Result<BlockModel, EngineFault>
-    requires { B.failed blocks.old < 2 ^ 64 - 1 }
-    ensures read { IfSome (B.remaining blocks.old) (λ text. MatchResult result (ReadsBlocks (report_list columns) text) (BlocksReadFails (report_list columns) text)) }
-    ensures columns { IfOk result (λ model. length model.columns ≡ length (report_list columns)) }
-    ensures device { IsErrOf result EngineFault.Device ↔ (B.failed blocks.new ≡ B.failed blocks.old + 1) }
-    ensures kept { ¬ IsErrOf result EngineFault.Device → B.failed blocks.new ≡ B.failed blocks.old }
-{
-    let ReportColumns { prices, tonnes } = columns;
-    let revenue = prices.revenue;
-    match prices.charges {
-        ChargeColumns::Plain { cost } => blocks_from(alloc, blocks, &[revenue, cost, tonnes]),
-        ChargeColumns::Mill { processing, mining } => {
-            blocks_from(alloc, blocks, &[revenue, processing, mining, tonnes])
-        }
-    }
 }
 
 // The blocks of a text with these columns, and their prices.
@@ -176,9 +145,10 @@ fn priced_model_from<B: CountedRead>(
     ensures device { IsErrOf result EngineFault.Device ↔ (B.failed blocks.new ≡ B.failed blocks.old + 1) }
     ensures kept { ¬ IsErrOf result EngineFault.Device → B.failed blocks.new ≡ B.failed blocks.old }
 {
-    let model = model_from(alloc, blocks, columns)?;
+    let model = priced_blocks_from(alloc, blocks, columns.prices, Some(columns.tonnes))?;
     let charges = columns.prices.charges;
-    read_columns(&model, tonnes_place(charges));
+    // proof: none of the values of these columns is above 10^18 millionths either way
+    read_columns(&model, place_beside(charges));
     let prices = prices_of(alloc, &model, charges)?;
     Ok(PricedModel {
         model,
