@@ -1,5 +1,5 @@
 -- What a check says of the flow of a quiet state.
-use Rattle.std.proofs.Common.{◌≡◌, ℕ, ℤ, Bool, List, length, subst}
+use Rattle.std.proofs.Common.{◌≡◌, ℕ, ℤ, Bool, List, length, sym, ◌∙◌, subst}
 use Rattle.ordered_group.specs.Amount.{Amount}
 use Rattle.ordered_group.specs.Laws.{SumsTellWorth}
 use Rattle.ordered_group.specs.declared.groups.Group.{Group}
@@ -18,8 +18,8 @@ use Rattle.replay_engines.specs.Outcomes.{IsFlowJudged, IsFlowRefused}
 
 -- the check accepted the flow, with the pit of the blocks that the source reaches in it
 pub flow_accepted : (block : ℤ → ℕ → Amount) (counts : Bool) (texts : MineTexts) (name : Group) (net : NetView) (flow : FlowView) (pit : List ℕ) → IsNetBy texts name net → IsGroupNamed name block counts
-    → (set_worth : Amount → ℕ → ℕ → ℤ) → SumsTellWorth block set_worth → (group : Group) (count : ℕ) (worth : ℤ) → group ≡ name → IsSolution set_worth net flow pit count worth → IsFlowJudged texts name net flow (Accepted group count worth)
-flow_accepted block counts texts name net flow pit by named set_worth tells group count worth a s =
+    → (set_worth : Amount → ℕ → ℕ → ℤ) → SumsTellWorth block set_worth → (group : Group) (count : ℕ) (worth shown : ℤ) → group ≡ name → IsSolution set_worth net flow pit count worth → shown ≡ worth → IsFlowJudged texts name net flow (Accepted group count shown)
+flow_accepted block counts texts name net flow pit by named set_worth tells group count worth shown a s w =
     let B : (ℤ → ℕ → Amount) → Type 0 = λ k. IsNetOf k (mine_of (length net.worths) texts) net in
     let of_mine : IsNetOf block (mine_of (length net.worths) texts) net = subst B named.block_is by.of_mine in
     let of_net = s.sound.proves.of_net in (
@@ -30,7 +30,7 @@ flow_accepted block counts texts name net flow pit by named set_worth tells grou
         sound = s.sound;
         proved = named.proves (mine_of (length net.worths) texts) net (holds_of pit) of_mine s.greatest;
         count = size_told block texts net of_mine pit s.ascending of_net count s.count_is;
-        worth = worth_told block texts net of_mine pit s.ascending of_net count s.count_is set_worth tells worth s.worth_is;
+        worth = worth_told block texts net of_mine pit s.ascending of_net count s.count_is set_worth tells worth s.worth_is ∙ sym w;
       },
     )
 

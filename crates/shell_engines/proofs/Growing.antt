@@ -19,13 +19,6 @@ above_before factors done i rising l is j c =
     let at : get_or factors held.0 0 ≡ j = sym (get_or-take i factors held.0 0 low) ∙ get_or_default (take i factors) held.0 0 j held.1 ∙ held.2 in
     omega (arith, at, rising held.0 i low l)
 
--- what is settled over the pairs and prices of a mine is so over those that the series has
-pub settled_as_held : (pairs : List (ℕ × ℕ)) (prices : PricesView) (factors : List ℕ) (s : SeriesView) (rows : List ShellRow) → IsSettled pairs prices factors s rows → IsSettled s.pairs s.prices factors s rows
-settled_as_held pairs prices factors s rows h =
-    let P : List (ℕ × ℕ) → Type 0 = λ ps. IsSettled ps s.prices factors s rows in
-    let Q : PricesView → Type 0 = λ table. IsSettled pairs table factors s rows in
-    subst P (sym h.same_pairs) (subst Q (sym h.same_prices) h)
-
 module _ (pairs : List (ℕ × ℕ)) (prices : PricesView) (factors : List ℕ) (i : ℕ) (s t : SeriesView) (rows rows' : List ShellRow) (k : ℕ) (l : i < length factors) (is : k ≡ get_or factors i 0) (h : IsSettled pairs prices (take i factors) s rows) (a : IsAdded s t rows rows' k) where
   more : take (i + 1) factors ≡ take i factors ++ k ∷ []
   more = take_more factors i 0 l ∙ ap (λ x. take i factors ++ x ∷ []) (sym is)

@@ -65,10 +65,11 @@ fn best_at<R: Threads + Wait + Sync, T: Gate + Progress>(
     if effort.method == Method::Pseudoflow {
         return Err(NoSeries::Unsolved(factor.get(), Unsolved::GaveUp));
     }
-    match solution_at(rt, alloc, &net, effort, gate) {
-        Ok(solution) => Ok(best_of(factor, solution)),
-        Err(why) => Err(NoSeries::Unsolved(factor.get(), why)),
-    }
+    let solution = match solution_at(rt, alloc, &net, effort, gate) {
+        Ok(solution) => solution,
+        Err(why) => return Err(NoSeries::Unsolved(factor.get(), why)),
+    };
+    Ok(best_of(factor, solution))
 }
 
 impl Shells {
