@@ -20,10 +20,7 @@ struct EffortWords<'a> {
 
 /// How `solve` solves the mine by a method. Steps and workers are the push-relabel machine's, so that `auto` leaves the
 /// choice to it where one of them is given.
-pub fn effort_to_solve<'a>(
-    words: SolveWords<'a>,
-    method: Method,
-) -> Result<Effort, WrongWord<'a>> {
+pub fn effort_to_solve<'a>(words: SolveWords<'a>, method: Method) -> Result<Effort, WrongWord<'a>> {
     let limits_are_given = words.workers.is_some() || words.steps.is_some();
     let words = EffortWords {
         command: Commanded::Solve,

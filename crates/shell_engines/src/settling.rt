@@ -96,7 +96,15 @@ impl Shells {
             return Ok(self.add(factor, best)?);
         }
         let series = &self.series;
-        let best = best_at(rt, alloc, series.prices(), series.rests(), factor, effort, gate)?;
+        let best = best_at(
+            rt,
+            alloc,
+            series.prices(),
+            series.rests(),
+            factor,
+            effort,
+            gate,
+        )?;
         self.add(factor, &best)?;
         gate.settled(factor.get(), place as u32 + 1, factors.len() as u32);
         Ok(())
