@@ -1,5 +1,5 @@
 -- From an audited run to what is written of it.
-use Rattle.std.proofs.Common.{◌≡◌, ℕ, ◌<◌, Bool, List, length, refl, sym, ◌∙◌, subst, Option, Result, Ok, Err, inl, inr, All}
+use Rattle.std.proofs.Common.{◌≡◌, ℕ, Bool, List, refl, sym, subst, Option, Result, Ok, Err, inl, inr}
 use Rattle.std.specs.Io.KnownBytes.{Appends}
 use Rattle.std.specs.Prelude.{MatchResult}
 use Rattle.fixed_worth.specs.Device.{ReceivedPrefix}
@@ -12,19 +12,16 @@ use Rattle.workers.specs.declared.auditing.AuditEnd.{AuditEnd}
 use Rattle.workers.specs.declared.auditing.AuditEnd.TheVariants.{NoFlow, HistoryFull}
 use Rattle.trace_file.specs.Written.{trace_text}
 use Rattle.check_pit.specs.Checks.{IsSound, FaultStands}
-use Rattle.check_pit.specs.ReadBack.{IsReadBack}
-use Rattle.check_pit.specs.Written.{header_with, text_of}
 use Rattle.check_pit.specs.declared.pit_fault.PitFault.{PitFault}
 use Rattle.check_pit.specs.declared.header.Price.{Price}
 use Rattle.check_pit.proofs.Tightness.{refused_for_size_only}
 use Rattle.engines.specs.declared.judgement.Verdict.{Verdict}
-use Rattle.engines.specs.declared.judgement.Verdict.TheVariants.{Done, No}
+use Rattle.engines.specs.declared.judgement.Verdict.TheVariants.{No}
 use Rattle.engines.specs.declared.engine_fault.EngineFault.{EngineFault}
 use Rattle.engines.specs.declared.engine_fault.EngineFault.TheVariants as engine
 use Rattle.engines.specs.Certifying.{IsRefusedFlow}
-use Rattle.engines.specs.Solving.{unsettled_line, too_large_line}
+use Rattle.engines.specs.NetAnswers.{SendsCertificate, certificate_text, unsettled_line, too_large_line}
 use Rattle.engines.proofs.Answered.{keeps_self}
-use Rattle.engines.proofs.Solutions.{back_moved}
 use Rattle.audit_engines.specs.Tracing.{CheckOverflowsAfter, IsNoOfRun, TellsRun, TracesNet, history_full_line}
 use Rattle.audit_engines.specs.Sending.{SendsBoth}
 
@@ -61,23 +58,14 @@ check_overflows net limit room flow history fault audit refused =
 
 -- ---- what is written to standard output
 
--- what was to be written of the flow, which a check has accepted
-module _ (counts : Bool) (name : Group) (price : Price) (net : NetView) (limit room : ℕ) (history : List Event) (blocks : ℕ) (pit : List ℕ) (flow left : FlowView) (n : ℕ) (ps : List (ℕ × ℕ)) (s : IsSound net flow pit) (same : flow ≡ left) (audit : IsAudit net limit room left history)
-    (b : blocks ≡ length net.worths) (e : n ≡ length net.worths) (f : ps ≡ net.pairs) where
-  abbrev text : List ℕ
-  text = text_of (header_with blocks price name) ps pit flow
-
+-- what was written of the flow, which a check has accepted
+module _ (counts : Bool) (name : Group) (price : Price) (net : NetView) (limit room : ℕ) (history : List Event) (pit : List ℕ) (flow left : FlowView) (old new : Option (List ℕ)) (s : IsSound net flow pit) (same : flow ≡ left) (audit : IsAudit net limit room left history) where
   audited : IsAudit net limit room flow history
   audited = subst (λ (w : FlowView). IsAudit net limit room w history) (sym same) audit
 
-  pub certified : (old new : Option (List ℕ)) → (blocks ≡ n → All (λ k. k < n) pit → IsReadBack counts name n ps text price pit flow) → Appends old new text → TellsRun counts name price net limit room history old new (Ok Done)
-  certified old new back sent =
-      let below : All (λ k. k < n) pit = subst (λ (k : ℕ). All (λ x. x < k) pit) (sym e) s.proves.of_net in
-      let read = back_moved counts name n (length net.worths) ps net.pairs text price pit flow e f (back (b ∙ sym e) below) in
-      (text, record { certificate = record { pit = pit; flow = flow; read = read; sound = s }; audit = audited }, sent)
-
-  pub cut_short : (old new : Option (List ℕ)) → ReceivedPrefix old new text → TellsRun counts name price net limit room history old new (Err engine.Device)
-  cut_short old new prefix = (text, inl (record { due = record { pit = pit; flow = flow; sound = s; spelled = λ i. text_of (header_with (b i) price name) (f i) pit flow }; audit = audited }), prefix)
+  pub certified : (r : Result Verdict EngineFault) → SendsCertificate counts name price net pit flow old new r → TellsRun counts name price net limit room history old new r
+  certified (Ok v) a = subst (λ (w : Verdict). TellsRun counts name price net limit room history old new (Ok w)) (sym a.0) (a.1.0, record { certificate = record { pit = pit; flow = flow; read = a.1.1; sound = s }; audit = audited }, a.1.2)
+  certified (Err e) a = subst (λ (w : EngineFault). TellsRun counts name price net limit room history old new (Err w)) (sym a.0) (certificate_text name price net pit flow, inl (record { due = record { pit = pit; flow = flow; sound = s; spelled = refl }; audit = audited }), a.1)
 
 pub said_no : (counts : Bool) (name : Group) (price : Price) (net : NetView) (limit room : ℕ) (history : List Event) (line : List ℕ) (old new : Option (List ℕ)) (r : Result Verdict EngineFault) → IsNoOfRun net limit room history line
     → MatchResult r (λ v. (v ≡ No) × Appends old new line) (λ e. (e ≡ engine.Device) × ReceivedPrefix old new line) → TellsRun counts name price net limit room history old new r

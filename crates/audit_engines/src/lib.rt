@@ -15,5 +15,3 @@ pub use priced_traced_solving::solve_traced_priced_engine;
 pub use room_word::room_named;
 pub use traced_solving::solve_traced_engine;
 
-#[cfg(test)]
-mod tests;

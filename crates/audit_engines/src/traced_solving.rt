@@ -9,8 +9,7 @@ ghost use Rattle.audit_engines.specs.Tracing.{Traces};
 use crate::tracing::trace_net;
 use check_pit::Price;
 use closure_net::{Net, laws};
-use engines::inputs::{rests_from, upit_from};
-use engines::mines::nanos_of;
+use engines::mines::value_mine_from;
 use engines::{Effort, EngineFault, Verdict};
 use fixed_worth::{CountedRead, CountedWrite};
 use ordered_group::{Group, OrderedGroup, Scaled, Worth, WorthSize};
@@ -74,22 +73,12 @@ pub fn solve_traced_engine<
     ensures kept { ¬ IsErrOf result EngineFault.Device → (U.failed upit.new ≡ U.failed upit.old) × (P.failed prec.new ≡ P.failed prec.old)
         × (V.failed trace.new ≡ V.failed trace.old) × (W.failed out.new ≡ W.failed out.old) }
 {
-    let upit = upit_from(alloc, upit)?;
-    let rests = rests_from(alloc, prec, upit.len())?;
-    let nanos = nanos_of(alloc, &upit)?;
+    let mine = value_mine_from(alloc, upit, prec)?;
+    let rests = mine.rests;
+    let nanos = mine.nanos.as_slice();
     let price = Price::Objective;
     trace_mine(
-        rt,
-        alloc,
-        nanos.as_slice(),
-        rests,
-        price,
-        group,
-        effort,
-        room,
-        gate,
-        trace,
-        out,
+        rt, alloc, nanos, rests, price, group, effort, room, gate, trace, out,
     )
 }
 

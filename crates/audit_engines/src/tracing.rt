@@ -11,10 +11,10 @@ ghost use Rattle.audit_engines.specs.Tracing.{TellsRun, TracesNet};
 ghost use Rattle.audit_engines.specs.Sending.{SendsBoth};
 
 use async_step::Event;
-use check_pit::{Certificate, Price, write_certificate};
+use check_pit::Price;
 use closure_net::{Flow, Net};
 use engines::certify::{Uncertified, certified};
-use engines::solving::write_no;
+use engines::net_answer::{write_answer, write_no};
 use engines::{Effort, EngineFault, Verdict};
 use fixed_worth::CountedWrite;
 use ordered_group::OrderedGroup;
@@ -112,20 +112,10 @@ fn tell_flow<G: OrderedGroup, W: CountedWrite>(
     ensures device { IsErrOf result EngineFault.Device ↔ (W.failed out.new ≡ W.failed out.old + 1) }
     ensures kept { ¬ IsErrOf result EngineFault.Device → W.failed out.new ≡ W.failed out.old }
 {
-    // proof: what is known of every net, that its pairs are of its blocks and in order
-    let _worths = net.worths();
-    let solution = match certified(alloc, net, flow) {
-        Ok(solution) => solution,
-        Err(Uncertified::NoMemory) => return Err(EngineFault::Memory),
+    match certified(alloc, net, flow) {
+        Ok(solution) => write_answer(net, price, Ok(solution), out),
+        Err(Uncertified::NoMemory) => Err(EngineFault::Memory),
         // what the source reaches in a greatest flow is closed and tight, so only sums that overflow are left
-        Err(Uncertified::Refused(_)) => return write_no(b"REFUSED TooLarge\n", out),
-    };
-    let certificate = Certificate {
-        blocks: net.len(),
-        price,
-        pit: solution.pit,
-        flow: solution.flow,
-    };
-    write_certificate(&certificate, net.rests(), out)?;
-    Ok(Verdict::Done)
+        Err(Uncertified::Refused(_)) => write_no(b"REFUSED TooLarge\n", out),
+    }
 }

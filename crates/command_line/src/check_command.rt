@@ -1,7 +1,10 @@
 //! The command `check`.
 
-use crate::options::{ModelWords, STATUSES, model_words, text_of, verbose_option, with_model};
-use clap::{Arg, ArgAction, ArgMatches, Command};
+use crate::options::{
+    ModelWords, STATUSES, file_word, model_options, model_words, text_of, verbose_option,
+    with_options,
+};
+use clap::{Arg, ArgMatches, Command};
 use std::alloc::{AllocError, Global};
 
 const ABOUT: &str = "Checks a certificate: does its flow prove that its pit is the best?";
@@ -9,6 +12,8 @@ const ABOUT: &str = "Checks a certificate: does its flow prove that its pit is t
 const DETAILS: &str = "Checks a certificate: does its flow prove that its pit is the best?
 
 Prints ACCEPTED, the number of blocks and the worth, or REFUSED and the reason. What is accepted is proved: with each block the pit holds all its predecessors, and no such pit is worth more; and, except with a certificate of GROUP WORTH, every other that is worth as much has more blocks. With --blocks and --settings the blocks are worth what their prices give at the factor that the certificate names; then, of two pits that are accepted over the same files, neither of GROUP WORTH, the one at the lower factor lies within the other.";
+
+const CERTIFICATE_HELP: &str = "The pit and its flow: a PITCERT text";
 
 /// The files of a check, and whether it is told why one failed.
 #[derive(Clone, Copy)]
@@ -25,17 +30,14 @@ pub fn check_command<'a>(alloc: Global) -> Result<Command<'a>, AllocError> {
         .about(ABOUT)
         .long_about(DETAILS)
         .after_help(STATUSES);
-    with_certificate(alloc, with_model(alloc, command)?)
+    let command = with_options(command, model_options(alloc))?;
+    with_options(command, certificate_options(alloc))
 }
 
-// The file of the certificate.
-fn with_certificate<'a>(alloc: Global, command: Command<'a>) -> Result<Command<'a>, AllocError> {
-    let certificate = Arg::new(alloc, "certificate")
-        .value_name("CERT")
-        .required(true)
-        .action(ArgAction::Set)
-        .help("The pit and its flow: a PITCERT text");
-    command.arg(certificate)?.arg(verbose_option(alloc))
+// The file of the certificate, and whether it is told why one failed.
+fn certificate_options<'a>(alloc: Global) -> Result<Vec<Arg<'a>>, AllocError> {
+    let certificate = file_word(alloc, "certificate", "CERT", CERTIFICATE_HELP);
+    Ok(vec![in alloc; certificate, verbose_option(alloc)]?)
 }
 
 /// The words that were given.

@@ -28,17 +28,26 @@ pub fn named_option<'a>(alloc: Global, name: &'a str, shown: &'a str, help: &'a 
         .help(help)
 }
 
-/// The command with one option more, where memory wasn't refused for that option.
-pub fn with_option<'a>(
+/// The command with these options more, in the order in which its help shows them, where memory wasn't refused for them.
+pub fn with_options<'a>(
     command: Command<'a>,
-    option: Result<Arg<'a>, AllocError>,
+    options: Result<Vec<Arg<'a>>, AllocError>,
 ) -> Result<Command<'a>, AllocError> {
-    command.arg(option?)
+    command.args(options?)
 }
 
 /// An option that must be given and names a file.
 pub fn file_option<'a>(alloc: Global, name: &'a str, help: &'a str) -> Arg<'a> {
     named_option(alloc, name, "FILE", help).required(true)
+}
+
+/// A word that must be given, beside the options, and names a file.
+pub fn file_word<'a>(alloc: Global, name: &'a str, shown: &'a str, help: &'a str) -> Arg<'a> {
+    Arg::new(alloc, name)
+        .value_name(shown)
+        .required(true)
+        .action(ArgAction::Set)
+        .help(help)
 }
 
 /// The help of `--settings`.
@@ -67,26 +76,36 @@ pub enum ModelWords<'a> {
 }
 
 /// The options that name the files of a mine: its precedence, and its values or its settings and blocks.
-pub fn with_model<'a>(alloc: Global, command: Command<'a>) -> Result<Command<'a>, AllocError> {
-    let command = with_option(with_values(alloc, command)?, blocks_option(alloc))?;
-    with_option(command, settings_option(alloc))
+pub fn model_options<'a>(alloc: Global) -> Result<Vec<Arg<'a>>, AllocError> {
+    let values = values_option(alloc)?;
+    let blocks = blocks_option(alloc)?;
+    let settings = settings_option(alloc)?;
+    Ok(vec![in alloc;
+        file_option(alloc, "prec", PREC_HELP),
+        values,
+        blocks,
+        settings,
+    ]?)
 }
 
 /// The same, and the option that names the factor of a priced model.
-pub fn with_model_at_factor<'a>(
-    alloc: Global,
-    command: Command<'a>,
-) -> Result<Command<'a>, AllocError> {
-    let command = with_option(with_values(alloc, command)?, blocks_at_factor(alloc))?;
-    let command = with_option(command, settings_option(alloc))?;
-    with_option(command, factor_option(alloc))
+pub fn model_at_factor_options<'a>(alloc: Global) -> Result<Vec<Arg<'a>>, AllocError> {
+    let values = values_option(alloc)?;
+    let blocks = blocks_at_factor(alloc)?;
+    let settings = settings_option(alloc)?;
+    let factor = factor_option(alloc)?;
+    Ok(vec![in alloc;
+        file_option(alloc, "prec", PREC_HELP),
+        values,
+        blocks,
+        settings,
+        factor,
+    ]?)
 }
 
-// The precedence, and the values.
-fn with_values<'a>(alloc: Global, command: Command<'a>) -> Result<Command<'a>, AllocError> {
-    let command = command.arg(file_option(alloc, "prec", PREC_HELP))?;
-    let upit = named_option(alloc, "upit", "FILE", UPIT_HELP);
-    with_option(command, upit.required_unless_present("blocks"))
+// The values of blocks, where no prices are given.
+fn values_option<'a>(alloc: Global) -> Result<Arg<'a>, AllocError> {
+    named_option(alloc, "upit", "FILE", UPIT_HELP).required_unless_present("blocks")
 }
 
 // The blocks of a priced model.

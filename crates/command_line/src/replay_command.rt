@@ -1,9 +1,10 @@
 //! The command `replay`.
 
 use crate::options::{
-    ModelWords, STATUSES, group_option, model_words, text_of, verbose_option, with_model_at_factor,
+    ModelWords, STATUSES, file_word, group_option, model_at_factor_options, model_words, text_of,
+    verbose_option, with_options,
 };
-use clap::{Arg, ArgAction, ArgMatches, Command};
+use clap::{Arg, ArgMatches, Command};
 use std::alloc::{AllocError, Global};
 
 const ABOUT: &str = "Repeats a run step by step from its trace";
@@ -11,6 +12,8 @@ const ABOUT: &str = "Repeats a run step by step from its trace";
 const DETAILS: &str = "Repeats a run of the push-relabel machine step by step from its trace.
 
 Prints REPLAYED, the number of steps and QUIET where all steps can be made and no block has anything left to do, and then what a check says of the flow that they lead to, as `pit check` prints it; REPLAYED, the number of steps and OPEN where some block isn't done; and REFUSED, a place and the reason where the step at that place, counted from 1, isn't one of the machine. OPEN and a refusal have the status 1.";
+
+const TRACE_HELP: &str = "The steps of the run: a PITTRACE text";
 
 /// The files of a replay, where they were given the factor and the kind of amount, and whether it is told why a file
 /// failed.
@@ -30,18 +33,14 @@ pub fn replay_command<'a>(alloc: Global) -> Result<Command<'a>, AllocError> {
         .about(ABOUT)
         .long_about(DETAILS)
         .after_help(STATUSES);
-    let command = with_model_at_factor(alloc, command)?.arg(group_option(alloc));
-    with_trace(alloc, command?)
+    let command = with_options(command, model_at_factor_options(alloc))?;
+    with_options(command, trace_options(alloc))
 }
 
-// The file of the trace.
-fn with_trace<'a>(alloc: Global, command: Command<'a>) -> Result<Command<'a>, AllocError> {
-    let trace = Arg::new(alloc, "trace")
-        .value_name("TRACE")
-        .required(true)
-        .action(ArgAction::Set)
-        .help("The steps of the run: a PITTRACE text");
-    command.arg(trace)?.arg(verbose_option(alloc))
+// What amounts count, the file of the trace, and whether it is told why one failed.
+fn trace_options<'a>(alloc: Global) -> Result<Vec<Arg<'a>>, AllocError> {
+    let trace = file_word(alloc, "trace", "TRACE", TRACE_HELP);
+    Ok(vec![in alloc; group_option(alloc), trace, verbose_option(alloc)]?)
 }
 
 /// The words that were given.

@@ -3,9 +3,9 @@
 
 use crate::options::{
     PREC_HELP, PRICED_BLOCKS_HELP, file_option, method_option, progress_option, steps_option,
-    text_of, verbose_option, workers_option,
+    text_of, verbose_option, with_options, workers_option,
 };
-use clap::{ArgMatches, Command};
+use clap::{Arg, ArgMatches, Command};
 use std::alloc::{AllocError, Global};
 
 /// A command that goes over a series of factors.
@@ -32,6 +32,9 @@ pub struct SeriesWords<'a> {
     pub verbose: bool,
 }
 
+const METHOD_HELP: &str =
+    "Which engine makes the flow: auto (the default), pseudoflow or push-relabel";
+
 const METHODS: &str = "Which engine makes the flow: auto (the default), pseudoflow or push-relabel
 
   auto          the push-relabel machine for a mine of at most 1000 blocks, and pseudoflow where a number of its run doesn't fit; for more blocks pseudoflow, and the machine where that gives no flow that proves a pit; the machine alone where --steps is given
@@ -40,46 +43,33 @@ const METHODS: &str = "Which engine makes the flow: auto (the default), pseudofl
 
 One worker or two of the machine run without a lock; where a number of that run doesn't fit 63 bits, they run again with a lock, as more workers always do. The pits are the same.";
 
+const WORKERS_HELP: &str =
+    "How many factors pseudoflow solves at a time, or the threads of the push-relabel machine, from 1 to 64 (1 by default)";
+
+const PROGRESS_HELP: &str =
+    "Tells on standard error at which factor a pit is proved, and how far a run of the machine is";
+
 /// The options of such a command; the help says what its settings have.
 pub fn with_series<'a>(
     alloc: Global,
     command: Command<'a>,
     settings_help: &'a str,
 ) -> Result<Command<'a>, AllocError> {
-    let command = with_files(alloc, command, settings_help)?;
-    with_progress(alloc, with_effort(alloc, command)?)
+    with_options(command, series_options(alloc, settings_help))
 }
 
-// The files.
-fn with_files<'a>(
-    alloc: Global,
-    command: Command<'a>,
-    settings_help: &'a str,
-) -> Result<Command<'a>, AllocError> {
-    command
-        .arg(file_option(alloc, "prec", PREC_HELP))?
-        .arg(file_option(alloc, "blocks", PRICED_BLOCKS_HELP))?
-        .arg(file_option(alloc, "settings", settings_help))
-}
-
-// The options that say how each pit is found.
-fn with_effort<'a>(alloc: Global, command: Command<'a>) -> Result<Command<'a>, AllocError> {
-    let methods = "Which engine makes the flow: auto (the default), pseudoflow or push-relabel";
-    let workers =
-        "How many factors pseudoflow solves at a time, or the threads of the push-relabel machine, from 1 to 64 (1 by default)";
-    command
-        .arg(method_option(alloc, methods).long_help(METHODS))?
-        .arg(steps_option(alloc))?
-        .arg(workers_option(alloc, workers))
-}
-
-// The options of what is told on the way.
-fn with_progress<'a>(alloc: Global, command: Command<'a>) -> Result<Command<'a>, AllocError> {
-    let progress =
-        "Tells on standard error at which factor a pit is proved, and how far a run of the machine is";
-    command
-        .arg(progress_option(alloc, progress))?
-        .arg(verbose_option(alloc))
+fn series_options<'a>(alloc: Global, settings_help: &'a str) -> Result<Vec<Arg<'a>>, AllocError> {
+    let methods = method_option(alloc, METHOD_HELP);
+    Ok(vec![in alloc;
+        file_option(alloc, "prec", PREC_HELP),
+        file_option(alloc, "blocks", PRICED_BLOCKS_HELP),
+        file_option(alloc, "settings", settings_help),
+        methods.long_help(METHODS),
+        steps_option(alloc),
+        workers_option(alloc, WORKERS_HELP),
+        progress_option(alloc, PROGRESS_HELP),
+        verbose_option(alloc),
+    ]?)
 }
 
 /// The words that were given to this command.

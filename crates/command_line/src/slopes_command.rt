@@ -1,7 +1,7 @@
 //! The command `slopes`.
 
-use crate::options::{STATUSES, file_option, named_option, text_of, verbose_option, with_option};
-use clap::{ArgMatches, Command};
+use crate::options::{STATUSES, file_option, named_option, text_of, verbose_option, with_options};
+use clap::{Arg, ArgMatches, Command};
 use std::alloc::{AllocError, Global};
 
 const ABOUT: &str = "Writes the predecessors of each block, by a slope pattern";
@@ -18,6 +18,13 @@ Patterns:
 
 // The word for the offsets of settings.
 const OF_SETTINGS: &str = "settings";
+
+const BLOCKS_HELP: &str = "Where the blocks are: MineLib's .blocks";
+
+const PATTERN_HELP: &str =
+    "Which blocks above a block are its predecessors: five, nine, cone:LEVELS:RUN:RISE or settings";
+
+const UP_HELP: &str = "Which way is up: plus, where a greater z is higher (the default), or minus";
 
 const SETTINGS_HELP: &str =
     "The file that lists the offsets, which --pattern settings needs: a TOML text; not opened with another pattern";
@@ -47,24 +54,21 @@ pub fn slopes_command<'a>(alloc: Global) -> Result<Command<'a>, AllocError> {
         .about(ABOUT)
         .long_about(DETAILS)
         .after_help(STATUSES);
-    with_direction(alloc, with_pattern(alloc, command)?)?.arg(verbose_option(alloc))
+    with_options(command, slope_options(alloc))
 }
 
-// The file of the blocks, and the option that names the pattern.
-fn with_pattern<'a>(alloc: Global, command: Command<'a>) -> Result<Command<'a>, AllocError> {
-    let pattern =
-        "Which blocks above a block are its predecessors: five, nine, cone:LEVELS:RUN:RISE or settings";
-    command
-        .arg(file_option(alloc, "blocks", "Where the blocks are: MineLib's .blocks"))?
-        .arg(named_option(alloc, "pattern", "PATTERN", pattern).required(true))
-}
-
-// The option that says which way is up, and the file of settings.
-fn with_direction<'a>(alloc: Global, command: Command<'a>) -> Result<Command<'a>, AllocError> {
-    let up = "Which way is up: plus, where a greater z is higher (the default), or minus";
-    let command = command.arg(named_option(alloc, "up", "WAY", up))?;
+// The file of the blocks, the pattern, the way up, and the file of settings that a pattern may need.
+fn slope_options<'a>(alloc: Global) -> Result<Vec<Arg<'a>>, AllocError> {
     let settings = named_option(alloc, "settings", "FILE", SETTINGS_HELP);
-    with_option(command, settings.required_if_eq("pattern", OF_SETTINGS))
+    let settings = settings.required_if_eq("pattern", OF_SETTINGS)?;
+    let pattern = named_option(alloc, "pattern", "PATTERN", PATTERN_HELP);
+    Ok(vec![in alloc;
+        file_option(alloc, "blocks", BLOCKS_HELP),
+        pattern.required(true),
+        named_option(alloc, "up", "WAY", UP_HELP),
+        settings,
+        verbose_option(alloc),
+    ]?)
 }
 
 /// The words that were given.

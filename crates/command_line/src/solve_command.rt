@@ -1,10 +1,11 @@
 //! The command `solve`.
 
 use crate::options::{
-    ModelWords, STATUSES, group_option, method_option, model_words, named_option, progress_option,
-    steps_option, text_of, verbose_option, with_model_at_factor, workers_option,
+    ModelWords, STATUSES, group_option, method_option, model_at_factor_options, model_words,
+    named_option, progress_option, steps_option, text_of, verbose_option, with_options,
+    workers_option,
 };
-use clap::{ArgMatches, Command};
+use clap::{Arg, ArgMatches, Command};
 use std::alloc::{AllocError, Global};
 
 const ABOUT: &str = "Finds the best pit and writes its certificate";
@@ -20,6 +21,20 @@ Methods:
   pseudoflow    highest-label pseudoflow alone: quick on mines of millions of blocks; UNSETTLED where it gives up
   push-relabel  the push-relabel machine alone: each step is proved, and it is slow beyond some thousand blocks
   words         the same machine without a lock: one or two workers share its state in words of 64 bits, and each step is one operation on one word. Its --group is scaled, also where that is left out, and it can't be given with --trace";
+
+const METHOD_HELP: &str =
+    "Which engine makes the flow: auto (the default), pseudoflow, push-relabel or words";
+
+const WORKERS_HELP: &str =
+    "How many threads the push-relabel machine has, from 1 to 64 (1 by default), which share one lock; with --method words 1 or 2, without a lock";
+
+const PROGRESS_HELP: &str = "Tells on standard error, once a second, how far the run is";
+
+const TRACE_HELP: &str =
+    "Writes each step of the push-relabel machine's run to this file; not with --method pseudoflow or words";
+
+const ROOM_HELP: &str =
+    "The most steps of a trace, from 1 to 16777216 (1048576 by default); of no effect without --trace";
 
 /// The words of a request to solve: the files, and where they were given the factor, the method, the kind of amount, the steps, the
 /// workers, the trace and its room, and whether progress is shown and it is told why a file failed.
@@ -44,49 +59,22 @@ pub fn solve_command<'a>(alloc: Global) -> Result<Command<'a>, AllocError> {
         .about(ABOUT)
         .long_about(DETAILS)
         .after_help(STATUSES);
-    let command = with_kinds(alloc, with_model_at_factor(alloc, command)?)?;
-    with_trace(alloc, with_limits(alloc, command)?)
+    let command = with_options(command, model_at_factor_options(alloc))?;
+    with_options(command, run_options(alloc))
 }
 
-// The options that say how it is solved.
-fn with_kinds<'a>(alloc: Global, command: Command<'a>) -> Result<Command<'a>, AllocError> {
-    let methods =
-        "Which engine makes the flow: auto (the default), pseudoflow, push-relabel or words";
-    command
-        .arg(method_option(alloc, methods))?
-        .arg(group_option(alloc))
-}
-
-// The options that bound the run or show it.
-fn with_limits<'a>(alloc: Global, command: Command<'a>) -> Result<Command<'a>, AllocError> {
-    command
-        .arg(steps_option(alloc))?
-        .arg(workers_option(
-            alloc,
-            "How many threads the push-relabel machine has, from 1 to 64 (1 by default), which share one lock; with --method words 1 or 2, without a lock",
-        ))?
-        .arg(progress_option(
-            alloc,
-            "Tells on standard error, once a second, how far the run is",
-        ))?
-        .arg(verbose_option(alloc))
-}
-
-// The options of the trace.
-fn with_trace<'a>(alloc: Global, command: Command<'a>) -> Result<Command<'a>, AllocError> {
-    command
-        .arg(named_option(
-            alloc,
-            "trace",
-            "FILE",
-            "Writes each step of the push-relabel machine's run to this file; not with --method pseudoflow or words",
-        ))?
-        .arg(named_option(
-            alloc,
-            "room",
-            "ROOM",
-            "The most steps of a trace, from 1 to 16777216 (1048576 by default); of no effect without --trace",
-        ))
+// The options that say how it is solved, bound the run and show it.
+fn run_options<'a>(alloc: Global) -> Result<Vec<Arg<'a>>, AllocError> {
+    Ok(vec![in alloc;
+        method_option(alloc, METHOD_HELP),
+        group_option(alloc),
+        steps_option(alloc),
+        workers_option(alloc, WORKERS_HELP),
+        progress_option(alloc, PROGRESS_HELP),
+        verbose_option(alloc),
+        named_option(alloc, "trace", "FILE", TRACE_HELP),
+        named_option(alloc, "room", "ROOM", ROOM_HELP),
+    ]?)
 }
 
 /// The words that were given.

@@ -31,6 +31,15 @@ pub memory_alone : {V : Type 0} (r : Result V EngineFault) → IsErrAnd r (λ y.
 memory_alone r h d = let e = handed r engine.Memory engine.Device h d in cc
 
 -- one device more failed than before
+pub first_of_two : (a b a' b' : ℕ) → a' ≡ a + 1 → b' ≡ b → a' + b' ≡ a + b + 1
+first_of_two a b a' b' p q = omega arith
+
+pub second_of_two : (a b a' b' : ℕ) → a' ≡ a → b' ≡ b + 1 → a' + b' ≡ a + b + 1
+second_of_two a b a' b' p q = omega arith
+
+pub earlier_of_three : (a b c a' b' c' : ℕ) → a' + b' ≡ a + b + 1 → c' ≡ c → a' + b' + c' ≡ a + b + c + 1
+earlier_of_three a b c a' b' c' p q = omega arith
+
 pub first_of_three : (a b c a' b' c' : ℕ) → a' ≡ a + 1 → b' ≡ b → c' ≡ c → a' + b' + c' ≡ a + b + c + 1
 first_of_three a b c a' b' c' p q r = omega arith
 

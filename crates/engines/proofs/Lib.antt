@@ -15,7 +15,9 @@ pub mod Complete
 pub mod Pieces
 pub mod SlopeAnswers
 pub mod Lone
+pub mod NetAnswers
 pub mod Solutions
+pub mod ValueMines
 pub mod OfTexts
 pub mod HeaderAnswers
 pub mod Streamed

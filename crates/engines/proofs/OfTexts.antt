@@ -1,24 +1,13 @@
 -- What holds of all texts of a mine that was read holds of those that the readers told.
-use Rattle.std.proofs.Common.{◌≡◌, ℕ, ℤ, List, length, refl, ◌∙◌, Option, Some, None, IfSome}
+use Rattle.std.proofs.Common.{◌≡◌, ℕ, ℤ, List, Option, IfSome}
 use Rattle.prec_file.specs.Rests.{RestsView}
-use Rattle.upit_file.specs.Records as upit
 use Rattle.shells.specs.Prices.{PricesView, price_of, worths_at}
 use Rattle.check_pit.specs.declared.header.Price.{Price}
-use Rattle.check_pit.specs.declared.header.Price.TheVariants.{Objective}
-use Rattle.engines.specs.Inputs.{ReadsUpit, ReadsPrec}
-use Rattle.engines.specs.ReadMines.{AreRead, ArePricesRead, billionths_of}
-use Rattle.engines.specs.Mines.{MineTexts, mine_texts, priced_texts, price_wanted}
-use Rattle.engines.proofs.Answered.{read_both}
+use Rattle.engines.specs.ReadMines.{AreRead, ArePricesRead}
+use Rattle.engines.specs.Mines.{MineTexts, priced_texts, price_wanted}
 use Rattle.engines.proofs.Judged.{read_as}
 use Rattle.engines.proofs.Priced.{worths_priced}
 use Rattle.engines.proofs.PricedAnswers.{under3, priced_answer}
-
--- the values of blocks and their precedence
-pub mine_answer : (P : MineTexts → Type 0) (o r : Option (List ℕ)) (values : upit.UpitView) (rests : RestsView) (n : ℕ) (slice worths : List ℤ) → n ≡ length values.values → IfSome o (λ u. ReadsUpit u values) → IfSome r (λ p. ReadsPrec n p rests) → slice ≡ worths → worths ≡ billionths_of values.values
-    → ((texts : MineTexts) → AreRead texts slice rests → Objective ≡ price_wanted texts → P texts) → IfSome o (λ u. IfSome r (λ p. P (mine_texts u p)))
-mine_answer P None r values rests n slice worths e a b s w h = tt
-mine_answer P (Some u) None values rests n slice worths e a b s w h = tt
-mine_answer P (Some u) (Some p) values rests n slice worths e a b s w h = h (mine_texts u p) (read_as (mine_texts u p) (billionths_of values.values) slice rests (s ∙ w) (read_both u p values rests n e a b)) refl
 
 -- blocks with prices, and their precedence
 pub priced_answers : (P : MineTexts → Type 0) (o q r : Option (List ℕ)) (k : ℕ) (price : Price) (table : PricesView) (rests : RestsView) (slice : List ℤ) → IfSome o (λ s. IfSome q (λ b. IfSome r (λ p. ArePricesRead s b p table rests))) → price ≡ price_of table.costs k → slice ≡ worths_at table k

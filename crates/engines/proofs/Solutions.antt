@@ -1,65 +1,28 @@
 -- From a run to what is written of it.
-use Rattle.std.proofs.Common.{◌≡◌, ℕ, ℤ, ◌<◌, Bool, List, length, map, refl, sym, ap, ◌∙◌, subst, Option, Some, None, Result, Ok, Err, inl, inr, IfSome, All}
+use Rattle.std.proofs.Common.{◌≡◌, ℕ, ℤ, Bool, List, length, map, refl, sym, ap, ◌∙◌, subst, Option, Result, Ok, Err, inr}
 use Rattle.std.proofs.lemmas.List.{length-map}
-use Rattle.std.specs.Io.KnownBytes.{Appends}
-use Rattle.std.specs.Prelude.{MatchResult}
-use Rattle.fixed_worth.specs.Device.{ReceivedPrefix}
 use Rattle.ordered_group.specs.Amount.{Amount}
 use Rattle.ordered_group.specs.declared.groups.Group.{Group}
 use Rattle.prec_file.specs.Rests.{RestsView}
-use Rattle.upit_file.specs.Records as upit
-use Rattle.closure_net.specs.Network.{NetView, FlowView, net_view, IsNet, holds_of}
+use Rattle.closure_net.specs.Network.{NetView, net_view, IsNet, holds_of}
 use Rattle.closure_net.specs.Mine.{IsNetOf}
 use Rattle.closure_net.specs.FaultStands.{WorthsFaultStands}
 use Rattle.closure_net.specs.declared.net.NetFault.{NetFault}
 use Rattle.closure_net.specs.declared.net.NetFault.TheVariants as net_fault
-use Rattle.check_pit.specs.Checks.{IsSound}
-use Rattle.check_pit.specs.ReadBack.{IsReadBack}
-use Rattle.check_pit.specs.Written.{header_with, text_of}
-use Rattle.check_pit.specs.declared.header.Price.{Price}
-use Rattle.check_pit.specs.declared.header.Price.TheVariants.{Objective}
 use Rattle.check_pit.specs.Pieces.{pieces_of}
 use Rattle.check_pit.proofs.Duality.{duality}
 use Rattle.engines.specs.declared.judgement.Verdict.{Verdict}
 use Rattle.engines.specs.declared.judgement.Verdict.TheVariants.{Done, No}
 use Rattle.engines.specs.declared.engine_fault.EngineFault.{EngineFault}
 use Rattle.engines.specs.declared.engine_fault.EngineFault.TheVariants as engine
-use Rattle.engines.specs.Inputs.{ReadsUpit, ReadsPrec}
-use Rattle.engines.specs.ReadMines.{AreRead, IsGroupNamed, billionths_of}
+use Rattle.engines.specs.ReadMines.{AreRead, IsGroupNamed}
 use Rattle.engines.specs.EngineFaults.{of_model}
-use Rattle.engines.specs.Mines.{MineTexts, mine_texts, price_wanted, mine_of, DenoteMine}
+use Rattle.engines.specs.Mines.{MineTexts, price_wanted, mine_of, DenoteMine}
 use Rattle.engines.specs.declared.method.Method.{Method}
-use Rattle.engines.specs.Solving.{IsNoOf, IsCertificateOf, AnswersNet, SolvesNet, IsCertificate, IsNetBy, AnswersMine, Solves}
-use Rattle.engines.proofs.Answered.{read_both, keeps_self}
-use Rattle.engines.proofs.Judged.{HasRead, reads, net_made, read_as, worths_fail}
+use Rattle.engines.specs.Solving.{IsCertificateOf, AnswersNet, SolvesNet, IsCertificate, IsNetBy, AnswersMine, Solves}
+use Rattle.engines.proofs.Answered.{keeps_self}
+use Rattle.engines.proofs.Judged.{HasRead, reads, net_made, worths_fail}
 use Rattle.engines.proofs.Lone.{header_alone}
-
--- ---- what is written
-
-pub back_moved : (counts : Bool) (name : Group) (n m : ℕ) (ps qs : List (ℕ × ℕ)) (text : List ℕ) (price : Price) (pit : List ℕ) (flow : FlowView) → n ≡ m → ps ≡ qs → IsReadBack counts name n ps text price pit flow → IsReadBack counts name m qs text price pit flow
-back_moved counts name n m ps qs text price pit flow e f h =
-    let P : ℕ → Type 0 = λ k. IsReadBack counts name k ps text price pit flow in
-    let Q : List (ℕ × ℕ) → Type 0 = λ l. IsReadBack counts name m l text price pit flow in
-    subst Q f (subst P e h)
-
--- what was to be written of a solution
-module _ (counts : Bool) (name : Group) (price : Price) (net : NetView) (method : Method) (limit blocks : ℕ) (pit : List ℕ) (flow : FlowView) (n : ℕ) (ps : List (ℕ × ℕ)) (s : IsSound net flow pit) (b : blocks ≡ length net.worths) (e : n ≡ length net.worths) (f : ps ≡ net.pairs) where
-  abbrev text : List ℕ
-  text = text_of (header_with blocks price name) ps pit flow
-
-  pub certified : (old new : Option (List ℕ)) → (blocks ≡ n → All (λ k. k < n) pit → IsReadBack counts name n ps text price pit flow) → Appends old new text → SolvesNet counts name price net method limit old new (Ok Done)
-  certified old new back sent =
-      let below : All (λ k. k < n) pit = subst (λ (k : ℕ). All (λ x. x < k) pit) (sym e) s.proves.of_net in
-      let read = back_moved counts name n (length net.worths) ps net.pairs text price pit flow e f (back (b ∙ sym e) below) in
-      (text, record { pit = pit; flow = flow; read = read; sound = s }, sent)
-
-  pub cut_short : (old new : Option (List ℕ)) → ReceivedPrefix old new text → SolvesNet counts name price net method limit old new (Err engine.Device)
-  cut_short old new prefix = (text, inl (record { pit = pit; flow = flow; sound = s; spelled = λ i. text_of (header_with (b i) price name) (f i) pit flow }), prefix)
-
-pub said_no : (counts : Bool) (name : Group) (price : Price) (net : NetView) (method : Method) (limit : ℕ) (line : List ℕ) (old new : Option (List ℕ)) (r : Result Verdict EngineFault) → IsNoOf net method limit line
-    → MatchResult r (λ v. (v ≡ No) × Appends old new line) (λ e. (e ≡ engine.Device) × ReceivedPrefix old new line) → SolvesNet counts name price net method limit old new r
-said_no counts name price net method limit line old new (Ok v) h a = subst (λ (w : Verdict). SolvesNet counts name price net method limit old new (Ok w)) (sym a.0) (line, h, a.1)
-said_no counts name price net method limit line old new (Err e) h a = subst (λ (w : EngineFault). SolvesNet counts name price net method limit old new (Err w)) (sym a.0) (line, inr h, a.1)
 
 -- ---- the mine of the texts
 
@@ -122,9 +85,3 @@ pub unmade : (block : ℤ → ℕ → Amount) (counts : Bool) (texts : MineTexts
 unmade block counts texts name rests worths method limit w net_fault.WrongLength a named f = ((rests.blocks, a.mine, worths_fail name block counts texts rests.blocks worths net_fault.WrongLength a.worths named f), keeps_self w)
 unmade block counts texts name rests worths method limit w net_fault.TooLarge a named f = ((rests.blocks, a.mine, worths_fail name block counts texts rests.blocks worths net_fault.TooLarge a.worths named f), keeps_self w)
 unmade block counts texts name rests worths method limit w net_fault.NoMemory a named f = (tt, keeps_self w)
-
--- what holds of any texts of what was read holds where the readers tell their bytes
-pub solve_answer : (o r old new : Option (List ℕ)) (values : upit.UpitView) (rests : RestsView) (n : ℕ) (name : Group) (method : Method) (limit : ℕ) (slice worths : List ℤ) (result : Result Verdict EngineFault) → n ≡ length values.values → IfSome o (λ u. ReadsUpit u values) → IfSome r (λ p. ReadsPrec n p rests) → slice ≡ worths → worths ≡ billionths_of values.values → ((texts : MineTexts) → AreRead texts slice rests → Objective ≡ price_wanted texts → Solves texts name method limit old new result) → IfSome o (λ u. IfSome r (λ p. Solves (mine_texts u p) name method limit old new result))
-solve_answer None r old new values rests n name method limit slice worths result e a b s w h = tt
-solve_answer (Some u) None old new values rests n name method limit slice worths result e a b s w h = tt
-solve_answer (Some u) (Some p) old new values rests n name method limit slice worths result e a b s w h = h (mine_texts u p) (read_as (mine_texts u p) (billionths_of values.values) slice rests (s ∙ w) (read_both u p values rests n e a b)) refl

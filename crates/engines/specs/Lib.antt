@@ -18,6 +18,7 @@ pub mod Slopes
 pub mod WholeNumbers
 pub mod PatternWords
 pub mod Nested
+pub mod NetAnswers
 pub mod Solving
 pub mod SolveWords
 pub mod Certifying

@@ -1,5 +1,5 @@
 -- How the engine of `solve` ends, by the bytes of its inputs and of its output.
-use Rattle.std.specs.Prelude.{◌≡◌, ℕ, ◌⊎◌, Bool, List, [], ◌∷◌, ◌++◌, codes, length, Option, Result, Ok, Err}
+use Rattle.std.specs.Prelude.{◌≡◌, ℕ, ◌⊎◌, Bool, List, length, Option, Result, Ok, Err}
 use Rattle.std.specs.Io.KnownBytes.{Appends, Keeps}
 use Rattle.fixed_worth.specs.Device.{ReceivedPrefix}
 use Rattle.ordered_group.specs.declared.groups.Group.{Group}
@@ -11,10 +11,8 @@ use Rattle.workers.specs.declared.solving.SolveFault.{SolveFault}
 use Rattle.workers.specs.declared.solving.SolveFault.TheVariants as run
 use Rattle.check_pit.specs.Checks.{IsOfNet, IsSound, FaultStands}
 use Rattle.check_pit.specs.ReadBack.{IsReadBack}
-use Rattle.check_pit.specs.Written.{header_with, text_of}
 use Rattle.check_pit.specs.declared.pit_fault.PitFault.TheVariants as pit_fault
 use Rattle.check_pit.specs.declared.header.Price.{Price}
-use Rattle.engines.specs.declared.judgement.Judgement.TheVariants.{Refused}
 use Rattle.engines.specs.declared.judgement.Verdict.{Verdict}
 use Rattle.engines.specs.declared.judgement.Verdict.TheVariants.{Done, No}
 use Rattle.engines.specs.declared.engine_fault.EngineFault.{EngineFault}
@@ -25,7 +23,7 @@ use Rattle.engines.specs.declared.method.Method.{Method}
 use Rattle.engines.specs.declared.method.Method.TheVariants.{Pseudoflow}
 use Rattle.engines.specs.FaultStands.{ValuesFail, SettingsFail, BlocksFail, TableFails, PrecedenceFails, ModelFails}
 use Rattle.engines.specs.Mines.{MineTexts, price_wanted, mine_of, DenoteMine}
-use Rattle.engines.specs.OutputLines.{judgement_line}
+use Rattle.engines.specs.NetAnswers.{certificate_text, unsettled_line, too_large_line}
 use Rattle.engines.specs.Readings.{block_by, Reads, IsProvedPit}
 
 -- ---- a net
@@ -74,13 +72,6 @@ pub record IsCertificateOf (counts : Bool) (name : Group) (price : Price) (net :
   pub read : IsReadBack counts name (length net.worths) net.pairs text price pit flow
   pub sound : IsSound net flow pit
 
--- the lines of an answer without a certificate
-abbrev pub unsettled_line : List ℕ
-unsettled_line = codes "UNSETTLED" ++ 10 ∷ []
-
-abbrev pub too_large_line : List ℕ
-too_large_line = judgement_line (Refused pit_fault.TooLarge)
-
 -- such a line, and why it is answered: but for pseudoflow alone, which may give up on any net, it is by the machine's run
 abbrev pub IsNoOf : NetView → Method → ℕ → List ℕ → Type 0
 IsNoOf net method limit text = ((method ≡ Pseudoflow) × (text ≡ unsettled_line)) ⊎ (IsCutOff net limit × (text ≡ unsettled_line)) ⊎ (SomeNumberOverflows net limit × (text ≡ too_large_line))
@@ -95,7 +86,7 @@ pub record IsTextOf (name : Group) (price : Price) (net : NetView) (text : List 
   pub pit : List ℕ
   pub flow : FlowView
   pub sound : IsSound net flow pit
-  pub spelled : text ≡ text_of (header_with (length net.worths) price name) net.pairs pit flow
+  pub spelled : text ≡ certificate_text name price net pit flow
 
 -- a text that was to be written for a net
 abbrev pub IsDueFor : Group → Price → NetView → Method → ℕ → List ℕ → Type 0

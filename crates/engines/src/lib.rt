@@ -21,6 +21,7 @@ pub mod laws;
 mod listed_slopes;
 mod method;
 pub mod mines;
+pub mod net_answer;
 mod pattern_choice;
 mod pattern_words;
 mod priced_checking;
@@ -53,11 +54,3 @@ pub use stored_run::stored_check;
 pub use unwatched::Unwatched;
 pub use whole_numbers::whole_within;
 
-#[cfg(test)]
-mod check_tests;
-#[cfg(test)]
-mod nets_tests;
-#[cfg(test)]
-mod slopes_tests;
-#[cfg(test)]
-mod solve_tests;

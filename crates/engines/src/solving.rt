@@ -1,8 +1,6 @@
 //! Solving a net: an engine makes a flow, a check decides, and the certificate or a refusal is written.
 
-ghost use Rattle.std.specs.Prelude.{◌≡◌, ◌+◌, ◌-◌, ◌^◌, ◌<◌, ◌↔◌, IfSome, MatchResult, OnOk, IfErr, IfOk, Ok, Err, IsErrOf};
-ghost use Rattle.std.specs.Io.KnownBytes.{Appends};
-ghost use Rattle.fixed_worth.specs.Device.{ReceivedPrefix};
+ghost use Rattle.std.specs.Prelude.{◌≡◌, ◌+◌, ◌-◌, ◌^◌, ◌<◌, ◌↔◌, IfSome, MatchResult, IfOk, IsErrOf};
 ghost use Rattle.check_pit.specs.ReadBack.{IsPrice};
 ghost use Rattle.engines.specs.Certifying.{IsSolution};
 ghost use Rattle.engines.specs.Solving.{UnsolvedStands, MachineStands, SolvesNet, unsolved_by};
@@ -12,9 +10,10 @@ use crate::effort::Effort;
 use crate::engine_fault::EngineFault;
 use crate::judgement::Verdict;
 use crate::method::Method;
-use check_pit::{Certificate, Price, laws, write_certificate};
+use crate::net_answer::write_answer;
+use check_pit::{Price, laws};
 use closure_net::Net;
-use fixed_worth::{CountedWrite, WriteFault, write_text};
+use fixed_worth::CountedWrite;
 use ordered_group::OrderedGroup;
 use pseudoflow::{Progress, PseudoflowFault};
 use std::alloc::{AllocError, Global};
@@ -185,39 +184,6 @@ where
     ensures device { IsErrOf result EngineFault.Device ↔ (W.failed out.new ≡ W.failed out.old + 1) }
     ensures kept { ¬ IsErrOf result EngineFault.Device → W.failed out.new ≡ W.failed out.old }
 {
-    // proof: what is known of every net, that its pairs are of its blocks and in order
-    let _worths = net.worths();
-    let solution = match solution_of(rt, alloc, net, effort, gate) {
-        Ok(solution) => solution,
-        Err(Unsolved::Unsettled) => return write_no(b"UNSETTLED\n", out),
-        Err(Unsolved::GaveUp) => return write_no(b"UNSETTLED\n", out),
-        Err(Unsolved::TooLarge) => return write_no(b"REFUSED TooLarge\n", out),
-        Err(Unsolved::NoMemory) => return Err(EngineFault::Memory),
-        Err(Unsolved::NoThread) => return Err(EngineFault::Thread),
-        Err(Unsolved::Stranger) => return Err(EngineFault::Stranger),
-    };
-    let certificate = Certificate {
-        blocks: net.len(),
-        price,
-        pit: solution.pit,
-        flow: solution.flow,
-    };
-    write_certificate(&certificate, net.rests(), out)?;
-    Ok(Verdict::Done)
-}
-
-/// Writes the line of an answer without a certificate.
-///
-/// # Errors
-/// `Device` where a write fails; the writer then has a prefix of the line.
-pub fn write_no<W: CountedWrite>(line: &[u8], out: &mut W) -> Result<Verdict, EngineFault>
-    requires { W.failed out.old < 2 ^ 64 - 1 }
-    ensures answer { MatchResult result
-        (λ verdict. (verdict ≡ Verdict.No) × Appends (W.contents out.old) (W.contents out.new) line.now)
-        (λ fault. (fault ≡ EngineFault.Device) × ReceivedPrefix (W.contents out.old) (W.contents out.new) line.now) }
-    ensures device { IsErrOf result EngineFault.Device ↔ (W.failed out.new ≡ W.failed out.old + 1) }
-    ensures kept { ¬ IsErrOf result EngineFault.Device → W.failed out.new ≡ W.failed out.old }
-{
-    write_text(out, line)?;
-    Ok(Verdict::No)
+    let found = solution_of(rt, alloc, net, effort, gate);
+    write_answer(net, price, found, out)
 }

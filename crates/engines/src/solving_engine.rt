@@ -8,9 +8,8 @@ ghost use Rattle.engines.specs.Solving.{Solves};
 
 use crate::effort::Effort;
 use crate::engine_fault::EngineFault;
-use crate::inputs::{rests_from, upit_from};
 use crate::judgement::Verdict;
-use crate::mines::nanos_of;
+use crate::mines::value_mine_from;
 use crate::solving::solve_net;
 use check_pit::Price;
 use closure_net::{Net, laws};
@@ -71,21 +70,11 @@ pub fn solve_engine<
     ensures device { IsErrOf result EngineFault.Device → U.failed upit.new + P.failed prec.new + W.failed out.new ≡ U.failed upit.old + P.failed prec.old + W.failed out.old + 1 }
     ensures kept { ¬ IsErrOf result EngineFault.Device → (U.failed upit.new ≡ U.failed upit.old) × (P.failed prec.new ≡ P.failed prec.old) × (W.failed out.new ≡ W.failed out.old) }
 {
-    let upit = upit_from(alloc, upit)?;
-    let rests = rests_from(alloc, prec, upit.len())?;
-    let nanos = nanos_of(alloc, &upit)?;
+    let mine = value_mine_from(alloc, upit, prec)?;
+    let rests = mine.rests;
+    let nanos = mine.nanos.as_slice();
     let price = Price::Objective;
-    solve_mine(
-        rt,
-        alloc,
-        nanos.as_slice(),
-        rests,
-        price,
-        group,
-        effort,
-        gate,
-        out,
-    )
+    solve_mine(rt, alloc, nanos, rests, price, group, effort, gate, out)
 }
 
 /// The same, where the mine is read, and its blocks are worth so many billionths at a price.

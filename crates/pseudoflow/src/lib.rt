@@ -38,8 +38,6 @@ mod recovery;
 mod reporting;
 mod search;
 mod solving;
-#[cfg(test)]
-mod tests;
 
 pub use fault::PseudoflowFault;
 pub use reporting::{Progress, Silent};

@@ -1,6 +1,5 @@
 -- From the parts of an engine to its answer, where the readers tell their bytes.
 use Rattle.std.proofs.Common.{◌≡◌, ℕ, ℤ, List, ◌∙◌, length, Option, Some, None, Result, Err, inl, IfSome}
-use Rattle.upit_file.specs.Records as upit
 use Rattle.prec_file.specs.Rests.{RestsView}
 use Rattle.ordered_group.specs.declared.groups.Group.{Group}
 use Rattle.machine_law.specs.declared.events.Event.{Event}
@@ -8,10 +7,11 @@ use Rattle.shells.specs.Prices.{PricesView, worths_at}
 use Rattle.engines.specs.declared.judgement.Verdict.{Verdict}
 use Rattle.engines.specs.declared.engine_fault.EngineFault.{EngineFault}
 use Rattle.engines.specs.declared.engine_fault.EngineFault.TheVariants as engine
-use Rattle.engines.specs.Inputs.{ReadsUpit, ReadsPrec, PricedMineFails}
+use Rattle.engines.specs.Inputs.{PricedMineFails, ValueMineFails}
 use Rattle.engines.specs.Mines.{MineTexts, mine_texts, priced_texts, DenoteMine}
-use Rattle.engines.specs.ReadMines.{AreRead, ArePricesRead, billionths_of}
-use Rattle.engines.proofs.Answered.{keeps_self, read_both}
+use Rattle.engines.specs.ReadMines.{AreRead, ArePricesRead}
+use Rattle.engines.proofs.Answered.{keeps_self}
+use Rattle.engines.proofs.ValueMines.{under2}
 use Rattle.engines.proofs.Judged.{read_as}
 use Rattle.engines.proofs.Priced.{worths_priced}
 use Rattle.engines.proofs.PricedAnswers.{under4, anything}
@@ -36,14 +36,35 @@ untraced texts n name trace w engine.Stranger mine h = absurd h
 
 -- ---- a mine of values
 
+unvalued : (u p : List ℕ) (name : Group) (t : List ℕ) (w : Option (List ℕ)) (e : EngineFault) → ValueMineFails u p e → Replays (mine_texts u p) name t w w (Err e)
+unvalued u p name t w (engine.Upit q) h = (h, keeps_self w)
+unvalued u p name t w (engine.Prec q) h = (h, keeps_self w)
+unvalued u p name t w engine.Memory h = (tt, keeps_self w)
+unvalued u p name t w engine.Device h = (tt, inl (keeps_self w))
+unvalued u p name t w (engine.Model q) h = absurd h
+unvalued u p name t w (engine.Certificate q) h = absurd h
+unvalued u p name t w (engine.Trace q) h = absurd h
+unvalued u p name t w (engine.Blocks q) h = absurd h
+unvalued u p name t w (engine.Slope q) h = absurd h
+unvalued u p name t w (engine.Settings q) h = absurd h
+unvalued u p name t w (engine.Prices q) h = absurd h
+unvalued u p name t w engine.Thread h = absurd h
+unvalued u p name t w engine.Stranger h = absurd h
+
+pub values_unread : (o r x w : Option (List ℕ)) (name : Group) (e : EngineFault) → IfSome o (λ u. IfSome r (λ p. ValueMineFails u p e)) → IfSome o (λ u. IfSome r (λ p. IfSome x (λ t. Replays (mine_texts u p) name t w w (Err e))))
+values_unread o r None w name e h = under2 o r (λ u p. ValueMineFails u p e) (λ u p. Unit {0}) h (λ u p f. tt)
+values_unread o r (Some t) w name e h = under2 o r (λ u p. ValueMineFails u p e) (λ u p. Replays (mine_texts u p) name t w w (Err e)) h (λ u p f. unvalued u p name t w e f)
+
+pub trace_unread : (o r x w : Option (List ℕ)) (name : Group) (worths : List ℤ) (rests : RestsView) (e : EngineFault) → IfSome o (λ u. IfSome r (λ p. AreRead (mine_texts u p) worths rests)) → IfSome x (λ t. TraceReadFails t e) → IfSome o (λ u. IfSome r (λ p. IfSome x (λ t. Replays (mine_texts u p) name t w w (Err e))))
+trace_unread o r None w name worths rests e h f = under2 o r (λ u p. AreRead (mine_texts u p) worths rests) (λ u p. Unit {0}) h (λ u p a. tt)
+trace_unread o r (Some t) w name worths rests e h f = under2 o r (λ u p. AreRead (mine_texts u p) worths rests) (λ u p. Replays (mine_texts u p) name t w w (Err e)) h (λ u p a. untraced (mine_texts u p) rests.blocks name t w e a.mine f)
+
 -- what holds of any texts of what was read holds of these
-pub replay_answer : (o r s old new : Option (List ℕ)) (values : upit.UpitView) (rests : RestsView) (events shown : List Event) (n : ℕ) (name : Group) (slice worths : List ℤ) (result : Result Verdict EngineFault) → n ≡ length values.values → IfSome o (λ u. ReadsUpit u values) → IfSome r (λ p. ReadsPrec n p rests) → IfSome s (λ t. ReadsTrace t events)
-    → slice ≡ worths → worths ≡ billionths_of values.values → shown ≡ events → ((texts : MineTexts) (trace : List ℕ) → AreRead texts slice rests → ReadsTrace trace shown → Replays texts name trace old new result) → IfSome o (λ u. IfSome r (λ p. IfSome s (λ t. Replays (mine_texts u p) name t old new result)))
-replay_answer None r s old new values rests events shown n name slice worths result l a b t i w k h = tt
-replay_answer (Some u) None s old new values rests events shown n name slice worths result l a b t i w k h = tt
-replay_answer (Some u) (Some p) None old new values rests events shown n name slice worths result l a b t i w k h = tt
-replay_answer (Some u) (Some p) (Some x) old new values rests events shown n name slice worths result l a b t i w k h =
-    h (mine_texts u p) x (read_as (mine_texts u p) (billionths_of values.values) slice rests (i ∙ w) (read_both u p values rests n l a b)) (t.0, k ∙ t.1)
+pub replay_answer : (o r x old new : Option (List ℕ)) (rests : RestsView) (events listed : List Event) (name : Group) (slice worths : List ℤ) (result : Result Verdict EngineFault) → IfSome o (λ u. IfSome r (λ p. AreRead (mine_texts u p) worths rests)) → IfSome x (λ t. ReadsTrace t events)
+    → slice ≡ worths → listed ≡ events → ((texts : MineTexts) (trace : List ℕ) → AreRead texts slice rests → ReadsTrace trace listed → Replays texts name trace old new result) → IfSome o (λ u. IfSome r (λ p. IfSome x (λ t. Replays (mine_texts u p) name t old new result)))
+replay_answer o r None old new rests events listed name slice worths result h f s k replays = under2 o r (λ u p. AreRead (mine_texts u p) worths rests) (λ u p. Unit {0}) h (λ u p a. tt)
+replay_answer o r (Some t) old new rests events listed name slice worths result h f s k replays = under2 o r (λ u p. AreRead (mine_texts u p) worths rests) (λ u p. Replays (mine_texts u p) name t old new result) h (λ u p a.
+    replays (mine_texts u p) t (read_as (mine_texts u p) worths slice rests s a) (f.0, k ∙ f.1))
 
 -- ---- a mine of prices
 

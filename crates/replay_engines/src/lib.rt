@@ -19,5 +19,3 @@ mod trace_inputs;
 pub use priced_replaying::replay_priced_engine;
 pub use replaying::replay_engine;
 
-#[cfg(test)]
-mod tests;

@@ -6,8 +6,7 @@ ghost use Rattle.replay_engines.specs.Replays.{Replays};
 
 use crate::replaying_mine::replay_mine;
 use crate::trace_inputs::events_from;
-use engines::inputs::{rests_from, upit_from};
-use engines::mines::nanos_of;
+use engines::mines::value_mine_from;
 use engines::{EngineFault, Verdict};
 use fixed_worth::{CountedRead, CountedWrite};
 use ordered_group::Group;
@@ -52,16 +51,9 @@ pub fn replay_engine<U: CountedRead, P: CountedRead, E: CountedRead, W: CountedW
         ≡ U.failed upit.old + P.failed prec.old + E.failed trace.old + W.failed out.old + 1 }
     ensures kept { ¬ IsErrOf result EngineFault.Device → (U.failed upit.new ≡ U.failed upit.old) × (P.failed prec.new ≡ P.failed prec.old) × (E.failed trace.new ≡ E.failed trace.old) × (W.failed out.new ≡ W.failed out.old) }
 {
-    let upit = upit_from(alloc, upit)?;
-    let rests = rests_from(alloc, prec, upit.len())?;
+    let mine = value_mine_from(alloc, upit, prec)?;
     let events = events_from(alloc, trace)?;
-    let nanos = nanos_of(alloc, &upit)?;
-    replay_mine(
-        alloc,
-        nanos.as_slice(),
-        rests,
-        group,
-        events.as_slice(),
-        out,
-    )
+    let rests = mine.rests;
+    let nanos = mine.nanos.as_slice();
+    replay_mine(alloc, nanos, rests, group, events.as_slice(), out)
 }

@@ -12,5 +12,3 @@ mod reporting;
 
 pub use reporting::report_engine;
 
-#[cfg(test)]
-mod tests;

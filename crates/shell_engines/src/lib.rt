@@ -19,5 +19,3 @@ pub use announcing::SeriesProgress;
 pub use series_engine::shells_engine;
 pub use shell_rows::ShellRow;
 
-#[cfg(test)]
-mod tests;

@@ -14,10 +14,13 @@ use Rattle.check_pit.proofs.Tightness.{refused_for_size_only}
 use Rattle.engines.specs.declared.judgement.Verdict.{Verdict}
 use Rattle.engines.specs.declared.judgement.Verdict.TheVariants.{No}
 use Rattle.engines.specs.declared.engine_fault.EngineFault.{EngineFault}
-use Rattle.engines.specs.declared.engine_fault.EngineFault.TheVariants as engine
+use Rattle.engines.specs.declared.solving.Unsolved.{Unsolved}
+use Rattle.engines.specs.declared.solving.Unsolved.TheVariants.{Unsettled, TooLarge, GaveUp, NoMemory, NoThread, Stranger}
+use Rattle.engines.specs.NetAnswers.{SendsCertificate, SendsLine, SendsNo, certificate_text, unsettled_line, too_large_line}
+use Rattle.engines.specs.Readings.{counts_by}
 use Rattle.engines.specs.Certifying.{IsRefusedFlow}
 use Rattle.word_engines.specs.Tightness.{RunsAreTight}
-use Rattle.word_engines.specs.WordRuns.{CheckOverflows}
+use Rattle.word_engines.specs.WordRuns.{CheckOverflows, WordsStand}
 use Rattle.word_engines.specs.WordSolving.{IsNoByWords, SolvesNetByWords, word_group}
 
 -- what the source reaches in the flow of a run is refused for sums that overflow, and nothing else
@@ -39,12 +42,24 @@ check_overflows law net workers limit flow steps fault is solved refused =
     }
 
 module _ (price : Price) (net : NetView) (workers limit : ℕ) (old new : Option (List ℕ)) where
-  -- the device failed in writing the certificate of a solution
-  pub cut_short : (blocks : ℕ) (pit : List ℕ) (flow : FlowView) (ps : List (ℕ × ℕ)) → IsSound net flow pit → blocks ≡ length net.worths → ps ≡ net.pairs → ReceivedPrefix old new (text_of (header_with blocks price word_group) ps pit flow) → SolvesNetByWords price net workers limit old new (Err engine.Device)
-  cut_short blocks pit flow ps sound b f prefix =
-      (text_of (header_with blocks price word_group) ps pit flow, inl (record { pit = pit; flow = flow; sound = sound; spelled = λ i. text_of (header_with (b i) price word_group) (f i) pit flow }), prefix)
+  sent : (pit : List ℕ) (flow : FlowView) (r : Result Verdict EngineFault) → IsSound net flow pit → SendsCertificate (counts_by word_group) word_group price net pit flow old new r → SolvesNetByWords price net workers limit old new r
+  sent pit flow (Ok v) s a = subst (λ (w : Verdict). SolvesNetByWords price net workers limit old new (Ok w)) (sym a.0) (a.1.0, record { pit = pit; flow = flow; read = a.1.1; sound = s }, a.1.2)
+  sent pit flow (Err e) s a = subst (λ (w : EngineFault). SolvesNetByWords price net workers limit old new (Err w)) (sym a.0) (certificate_text word_group price net pit flow, inl (record { pit = pit; flow = flow; sound = s; spelled = refl }), a.1)
 
-  -- a line without a certificate was written, or was to be
-  pub said_no : (line : List ℕ) (r : Result Verdict EngineFault) → IsNoByWords net workers limit line → MatchResult r (λ v. (v ≡ No) × Appends old new line) (λ e. (e ≡ engine.Device) × ReceivedPrefix old new line) → SolvesNetByWords price net workers limit old new r
-  said_no line (Ok v) h a = subst (λ (w : Verdict). SolvesNetByWords price net workers limit old new (Ok w)) (sym a.0) (line, h, a.1)
-  said_no line (Err e) h a = subst (λ (w : EngineFault). SolvesNetByWords price net workers limit old new (Err w)) (sym a.0) (line, inr h, a.1)
+  said : (line : List ℕ) (r : Result Verdict EngineFault) → IsNoByWords net workers limit line → SendsLine line old new r → SolvesNetByWords price net workers limit old new r
+  said line (Ok v) h a = subst (λ (w : Verdict). SolvesNetByWords price net workers limit old new (Ok w)) (sym a.0) (line, h, a.1)
+  said line (Err e) h a = subst (λ (w : EngineFault). SolvesNetByWords price net workers limit old new (Err w)) (sym a.0) (line, inr h, a.1)
+
+  said_no : (why : Unsolved) (r : Result Verdict EngineFault) → WordsStand net workers limit why → SendsNo why old new r → SolvesNetByWords price net workers limit old new r
+  said_no Unsettled r h a = said unsettled_line r (inl (h, refl)) a
+  said_no TooLarge r h a = said too_large_line r (inr (h, refl)) a
+  said_no GaveUp r h a = absurd h
+  said_no Stranger r h a = absurd h
+  said_no NoMemory r h a = subst (λ (x : Result Verdict EngineFault). SolvesNetByWords price net workers limit old new x) (sym a.0) a.1
+  said_no NoThread r h a = subst (λ (x : Result Verdict EngineFault). SolvesNetByWords price net workers limit old new x) (sym a.0) a.1
+
+  -- what is found, with its flow and its pit in any terms, and what is written for it
+  pub answered : {A : Type 0} (flow : A → FlowView) (pit : A → List ℕ) (Is : A → Type 0) (found : Result A Unsolved) (r : Result Verdict EngineFault) → ((s : A) → Is s → IsSound net (flow s) (pit s)) → MatchResult found Is (λ why. WordsStand net workers limit why)
+      → MatchResult found (λ s. SendsCertificate (counts_by word_group) word_group price net (pit s) (flow s) old new r) (λ why. SendsNo why old new r) → SolvesNetByWords price net workers limit old new r
+  answered flow pit Is (Ok s) r sound h a = sent (pit s) (flow s) r (sound s h) a
+  answered flow pit Is (Err why) r sound h a = said_no why r h a

@@ -12,7 +12,8 @@ use Rattle.engines.specs.declared.engine_fault.EngineFault.{EngineFault}
 use Rattle.engines.specs.declared.engine_fault.EngineFault.TheVariants as engine
 use Rattle.engines.specs.Mines.{MineTexts, price_wanted}
 use Rattle.engines.specs.Readings.{counts_by}
-use Rattle.engines.specs.Solving.{IsCertificateOf, IsTextOf, IsCertificate, IsNetBy, SolveFails, unsettled_line, too_large_line}
+use Rattle.engines.specs.NetAnswers.{unsettled_line, too_large_line}
+use Rattle.engines.specs.Solving.{IsCertificateOf, IsTextOf, IsCertificate, IsNetBy, SolveFails}
 use Rattle.word_engines.specs.WordRuns.{HasWords, SomeNumberOverflows}
 
 -- the amounts of words

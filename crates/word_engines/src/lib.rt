@@ -19,5 +19,3 @@ pub use running::by_words;
 pub use word_effort::WordEffort;
 pub use words_solving::solve_words_engine;
 
-#[cfg(test)]
-mod tests;

@@ -8,11 +8,10 @@ ghost use Rattle.word_engines.specs.WordSolving.{SolvesNetByWords, SolvesByWords
 
 use crate::running::by_words;
 use crate::word_effort::WordEffort;
-use check_pit::{Certificate, Price, write_certificate};
+use check_pit::Price;
 use closure_net::{Net, laws};
-use engines::inputs::{rests_from, upit_from};
-use engines::mines::nanos_of;
-use engines::solving::{Unsolved, write_no};
+use engines::mines::value_mine_from;
+use engines::net_answer::write_answer;
 use engines::{EngineFault, Verdict};
 use fixed_worth::{CountedRead, CountedWrite};
 use ordered_group::Scaled;
@@ -63,11 +62,11 @@ pub fn solve_words_engine<
     ensures device { IsErrOf result EngineFault.Device → U.failed upit.new + P.failed prec.new + W.failed out.new ≡ U.failed upit.old + P.failed prec.old + W.failed out.old + 1 }
     ensures kept { ¬ IsErrOf result EngineFault.Device → (U.failed upit.new ≡ U.failed upit.old) × (P.failed prec.new ≡ P.failed prec.old) × (W.failed out.new ≡ W.failed out.old) }
 {
-    let upit = upit_from(alloc, upit)?;
-    let rests = rests_from(alloc, prec, upit.len())?;
-    let nanos = nanos_of(alloc, &upit)?;
+    let mine = value_mine_from(alloc, upit, prec)?;
+    let rests = mine.rests;
+    let nanos = mine.nanos.as_slice();
     let price = Price::Objective;
-    mine_by_words(rt, alloc, nanos.as_slice(), rests, price, effort, gate, out)
+    mine_by_words(rt, alloc, nanos, rests, price, effort, gate, out)
 }
 
 /// The same, where the mine is read, and its blocks are worth so many billionths at a price.
@@ -111,24 +110,6 @@ fn net_by_words<R: Threads + Wait + Sync, T: Gate, W: CountedWrite>(
     ensures device { IsErrOf result EngineFault.Device ↔ (W.failed out.new ≡ W.failed out.old + 1) }
     ensures kept { ¬ IsErrOf result EngineFault.Device → W.failed out.new ≡ W.failed out.old }
 {
-    // proof: what is known of every net, that its pairs are of its blocks and in order
-    let _worths = net.worths();
-    let solution = match by_words(rt, alloc, net, effort, gate) {
-        Ok(solution) => solution,
-        Err(Unsolved::Unsettled) => return write_no(b"UNSETTLED\n", out),
-        Err(Unsolved::TooLarge) => return write_no(b"REFUSED TooLarge\n", out),
-        Err(Unsolved::NoMemory) => return Err(EngineFault::Memory),
-        Err(Unsolved::NoThread) => return Err(EngineFault::Thread),
-        Err(Unsolved::GaveUp | Unsolved::Stranger) => {
-            unreachable!("pseudoflow isn't asked, and the words are the net's")
-        }
-    };
-    let certificate = Certificate {
-        blocks: net.len(),
-        price,
-        pit: solution.pit,
-        flow: solution.flow,
-    };
-    write_certificate(&certificate, net.rests(), out)?;
-    Ok(Verdict::Done)
+    let found = by_words(rt, alloc, net, effort, gate);
+    write_answer(net, price, found, out)
 }

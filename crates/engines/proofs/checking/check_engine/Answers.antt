@@ -3,7 +3,31 @@ use Rattle.std.proofs.lemmas.Result.{err_from_is_err_and}
 use Rattle.engines.proofs.Failed.{raised, stayed, went, well, first_of_three, second_of_three, third_of_three, earlier_of_four, last_of_four}
 use Rattle.engines.proofs.Answered.{judge_answer, line_answer_by, failed_answer}
 use Rattle.engines.proofs.Complete.{complete}
+use Rattle.engines.proofs.ValueMines.{values_unread, precedence_unread, unchecked}
 use Rattle.engines.proofs.checking.check_engine.Goals as goal
+
+pub returns-in_err-upit-clause-answer : goal.returns-in_err-upit-clause-answer
+returns-in_err-upit-clause-answer g c =
+    let p = err_from_is_err_and c.from_residual.result c.from_residual.ensures.1 in
+    rw (p.1, p.2)
+    (unchecked (g.U.Read.remaining c.args.upit.now) (g.P.Read.remaining c.args.prec.now) (g.C.Read.remaining c.args.certificate.now) (g.W.Write.contents c.args.out.now) c.in_err-upit.field-0.0 (values_unread (g.U.Read.remaining c.args.upit.now) (g.P.Read.remaining c.args.prec.now) c.in_err-upit.field-0.0 c.in_err-upit.ensures.read))
+
+pub returns-in_err-rests-clause-answer : goal.returns-in_err-rests-clause-answer
+returns-in_err-rests-clause-answer g c =
+    let p = err_from_is_err_and c.from_residual-in_err-rests.result c.from_residual-in_err-rests.ensures.1 in
+    rw (p.1, p.2)
+    (unchecked (g.U.Read.remaining c.args.upit.now) (g.P.Read.remaining c.args.prec.now) (g.C.Read.remaining c.args.certificate.now) (g.W.Write.contents c.args.out.now) c.in_err-rests.field-0.0
+    (precedence_unread (g.U.Read.remaining c.args.upit.now) (g.P.Read.remaining c.args.prec.now) c.in_ok-upit.upit c.len.result c.in_err-rests.field-0.0 c.len.ensures.value c.in_ok-upit.ensures.read c.in_err-rests.ensures.read))
+
+pub returns-in_err-upit-clause-complete : goal.returns-in_err-upit-clause-complete
+returns-in_err-upit-clause-complete g c =
+    complete (g.U.Read.remaining c.args.upit.now) (g.P.Read.remaining c.args.prec.now) (g.C.Read.remaining c.args.certificate.now) (g.W.Write.contents c.args.out.now) (g.W.Write.contents c.args.out.now) _
+    (returns-in_err-upit-clause-answer g c)
+
+pub returns-in_err-rests-clause-complete : goal.returns-in_err-rests-clause-complete
+returns-in_err-rests-clause-complete g c =
+    complete (g.U.Read.remaining c.args.upit.now) (g.P.Read.remaining c.args.prec.now) (g.C.Read.remaining c.args.certificate.now) (g.W.Write.contents c.args.out.now) (g.W.Write.contents c.args.out.now) _
+    (returns-in_err-rests-clause-answer g c)
 
 pub returns-in_err-judgement-clause-answer : goal.returns-in_err-judgement-clause-answer
 returns-in_err-judgement-clause-answer g c =

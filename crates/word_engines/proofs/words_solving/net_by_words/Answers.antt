@@ -1,33 +1,9 @@
-use Rattle.std.proofs.Common.{inl, inr, refl, subst}
-use Rattle.std.proofs.lemmas.Result.{err_from_is_err_and}
-use Rattle.engines.specs.declared.solving.Unsolved.{Unsolved}
-use Rattle.engines.specs.declared.method.Method.TheVariants.{PushRelabel}
-use Rattle.engines.specs.Solving.{unsettled_line, too_large_line}
-use Rattle.engines.proofs.Solutions.{certified}
-use Rattle.word_engines.specs.WordRuns.{WordsStand}
-use Rattle.word_engines.specs.WordSolving.{word_group}
-use Rattle.word_engines.proofs.WordAnswers.{cut_short, said_no}
+use Rattle.ordered_group.specs.Block.{scaled_worth}
+use Rattle.engines.specs.Certifying.{IsSolution}
+use Rattle.word_engines.proofs.WordAnswers.{answered}
 use Rattle.word_engines.proofs.words_solving.net_by_words.Goals as goal
-
-pub returns-in-Err-Unsettled-clause-answer : goal.returns-in-Err-Unsettled-clause-answer
-returns-in-Err-Unsettled-clause-answer g c =
-    said_no c.args.price c.args.net.now c.args.effort.workers c.args.effort.steps (g.W.Write.contents c.args.out.now) (g.W.Write.contents c.write_no.new.out) unsettled_line c.write_no.result
-    (inl (subst (λ (u : Unsolved). WordsStand c.args.net.now c.args.effort.workers c.args.effort.steps u) c.in-Err-Unsettled.field-0-is c.in-Err-Unsettled.ensures, refl)) c.write_no.ensures.answer
-
-pub returns-in-Err-TooLarge-clause-answer : goal.returns-in-Err-TooLarge-clause-answer
-returns-in-Err-TooLarge-clause-answer g c =
-    said_no c.args.price c.args.net.now c.args.effort.workers c.args.effort.steps (g.W.Write.contents c.args.out.now) (g.W.Write.contents c.write_no-in-Err-TooLarge.new.out) too_large_line c.write_no-in-Err-TooLarge.result
-    (inr (subst (λ (u : Unsolved). WordsStand c.args.net.now c.args.effort.workers c.args.effort.steps u) c.in-Err-TooLarge.field-0-is c.in-Err-TooLarge.ensures, refl)) c.write_no-in-Err-TooLarge.ensures.answer
 
 pub returns-clause-answer : goal.returns-clause-answer
 returns-clause-answer g c =
-    let s = c.in-Ok.solution in
-    certified _ word_group c.args.price c.args.net.now PushRelabel c.args.effort.steps c.len.result s.pit s.flow c.rests.result.now.blocks c.rests.result.now.pairs c.in-Ok.ensures.sound c.len.ensures c.rests.ensures.blocks c.rests.ensures.pairs
-    (g.W.Write.contents c.args.out.now) (g.W.Write.contents c.write_certificate.new.out) (λ e. c.in_ok-write_certificate.ensures.read_back e c.requires.price) c.in_ok-write_certificate.ensures.sent
-
-pub returns-in_err-write_certificate-clause-answer : goal.returns-in_err-write_certificate-clause-answer
-returns-in_err-write_certificate-clause-answer g c =
-    let s = c.in-Ok.solution in
-    let p = err_from_is_err_and c.from_residual.result c.from_residual.ensures.1 in
-    rw (p.1, p.2)
-    (cut_short c.args.price c.args.net.now c.args.effort.workers c.args.effort.steps (g.W.Write.contents c.args.out.now) (g.W.Write.contents c.write_certificate.new.out) c.len.result s.pit s.flow c.rests.result.now.pairs c.in-Ok.ensures.sound c.len.ensures c.rests.ensures.pairs c.in_err-write_certificate.ensures.prefix)
+    answered c.args.price c.args.net.now c.args.effort.workers c.args.effort.steps (g.W.Write.contents c.args.out.now) (g.W.Write.contents c.write_answer.new.out) (λ s. s.flow) (λ s. s.pit)
+    (λ s. IsSolution scaled_worth c.args.net.now s.flow s.pit s.count s.worth) c.by_words-found.result c.write_answer.result (λ s h. h.sound) c.by_words-found.ensures c.write_answer.ensures.answer

@@ -1,0 +1,65 @@
+-- From what is found for a net to what is written for it.
+use Rattle.std.proofs.Common.{◌≡◌, ℕ, ◌<◌, Bool, List, length, refl, sym, ◌∙◌, subst, Option, Result, Ok, Err, inl, inr, All}
+use Rattle.std.specs.Prelude.{MatchResult}
+use Rattle.std.specs.Io.KnownBytes.{Appends}
+use Rattle.fixed_worth.specs.Device.{ReceivedPrefix}
+use Rattle.ordered_group.specs.declared.groups.Group.{Group}
+use Rattle.closure_net.specs.Network.{NetView, FlowView}
+use Rattle.check_pit.specs.Checks.{IsSound}
+use Rattle.check_pit.specs.ReadBack.{IsReadBack}
+use Rattle.check_pit.specs.Written.{header_with, text_of}
+use Rattle.check_pit.specs.declared.header.Price.{Price}
+use Rattle.engines.specs.declared.judgement.Verdict.{Verdict}
+use Rattle.engines.specs.declared.judgement.Verdict.TheVariants.{Done}
+use Rattle.engines.specs.declared.engine_fault.EngineFault.{EngineFault}
+use Rattle.engines.specs.declared.engine_fault.EngineFault.TheVariants as engine
+use Rattle.engines.specs.declared.method.Method.{Method}
+use Rattle.engines.specs.declared.solving.Unsolved.{Unsolved}
+use Rattle.engines.specs.declared.solving.Unsolved.TheVariants.{Unsettled, TooLarge, GaveUp, NoMemory, NoThread, Stranger}
+use Rattle.engines.specs.NetAnswers.{SendsCertificate, SendsLine, SendsNo, certificate_text, unsettled_line, too_large_line}
+use Rattle.engines.specs.Solving.{UnsolvedStands, IsNoOf, SolvesNet}
+
+-- ---- a certificate
+
+pub back_moved : (counts : Bool) (name : Group) (n m : ℕ) (ps qs : List (ℕ × ℕ)) (text : List ℕ) (price : Price) (pit : List ℕ) (flow : FlowView) → n ≡ m → ps ≡ qs → IsReadBack counts name n ps text price pit flow → IsReadBack counts name m qs text price pit flow
+back_moved counts name n m ps qs text price pit flow e f h =
+    let P : ℕ → Type 0 = λ k. IsReadBack counts name k ps text price pit flow in
+    let Q : List (ℕ × ℕ) → Type 0 = λ l. IsReadBack counts name m l text price pit flow in
+    subst Q f (subst P e h)
+
+-- what was to be written of a solution
+module _ (counts : Bool) (name : Group) (price : Price) (net : NetView) (blocks : ℕ) (pit : List ℕ) (flow : FlowView) (n : ℕ) (ps : List (ℕ × ℕ)) (s : IsSound net flow pit) (b : blocks ≡ length net.worths) (e : n ≡ length net.worths) (f : ps ≡ net.pairs) where
+  abbrev text : List ℕ
+  text = text_of (header_with blocks price name) ps pit flow
+
+  pub certificate_sent : (old new : Option (List ℕ)) → (blocks ≡ n → All (λ k. k < n) pit → IsReadBack counts name n ps text price pit flow) → Appends old new text → SendsCertificate counts name price net pit flow old new (Ok Done)
+  certificate_sent old new back sent =
+      let below : All (λ k. k < n) pit = subst (λ (k : ℕ). All (λ x. x < k) pit) (sym e) s.proves.of_net in
+      (refl, (text, back_moved counts name n (length net.worths) ps net.pairs text price pit flow e f (back (b ∙ sym e) below), sent))
+
+  pub cut_short : (old new : Option (List ℕ)) → ReceivedPrefix old new text → SendsCertificate counts name price net pit flow old new (Err engine.Device)
+  cut_short old new prefix = (refl, subst (λ (xs : List ℕ). ReceivedPrefix old new xs) (λ i. text_of (header_with (b i) price name) (f i) pit flow) prefix)
+
+-- ---- what is found for a net
+
+module _ (counts : Bool) (name : Group) (price : Price) (net : NetView) (method : Method) (limit : ℕ) (old new : Option (List ℕ)) where
+  sent : (pit : List ℕ) (flow : FlowView) (r : Result Verdict EngineFault) → IsSound net flow pit → SendsCertificate counts name price net pit flow old new r → SolvesNet counts name price net method limit old new r
+  sent pit flow (Ok v) s a = subst (λ (w : Verdict). SolvesNet counts name price net method limit old new (Ok w)) (sym a.0) (a.1.0, record { pit = pit; flow = flow; read = a.1.1; sound = s }, a.1.2)
+  sent pit flow (Err e) s a = subst (λ (w : EngineFault). SolvesNet counts name price net method limit old new (Err w)) (sym a.0) (certificate_text name price net pit flow, inl (record { pit = pit; flow = flow; sound = s; spelled = refl }), a.1)
+
+  said : (line : List ℕ) (r : Result Verdict EngineFault) → IsNoOf net method limit line → SendsLine line old new r → SolvesNet counts name price net method limit old new r
+  said line (Ok v) h a = subst (λ (w : Verdict). SolvesNet counts name price net method limit old new (Ok w)) (sym a.0) (line, h, a.1)
+  said line (Err e) h a = subst (λ (w : EngineFault). SolvesNet counts name price net method limit old new (Err w)) (sym a.0) (line, inr h, a.1)
+
+  said_no : (why : Unsolved) (r : Result Verdict EngineFault) → UnsolvedStands net method limit why → SendsNo why old new r → SolvesNet counts name price net method limit old new r
+  said_no Unsettled r h a = said unsettled_line r (inr (inl (h, refl))) a
+  said_no GaveUp r h a = said unsettled_line r (inl (h, refl)) a
+  said_no TooLarge r h a = said too_large_line r (inr (inr (h, refl))) a
+  said_no NoMemory r h a = subst (λ (x : Result Verdict EngineFault). SolvesNet counts name price net method limit old new x) (sym a.0) a.1
+  said_no NoThread r h a = subst (λ (x : Result Verdict EngineFault). SolvesNet counts name price net method limit old new x) (sym a.0) a.1
+  said_no Stranger r h a = subst (λ (x : Result Verdict EngineFault). SolvesNet counts name price net method limit old new x) (sym a.0) a.1
+
+  pub answered : {A : Type 0} (flow : A → FlowView) (pit : A → List ℕ) (Is : A → Type 0) (found : Result A Unsolved) (r : Result Verdict EngineFault) → ((s : A) → Is s → IsSound net (flow s) (pit s)) → MatchResult found Is (λ why. UnsolvedStands net method limit why)
+      → MatchResult found (λ s. SendsCertificate counts name price net (pit s) (flow s) old new r) (λ why. SendsNo why old new r) → SolvesNet counts name price net method limit old new r
+  answered flow pit Is (Ok s) r sound h a = sent (pit s) (flow s) r (sound s h) a
+  answered flow pit Is (Err why) r sound h a = said_no why r h a

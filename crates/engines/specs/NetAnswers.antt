@@ -1,0 +1,53 @@
+-- What is written for a net: the certificate of a pit, or a line that says why there is none.
+use Rattle.std.specs.Prelude.{◌≡◌, ℕ, Bool, List, [], ◌∷◌, ◌++◌, codes, length, Option, Result, Ok, Err}
+use Rattle.std.specs.Io.KnownBytes.{Appends, Keeps}
+use Rattle.fixed_worth.specs.Device.{ReceivedPrefix}
+use Rattle.ordered_group.specs.declared.groups.Group.{Group}
+use Rattle.closure_net.specs.Network.{NetView, FlowView}
+use Rattle.check_pit.specs.ReadBack.{IsReadBack}
+use Rattle.check_pit.specs.Written.{header_with, text_of}
+use Rattle.check_pit.specs.declared.pit_fault.PitFault.TheVariants as pit_fault
+use Rattle.check_pit.specs.declared.header.Price.{Price}
+use Rattle.engines.specs.declared.judgement.Judgement.TheVariants.{Refused}
+use Rattle.engines.specs.declared.judgement.Verdict.{Verdict}
+use Rattle.engines.specs.declared.judgement.Verdict.TheVariants.{Done, No}
+use Rattle.engines.specs.declared.engine_fault.EngineFault.{EngineFault}
+use Rattle.engines.specs.declared.engine_fault.EngineFault.TheVariants as engine
+use Rattle.engines.specs.declared.solving.Unsolved.{Unsolved}
+use Rattle.engines.specs.declared.solving.Unsolved.TheVariants.{Unsettled, TooLarge, GaveUp, NoMemory, NoThread, Stranger}
+use Rattle.engines.specs.OutputLines.{judgement_line}
+
+-- the text of a pit and a flow of a net
+abbrev pub certificate_text : Group → Price → NetView → List ℕ → FlowView → List ℕ
+certificate_text name price net pit flow = text_of (header_with (length net.worths) price name) net.pairs pit flow
+
+-- All of it was written, and reads back as that pit and that flow; or a prefix of it, where the device fails.
+abbrev pub SendsCertificate : Bool → Group → Price → NetView → List ℕ → FlowView → Option (List ℕ) → Option (List ℕ) → Result Verdict EngineFault → Type 0
+SendsCertificate counts name price net pit flow old new (Ok verdict) =
+    (verdict ≡ Done) × ((text : List ℕ) × IsReadBack counts name (length net.worths) net.pairs text price pit flow × Appends old new text)
+SendsCertificate counts name price net pit flow old new (Err fault) = (fault ≡ engine.Device) × ReceivedPrefix old new (certificate_text name price net pit flow)
+
+-- the lines of an answer without a certificate
+abbrev pub unsettled_line : List ℕ
+unsettled_line = codes "UNSETTLED" ++ 10 ∷ []
+
+abbrev pub too_large_line : List ℕ
+too_large_line = judgement_line (Refused pit_fault.TooLarge)
+
+-- such a line was written, or a prefix of it, where the device fails
+abbrev pub SendsLine : List ℕ → Option (List ℕ) → Option (List ℕ) → Result Verdict EngineFault → Type 0
+SendsLine line old new (Ok verdict) = (verdict ≡ No) × Appends old new line
+SendsLine line old new (Err fault) = (fault ≡ engine.Device) × ReceivedPrefix old new line
+
+-- this fault is answered, and nothing was written
+abbrev pub Withholds : EngineFault → Option (List ℕ) → Option (List ℕ) → Result Verdict EngineFault → Type 0
+Withholds fault old new result = (result ≡ Err fault) × Keeps old new
+
+-- what is answered where there is no pit, by why there is none
+abbrev pub SendsNo : Unsolved → Option (List ℕ) → Option (List ℕ) → Result Verdict EngineFault → Type 0
+SendsNo Unsettled old new result = SendsLine unsettled_line old new result
+SendsNo GaveUp old new result = SendsLine unsettled_line old new result
+SendsNo TooLarge old new result = SendsLine too_large_line old new result
+SendsNo NoMemory old new result = Withholds engine.Memory old new result
+SendsNo NoThread old new result = Withholds engine.Thread old new result
+SendsNo Stranger old new result = Withholds engine.Stranger old new result

@@ -1,0 +1,75 @@
+//! What `solve` writes for a net: the certificate of its pit, or a line that says why there is none.
+
+ghost use Rattle.std.specs.Prelude.{◌≡◌, ◌+◌, ◌-◌, ◌^◌, ◌<◌, ◌↔◌, IfOk, MatchResult, IsErrOf};
+ghost use Rattle.std.specs.Io.KnownBytes.{Appends};
+ghost use Rattle.fixed_worth.specs.Device.{ReceivedPrefix};
+ghost use Rattle.check_pit.specs.Checks.{IsSound};
+ghost use Rattle.check_pit.specs.ReadBack.{IsPrice};
+ghost use Rattle.engines.specs.NetAnswers.{SendsCertificate, SendsNo};
+
+use crate::certify::Solution;
+use crate::engine_fault::EngineFault;
+use crate::judgement::Verdict;
+use crate::solving::Unsolved;
+use check_pit::{Certificate, Price, write_certificate};
+use closure_net::Net;
+use fixed_worth::{CountedWrite, write_text};
+use ordered_group::OrderedGroup;
+
+/// Writes what was found for a net: the certificate of a solution, at this price, or a line that says why there is none.
+///
+/// A solution is one of this net: its flow proves its pit.
+///
+/// # Errors
+/// `Memory`, `Thread` and `Stranger` where that is why: then nothing was written. `Device` where a write fails: the writer then has a
+/// prefix.
+pub fn write_answer<G: OrderedGroup, W: CountedWrite>(
+    net: &Net<G>,
+    price: Price,
+    found: Result<Solution<G>, Unsolved>,
+    out: &mut W,
+) -> Result<Verdict, EngineFault>
+    requires price { IsPrice price }
+    requires proved { IfOk found (λ s. IsSound net.now s.flow s.pit) }
+    requires room { W.failed out.old < 2 ^ 64 - 1 }
+    ensures answer { MatchResult found
+        (λ s. SendsCertificate G.counts G.name price net.now s.pit s.flow (W.contents out.old) (W.contents out.new) result)
+        (λ why. SendsNo why (W.contents out.old) (W.contents out.new) result) }
+    ensures device { IsErrOf result EngineFault.Device ↔ (W.failed out.new ≡ W.failed out.old + 1) }
+    ensures kept { ¬ IsErrOf result EngineFault.Device → W.failed out.new ≡ W.failed out.old }
+{
+    // proof: what is known of every net, that its pairs are of its blocks and in order
+    let _worths = net.worths();
+    let solution = match found {
+        Ok(solution) => solution,
+        Err(Unsolved::Unsettled | Unsolved::GaveUp) => return write_no(b"UNSETTLED\n", out),
+        Err(Unsolved::TooLarge) => return write_no(b"REFUSED TooLarge\n", out),
+        Err(Unsolved::NoMemory) => return Err(EngineFault::Memory),
+        Err(Unsolved::NoThread) => return Err(EngineFault::Thread),
+        Err(Unsolved::Stranger) => return Err(EngineFault::Stranger),
+    };
+    let certificate = Certificate {
+        blocks: net.len(),
+        price,
+        pit: solution.pit,
+        flow: solution.flow,
+    };
+    write_certificate(&certificate, net.rests(), out)?;
+    Ok(Verdict::Done)
+}
+
+/// Writes the line of an answer without a certificate.
+///
+/// # Errors
+/// `Device` where a write fails; the writer then has a prefix of the line.
+pub fn write_no<W: CountedWrite>(line: &[u8], out: &mut W) -> Result<Verdict, EngineFault>
+    requires { W.failed out.old < 2 ^ 64 - 1 }
+    ensures answer { MatchResult result
+        (λ verdict. (verdict ≡ Verdict.No) × Appends (W.contents out.old) (W.contents out.new) line.now)
+        (λ fault. (fault ≡ EngineFault.Device) × ReceivedPrefix (W.contents out.old) (W.contents out.new) line.now) }
+    ensures device { IsErrOf result EngineFault.Device ↔ (W.failed out.new ≡ W.failed out.old + 1) }
+    ensures kept { ¬ IsErrOf result EngineFault.Device → W.failed out.new ≡ W.failed out.old }
+{
+    write_text(out, line)?;
+    Ok(Verdict::No)
+}
