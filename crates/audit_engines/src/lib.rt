@@ -14,4 +14,3 @@ pub mod tracing;
 pub use priced_traced_solving::solve_traced_priced_engine;
 pub use room_word::room_named;
 pub use traced_solving::solve_traced_engine;
-

@@ -53,4 +53,3 @@ pub use solving_engine::solve_engine;
 pub use stored_run::stored_check;
 pub use unwatched::Unwatched;
 pub use whole_numbers::whole_within;
-

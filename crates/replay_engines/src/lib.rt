@@ -18,4 +18,3 @@ mod trace_inputs;
 
 pub use priced_replaying::replay_priced_engine;
 pub use replaying::replay_engine;
-

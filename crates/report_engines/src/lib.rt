@@ -11,4 +11,3 @@ mod report_inputs;
 mod reporting;
 
 pub use reporting::report_engine;
-

@@ -18,4 +18,3 @@ mod solving_at;
 pub use announcing::SeriesProgress;
 pub use series_engine::shells_engine;
 pub use shell_rows::ShellRow;
-

@@ -18,4 +18,3 @@ pub use priced_words_solving::solve_priced_words_engine;
 pub use running::by_words;
 pub use word_effort::WordEffort;
 pub use words_solving::solve_words_engine;
-
