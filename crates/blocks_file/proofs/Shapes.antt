@@ -4,7 +4,7 @@ use Rattle.std.specs.List.{list_any}
 use Rattle.std.proofs.lemmas.List.{length-map}
 use Rattle.fixed_worth.specs.Text.{Run}
 use Rattle.fixed_worth.specs.Record.{is_remark, is_skipped}
-use Rattle.blocks_file.specs.declared.coordinates.Place.{Place}
+use Rattle.blocks_file.specs.declared.place.Place.{Place}
 use Rattle.blocks_file.specs.declared.faults.BlocksFault.TheVariants.{NoColumn}
 use Rattle.blocks_file.specs.Records.{number_of, head_reads, place_at, block_of, place_of, columns_of, shape_fault, is_bad, are_there}
 use Rattle.blocks_file.specs.Internal.{IsRow, HoldsValues}

@@ -2,7 +2,8 @@
 use Rattle.std.specs.Prelude.{◌≡◌, ℕ, ℤ, pos, ◌+◌, ◌*◌, ◌<◌, ◌≤◌, true, List, [], length, map, slice_index_or}
 use Rattle.std.specs.List.{range_with_len}
 use Rattle.fixed_worth.specs.declared.limits.TheConstants.{MOST_BLOCKS}
-use Rattle.blocks_file.specs.declared.coordinates.Place.{Place}
+use Rattle.blocks_file.specs.declared.limits.TheConstants.{MOST_COLUMNS}
+use Rattle.blocks_file.specs.declared.place.Place.{Place}
 use Rattle.blocks_file.specs.Records.{place_of, columns_of, value_in, has_record, record_among, lines_in, count_of}
 
 -- What the type shows: the number of blocks, the place of each, and each chosen column's values in millionths.
@@ -22,7 +23,7 @@ columns_from width n values = map (λ i. map (λ b. slice_index_or values (b * w
 -- At most 2^24 blocks, each with a place and a value of each of at most eight columns.
 pub record IsModel (n width : ℕ) (places : List Place) (values : List ℤ) : Type 0 where
   pub bound : n ≤ MOST_BLOCKS
-  pub few : width ≤ 8
+  pub few : width ≤ MOST_COLUMNS
   pub all_places : length places ≡ n
   pub all_values : length values ≡ n * width
 

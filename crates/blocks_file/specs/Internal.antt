@@ -1,7 +1,7 @@
 -- What only the functions of this crate say to one another: what one step of reading does.
 use Rattle.std.specs.Prelude.{◌≡◌, ◌≢◌, ℕ, ℤ, pos, ◌+◌, ◌*◌, ◌<◌, ◌≤◌, true, List, [], length, Some, slice_index_or}
 use Rattle.fixed_worth.specs.Record.{Line}
-use Rattle.blocks_file.specs.declared.coordinates.Place.{Place}
+use Rattle.blocks_file.specs.declared.place.Place.{Place}
 use Rattle.blocks_file.specs.Records.{place_of, columns_of, value_in, value_read, has_record, record_among}
 use Rattle.blocks_file.specs.Denotes.{origin, IsModel}
 

@@ -1,16 +1,15 @@
 -- What a text of blocks says, over its list of lines.
 use Rattle.std.specs.Prelude.{ℕ, ℤ, pos, negsuc, ◌^◌, ◌==◌, ◌||◌, ◌&&◌, Bool, not, cond, List, [], ◌∷◌, ◌++◌, length, nat_lt, nat_le, int_lt, Option, Some, None, is_some, unwrap_or, Result, Ok, Err, slice_index_or}
 use Rattle.std.specs.Option.{option_or}
-use Rattle.std.specs.Result.{result_ok}
 use Rattle.std.specs.List.{list_all, list_any, flat_map}
 use Rattle.fixed_worth.specs.declared.limits.TheConstants.{MOST_BLOCKS, LINE_BYTES}
 use Rattle.fixed_worth.specs.declared.numerals.NumberFault.{NumberFault}
 use Rattle.fixed_worth.specs.Numeral.{signed_of}
-use Rattle.fixed_worth.specs.Decimal.{decimal_of}
+pub use Rattle.fixed_worth.specs.Decimal.{value_read}
 use Rattle.fixed_worth.specs.Text.{fields_of}
 use Rattle.fixed_worth.specs.Record.{Line, reads, is_skipped}
 pub use Rattle.fixed_worth.specs.Record.{lines_in, number_of}
-use Rattle.blocks_file.specs.declared.coordinates.Place.{Place}
+use Rattle.blocks_file.specs.declared.place.Place.{Place}
 use Rattle.blocks_file.specs.declared.faults.BlocksFault.{BlocksFault}
 use Rattle.blocks_file.specs.declared.faults.BlocksFault.TheVariants.{Text, Number, NoColumn, UnknownBlock, Repeated, TooMany, NoMemory}
 
@@ -22,10 +21,6 @@ in_range (Err e) = None
 -- The coordinate that a field is.
 abbrev pub coordinate_read : List ℕ → Option ℤ
 coordinate_read field = in_range (signed_of field)
-
--- The value that a field is, in millionths.
-abbrev pub value_read : List ℕ → Option ℤ
-value_read field = result_ok (decimal_of field)
 
 -- A record's first field is its block.
 abbrev pub block_of : List (List ℕ) → ℕ

@@ -4,6 +4,7 @@ ghost use Rattle.std.specs.Prelude.{◌≡◌, ◌+◌, ◌*◌, ◌<◌, ◌≤
 ghost use Rattle.blocks_file.specs.Denotes as spec;
 
 use crate::Place;
+use crate::limits::MOST_COLUMNS;
 use fixed_worth::{MOST_BLOCKS, Micros};
 use std::marker::Model;
 
@@ -58,7 +59,7 @@ impl BlockModel {
     /// How many columns were chosen.
     pub fn columns(&self) -> u32
         ensures value { result ≡ length self.now.columns }
-        ensures bound { result ≤ 8 }
+        ensures bound { result ≤ MOST_COLUMNS }
     {
         self.width
     }

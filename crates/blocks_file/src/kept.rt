@@ -5,7 +5,8 @@ ghost use Rattle.blocks_file.specs.Records as spec;
 ghost use Rattle.blocks_file.specs.Internal.{ArePut};
 
 use crate::BlocksFault;
-use crate::coordinates::Place;
+use crate::limits::MOST_COLUMNS;
+use crate::place::Place;
 use fixed_worth::{MOST_BLOCKS, Micros};
 use std::alloc::{AllocError, Global};
 
@@ -40,7 +41,7 @@ fn put_row(values: &mut [Micros], from: usize, row: &[Micros])
 impl Kept {
     // No block has had a record.
     pub(crate) fn new(alloc: Global, n: u32, width: u32) -> Result<Kept, AllocError>
-        requires { (n ≤ MOST_BLOCKS) × (width ≤ 8) }
+        requires { (n ≤ MOST_BLOCKS) × (width ≤ MOST_COLUMNS) }
         ensures { IfOk result (λ kept. (kept.seen.items ≡ replicate n false) × (length kept.places.items ≡ n) × (length kept.values.items ≡ n * width)) }
     {
         let seen = vec![in alloc; false; n as usize]?;
@@ -61,7 +62,7 @@ impl Kept {
         row: &[Micros],
         line: u64,
     ) -> Result<(), BlocksFault>
-        requires few { (length self.old.seen.items ≤ MOST_BLOCKS) × (length row.now ≤ 8) }
+        requires few { (length self.old.seen.items ≤ MOST_BLOCKS) × (length row.now ≤ MOST_COLUMNS) }
         requires places { length self.old.places.items ≡ length self.old.seen.items }
         requires values { length self.old.values.items ≡ length self.old.seen.items * length row.now }
         ensures { let had : ℕ → Bool = λ b. slice_index_or self.old.seen.items b false in MatchResult result

@@ -13,17 +13,19 @@
 #![tactic(auto)]
 
 mod block_model;
-mod coordinates;
 mod counting;
 mod faults;
 mod kept;
+mod limits;
+mod place;
 mod reading;
 mod record;
 mod row;
 
 pub use block_model::BlockModel;
-pub use coordinates::Place;
 pub use faults::BlocksFault;
+pub use limits::MOST_COLUMNS;
+pub use place::Place;
 pub use reading::read_blocks;
 
 #[cfg(test)]

@@ -8,13 +8,13 @@ ghost use Rattle.blocks_file.specs.Internal.{AreKept};
 use crate::counting::count_records;
 use crate::kept::{Kept, zeros};
 use crate::record::read_record;
-use crate::{BlockModel, BlocksFault};
+use crate::{BlockModel, BlocksFault, MOST_COLUMNS};
 use fixed_worth::{Lines, MOST_BLOCKS};
 use std::alloc::Global;
 
 // Reads the records of a text that has n of them.
 fn read_records(alloc: Global, text: &[u8], columns: &[u32], n: u32) -> Result<Kept, BlocksFault>
-    requires few { length columns.now ≤ 8 }
+    requires few { length columns.now ≤ MOST_COLUMNS }
     requires short { spec.long_fault (spec.lines_in text.now) ≡ None }
     requires counted { n ≡ length (spec.record_lines (spec.lines_in text.now)) }
     requires bound { n ≤ MOST_BLOCKS }
@@ -41,7 +41,7 @@ fn read_records(alloc: Global, text: &[u8], columns: &[u32], n: u32) -> Result<K
     }
 }
 
-/// The blocks of a text, with their places and at most eight chosen columns. Column 0 is the first field behind `z`; a
+/// The blocks of a text, with their places and at most [`MOST_COLUMNS`] chosen columns. Column 0 is the first field behind `z`; a
 /// column may be chosen twice, and none need be.
 ///
 /// A record is `block x y z` and any number of columns. Lines without a field, and those whose first field begins with
@@ -53,7 +53,7 @@ fn read_records(alloc: Global, text: &[u8], columns: &[u32], n: u32) -> Result<K
 /// `NoColumn`, `UnknownBlock`, `Repeated`. `NoMemory` where memory is refused, which is asked for once no line is too
 /// long and no record too many.
 pub fn read_blocks(alloc: Global, text: &[u8], columns: &[u32]) -> Result<BlockModel, BlocksFault>
-    requires { length columns.now ≤ 8 }
+    requires { length columns.now ≤ MOST_COLUMNS }
     ensures value { MatchResult result
         (λ m. (spec.fault_of columns.now text.now ≡ None) × Denotes columns.now text.now m)
         (λ e. spec.UnlessMemory e (spec.fault_of columns.now text.now ≡ Some e)) }

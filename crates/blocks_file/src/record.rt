@@ -7,7 +7,7 @@ ghost use Rattle.blocks_file.specs.Records as spec;
 ghost use Rattle.blocks_file.specs.Internal.{HoldsValues};
 
 use crate::BlocksFault;
-use crate::coordinates::{Place, read_coordinate};
+use crate::place::{Place, read_coordinate};
 use crate::row::{are_there, read_row};
 use fixed_worth::{Fields, LINE_BYTES, Micros, is_remark, whole};
 

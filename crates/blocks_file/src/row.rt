@@ -14,13 +14,6 @@ fn is_chosen(columns: &[u32], column: u32) -> bool
     columns.iter().any(|c| *c == column)
 }
 
-// The value of a field.
-fn read_value(field: &[u8]) -> Option<Micros>
-    ensures { result ≡ spec.value_read field.now }
-{
-    Micros::from_text(field).ok()
-}
-
 // Puts a column's value wherever the column was chosen.
 fn fill(row: &mut [Micros], columns: &[u32], column: u32, value: Micros)
     requires { length row.old ≡ length columns.now }
@@ -49,7 +42,7 @@ fn take_field(
     if !is_chosen(columns, column) {
         return Ok(());
     }
-    let value = read_value(field).ok_or(BlocksFault::Number(line))?;
+    let value = Micros::from_text(field).map_err(|_| BlocksFault::Number(line))?;
     fill(row, columns, column, value);
     Ok(())
 }

@@ -14,7 +14,7 @@ use Rattle.check_pit.specs.declared.pit_fault.PitFault.TheVariants.{WrongSize, N
 use Rattle.check_pit.specs.declared.stream_fault.StreamFault.{StreamFault}
 use Rattle.check_pit.specs.declared.stream_fault.StreamFault.TheVariants.{Device, InputTooLong, Cert}
 use Rattle.check_pit.specs.declared.stream_fault.StreamFault.TheVariants as stream
-use Rattle.check_pit.specs.declared.stream_lines.TheConstants.{MOST_BYTES}
+use Rattle.fixed_worth.specs.declared.limits.TheConstants.{MOST_BYTES}
 use Rattle.check_pit.specs.declared.lines_of_body.LineKind.{LineKind}
 use Rattle.check_pit.specs.declared.lines_of_body.LineKind.TheVariants.{Pit, Source, Rest, Sink, End}
 use Rattle.check_pit.specs.declared.lines_of_body.BodyLine.{BodyLine}

@@ -1,12 +1,11 @@
 -- What is read of a stream of lines.
 use Rattle.std.specs.Prelude.{◌≡◌, ℕ, ◌+◌, ◌<◌, ◌≤◌, ◌==◌, Bool, true, false, List, [], ◌++◌, length, position, Option, Some}
 use Rattle.std.specs.Io.KnownBytes.{Consumes, IsAtEnd}
-use Rattle.fixed_worth.specs.declared.limits.TheConstants.{LINE_BYTES}
+use Rattle.fixed_worth.specs.declared.limits.TheConstants.{LINE_BYTES, MOST_BYTES}
 use Rattle.check_pit.specs.declared.cert_fault.CertFault.{CertFault}
 use Rattle.check_pit.specs.declared.cert_fault.CertFault.TheVariants as fault
 use Rattle.check_pit.specs.declared.stream_fault.StreamFault.{StreamFault}
 use Rattle.check_pit.specs.declared.stream_fault.StreamFault.TheVariants.{Device, InputTooLong, Cert, Pit}
-use Rattle.check_pit.specs.declared.stream_lines.TheConstants.{MOST_BYTES}
 use Rattle.check_pit.specs.StreamView.{LineView}
 use Rattle.check_pit.specs.Pieces.{pieces_of, piece_at, no_line}
 

@@ -6,7 +6,7 @@ use Rattle.check_pit.specs.declared.cert_fault.CertFault.TheVariants as fault
 use Rattle.check_pit.specs.declared.pit_fault.PitFault.{PitFault}
 use Rattle.check_pit.specs.declared.stream_fault.StreamFault.{StreamFault}
 use Rattle.check_pit.specs.declared.stream_fault.StreamFault.TheVariants.{Device, InputTooLong, Cert, Pit}
-use Rattle.check_pit.specs.declared.stream_lines.TheConstants.{MOST_BYTES}
+use Rattle.fixed_worth.specs.declared.limits.TheConstants.{MOST_BYTES}
 use Rattle.check_pit.specs.StreamView.{LineView}
 use Rattle.check_pit.specs.StreamLines.{Reads, IsLine}
 use Rattle.check_pit.specs.Pieces.{Piece, pieces_of, piece_at}

@@ -39,9 +39,11 @@ impl fmt::Display for CertFault {
     }
 }
 
-// What is wrong with a line by itself.
+/// Why a text is no line of a certificate, whatever stands around it. [`CertFault`] adds the line's number.
 #[derive(Clone, Copy)]
 pub enum LineFault {
+    /// It has none of the forms of a line.
     Text,
+    /// A number of it is not written in its one spelling, or is out of range.
     Number,
 }

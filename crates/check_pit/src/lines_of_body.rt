@@ -19,24 +19,33 @@ const SINK: &[u8] = b"SINK";
 
 const END: &[u8] = b"END";
 
-/// The kinds of lines, in the order in which they stand.
+/// The kinds of lines behind the header, in the order in which they stand.
 #[derive(Clone, Copy, PartialEq, Eq, PartialOrd, Ord)]
 pub enum LineKind {
+    /// `PIT b`: block b is in the pit.
     Pit,
+    /// `SOURCE b w c`: the flow from the source to block b.
     Source,
+    /// `REST b p w c`: the flow from block b to its predecessor p.
     Rest,
+    /// `SINK b w c`: the flow from block b to the sink.
     Sink,
+    /// `END`: nothing follows.
     End,
 }
 
-/// A line with its numbers; what a kind doesn't have is 0.
+/// A line behind the header with its numbers; those that its kind doesn't have are 0.
 #[derive(Clone, Copy)]
 pub struct BodyLine {
     pub kind: LineKind,
+    /// The block that the line names first, below the model's number of blocks.
     pub block: u32,
-    /// The predecessor of a REST line.
+    /// The predecessor that a REST line names.
     pub other: u32,
+    /// The first number of the amount: worth in billionths. With `GROUP SCALED`, in a model of n blocks, a block of worth v
+    /// makes v times (n + 1), less 1.
     pub worth: i128,
+    /// The second number of the amount, which is 0 but with `GROUP PAIR`: each block makes -1.
     pub count: i128,
 }
 

@@ -4,19 +4,15 @@
 //! reads until it is held whole, [`StreamLines::front`] lends it, and [`StreamLines::pass`] goes behind it.
 
 ghost use Rattle.std.specs.Prelude.{◌≡◌, ℕ, ◌+◌, ◌^◌, ◌-◌, ◌<◌, ◌≤◌, [], length, drop, take, IfOk, IfErr, IsErrOf, MatchResult};
-ghost use Rattle.fixed_worth.specs.declared.limits.TheConstants.{LINE_BYTES};
-ghost use Rattle.check_pit.specs.declared.stream_lines.TheConstants.{MOST_BYTES};
+ghost use Rattle.fixed_worth.specs.declared.limits.TheConstants.{LINE_BYTES, MOST_BYTES};
 ghost use Rattle.check_pit.specs.StreamLines.{Reads, IsLine, NoLine, MoreOrEnd, DoneOrNot, NotDone};
 
 use crate::cert_fault::CertFault;
 use crate::stream_bytes::StreamBytes;
 use crate::stream_fault::StreamFault;
-use fixed_worth::{CountedRead, LINE_BYTES, first_line_feed};
+use fixed_worth::{CountedRead, LINE_BYTES, MOST_BYTES, first_line_feed};
 use std::alloc::{AllocError, Global};
 use std::marker::Model;
-
-/// The most bytes that a stream may give.
-pub const MOST_BYTES: u64 = 1 << 32;
 
 /// A device whose text is cut into lines. It is read only where no whole line is held.
 #[derive(Drop)]
@@ -29,8 +25,7 @@ pub struct StreamLines<R> {
 
 impl<R> Model for StreamLines<R> {
     ghost use Rattle.std.specs.Prelude.{◌+◌, ◌≤◌, length};
-    ghost use Rattle.fixed_worth.specs.declared.limits.TheConstants.{LINE_BYTES};
-    ghost use Rattle.check_pit.specs.declared.stream_lines.TheConstants.{MOST_BYTES};
+    ghost use Rattle.fixed_worth.specs.declared.limits.TheConstants.{LINE_BYTES, MOST_BYTES};
     ghost use Rattle.check_pit.specs.StreamView.{LineView};
 
     ghost Value = { LineView R };

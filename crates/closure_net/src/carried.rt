@@ -15,8 +15,8 @@ use std::marker::Model;
 /// the amounts of those few take a small part of the memory that an amount for each pair would.
 #[derive(Drop)]
 pub struct Carried<G: OrderedGroup> {
-    // for each pair one more than its amount's place, or 0 where it was never set; none where each pair has an amount
-    // of its own, in the order of the pairs
+    // For each pair the index of its amount plus one, or 0 where none was set. `None` where `amounts` has one for each
+    // pair, in their order.
     places: Option<Vec<u32>>,
     amounts: Vec<G>,
 }

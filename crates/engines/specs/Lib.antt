@@ -20,6 +20,6 @@ pub mod PatternWords
 pub mod Nested
 pub mod NetAnswers
 pub mod Solving
-pub mod SolveWords
+pub mod OptionWords
 pub mod Certifying
 pub mod Methods

@@ -1,18 +1,13 @@
 -- The words that name a pattern and a direction.
-use Rattle.std.specs.Prelude.{ℕ, ◌==◌, cond, List, [], ◌∷◌, codes, Option, Some, None}
+use Rattle.std.specs.Prelude.{ℕ, cond, List, [], ◌∷◌, codes, Option, Some, None}
 use Rattle.std.specs.Str.{bytes_eq}
-use Rattle.std.specs.List.{onto_first}
+use Rattle.fixed_worth.specs.Text.{parts}
 use Rattle.slope.specs.declared.up.Up.{Up}
 use Rattle.slope.specs.declared.up.Up.TheVariants.{PlusZ, MinusZ}
 use Rattle.slope.specs.declared.pattern.TheConstants.{MOST_CONE_NUMBER}
 use Rattle.engines.specs.declared.pattern_choice.PatternChoice.{PatternChoice}
 use Rattle.engines.specs.declared.pattern_choice.PatternChoice.TheVariants.{Five, Nine, Cone}
 use Rattle.engines.specs.WholeNumbers.{whole_within}
-
--- the pieces of a word, which colons (58) divide: one more than there are colons
-abbrev pub pieces_of : List ℕ → List (List ℕ)
-pieces_of [] = [] ∷ []
-pieces_of (b ∷ bs) = cond (b == 58) ([] ∷ pieces_of bs) (onto_first b (pieces_of bs))
 
 -- the number of a cone that a piece is: a whole number from 1 to 1,000
 abbrev pub cone_number_of : List ℕ → Option ℕ
@@ -38,9 +33,9 @@ pattern_with [] = None
 pattern_with (name ∷ []) = plain_pattern_of name
 pattern_with (name ∷ piece ∷ pieces) = cond (bytes_eq name (codes "cone")) (cone_of (piece ∷ pieces)) None
 
--- the pattern that a word names, if it names one
+-- the pattern that a word names, if it names one: colons (58) divide the word into pieces
 abbrev pub pattern_of : List ℕ → Option PatternChoice
-pattern_of word = pattern_with (pieces_of word)
+pattern_of word = pattern_with (parts 58 word)
 
 -- the direction that a word names, if it names one
 abbrev pub up_of : List ℕ → Option Up

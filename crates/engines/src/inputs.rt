@@ -6,14 +6,11 @@ ghost use Rattle.engines.specs.BlockTexts.{ReadsBlocks, BlocksReadFails};
 ghost use Rattle.engines.specs.Inputs.{ReadsUpit, ListsPrec, ReadsPrec, UpitReadFails, PrecReadFails, TextFails};
 
 use crate::engine_fault::{EngineFault, Problem};
-use blocks_file::{BlockModel, read_blocks};
-use fixed_worth::{CountedRead, InputFault, MOST_BLOCKS, read_whole};
+use blocks_file::{BlockModel, MOST_COLUMNS, read_blocks};
+use fixed_worth::{CountedRead, InputFault, MOST_BLOCKS, MOST_BYTES, read_whole};
 use prec_file::{ListedPairs, Predecessors, Rests, read_listed};
 use std::alloc::Global;
 use upit_file::{Upit, declared_blocks, read_upit};
-
-// The most bytes of an input.
-const LONGEST: u64 = 1 << 32;
 
 /// All bytes of an input.
 ///
@@ -31,7 +28,7 @@ pub fn text_from<R: CountedRead>(
     ensures device { IsErrOf result EngineFault.Device ↔ (R.failed from.new ≡ R.failed from.old + 1) }
     ensures kept { ¬ IsErrOf result EngineFault.Device → R.failed from.new ≡ R.failed from.old }
 {
-    match read_whole(alloc, from, LONGEST) {
+    match read_whole(alloc, from, MOST_BYTES) {
         Ok(text) => Ok(text),
         Err(InputFault::Device) => Err(EngineFault::Device),
         Err(InputFault::InputTooLong) => Err(too_long),
@@ -49,7 +46,7 @@ pub fn blocks_from<R: CountedRead>(
     from: &mut R,
     columns: &[u32],
 ) -> Result<BlockModel, EngineFault>
-    requires few { length columns.now ≤ 8 }
+    requires few { length columns.now ≤ MOST_COLUMNS }
     requires room { R.failed from.old < 2 ^ 64 - 1 }
     ensures read { IfSome (R.remaining from.old) (λ text. MatchResult result (ReadsBlocks columns.now text) (BlocksReadFails columns.now text)) }
     ensures columns { IfOk result (λ m. length m.columns ≡ length columns.now) }

@@ -53,21 +53,38 @@ pub fn judge<C: CountedRead>(
     ensures kept { ¬ IsErrOf result EngineFault.Device → C.failed certificate.new ≡ C.failed certificate.old }
 {
     let held = StreamBytes::new(alloc)?;
-    replace_with(certificate, (alloc, upit, rests, held), judge_device)
+    let mine = ValueCase {
+        alloc,
+        upit,
+        rests,
+        held,
+    };
+    replace_with(certificate, mine, judge_device)
+}
+
+// A mine of values that a certificate is judged for, with memory for a line of the certificate.
+#[derive(Drop)]
+struct ValueCase {
+    alloc: Global,
+    upit: Upit,
+    rests: Predecessors,
+    held: StreamBytes,
 }
 
 // The same; the device is lent to a stream, and handed back.
-fn judge_device<C: CountedRead>(
-    device: C,
-    mine: (Global, Upit, Predecessors, StreamBytes),
-) -> (C, Result<Judgement, EngineFault>)
+fn judge_device<C: CountedRead>(device: C, mine: ValueCase) -> (C, Result<Judgement, EngineFault>)
     requires count { C.failed device < 2 ^ 64 - 1 }
-    requires held { mine.3 ≡ [] }
-    ensures judged { IfSome (C.remaining device) (λ c. (texts : MineTexts) → AreRead texts (billionths_of mine.1.values) mine.2 → price_wanted texts ≡ Objective → Judges texts c result.1) }
+    requires held { mine.held ≡ [] }
+    ensures judged { IfSome (C.remaining device) (λ c. (texts : MineTexts) → AreRead texts (billionths_of mine.upit.values) mine.rests → price_wanted texts ≡ Objective → Judges texts c result.1) }
     ensures device { IsErrOf result.1 EngineFault.Device → C.failed result.0 ≡ C.failed device + 1 }
     ensures kept { ¬ IsErrOf result.1 EngineFault.Device → C.failed result.0 ≡ C.failed device }
 {
-    let (alloc, upit, rests, held) = mine;
+    let ValueCase {
+        alloc,
+        upit,
+        rests,
+        held,
+    } = mine;
     let mut stream = CertStream::over(held, device);
     let judgement = judge_stream(alloc, upit, rests, &mut stream);
     (stream.into_device(), judgement)
@@ -117,27 +134,46 @@ pub fn judge_priced<R: Threads + Sync, C: CountedRead>(
     ensures kept { ¬ IsErrOf result EngineFault.Device → C.failed certificate.new ≡ C.failed certificate.old }
 {
     let held = StreamBytes::new(alloc)?;
-    replace_with(
-        certificate,
-        (rt, alloc, prices, rests, held),
-        judge_priced_device,
-    )
+    let mine = PricedCase {
+        rt,
+        alloc,
+        prices,
+        rests,
+        held,
+    };
+    replace_with(certificate, mine, judge_priced_device)
+}
+
+// A mine of prices that a certificate is judged for, with memory for a line of the certificate.
+#[derive(Drop)]
+struct PricedCase<'a, R> {
+    rt: &'a R,
+    alloc: Global,
+    prices: Prices,
+    rests: Predecessors,
+    held: StreamBytes,
 }
 
 // The same; the device is lent to a stream, and handed back.
 fn judge_priced_device<R: Threads + Sync, C: CountedRead>(
     device: C,
-    mine: (&R, Global, Prices, Predecessors, StreamBytes),
+    mine: PricedCase<'_, R>,
 ) -> (C, Result<Judgement, EngineFault>)
     requires count { C.failed device < 2 ^ 64 - 1 }
-    requires held { mine.4 ≡ [] }
+    requires held { mine.held ≡ [] }
     requires sync { IsSync R.row }
-    ensures judged { IfSome (C.remaining device) (λ c. (settings blocks precedence : List ℕ) → ArePricesRead settings blocks precedence mine.entry.2 mine.entry.3
+    ensures judged { IfSome (C.remaining device) (λ c. (settings blocks precedence : List ℕ) → ArePricesRead settings blocks precedence mine.entry.prices mine.entry.rests
         → Judges (priced_texts settings blocks precedence (factor_in c)) c result.1) }
     ensures device { IsErrOf result.1 EngineFault.Device → C.failed result.0 ≡ C.failed device + 1 }
     ensures kept { ¬ IsErrOf result.1 EngineFault.Device → C.failed result.0 ≡ C.failed device }
 {
-    let (rt, alloc, prices, rests, held) = mine;
+    let PricedCase {
+        rt,
+        alloc,
+        prices,
+        rests,
+        held,
+    } = mine;
     let mut stream = CertStream::over(held, device);
     let judgement = judge_priced_stream(rt, alloc, prices, rests, &mut stream);
     (stream.into_device(), judgement)

@@ -1,32 +1,16 @@
 //! The words that name a pattern and a direction.
 
-ghost use Rattle.std.specs.Prelude.{◌≡◌, ◌==◌, [], ◌∷◌, position, IfSome, MatchOption};
-ghost use Rattle.engines.specs.PatternWords.{pieces_of, cone_number_of, cone_of, plain_pattern_of, pattern_of, up_of};
+ghost use Rattle.std.specs.Prelude.{◌≡◌, IfSome};
+ghost use Rattle.fixed_worth.specs.Text.{parts};
+ghost use Rattle.engines.specs.PatternWords.{cone_number_of, cone_of, plain_pattern_of, pattern_of, up_of};
 ghost use Rattle.engines.specs.Slopes.{IsConeNumber, IsChoice};
 
 use crate::pattern_choice::PatternChoice;
 use crate::whole_numbers::whole_within;
-use fixed_worth::behind_first;
+use fixed_worth::cut_at;
 use slope::{MOST_CONE_NUMBER, Up};
 
-fn first_colon(word: &[u8]) -> Option<usize>
-    ensures { result ≡ position (λ b. b == 58) word.now }
-{
-    word.iter().position(|b| *b == b':')
-}
-
-// What stands before the first colon, and what stands behind it.
-fn cut(word: &[u8]) -> Option<(&[u8], &[u8])>
-    ensures { MatchOption result (pieces_of word.now ≡ word.now ∷ []) (λ x. pieces_of word.now ≡ x.0.now ∷ pieces_of x.1.now) }
-{
-    match first_colon(word) {
-        Some(end) => {
-            let (front, back) = word.split_at(end);
-            Some((front, behind_first(back)))
-        }
-        None => None,
-    }
-}
+const COLON: u8 = b':';
 
 // The number of a cone: a whole number from 1 to 1,000.
 fn cone_number(piece: &[u8]) -> Option<u32>
@@ -41,18 +25,18 @@ fn cone_number(piece: &[u8]) -> Option<u32>
 
 // The cone whose three numbers are the pieces of a text.
 fn cone_named(numbers: &[u8]) -> Option<PatternChoice>
-    ensures is { result ≡ cone_of (pieces_of numbers.now) }
+    ensures is { result ≡ cone_of (parts 58 numbers.now) }
     ensures choice { IfSome result IsChoice }
 {
-    let (levels, others) = match cut(numbers) {
-        Some(parts) => parts,
+    let (levels, others) = match cut_at(COLON, numbers) {
+        Some(pieces) => pieces,
         None => return None,
     };
-    let (run, rise) = match cut(others) {
-        Some(parts) => parts,
+    let (run, rise) = match cut_at(COLON, others) {
+        Some(pieces) => pieces,
         None => return None,
     };
-    match cut(rise) {
+    match cut_at(COLON, rise) {
         Some(_) => None,
         None => match (cone_number(levels), cone_number(run), cone_number(rise)) {
             (Some(levels), Some(run), Some(rise)) => Some(PatternChoice::Cone {
@@ -84,7 +68,7 @@ pub fn pattern_named(word: &[u8]) -> Option<PatternChoice>
     ensures is { result ≡ pattern_of word.now }
     ensures choice { IfSome result IsChoice }
 {
-    match cut(word) {
+    match cut_at(COLON, word) {
         Some((name, numbers)) => {
             if name == b"cone".as_slice() {
                 cone_named(numbers)

@@ -57,7 +57,7 @@ pub fn check_priced_engine<
         × (C.failed certificate.new ≡ C.failed certificate.old) × (W.failed out.new ≡ W.failed out.old) }
 {
     let mine = prices_and_predecessors_from(alloc, settings, blocks, prec)?;
-    let judgement = judge_priced(rt, alloc, mine.0, mine.1, certificate)?;
+    let judgement = judge_priced(rt, alloc, mine.prices, mine.predecessors, certificate)?;
     write_judgement(alloc, judgement, out)?;
     Ok(judgement.verdict())
 }

@@ -266,6 +266,15 @@ pub fn priced_mine_from<S: CountedRead, B: CountedRead, P: CountedRead>(
     Ok(PricedMine { prices, rests })
 }
 
+/// What a check needs of a mine whose blocks have prices.
+#[derive(Drop)]
+pub struct PricesAndPredecessors {
+    /// The prices of the blocks.
+    pub prices: Prices,
+    /// The predecessors of each block.
+    pub predecessors: Predecessors,
+}
+
 /// The same for a check: the prices, and the predecessors of each block.
 ///
 /// # Errors
@@ -275,18 +284,21 @@ pub fn prices_and_predecessors_from<S: CountedRead, B: CountedRead, P: CountedRe
     settings: &mut S,
     blocks: &mut B,
     prec: &mut P,
-) -> Result<(Prices, Predecessors), EngineFault>
+) -> Result<PricesAndPredecessors, EngineFault>
     requires settings_room { S.failed settings.old < 2 ^ 64 - 1 }
     requires blocks_room { B.failed blocks.old < 2 ^ 64 - 1 }
     requires prec_room { P.failed prec.old < 2 ^ 64 - 1 }
     ensures read { IfSome (S.remaining settings.old) (λ s. IfSome (B.remaining blocks.old) (λ b. IfSome (P.remaining prec.old) (λ p.
-        MatchResult result (λ mine. ArePricesRead s b p mine.0 mine.1) (PricedMineFails s b p)))) }
+        MatchResult result (λ mine. ArePricesRead s b p mine.prices mine.predecessors) (PricedMineFails s b p)))) }
     ensures device { IsErrOf result EngineFault.Device → S.failed settings.new + B.failed blocks.new + P.failed prec.new ≡ S.failed settings.old + B.failed blocks.old + P.failed prec.old + 1 }
     ensures kept { ¬ IsErrOf result EngineFault.Device → (S.failed settings.new ≡ S.failed settings.old) × (B.failed blocks.new ≡ B.failed blocks.old) × (P.failed prec.new ≡ P.failed prec.old) }
 {
     let settings = settings_from(alloc, settings)?;
     let columns = price_columns(&settings, &[])?;
     let prices = prices_from(alloc, blocks, columns)?;
-    let rests = predecessors_from(alloc, prec, prices.len())?;
-    Ok((prices, rests))
+    let predecessors = predecessors_from(alloc, prec, prices.len())?;
+    Ok(PricesAndPredecessors {
+        prices,
+        predecessors,
+    })
 }

@@ -12,8 +12,8 @@ use crate::engine_fault::EngineFault;
 use crate::pattern_choice::PatternChoice;
 use blocks_file::BlockModel;
 use fixed_worth::CountedWrite;
-use prec_file::{PrecWriteFault, Rests, write_prec};
-use slope::{Pattern, Up, laws, rests_of};
+use prec_file::{PrecWriteFault, Predecessors, write_predecessors};
+use slope::{Pattern, Up, laws, predecessors_of};
 use std::alloc::Global;
 
 /// The pattern that is chosen.
@@ -54,14 +54,14 @@ pub fn slopes_of(
     model: &BlockModel,
     pattern: &Pattern,
     up: Up,
-) -> Result<Rests, EngineFault>
+) -> Result<Predecessors, EngineFault>
     ensures made { MatchResult result (AreSlopes model.now pattern.now up) (PairsMakingFail model.now pattern.now up) }
     ensures narrow { IfOk result AreNarrow }
     ensures no_device { ¬ IsErrOf result EngineFault.Device }
 {
     // proof: a block has no more predecessors than a pattern has offsets
     laws::slopes_are_narrow(pattern);
-    match rests_of(alloc, model, pattern, up) {
+    match predecessors_of(alloc, model, pattern, up) {
         Ok(rests) => Ok(rests),
         Err(fault) => Err(EngineFault::from(fault)),
     }
@@ -71,7 +71,7 @@ pub fn slopes_of(
 ///
 /// # Errors
 /// `Device` where a write fails: the writer has then received a prefix of the text.
-pub fn write_slopes<W: CountedWrite>(rests: &Rests, out: &mut W) -> Result<(), EngineFault>
+pub fn write_slopes<W: CountedWrite>(rests: &Predecessors, out: &mut W) -> Result<(), EngineFault>
     requires narrow { AreNarrow rests.now }
     requires room { W.failed out.old < 2 ^ 64 - 1 }
     ensures sent { OnOk result (Appends (W.contents out.old) (W.contents out.new) (prec_text rests.now)) }
@@ -80,7 +80,7 @@ pub fn write_slopes<W: CountedWrite>(rests: &Rests, out: &mut W) -> Result<(), E
     ensures prefix { IfErr result (λ _. ReceivedPrefix (W.contents out.old) (W.contents out.new) (prec_text rests.now)) }
     ensures counted { IfErr result (λ _. W.failed out.new ≡ W.failed out.old + 1) }
 {
-    match write_prec(rests, out) {
+    match write_predecessors(&rests.lent(), out) {
         Ok(()) => Ok(()),
         Err(PrecWriteFault::Device) => Err(EngineFault::Device),
         // a block rests on no more blocks than a pattern has offsets, which are few

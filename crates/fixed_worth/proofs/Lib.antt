@@ -15,5 +15,6 @@ pub mod DigitsFromEnd
 pub mod Joined
 pub mod WrittenNumbers
 pub mod NextLine
+pub mod Parts
 pub mod PrintedDigits
 pub mod Results

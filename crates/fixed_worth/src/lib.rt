@@ -12,6 +12,7 @@
 //! by then is a prefix of the text.
 #![tactic(auto)]
 
+mod cutting;
 mod decimals;
 mod devices;
 mod failing_device;
@@ -23,7 +24,6 @@ pub mod laws;
 mod limits;
 mod line_reader;
 mod millionths;
-mod numbered;
 mod numerals;
 mod pages;
 mod printing;
@@ -32,14 +32,15 @@ mod rounding;
 mod sending;
 mod short_line;
 mod whole_input;
+mod written_number;
 
+pub use cutting::cut_at;
 pub use devices::{Counted, CountedRead, CountedWrite};
 pub use failing_device::{Failing, Failure};
 pub use field_reader::{Field, Fields, is_separator};
-pub use limits::{LINE_BYTES, MOST_BLOCKS, MOST_FACTOR, MOST_FACTORS};
+pub use limits::{LINE_BYTES, MOST_BLOCKS, MOST_BYTES, MOST_FACTOR, MOST_FACTORS};
 pub use line_reader::{Lines, TextFault, behind_first, first_line_feed};
 pub use millionths::Micros;
-pub use numbered::WrittenNumber;
 pub use numerals::{NumberFault, plain_signed, signed_whole, whole};
 pub use pages::Page;
 pub use printing::{MicrosTotal, Nanos, trimmed_fraction};
@@ -47,6 +48,7 @@ pub use remark::is_remark;
 pub use sending::{WriteFault, write_text};
 pub use short_line::ShortLine;
 pub use whole_input::{InputFault, read_whole};
+pub use written_number::WrittenNumber;
 
 #[cfg(test)]
 mod device_tests;

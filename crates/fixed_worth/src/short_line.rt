@@ -3,7 +3,7 @@
 ghost use Rattle.std.specs.Prelude.{◌≡◌, ℕ, ◌+◌, ◌≤◌, [], ◌++◌, length};
 ghost use Rattle.std.specs.Fmt.{decimal};
 
-use crate::numbered::WrittenNumber;
+use crate::written_number::WrittenNumber;
 use std::marker::Model;
 
 /// At most 192 bytes, put together piece by piece.

@@ -1,8 +1,8 @@
 use crate::NumberFault::{NotANumber, TooLarge, TooLong};
 use crate::{
     Field, Fields, InputFault, Lines, Micros, MicrosTotal, Nanos, NumberFault, TextFault,
-    WriteFault, WrittenNumber, behind_first, first_line_feed, is_separator, laws, plain_signed,
-    signed_whole, trimmed_fraction, whole,
+    WriteFault, WrittenNumber, behind_first, cut_at, first_line_feed, is_separator, laws,
+    plain_signed, signed_whole, trimmed_fraction, whole,
 };
 use std::alloc::Global;
 use std::fmt::{Debug, Display};
@@ -206,6 +206,17 @@ fn where_a_text_is_cut(rt: HostRuntime) {
     is_cut(&rt, b"a", None, b"");
     is_cut(&rt, b"\nb", Some(0), b"b");
     is_cut(&rt, b"a:b\r\n\nc", Some(4), b":b\r\n\nc");
+    equal(
+        &rt,
+        cut_at(b' ', b"RE 1 2"),
+        Some((b"RE".as_slice(), b"1 2".as_slice())),
+    );
+    equal(
+        &rt,
+        cut_at(b' ', b"RE "),
+        Some((b"RE".as_slice(), b"".as_slice())),
+    );
+    equal(&rt, cut_at(b' ', b"RE:1"), None);
     for (byte, separates) in &[
         (b' ', true),
         (b'\t', true),

@@ -1,7 +1,7 @@
 //! The engines of `solve` on files: all files are opened before any is read.
 
 use crate::opened::{PricedFiles, ValueFiles, made_file, open_prices, open_values};
-use crate::solve_words::TraceAsked;
+use crate::solve_options::TraceAsked;
 use crate::solving_asked::SolvingAsked;
 use crate::told::output;
 use audit_engines::{solve_traced_engine, solve_traced_priced_engine};

@@ -1,7 +1,7 @@
 //! How `solve` is to solve a mine, by its words, or the word that names nothing that there is.
 
 use crate::effort_words::{effort_by_words, effort_to_solve, method_asked};
-use crate::solve_words::{TraceAsked, asks_for_words, group_asked, trace_asked};
+use crate::solve_options::{TraceAsked, asks_for_words, group_asked, trace_asked};
 use command_line::{Commanded, NamedOption, SolveWords, WrongWord};
 use engines::{Effort, Method};
 use ordered_group::Group;

@@ -20,11 +20,11 @@ mod limits;
 mod listed_pairs;
 mod pair_order;
 mod prec_fault;
-mod precedence;
 mod predecessors;
 mod predecessors_ref;
 mod reading;
 mod records;
+mod rests;
 mod rests_fault;
 mod write_fault;
 mod writing;
@@ -32,13 +32,13 @@ mod writing;
 pub use limits::MOST_PAIRS;
 pub use listed_pairs::ListedPairs;
 pub use prec_fault::PrecFault;
-pub use precedence::Rests;
 pub use predecessors::Predecessors;
 pub use predecessors_ref::PredecessorsRef;
 pub use reading::{read_listed, read_prec};
+pub use rests::Rests;
 pub use rests_fault::RestsFault;
 pub use write_fault::PrecWriteFault;
-pub use writing::write_prec;
+pub use writing::{write_prec, write_predecessors};
 
 #[cfg(test)]
 mod tests;

@@ -1,19 +1,20 @@
-//! The pairs of a text before they are put in order.
+//! Pairs before they are put in order.
 
 ghost use Rattle.std.specs.Prelude.{◌≡◌, ◌≤◌, All, length, IfOk};
 ghost use Rattle.prec_file.specs.Rests.{ArePairsOf, IsKnown};
 
 use crate::limits::MOST_PAIRS;
 use crate::pair_order::settled;
-use crate::precedence::indexed;
+use crate::rests::indexed;
 use crate::{Predecessors, Rests};
 use fixed_worth::MOST_BLOCKS;
 use std::alloc::{AllocError, Global};
 use std::marker::Model;
 
-/// The pairs that a text lists for n blocks, as it lists them.
+/// Pairs of n blocks as they are listed, by a text or by a slope pattern.
 ///
-/// Whoever holds the text can give it back before the pairs are put in order and indexed, which takes memory of its own.
+/// Whoever made the list can give back what it was made from before the pairs are put in order and indexed, which takes
+/// memory of its own.
 #[derive(Drop)]
 pub struct ListedPairs {
     blocks: u32,
@@ -34,8 +35,8 @@ impl Model for ListedPairs {
 }
 
 impl ListedPairs {
-    // The pairs of known blocks.
-    pub(crate) fn of(blocks: u32, pairs: Vec<(u32, u32)>) -> ListedPairs
+    /// Pairs of n blocks, at most 2^27 of them: each of two blocks below n.
+    pub fn of(blocks: u32, pairs: Vec<(u32, u32)>) -> ListedPairs
         requires few_blocks { blocks ≤ MOST_BLOCKS }
         requires few { length pairs.items ≤ MOST_PAIRS }
         requires known { All (IsKnown blocks) pairs.items }

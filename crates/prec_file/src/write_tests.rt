@@ -2,7 +2,7 @@
 ghost use Rattle.std.specs.Prelude.{◌≤◌};
 
 use crate::tests::{has_pairs, prints};
-use crate::{PrecWriteFault, Rests, read_prec, write_prec};
+use crate::{PrecWriteFault, Rests, read_listed, read_prec, write_prec, write_predecessors};
 use fixed_worth::{Counted, CountedWrite};
 use std::alloc::Global;
 use std::io;
@@ -49,6 +49,19 @@ fn writes(
     let failures = out.failures();
     let received = out.into_inner();
     assert!(rt; answer == wanted && failures == 0 && received.as_slice() == text);
+}
+
+#[test]
+fn predecessors_alone_are_written(rt: HostRuntime) -> Result<(), Fail> {
+    let alloc: Global = rt.alloc();
+    let predecessors = read_listed(alloc, b"2 1 0\n1 1 2\n", 3)?.into_predecessors(alloc)?;
+    let mut out = Counted::new(Vec::new(alloc));
+    write_predecessors(&predecessors.lent(), &mut out)
+        .ok()
+        .ok_or("written")?;
+    let received = out.into_inner();
+    assert!(rt; received.as_slice() == b"0 0\n1 1 2\n2 1 0\n".as_slice());
+    Ok(())
 }
 
 #[test]

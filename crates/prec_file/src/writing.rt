@@ -7,14 +7,14 @@ ghost use Rattle.fixed_worth.specs.Device.{ReceivedPrefix, SentOrHeld};
 ghost use Rattle.prec_file.specs.Rests.{IsFirstNot};
 ghost use Rattle.prec_file.specs.Written.{prec_text, line_of, spaced, IsNarrowAt, AreNarrow, WriteFaultStands};
 
-use crate::{PrecWriteFault, Rests};
+use crate::{PrecWriteFault, PredecessorsRef, Rests};
 use fixed_worth::{CountedWrite, Page, WriteFault, WrittenNumber};
 
 // The most predecessors of a block: with eight digits each, its line stays below the reader's limit of 65,536 bytes.
 const WIDEST: usize = 7_000;
 
 // The first block that rests on too many.
-fn first_wide(rests: &Rests) -> Option<u32>
+fn first_wide(rests: &PredecessorsRef<'_>) -> Option<u32>
     ensures { MatchOption result (AreNarrow rests.now) (λ b. IsFirstNot (IsNarrowAt rests.now) rests.now.blocks b) }
 {
     for b in 0..rests.len() {
@@ -90,7 +90,7 @@ fn put_rest<W: CountedWrite>(page: &mut Page, out: &mut W, above: &[u32]) -> Res
 fn put_line<W: CountedWrite>(
     page: &mut Page,
     out: &mut W,
-    rests: &Rests,
+    rests: &PredecessorsRef<'_>,
     block: u32,
 ) -> Result<(), WriteFault>
     requires known { block < rests.now.blocks }
@@ -106,7 +106,7 @@ fn put_line<W: CountedWrite>(
 }
 
 // Writes the lines of all blocks.
-fn write_lines<W: CountedWrite>(rests: &Rests, out: &mut W) -> Result<(), WriteFault>
+fn write_lines<W: CountedWrite>(rests: &PredecessorsRef<'_>, out: &mut W) -> Result<(), WriteFault>
     requires { W.failed out.old < 2 ^ 64 - 1 }
     ensures sent { OnOk result (Appends (W.contents out.old) (W.contents out.new) (prec_text rests.now)) }
     ensures kept { OnOk result (W.failed out.new ≡ W.failed out.old) }
@@ -128,7 +128,10 @@ fn write_lines<W: CountedWrite>(rests: &Rests, out: &mut W) -> Result<(), WriteF
 /// write that fails: the writer has then received a prefix of the text.
 ///
 /// `out` must have counted fewer than 2^64 - 1 failures, so that one more can be counted.
-pub fn write_prec<W: CountedWrite>(rests: &Rests, out: &mut W) -> Result<(), PrecWriteFault>
+pub fn write_predecessors<W: CountedWrite>(
+    rests: &PredecessorsRef<'_>,
+    out: &mut W,
+) -> Result<(), PrecWriteFault>
     requires { W.failed out.old < 2 ^ 64 - 1 }
     ensures sent { OnOk result (Appends (W.contents out.old) (W.contents out.new) (prec_text rests.now)) }
     ensures kept { OnOk result (W.failed out.new ≡ W.failed out.old) }
@@ -139,4 +142,20 @@ pub fn write_prec<W: CountedWrite>(rests: &Rests, out: &mut W) -> Result<(), Pre
         return Err(PrecWriteFault::TooWide(block));
     }
     write_lines(rests, out).map_err(|_| PrecWriteFault::Device)
+}
+
+/// Writes pairs as [`write_predecessors`] does.
+///
+/// # Errors
+/// Those of [`write_predecessors`].
+///
+/// `out` must have counted fewer than 2^64 - 1 failures, so that one more can be counted.
+pub fn write_prec<W: CountedWrite>(rests: &Rests, out: &mut W) -> Result<(), PrecWriteFault>
+    requires { W.failed out.old < 2 ^ 64 - 1 }
+    ensures sent { OnOk result (Appends (W.contents out.old) (W.contents out.new) (prec_text rests.now)) }
+    ensures kept { OnOk result (W.failed out.new ≡ W.failed out.old) }
+    ensures narrow { OnOk result (AreNarrow rests.now) }
+    ensures fault { IfErr result (λ e. WriteFaultStands rests.now (W.contents out.old) (W.contents out.new) (W.failed out.old) (W.failed out.new) e) }
+{
+    write_predecessors(&rests.predecessors(), out)
 }

@@ -4,7 +4,7 @@ use Rattle.std.specs.List.{find, Contains}
 use Rattle.std.proofs.lemmas.List.FromFn.{length-map-range_with_len, get_or-map-range_with_len}
 use Rattle.ordered_group.specs.Block.{scaled_block}
 use Rattle.blocks_file.specs.Records as blocks
-use Rattle.blocks_file.specs.declared.coordinates.Place.{Place}
+use Rattle.blocks_file.specs.declared.place.Place.{Place}
 use Rattle.blocks_file.specs.Denotes.{BlocksView}
 use Rattle.prec_file.specs.Rests.{RestsView}
 use Rattle.settings_file.specs.Settings.{settings_of}

@@ -8,8 +8,8 @@ ghost use Rattle.engines.specs.Certifying.{IsSolution};
 ghost use Rattle.shell_engines.specs.Settling.{IsNetAt};
 ghost use Rattle.shell_engines.specs.Internal.{NoNetStands, IsBestOf, IsProved};
 
-use crate::announcing::SeriesProgress;
 use crate::no_series::NoSeries;
+use crate::series_progress::SeriesProgress;
 use crate::shell_rows::ShellRow;
 use closure_net::{Net, Pit, laws};
 use engines::certify::Solution;

@@ -6,15 +6,15 @@
 //! (Lerchs and Grossmann, 1965, make the phases of a mine so).
 #![tactic(auto)]
 
-mod announcing;
 mod best_pits;
 pub mod no_series;
 pub mod series_engine;
 pub mod series_inputs;
+mod series_progress;
 pub mod settling;
 mod shell_rows;
 mod solving_at;
 
-pub use announcing::SeriesProgress;
 pub use series_engine::shells_engine;
+pub use series_progress::SeriesProgress;
 pub use shell_rows::ShellRow;

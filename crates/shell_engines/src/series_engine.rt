@@ -6,9 +6,9 @@ ghost use Rattle.shell_engines.specs.SeriesTexts.{IsSeriesRead};
 ghost use Rattle.shell_engines.specs.Shells.{AnswersShells, ShellsFail, Shells};
 ghost use Rattle.shell_engines.specs.Internal.{IsWant};
 
-use crate::announcing::SeriesProgress;
 use crate::no_series::NoSeries;
 use crate::series_inputs::{SeriesMine, series_mine_from};
+use crate::series_progress::SeriesProgress;
 use crate::settling::settle;
 use crate::shell_rows::table_of;
 use engines::solving::Unsolved;

@@ -7,10 +7,10 @@ ghost use Rattle.shells.specs.Series.{IsAbove, rests_in};
 ghost use Rattle.shell_engines.specs.Settling.{IsSettled, NoSeriesStands};
 ghost use Rattle.shell_engines.specs.Internal.{IsAdded, IsProved};
 
-use crate::announcing::SeriesProgress;
 use crate::best_pits::{BestPit, best_in, best_of, found_beside, net_at};
 use crate::no_series::NoSeries;
 use crate::series_inputs::SeriesMine;
+use crate::series_progress::SeriesProgress;
 use crate::shell_rows::ShellRow;
 use crate::solving_at::solution_at;
 use engines::solving::Unsolved;

@@ -1,8 +1,8 @@
 -- What only the functions of this crate say to one another.
 use Rattle.std.specs.Prelude.{◌≡◌, ℕ, ◌≤◌}
 use Rattle.fixed_worth.specs.declared.limits.TheConstants.{MOST_FACTORS}
-use Rattle.shells.specs.declared.charges.Costs.{Costs}
-use Rattle.shells.specs.declared.charges.Costs.TheVariants.{Plain, Mill}
+use Rattle.shells.specs.declared.costs.Costs.{Costs}
+use Rattle.shells.specs.declared.costs.Costs.TheVariants.{Plain, Mill}
 use Rattle.shells.specs.Prices.{CostsView, plain_costs, mill_costs, blocks_of}
 use Rattle.shells.specs.Series.{SeriesView, IsSeries}
 

@@ -13,7 +13,8 @@
 //! best pit; and `laws` has the nesting of accepted pits for all who check pits at two factors.
 #![tactic(auto)]
 
-mod charges;
+mod costs;
+mod factor;
 pub mod laws;
 mod marking;
 mod matching;
@@ -21,13 +22,12 @@ mod price_tables;
 mod prices_fault;
 mod series_fault;
 mod shell_series;
-mod thousandths;
 
+pub use factor::Factor;
 pub use price_tables::Prices;
 pub use prices_fault::PricesFault;
 pub use series_fault::SeriesFault;
 pub use shell_series::Series;
-pub use thousandths::Factor;
 
 #[cfg(test)]
 mod tests;

@@ -4,8 +4,8 @@ ghost use Rattle.std.specs.Prelude.{◌≡◌, ◌↔◌, length, IsTrue};
 ghost use Rattle.shells.specs.Prices.{blocks_of};
 ghost use Rattle.shells.specs.Series.{HasWorths, IsOver};
 
+use crate::factor::Factor;
 use crate::price_tables::Prices;
-use crate::thousandths::Factor;
 use closure_net::{Net, same_pairs};
 use ordered_group::{OrderedGroup, same};
 use prec_file::Rests;

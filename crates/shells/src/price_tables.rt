@@ -5,9 +5,9 @@ ghost use Rattle.check_pit.specs.ReadBack.{IsPrice};
 ghost use Rattle.shells.specs.Prices.{plain_costs, mill_costs, blocks_of, price_of, worth_at, worths_at, number_at, IsTable, IsFirstNegative, PricesFaultStands};
 ghost use Rattle.shells.specs.Internal.{shown_costs};
 
-use crate::charges::{Costs, thousandths_of};
+use crate::costs::{Costs, thousandths_of};
+use crate::factor::Factor;
 use crate::prices_fault::PricesFault;
-use crate::thousandths::Factor;
 use check_pit::Price;
 use fixed_worth::{MOST_BLOCKS, MOST_FACTOR, Micros};
 use rayon::prelude::*;

@@ -6,11 +6,11 @@ ghost use Rattle.closure_net.specs.Network.{holds_of};
 ghost use Rattle.shells.specs.Prices.{blocks_of};
 ghost use Rattle.shells.specs.Series.{mine_at, rests_in, shell_at, opened, OpenFaultStands, IsAbove, IsOver, IsPushed, IsShell, IsSeries, PushFaultStands};
 
+use crate::factor::Factor;
 use crate::marking::{give_shells, is_above_all};
 use crate::matching::is_over;
 use crate::price_tables::Prices;
 use crate::series_fault::SeriesFault;
-use crate::thousandths::Factor;
 use check_pit::Accepted;
 use closure_net::{Pit, laws};
 use fixed_worth::MOST_FACTORS;

@@ -1,17 +1,17 @@
 -- The steps in which slope pairs are gathered.
-use Rattle.std.proofs.Common.{◌≡◌, ◌≢◌, ℕ, ◌+◌, ◌<◌, ◌⊎◌, inl, inr, ℤ, pos, ◌-ℤ◌, List, [], ◌∷◌, ◌++◌, length, get_or, take, sym, refl, ap, subst, ◌∙◌, arith, Contains}
+use Rattle.std.proofs.Common.{◌≡◌, ◌≢◌, ℕ, ◌+◌, ◌<◌, ◌⊎◌, inl, inr, ℤ, pos, ◌-ℤ◌, List, [], ◌∷◌, ◌++◌, length, get_or, take, sym, refl, ap, subst, ◌∙◌, arith, All, Contains}
 use Rattle.std.proofs.lemmas.Int.{ints}
 use Rattle.std.proofs.lemmas.Bool.{cases_lt, cases_order}
 use Rattle.std.proofs.lemmas.List.{take_more, get_or_default, get_or-take, length-take-le}
 use Rattle.std.proofs.Math.Seq.{take-length}
-use Rattle.std.proofs.lemmas.List.Elements.{Contains-append_left, Contains-push, Contains-push_cases, All-contains}
+use Rattle.std.proofs.lemmas.List.Elements.{Contains-append_left, Contains-push, Contains-push_cases, All-contains, All-contains_itself, All-weaker}
 use Rattle.prec_file.specs.declared.limits.TheConstants.{MOST_PAIRS}
 use Rattle.blocks_file.specs.Denotes.{BlocksView}
-use Rattle.prec_file.specs.Rests.{RestsView, KnownAt, ArePairsOf}
+use Rattle.prec_file.specs.Rests.{RestsView, IsKnown, ArePairsOf}
 use Rattle.slope.specs.Offsets.{Offset, IsPattern, IsRising, IsUpward, Before}
 use Rattle.slope.specs.Places.{place_of, AreApartBelow}
 use Rattle.slope.specs.Slopes.{upward, offset_between, IsSlopePair, AreSlopes, SlopeFaultStands}
-use Rattle.slope.specs.Internal.{Collects, IsPairBelow, IsPairUpTo, PairFaultStands, PairRefusalStands}
+use Rattle.slope.specs.Internal.{AreListed, Collects, IsPairBelow, IsPairUpTo, PairFaultStands, PairRefusalStands}
 use Rattle.slope.specs.declared.up.Up.{Up}
 use Rattle.slope.specs.declared.up.Up.TheVariants.{PlusZ, MinusZ}
 use Rattle.slope.specs.declared.slope_fault.SlopeFault.{SlopeFault}
@@ -136,17 +136,17 @@ no_loop m os up pattern q h e =
     omega (arith, ints, high, flat)
 
 -- the pairs that are gathered are of known blocks
-pub known_at : (m : BlocksView) (os : List Offset) (up : Up) (ps : List (ℕ × ℕ)) → Collects (IsSlopePair m os up) ps → (k : ℕ) → k < length ps → KnownAt m.blocks ps k
-known_at m os up ps c k l = let h = c.only (get_or ps k (0, 0)) (k, l, get_or_default ps k _ _ l) in (h.bottom, h.top)
+pub all_known : (m : BlocksView) (os : List Offset) (up : Up) (ps : List (ℕ × ℕ)) → Collects (IsSlopePair m os up) ps → All (IsKnown m.blocks) ps
+all_known m os up ps c = All-weaker (Contains ps) (IsKnown m.blocks) (λ q k. let h = c.only q k in (h.bottom, h.top)) ps (All-contains_itself ps)
 
 -- the pairs of a list of slope pairs are the slope pairs
-pub slopes_are : (m : BlocksView) (os : List Offset) (up : Up) (ps : List (ℕ × ℕ)) (rests : RestsView) → IsPattern os → AreApartBelow m m.blocks → Collects (IsSlopePair m os up) ps → rests.blocks ≡ m.blocks → ArePairsOf ps rests.pairs → AreSlopes m os up rests
-slopes_are m os up ps rests pattern apart c e h = record {
-  apart = apart;
-  blocks = e;
+pub slopes_are : (m : BlocksView) (os : List Offset) (up : Up) (listed rests : RestsView) → AreListed m os up listed → rests.blocks ≡ listed.blocks → ArePairsOf listed.pairs rests.pairs → AreSlopes m os up rests
+slopes_are m os up listed rests l e h = record {
+  apart = l.apart;
+  blocks = e ∙ l.blocks;
   rising = h.rising;
-  held = λ q s. h.held q (c.held q s) (no_loop m os up pattern q s);
-  only = λ q k. c.only q ((h.only q k).0);
+  held = λ q s. h.held q (l.pairs.held q s) (no_loop m os up l.pattern q s);
+  only = λ q k. l.pairs.only q ((h.only q k).0);
 }
 
 -- the fault of the pairs is the fault of the slopes, where the places are apart

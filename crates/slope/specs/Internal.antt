@@ -7,12 +7,13 @@ use Rattle.std.specs.declared.cmp.Ordering.{Ordering}
 use Rattle.std.specs.BTreeMap.{BTreeMap, get}
 use Rattle.prec_file.specs.declared.limits.TheConstants.{MOST_PAIRS}
 use Rattle.slope.specs.declared.pattern.TheConstants.{MOST_OFFSETS, MOST_CONE_NUMBER}
-use Rattle.blocks_file.specs.declared.coordinates.Place.{Place}
+use Rattle.blocks_file.specs.declared.place.Place.{Place}
 use Rattle.blocks_file.specs.Denotes.{BlocksView}
 use Rattle.slope.specs.Lists.{AreMoreThan}
-use Rattle.slope.specs.Offsets.{Offset}
+use Rattle.prec_file.specs.Rests.{RestsView}
+use Rattle.slope.specs.Offsets.{Offset, IsPattern}
 use Rattle.slope.specs.Patterns.{IsNear}
-use Rattle.slope.specs.Places.{place_of}
+use Rattle.slope.specs.Places.{place_of, AreApartBelow}
 use Rattle.slope.specs.Slopes.{IsSlopePair, IsFirstRepeat, offset_between}
 use Rattle.slope.specs.declared.pattern_fault.PatternFault.{PatternFault}
 use Rattle.slope.specs.declared.pattern_fault.PatternFault.TheVariants as pattern
@@ -87,6 +88,13 @@ pub record IsPairBelow (m : BlocksView) (offsets : List Offset) (up : Up) (block
 pub record IsPairUpTo (m : BlocksView) (offsets : List Offset) (up : Up) (block i : ℕ) (pair : ℕ × ℕ) : Type 0 where
   pub slope : IsSlopePair m offsets up pair
   pub below : (pair.0 < block) ⊎ ((pair.0 ≡ block) × Contains (take i offsets) (offset_between up (place_of m block) (place_of m pair.1)))
+
+-- The blocks have places of their own, and their slope pairs by a pattern are listed.
+pub record AreListed (m : BlocksView) (offsets : List Offset) (up : Up) (listed : RestsView) : Type 0 where
+  pub pattern : IsPattern offsets
+  pub apart : AreApartBelow m m.blocks
+  pub blocks : listed.blocks ≡ m.blocks
+  pub pairs : Collects (IsSlopePair m offsets up) listed.pairs
 
 -- The fault of the pairs stands.
 abbrev pub PairFaultStands : BlocksView → List Offset → Up → SlopeFault → Type 0

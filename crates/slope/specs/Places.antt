@@ -1,6 +1,6 @@
 -- Places of blocks.
 use Rattle.std.specs.Prelude.{◌≢◌, ℕ, ◌<◌, slice_index_or}
-use Rattle.blocks_file.specs.declared.coordinates.Place.{Place}
+use Rattle.blocks_file.specs.declared.place.Place.{Place}
 use Rattle.blocks_file.specs.Denotes.{BlocksView, origin}
 
 -- Where a block is.

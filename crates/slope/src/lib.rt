@@ -1,7 +1,7 @@
 //! Slopes: which blocks must be dug before which, from where the blocks are.
 //!
 //! A pit's wall may not be steeper than the rock bears. A pattern says so for blocks: it lists the offsets from a block
-//! to those that must be dug before it. `rests_of` looks up, for each block of a model and each offset, the block that
+//! to those that must be dug before it. `rests_of` and `predecessors_of` look up, for each block of a model and each offset, the block that
 //! stands there.
 //!
 //! It stands on `blocks_file` for places and on `prec_file` for the pairs that it makes.
@@ -24,7 +24,7 @@ mod up;
 
 pub use pattern::{MOST_CONE_NUMBER, MOST_OFFSETS, Pattern};
 pub use pattern_fault::PatternFault;
-pub use resting::rests_of;
+pub use resting::{predecessors_of, rests_of};
 pub use slope_fault::SlopeFault;
 pub use up::Up;
 

@@ -2,7 +2,7 @@
 
 ghost use Rattle.std.specs.Prelude.{◌≡◌, ◌≢◌, ◌≤◌, ◌^◌, ◌+ℤ◌, ℤ, FitsSigned, MatchOption, unsigned_abs};
 ghost use Rattle.std.specs.Int.{w32};
-ghost use Rattle.blocks_file.specs.declared.coordinates.Place.{Place as Spot};
+ghost use Rattle.blocks_file.specs.declared.place.Place.{Place as Spot};
 ghost use Rattle.slope.specs.Slopes.{upward, offset_between};
 ghost use Rattle.slope.specs.Internal.{IsPlace};
 

@@ -1,7 +1,7 @@
 //! The blocks of a model by their places.
 
 ghost use Rattle.std.specs.Prelude.{◌≡◌, ◌≢◌, ℕ, ◌<◌, MatchOption, MatchResult};
-ghost use Rattle.blocks_file.specs.declared.coordinates.Place.{Place as Spot};
+ghost use Rattle.blocks_file.specs.declared.place.Place.{Place as Spot};
 ghost use Rattle.slope.specs.Places.{place_of};
 ghost use Rattle.slope.specs.Slopes.{offset_between};
 ghost use Rattle.slope.specs.Internal.{IsIndex, IndexFaultStands};

@@ -1,4 +1,4 @@
-use crate::{Pattern, PatternFault, SlopeFault, Up, rests_of};
+use crate::{Pattern, PatternFault, SlopeFault, Up, predecessors_of, rests_of};
 use blocks_file::{BlockModel, Place, read_blocks};
 use prec_file::Rests;
 use std::alloc::Global;
@@ -314,6 +314,25 @@ fn no_offset_goes_round(rt: HostRuntime) -> Result<(), Fail> {
     equal(&rt, pairs_at(alloc, heights, (0, 0, 1), Up::MinusZ)?, 0);
     let rise = 2_147_483_647;
     equal(&rt, pairs_at(alloc, heights, (0, 0, rise), Up::MinusZ)?, 0);
+    Ok(())
+}
+
+#[test]
+fn predecessors_alone(rt: HostRuntime) -> Result<(), Fail> {
+    let alloc: Global = rt.alloc();
+    let five = Pattern::five(alloc)?;
+    let cube = model(alloc, CUBE)?;
+    let predecessors = predecessors_of(alloc, &cube, &five, Up::PlusZ)?;
+    equal(&rt, predecessors.len(), 18);
+    let lent = predecessors.lent();
+    if lent.len() == 18 {
+        let above: &[u32] = &[9, 10, 12];
+        equal(&rt, lent.above(0), above);
+        let above: &[u32] = &[10, 12, 13, 14, 16];
+        equal(&rt, lent.above(4), above);
+        let above: &[u32] = &[];
+        equal(&rt, lent.above(13), above);
+    }
     Ok(())
 }
 

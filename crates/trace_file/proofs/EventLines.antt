@@ -17,7 +17,8 @@ use Rattle.fixed_worth.proofs.WrittenNumbers.{decimal_digits, decimal_is_one_lin
 use Rattle.machine_law.specs.declared.events.Kind.{Kind}
 use Rattle.machine_law.specs.declared.events.Kind.TheVariants.{ReadExcess, ReadCapacity, ReadLabel, TakeCapacity, GiveCapacity, TakeExcess, GiveExcess, RaiseLabel}
 use Rattle.machine_law.specs.declared.events.Event.{Event}
-use Rattle.trace_file.specs.Lines.{parts, kind_of, block_within, block_of, event_with, event_of_words, event_of}
+use Rattle.fixed_worth.specs.Text.{parts}
+use Rattle.trace_file.specs.Lines.{kind_of, block_within, block_of, event_with, event_of_words, event_of}
 use Rattle.trace_file.specs.Written.{kind_word, event_line}
 use Rattle.trace_file.proofs.Parts.{digits_alone}
 

@@ -1,26 +1,17 @@
 -- A text is cut at its line feeds, and a line at its spaces.
-use Rattle.std.proofs.Common.{◌≡◌, ℕ, ◌+◌, ◌<◌, Bool, true, false, cond, not, eqb, List, [], ◌∷◌, ◌++◌, length, take, drop, Some, None, refl, sym, ap, ◌∙◌, arith}
+use Rattle.std.proofs.Common.{◌≡◌, ℕ, ◌<◌, Bool, true, false, cond, not, eqb, List, [], ◌∷◌, ◌++◌, length, Some, None, refl, ap, ◌∙◌, arith}
 use Rattle.std.specs.Prelude.{nat_le}
-use Rattle.std.specs.List.{list_all, onto_first, position, position_or_len}
+use Rattle.std.specs.List.{list_all, onto_first}
 use Rattle.std.proofs.lemmas.Bool.{not-true, and_parts}
 use Rattle.std.proofs.lemmas.Bool.Decides.{nat_tests}
-use Rattle.std.proofs.lemmas.List.Quantifiers.{position-Some}
-use Rattle.std.proofs.lemmas.List.Sums.{fails_before_first}
-use Rattle.std.proofs.lemmas.List.Splits.{length-slice_split, slice_split_none, slice_split_first}
-use Rattle.std.proofs.Math.Seq.{drop-drop}
-use Rattle.memchr.specs.Find.{IsFirstByte, is_byte}
 use Rattle.fixed_worth.specs.Numeral.{is_digit}
+use Rattle.fixed_worth.specs.Text.{parts}
 use Rattle.fixed_worth.specs.Laws.{with_line_feeds}
 use Rattle.fixed_worth.proofs.Joined.{is_one_line}
-use Rattle.fixed_worth.proofs.Cuts.{position_none}
-use Rattle.fixed_worth.proofs.Searched.{first_place}
+use Rattle.fixed_worth.proofs.Parts.{some_part}
 use Rattle.trace_file.specs.declared.trace_fault.TraceFault.TheVariants.{Text}
-use Rattle.trace_file.specs.Lines.{parts, event_of_words}
+use Rattle.trace_file.specs.Lines.{event_of_words}
 use Rattle.trace_file.specs.Faults.{end_fault}
-
--- There is always a part.
-pub some_part : (c : ℕ) (bs : List ℕ) → 0 < length (parts c bs)
-some_part c bs = omega (arith, length-slice_split (λ b. eqb b c) bs)
 
 -- A line, its line feed, and what follows.
 pub line_cut : (line rest : List ℕ) → is_one_line line ≡ true → parts 10 (line ++ (10 ∷ rest)) ≡ line ∷ parts 10 rest
@@ -49,23 +40,6 @@ digits_alone (d ∷ ds) h =
     let q = and_parts (is_digit d) (list_all is_digit ds) h in
     let e : eqb d 32 ≡ false = digit_no_space d q.0 in
     rw e (ap (onto_first d) (digits_alone ds q.1))
-
--- ---- what the search of a byte cuts
-
-none_passes : (c : ℕ) (bs : List ℕ) → position (λ b. eqb b c) bs ≡ None → parts c bs ≡ bs ∷ []
-none_passes c bs e = slice_split_none (λ b. eqb b c) bs (λ k d m. fails_before_first (λ b. eqb b c) bs k d (omega (arith, m, position_none (λ b. eqb b c) bs e)))
-
-pub not_cut : (c : ℕ) (bs : List ℕ) → IsFirstByte (is_byte c) bs None → parts c bs ≡ bs ∷ []
-not_cut c bs h = none_passes c bs (sym (first_place c bs None h))
-
-pub cut : (c j : ℕ) (bs front back rest : List ℕ) → IsFirstByte (is_byte c) bs (Some j) → front ≡ take j bs → back ≡ drop j bs → rest ≡ drop 1 back → parts c bs ≡ front ∷ parts c rest
-cut c j bs front back rest h e f g =
-    let is : position (λ b. eqb b c) bs ≡ Some j = sym (first_place c bs (Some j) h) in
-    let q = position-Some (λ b. eqb b c) bs j 0 is in
-    let at : position_or_len (λ b. eqb b c) bs ≡ j = grind (arith, nat_tests) in
-    let behind : drop (position_or_len (λ b. eqb b c) bs + 1) bs ≡ rest = ap (λ n. drop (n + 1) bs) at ∙ sym (drop-drop 1 j bs) ∙ ap (drop 1) (sym f) ∙ sym g in
-    slice_split_first (λ b. eqb b c) bs 0 (omega (arith, at, q.0)) ∙ ap (λ n. take n bs ∷ parts c (drop (position_or_len (λ b. eqb b c) bs + 1) bs)) at
-    ∙ ap (λ t. take j bs ∷ parts c t) behind ∙ ap (λ t. t ∷ parts c rest) (sym e)
 
 -- ---- what stands behind END, and behind a word
 

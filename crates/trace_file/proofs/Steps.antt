@@ -9,7 +9,8 @@ use Rattle.machine_law.specs.declared.events.Event.{Event}
 use Rattle.machine_law.specs.declared.events.TheConstants.{MOST_EVENTS}
 use Rattle.trace_file.specs.declared.trace_fault.TraceFault.{TraceFault}
 use Rattle.trace_file.specs.declared.trace_fault.TraceFault.TheVariants.{Text, Truncated, TooMany, NoMemory}
-use Rattle.trace_file.specs.Lines.{parts, event_of}
+use Rattle.fixed_worth.specs.Text.{parts}
+use Rattle.trace_file.specs.Lines.{event_of}
 use Rattle.trace_file.specs.Faults.{UnlessMemory, events_of, end_fault, event_fault, line_fault, fault_behind, fault_in, fault_of}
 use Rattle.trace_file.specs.ReadBack.{IsWritten}
 use Rattle.trace_file.proofs.Parts.{some_part}

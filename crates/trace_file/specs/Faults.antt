@@ -7,7 +7,8 @@ use Rattle.machine_law.specs.declared.events.Event.{Event}
 use Rattle.machine_law.specs.declared.events.TheConstants.{MOST_EVENTS}
 use Rattle.trace_file.specs.declared.trace_fault.TraceFault.{TraceFault}
 use Rattle.trace_file.specs.declared.trace_fault.TraceFault.TheVariants.{Text, Truncated, TooMany, NoMemory}
-use Rattle.trace_file.specs.Lines.{parts, event_of}
+use Rattle.fixed_worth.specs.Text.{parts}
+use Rattle.trace_file.specs.Lines.{event_of}
 
 -- the events that the lines of a text say
 abbrev pub events_of : List ℕ → List Event

@@ -1,16 +1,12 @@
 -- What a line of a trace says.
-use Rattle.std.specs.Prelude.{ℕ, ℤ, pos, negsuc, ◌^◌, ◌==◌, cond, List, [], ◌∷◌, nat_lt, codes, Option, Some, None, Result, Ok, Err}
-use Rattle.std.specs.List.{slice_split}
+use Rattle.std.specs.Prelude.{ℕ, ℤ, pos, negsuc, ◌^◌, cond, List, [], ◌∷◌, nat_lt, codes, Option, Some, None, Result, Ok, Err}
 use Rattle.std.specs.Str.{bytes_eq}
 use Rattle.fixed_worth.specs.declared.numerals.NumberFault.{NumberFault}
 use Rattle.fixed_worth.specs.Numeral.{plain_of}
+use Rattle.fixed_worth.specs.Text.{parts}
 use Rattle.machine_law.specs.declared.events.Kind.{Kind}
 use Rattle.machine_law.specs.declared.events.Kind.TheVariants.{ReadExcess, ReadCapacity, ReadLabel, TakeCapacity, GiveCapacity, TakeExcess, GiveExcess, RaiseLabel}
 use Rattle.machine_law.specs.declared.events.Event.{Event}
-
--- the parts of a text between bytes of one kind: one more than it has of them
-abbrev pub parts : ℕ → List ℕ → List (List ℕ)
-parts c text = slice_split (λ b. b == c) text
 
 -- the kind of step that a word names
 abbrev pub kind_of : List ℕ → Option Kind

@@ -2,13 +2,13 @@
 
 ghost use Rattle.std.specs.Prelude.{◌≡◌, ◌+◌, ◌-◌, ◌<◌, ◌^◌, ◌∷◌, [], ◌++◌, None, MatchOption, OnOk, OnErr};
 ghost use Rattle.fixed_worth.specs.Device.{ReceivedPrefix, SentOrHeld};
+ghost use Rattle.fixed_worth.specs.Text.{parts};
 ghost use Rattle.trace_file.specs.Lines as spec;
-ghost use Rattle.trace_file.specs.Lines.{parts, event_of_words};
+ghost use Rattle.trace_file.specs.Lines.{event_of_words};
 ghost use Rattle.trace_file.specs.Written as written;
 ghost use Rattle.trace_file.specs.Written.{event_line};
 
-use crate::parting::cut_at;
-use fixed_worth::{CountedWrite, Page, WriteFault, WrittenNumber, plain_signed};
+use fixed_worth::{CountedWrite, Page, WriteFault, WrittenNumber, cut_at, plain_signed};
 use machine_law::{Event, Kind};
 
 const READ_EXCESS: &[u8] = b"RE";

@@ -10,7 +10,6 @@
 
 mod event_line;
 pub mod laws;
-mod parting;
 mod reading;
 mod trace_fault;
 mod writing;

@@ -1,15 +1,14 @@
 //! Reading a trace.
 
 ghost use Rattle.std.specs.Prelude.{◌≡◌, [], Some, None, MatchResult};
-ghost use Rattle.trace_file.specs.Lines.{parts};
+ghost use Rattle.fixed_worth.specs.Text.{parts};
 ghost use Rattle.trace_file.specs.Faults as spec;
 ghost use Rattle.trace_file.specs.Faults.{UnlessMemory, events_of, fault_behind, fault_of};
 ghost use Rattle.trace_file.specs.ReadBack.{IsWritten};
 
 use crate::event_line::event_in;
-use crate::parting::cut_at;
 use crate::trace_fault::TraceFault;
-use fixed_worth::LINE_BYTES;
+use fixed_worth::{LINE_BYTES, cut_at};
 use machine_law::{Event, MOST_EVENTS};
 use std::alloc::Global;
 

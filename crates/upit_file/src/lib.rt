@@ -26,7 +26,6 @@ mod reading;
 mod record;
 mod record_line;
 mod upit;
-mod value;
 mod writing;
 
 pub use fault::UpitFault;

@@ -8,7 +8,6 @@ ghost use Rattle.upit_file.specs.Body as spec;
 ghost use Rattle.upit_file.specs.Internal.{IsRecord};
 
 use crate::fault::UpitFault;
-use crate::value::read_value;
 use fixed_worth::{Fields, LINE_BYTES, Micros, is_remark, whole};
 
 // What a line behind the header is.
@@ -82,6 +81,6 @@ fn read_any_record(text: &[u8], line: u64) -> Result<Record, UpitFault>
         return Err(UpitFault::Text(line));
     }
     let block = whole(block.text).map_err(|_| UpitFault::Number(line))?;
-    let value = read_value(value.text).ok_or(UpitFault::Number(line))?;
+    let value = Micros::from_text(value.text).map_err(|_| UpitFault::Number(line))?;
     Ok(Record::Value(block, value))
 }

@@ -16,16 +16,6 @@ plus-zero_right x = Amount_eq _ _ (omega (arith, ints)) (omega (arith, ints))
 pub plus-assoc : (x y z : Amount) → plus (plus x y) z ≡ plus x (plus y z)
 plus-assoc x y z = Amount_eq _ _ (omega (arith, ints)) (omega (arith, ints))
 
-pub plus-comm : (x y : Amount) → plus x y ≡ plus y x
-plus-comm x y = Amount_eq _ _ (omega (arith, ints)) (omega (arith, ints))
-
--- what may be added on both sides may be left out
-pub plus-cancel : (x y z : Amount) → plus x z ≡ plus y z → x ≡ y
-plus-cancel x y z h = Amount_eq _ _ (omega (arith, ints, ap (λ a. a.w) h)) (omega (arith, ints, ap (λ a. a.c) h))
-
-pub plus-minus : (x y : Amount) → plus (minus x y) y ≡ x
-plus-minus x y = Amount_eq _ _ (omega (arith, ints)) (omega (arith, ints))
-
 -- a sum with one more term
 pub total_next : (g : ℕ → Amount) (n : ℕ) → total g (n + 1) ≡ plus (total g n) (g n)
 total_next g n = rw (add-one n) refl
@@ -56,13 +46,6 @@ total-zero (suc n) = let p = total-zero n in Amount_eq _ _ (omega (arith, ints, 
 -- no term is other than zero
 pub total-none : (g : ℕ → Amount) (n : ℕ) → ((b : ℕ) → b < n → g b ≡ zero_amount) → total g n ≡ zero_amount
 total-none g n h = total-same g (λ b. zero_amount) n h ∙ total-zero n
-
--- a sum over two ranges
-pub total-append : (g : ℕ → Amount) (m n : ℕ) → total g (m + n) ≡ plus (total g m) (total (λ k. g (m + k)) n)
-total-append g m zero = let e : m + 0 ≡ m = omega arith in rw e (sym (plus-zero_right (total g m)))
-total-append g m (suc n) =
-    let e : m + suc n ≡ suc (m + n) = omega arith in
-    rw e (ap (λ a. plus a (g (m + n))) (total-append g m n) ∙ plus-assoc (total g m) (total (λ k. g (m + k)) n) (g (m + n)))
 
 -- One term of a sum is changed: what the sums differ by is what the terms differ by.
 pub total_changed : (g h : ℕ → Amount) (k n : ℕ) → k < n → ((b : ℕ) → b < n → b ≢ k → h b ≡ g b) → plus (total h n) (g k) ≡ plus (total g n) (h k)

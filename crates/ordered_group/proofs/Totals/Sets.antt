@@ -1,12 +1,12 @@
 -- Sums over sets of numbers, a set being a test.
-use Rattle.std.proofs.Common.{◌≡◌, ℕ, zero, suc, ◌<◌, ◌≤◌, Bool, true, false, not, ◌==◌, ◌&&◌, ◌||◌, ◌⊎◌, inl, inr, sym, refl, ◌∙◌, arith, negsuc, ◌≤ℤ◌, below_more}
+use Rattle.std.proofs.Common.{◌≡◌, ℕ, zero, suc, ◌<◌, ◌≤◌, Bool, true, false, ◌==◌, ◌&&◌, ◌||◌, ◌⊎◌, inl, inr, sym, refl, ◌∙◌, arith}
 use Rattle.std.proofs.lemmas.Int.{ints}
 use Rattle.std.proofs.lemmas.Bool.{cases_eq, eq-eqb, ne_eqb, and_parts}
 use Rattle.ordered_group.specs.Amount.{Amount, zero_amount, plus, minus, AtMost, Amount_eq}
 use Rattle.ordered_group.specs.Sums.{total, where_so, at_end}
 use Rattle.ordered_group.proofs.Order.{AtMost-refl}
 use Rattle.ordered_group.proofs.Signs.{NonNeg, NonNeg-zero}
-use Rattle.ordered_group.proofs.Totals.Ranges.{total-same, total-plus, total-zero, total-none, total_mono, plus-zero_left, plus-zero_right}
+use Rattle.ordered_group.proofs.Totals.Ranges.{total-same, total-plus, total-zero, total-none, plus-zero_left, plus-zero_right}
 
 pub where_so-zero : (b : Bool) → where_so b zero_amount ≡ zero_amount
 where_so-zero true = refl
@@ -82,16 +82,6 @@ route e end f n (suc m) h =
 pub route_all : (end : ℕ → ℕ) (f : ℕ → Amount) (n m : ℕ) → ((k : ℕ) → k < m → end k < n) → total (at_end end f m) n ≡ total f m
 route_all end f n m h = route (λ b. true) end f n m h
 
-split_one : (b : Bool) (x : Amount) → x ≡ plus (where_so b x) (where_so (not b) x)
-split_one true x = sym (plus-zero_right x)
-split_one false x = sym (plus-zero_left x)
-
--- a sum is that over a set and that over the rest
-pub split_sum : (e : ℕ → Bool) (w : ℕ → Amount) (n : ℕ) → total w n ≡ plus (total (λ b. where_so (e b) (w b)) n) (total (λ b. where_so (not (e b)) (w b)) n)
-split_sum e w n =
-    total-same w (λ b. plus (where_so (e b) (w b)) (where_so (not (e b)) (w b))) n (λ b l. split_one (e b) (w b))
-    ∙ total-plus (λ b. where_so (e b) (w b)) (λ b. where_so (not (e b)) (w b)) n
-
 -- what is in one of the sets
 abbrev pub union : (ℕ → Bool) → (ℕ → Bool) → ℕ → Bool
 union a b k = a k || b k
@@ -118,23 +108,3 @@ two_sets w a b n =
     sym (total-plus (λ k. where_so (union a b k) (w k)) (λ k. where_so (intersection a b k) (w k)) n)
     ∙ total-same _ (λ k. plus (where_so (a k) (w k)) (where_so (b k) (w k))) n (λ k h. share (a k) (b k) (w k))
     ∙ total-plus (λ k. where_so (a k) (w k)) (λ k. where_so (b k) (w k)) n
-
--- where no amount of the wider set is negative, the sum of a set within it is at most its own
-pub within_most : (w : ℕ → Amount) (a e : ℕ → Bool) (n : ℕ) → ((b : ℕ) → b < n → a b ≡ true → e b ≡ true) → ((b : ℕ) → b < n → NonNeg (w b)) → AtMost (total (λ b. where_so (a b) (w b)) n) (total (λ b. where_so (e b) (w b)) n)
-within_most w a e n s h = total_mono _ _ n (λ b l. where_most (a b) (e b) (w b) (w b) (s b l) (AtMost-refl (w b)) (h b l))
-
-term_count : (x : Amount) (u v : Bool) → x.c ≡ negsuc 0 → (u ≡ true → v ≡ true) → ((where_so v x).c ≤ℤ (where_so u x).c) × ((where_so v x).c ≡ (where_so u x).c → u ≡ v)
-term_count x true true h s = (omega (arith, ints), λ e. refl)
-term_count x true false h s = let i = s refl in absurd cc
-term_count x false true h s = (omega (arith, ints, h), λ e. absurd (omega (arith, ints, h, e)))
-term_count x false false h s = (omega (arith, ints), λ e. refl)
-
--- where each block counts as -1, a set within another has no lower count, and the same one only where it is that set
-pub within_counts : (w : ℕ → Amount) (a e : ℕ → Bool) (n : ℕ) → ((b : ℕ) → b < n → (w b).c ≡ negsuc 0) → ((b : ℕ) → b < n → a b ≡ true → e b ≡ true) → ((total (λ b. where_so (e b) (w b)) n).c ≤ℤ (total (λ b. where_so (a b) (w b)) n).c) × ((total (λ b. where_so (e b) (w b)) n).c ≡ (total (λ b. where_so (a b) (w b)) n).c → (b : ℕ) → b < n → a b ≡ e b)
-within_counts w a e zero h s = (omega (arith, ints), λ p b l. absurd (omega (arith, l)))
-within_counts w a e (suc n) h s =
-    let i = within_counts w a e n (λ b l. h b (omega arith)) (λ b l. s b (omega arith)) in
-    let t = term_count (w n) (a n) (e n) (h n (omega arith)) (s n (omega arith)) in (
-      omega (arith, ints, i.0, t.0),
-      λ p b l. below_more (λ k. a k ≡ e k) n (i.1 (omega (arith, ints, i.0, t.0, p))) (t.1 (omega (arith, ints, i.0, t.0, p))) b (omega (arith, l)),
-    )

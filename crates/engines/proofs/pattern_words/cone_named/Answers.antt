@@ -4,4 +4,4 @@ use Rattle.engines.proofs.pattern_words.cone_named.Goals as goal
 
 pub returns-in-Some-cut-2-clause-is : goal.returns-in-Some-cut-2-clause-is
 returns-in-Some-cut-2-clause-is c =
-    sym (too_many_pieces c.args.numbers.now c.in-Some.parts.0.now c.in-Some.parts.1.now c.in-Some-cut.parts.0.now c.in-Some-cut.parts.1.now c.in-Some-cut-2.field-0.0.now c.in-Some-cut-2.field-0.1.now c.in-Some.ensures c.in-Some-cut.ensures c.in-Some-cut-2.ensures)
+    sym (too_many_pieces c.args.numbers.now c.in-Some.pieces.0.now c.in-Some.pieces.1.now c.in-Some-cut.pieces.0.now c.in-Some-cut.pieces.1.now c.in-Some-cut-2.field-0.0.now c.in-Some-cut-2.field-0.1.now c.in-Some.ensures c.in-Some-cut.ensures c.in-Some-cut-2.ensures)

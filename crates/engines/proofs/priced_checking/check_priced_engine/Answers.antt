@@ -14,17 +14,17 @@ pub returns-in_err-judgement-clause-answer : goal.returns-in_err-judgement-claus
 returns-in_err-judgement-clause-answer g c =
     let p = err_from_is_err_and c.from_residual-in_err-judgement.result c.from_residual-in_err-judgement.ensures.1 in
     rw (p.1, p.2)
-    (judge_answer4 (g.S.Read.remaining c.args.settings.now) (g.B.Read.remaining c.args.blocks.now) (g.P.Read.remaining c.args.prec.now) (g.C.Read.remaining c.args.certificate.now) (g.W.Write.contents c.args.out.now) c.in_ok-mine.mine.0 c.in_ok-mine.mine.1 c.in_err-judgement.field-0.0 c.in_ok-mine.ensures.read c.in_err-judgement.ensures.judged)
+    (judge_answer4 (g.S.Read.remaining c.args.settings.now) (g.B.Read.remaining c.args.blocks.now) (g.P.Read.remaining c.args.prec.now) (g.C.Read.remaining c.args.certificate.now) (g.W.Write.contents c.args.out.now) c.in_ok-mine.mine.prices c.in_ok-mine.mine.predecessors c.in_err-judgement.field-0.0 c.in_ok-mine.ensures.read c.in_err-judgement.ensures.judged)
 
 pub returns-in_err-write_judgement-clause-answer : goal.returns-in_err-write_judgement-clause-answer
 returns-in_err-write_judgement-clause-answer g c =
     let p = err_from_is_err_and c.from_residual-in_err-write_judgement.result c.from_residual-in_err-write_judgement.ensures.1 in
     rw (p.1, p.2)
-    (failed_answer4 (g.S.Read.remaining c.args.settings.now) (g.B.Read.remaining c.args.blocks.now) (g.P.Read.remaining c.args.prec.now) (g.C.Read.remaining c.args.certificate.now) (g.W.Write.contents c.args.out.now) (g.W.Write.contents c.write_judgement.new.out) c.in_ok-mine.mine.0 c.in_ok-mine.mine.1 c.in_ok-judgement.judgement c.in_err-write_judgement.field-0.0 c.in_ok-mine.ensures.read c.in_ok-judgement.ensures.judged c.in_err-write_judgement.ensures.fault)
+    (failed_answer4 (g.S.Read.remaining c.args.settings.now) (g.B.Read.remaining c.args.blocks.now) (g.P.Read.remaining c.args.prec.now) (g.C.Read.remaining c.args.certificate.now) (g.W.Write.contents c.args.out.now) (g.W.Write.contents c.write_judgement.new.out) c.in_ok-mine.mine.prices c.in_ok-mine.mine.predecessors c.in_ok-judgement.judgement c.in_err-write_judgement.field-0.0 c.in_ok-mine.ensures.read c.in_ok-judgement.ensures.judged c.in_err-write_judgement.ensures.fault)
 
 pub returns-clause-answer : goal.returns-clause-answer
 returns-clause-answer g c =
-    line_answer4 (g.S.Read.remaining c.args.settings.now) (g.B.Read.remaining c.args.blocks.now) (g.P.Read.remaining c.args.prec.now) (g.C.Read.remaining c.args.certificate.now) (g.W.Write.contents c.args.out.now) (g.W.Write.contents c.write_judgement.new.out) c.in_ok-mine.mine.0 c.in_ok-mine.mine.1 c.in_ok-judgement.judgement c.verdict.result c.verdict.ensures c.in_ok-mine.ensures.read c.in_ok-judgement.ensures.judged c.in_ok-write_judgement.ensures.line
+    line_answer4 (g.S.Read.remaining c.args.settings.now) (g.B.Read.remaining c.args.blocks.now) (g.P.Read.remaining c.args.prec.now) (g.C.Read.remaining c.args.certificate.now) (g.W.Write.contents c.args.out.now) (g.W.Write.contents c.write_judgement.new.out) c.in_ok-mine.mine.prices c.in_ok-mine.mine.predecessors c.in_ok-judgement.judgement c.verdict.result c.verdict.ensures c.in_ok-mine.ensures.read c.in_ok-judgement.ensures.judged c.in_ok-write_judgement.ensures.line
 
 pub returns-in_err-judgement-clause-complete : goal.returns-in_err-judgement-clause-complete
 returns-in_err-judgement-clause-complete g c =

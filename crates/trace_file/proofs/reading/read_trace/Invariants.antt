@@ -1,5 +1,5 @@
 use Rattle.std.proofs.Common.{length}
-use Rattle.trace_file.specs.Lines.{parts}
+use Rattle.fixed_worth.specs.Text.{parts}
 use Rattle.trace_file.proofs.Steps.{Going}
 use Rattle.trace_file.proofs.reading.read_trace.Given as goal
 

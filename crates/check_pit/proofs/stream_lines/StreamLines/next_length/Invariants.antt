@@ -1,5 +1,5 @@
 use Rattle.std.proofs.Common.{◌≡◌, ◌+◌, ◌-◌}
-use Rattle.check_pit.specs.declared.stream_lines.TheConstants.{MOST_BYTES}
+use Rattle.fixed_worth.specs.declared.limits.TheConstants.{MOST_BYTES}
 use Rattle.check_pit.specs.StreamLines.{Reads}
 use Rattle.check_pit.proofs.stream_lines.StreamLines.next_length.Given as goal
 

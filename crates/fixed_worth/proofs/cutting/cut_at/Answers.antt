@@ -1,5 +1,5 @@
-use Rattle.trace_file.proofs.Parts.{cut, not_cut}
-use Rattle.trace_file.proofs.parting.cut_at.Goals as goal
+use Rattle.fixed_worth.proofs.Parts.{cut, not_cut}
+use Rattle.fixed_worth.proofs.cutting.cut_at.Goals as goal
 
 pub returns-in-Some : goal.returns-in-Some
 returns-in-Some c = cut c.args.byte c.in-Some.end c.args.text.now c.split_at.result.0.now c.split_at.result.1.now c.behind_first.result.now c.in-Some.ensures c.split_at.ensures.front c.split_at.ensures.back c.behind_first.ensures

@@ -3,7 +3,7 @@ use Rattle.std.proofs.lemmas.List.{append-nil, drop_all}
 use Rattle.std.specs.Fmt.{decimal}
 use Rattle.std.proofs.lemmas.Fmt.{length-decimal-le_wide}
 use Rattle.fixed_worth.proofs.DigitsFromEnd.{starts_above, written_before, all_written}
-use Rattle.fixed_worth.proofs.numbered.WrittenNumber.set.Goals as goal
+use Rattle.fixed_worth.proofs.written_number.WrittenNumber.set.Goals as goal
 
 pub loop-wide-init : goal.loop-wide-init
 loop-wide-init c =

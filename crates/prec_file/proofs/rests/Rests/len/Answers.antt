@@ -1,6 +1,6 @@
 use Rattle.std.proofs.Common.{subst}
 use Rattle.prec_file.specs.Rests.{RestsView, IsRests}
-use Rattle.prec_file.proofs.precedence.Rests.len.Goals as goal
+use Rattle.prec_file.proofs.rests.Rests.len.Goals as goal
 
 pub returns-clause-all : goal.returns-clause-all
 returns-clause-all c =

@@ -1,5 +1,5 @@
 use Rattle.fixed_worth.proofs.DigitsFromEnd.{AreWritten}
-use Rattle.fixed_worth.proofs.numbered.WrittenNumber.set.Given as goal
+use Rattle.fixed_worth.proofs.written_number.WrittenNumber.set.Given as goal
 
 abbrev pub invariant-loop-wide : goal.invariant-loop-wide
 invariant-loop-wide l = AreWritten l.n l.wide l.start l.self-inside.bytes

@@ -1,7 +1,7 @@
 //! The words that name a factor, a kind of amount, a number of steps and a number of workers.
 
 ghost use Rattle.std.specs.Prelude.{◌≡◌, ◌≤◌, IfSome};
-ghost use Rattle.engines.specs.SolveWords.{factor_of, group_of, steps_of, workers_of};
+ghost use Rattle.engines.specs.OptionWords.{factor_of, group_of, steps_of, workers_of};
 
 use crate::whole_numbers::whole_within;
 use async_step::MOST_STEPS;

@@ -1,12 +1,12 @@
 //! Cutting a text at a byte.
 
 ghost use Rattle.std.specs.Prelude.{◌≡◌, [], ◌∷◌, MatchOption};
-ghost use Rattle.trace_file.specs.Lines.{parts};
+ghost use Rattle.fixed_worth.specs.Text.{parts};
 
-use fixed_worth::behind_first;
+use crate::line_reader::behind_first;
 use memchr::memchr;
 
-/// What stands before the first such byte of a text and what stands behind it, if it has one.
+/// What stands before the first such byte of a text and what stands behind it, or `None` where the text has none.
 pub fn cut_at<'a>(byte: u8, text: &'a [u8]) -> Option<(&'a [u8], &'a [u8])>
     ensures { MatchOption result
         (parts byte text.now ≡ text.now ∷ [])

@@ -2,7 +2,7 @@ use Rattle.std.proofs.Common.{◌∙◌, pos, ◌*ℤ◌, ◌-ℤ◌, ℤ, ap, r
 use mir.Val.{SFits}
 use Rattle.std.specs.Int.{int_max, w128, w64}
 use Rattle.std.proofs.lemmas.Int.{to_z-of_z}
-use Rattle.shells.proofs.charges.left_by_mill.Goals as goal
+use Rattle.shells.proofs.costs.left_by_mill.Goals as goal
 
 pub returns : goal.returns
 returns c =

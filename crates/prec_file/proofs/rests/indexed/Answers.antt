@@ -3,7 +3,7 @@ use Rattle.prec_file.specs.Rests.{from_at}
 use Rattle.prec_file.specs.Internal.{IsStarts}
 use Rattle.prec_file.proofs.Sorting.{known_tops}
 use Rattle.prec_file.proofs.Order.{tops_moved, filled_moved}
-use Rattle.prec_file.proofs.precedence.indexed.Goals as goal
+use Rattle.prec_file.proofs.rests.indexed.Goals as goal
 
 pub starts_of-requires-clause-known : goal.starts_of-requires-clause-known
 starts_of-requires-clause-known c = known_tops c.args.n c.args.pairs.items c.deref-3.result.now (c.deref-3.ensures.value ∙ c.in_ok-tops.ensures ∙ ap (map (λ p. p.1)) c.deref-2.ensures.value) c.requires.known
