@@ -9,7 +9,7 @@ ghost use Rattle.bench_report.specs.Internal.{IsTallied, TallyFaultStands};
 
 use crate::bench_row::BenchRow;
 use crate::report_fault::ReportFault;
-use crate::rows::{Rows, add_block};
+use crate::row_map::{Rows, add_block};
 use blocks_file::BlockModel;
 use shells::Series;
 use std::alloc::Global;

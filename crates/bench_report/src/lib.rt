@@ -17,7 +17,7 @@ mod bench_row;
 mod bench_table;
 pub mod laws;
 mod report_fault;
-mod rows;
+mod row_map;
 mod write_fault;
 mod written_table;
 

@@ -13,7 +13,7 @@ use Rattle.fixed_worth.specs.Text.{parts}
 use Rattle.trace_file.specs.Lines.{event_of}
 use Rattle.trace_file.specs.Faults.{UnlessMemory, events_of, end_fault, event_fault, line_fault, fault_behind, fault_in, fault_of}
 use Rattle.trace_file.specs.ReadBack.{IsWritten}
-use Rattle.trace_file.proofs.Parts.{some_part}
+use Rattle.fixed_worth.proofs.Parts.{some_part}
 use Rattle.trace_file.proofs.RoundTrip.{behind_line, read_is_written}
 
 -- ---- the first line

@@ -1,4 +1,4 @@
-//! Adding blocks to the rows of their benches and shells.
+//! Rows by their bench and shell, and adding blocks to them.
 
 ghost use Rattle.std.specs.Prelude.{◌≡◌, ◌^◌, ◌<◌, Some, OnOk, IfErr, MatchResult};
 ghost use Rattle.std.specs.BTreeMap.{Updates, get};
