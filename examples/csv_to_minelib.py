@@ -11,6 +11,8 @@ The columns that are named behind NAME, as revenue, cost and tonnes, are written
 settings know them as columns 0, 1, 2 and so on.
 """
 import csv
+import functools
+import math
 import re
 import sys
 
@@ -21,10 +23,20 @@ DECIMAL = re.compile(r"[+-]?(\d+\.?\d*|\.\d+)([eE][+-]?\d+)?")
 
 
 def rows_of(table):
-    with open(table, newline="", encoding="utf-8-sig") as file:
-        separator = ";" if ";" in file.readline() else ","
-        file.seek(0)
-        return list(csv.DictReader(file, delimiter=separator))
+    try:
+        with open(table, newline="", encoding="utf-8-sig") as file:
+            separator = ";" if ";" in file.readline() else ","
+            file.seek(0)
+            rows = list(csv.DictReader(file, delimiter=separator))
+    except OSError as error:
+        sys.exit("%s: %s" % (table, error.strerror))
+    except UnicodeDecodeError:
+        sys.exit("%s is no text in UTF-8; in Excel save it as 'CSV UTF-8'" % table)
+    for block, row in enumerate(rows):
+        if None in row:
+            sys.exit("block %d, row %d below the header, has %d cells, and the header line %d: is there a comma within a number?"
+                     % (block, block + 1, len(row) - 1 + len(row[None]), len(row) - 1))
+    return rows
 
 
 def cells(rows, column):
@@ -40,13 +52,25 @@ def cells(rows, column):
     return found
 
 
-def indices(coordinates, size):
+def size_of(word):
+    """The size of a block along an axis."""
+    if not DECIMAL.fullmatch(word) or float(word) <= 0:
+        sys.exit("the size of a block is '%s', and has to be a number above 0" % word)
+    return float(word)
+
+
+def indices(axis, coordinates, size):
     lowest = min(coordinates)
     steps = [(c - lowest) / size for c in coordinates]
     for row, step in enumerate(steps):
         if abs(step - round(step)) > 0.1:
             sys.exit("block %d: %g is %.2f blocks of %g above the lowest" % (row, coordinates[row], step, size))
-    return [round(step) for step in steps]
+    found = [round(step) for step in steps]
+    apart = functools.reduce(math.gcd, found)
+    if apart > 1:
+        sys.exit("along %s no two blocks are neighbours: all are %d blocks of %g apart, or a multiple of that. Is a block %g long?"
+                 % (axis, apart, size, apart * size))
+    return found
 
 
 def main():
@@ -54,7 +78,7 @@ def main():
         sys.exit(__doc__)
     table, *sizes, name = sys.argv[1:6]
     rows = rows_of(table)
-    axes = [indices([float(cell) for cell in cells(rows, axis)], float(size)) for axis, size in zip(COORDINATES, sizes)]
+    axes = [indices(axis, [float(cell) for cell in cells(rows, axis)], size_of(size)) for axis, size in zip(COORDINATES, sizes)]
     values = cells(rows, VALUE)
     further = [cells(rows, column) for column in sys.argv[6:]]
     with open(name + ".blocks", "w") as blocks, open(name + ".upit", "w") as upit:
