@@ -18,11 +18,11 @@ pub record SameLengths (model : BlocksView) (series : SeriesView) (worths : List
 abbrev pub SumsFit : ReportedBlocks → ℤ → ℕ → ℕ → Type 0
 SumsFit m z k j = FitsSigned w128 (worth_in m.tonnes (blocks_at m z k) j) × FitsSigned w128 (worth_in m.worth (blocks_at m z k) j)
 
--- so do those of each bench and shell on the whole way
+-- the sums of every bench and shell fit after each block
 abbrev pub AllSumsFit : ReportedBlocks → Type 0
 AllSumsFit m = (z : ℤ) (k j : ℕ) → j ≤ m.blocks → SumsFit m z k j
 
--- those of some bench and shell don't, at some place
+-- some sum of a bench and a shell doesn't fit after some block
 abbrev pub SomeSumOverflows : ReportedBlocks → Type 0
 SomeSumOverflows m = (z : ℤ) × (k : ℕ) × (j : ℕ) × (j ≤ m.blocks) × ¬ (SumsFit m z k j)
 

@@ -5,7 +5,7 @@
 pub struct BenchRow {
     /// The bench: the height of its blocks, as their coordinate along the third axis.
     pub z: i32,
-    /// The shell, in thousandths of the price.
+    /// The shell: the lowest factor, in thousandths, whose best pit holds the blocks.
     pub shell: u32,
     /// How many blocks there are.
     pub blocks: u32,

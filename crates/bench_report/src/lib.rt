@@ -6,7 +6,7 @@
 //! comma-separated values, for spreadsheets.
 //!
 //! Stands on `blocks_file` for heights and tonnes, `shells` for the shells, `ordered_group` for the
-//! words on sets of blocks, `fixed_worth` for numbers and devices, and the kit's `csv`. Promises
+//! definitions of sums over sets of blocks, `fixed_worth` for numbers and devices, and the kit's `csv`. Promises
 //! upward that the rows are exactly the benches and shells with a block, each once and in ascending
 //! order, with the exact number and sums of their blocks; that a sum which overflows 128 bits on the way
 //! is refused; and that what is written is the one text of the rows. It takes time in proportion to

@@ -1,7 +1,7 @@
 -- What is read is what the text denotes.
 use Rattle.std.proofs.Common.{◌≡◌, ℕ, ℤ, List, [], length, Option, None, sym, ap, ◌∙◌, subst}
 use Rattle.blocks_file.specs.declared.place.Place.{Place}
-use Rattle.blocks_file.specs.declared.faults.BlocksFault.{BlocksFault}
+use Rattle.blocks_file.specs.declared.blocks_fault.BlocksFault.{BlocksFault}
 use Rattle.blocks_file.specs.Records.{lines_in, count_of, first_fault, long_fault, many_fault, fault_of}
 use Rattle.blocks_file.specs.Denotes.{BlocksView, Denotes, columns_from}
 use Rattle.blocks_file.specs.Internal.{AreKept}

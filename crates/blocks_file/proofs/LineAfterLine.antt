@@ -12,8 +12,8 @@ use Rattle.fixed_worth.specs.declared.limits.TheConstants.{MOST_BLOCKS}
 use Rattle.fixed_worth.specs.Text.{Left, fields_of}
 use Rattle.fixed_worth.specs.Record.{Line, numbered, is_skipped}
 use Rattle.blocks_file.specs.declared.place.Place.{Place}
-use Rattle.blocks_file.specs.declared.faults.BlocksFault.{BlocksFault}
-use Rattle.blocks_file.specs.declared.faults.BlocksFault.TheVariants.{UnknownBlock, Repeated}
+use Rattle.blocks_file.specs.declared.blocks_fault.BlocksFault.{BlocksFault}
+use Rattle.blocks_file.specs.declared.blocks_fault.BlocksFault.TheVariants.{UnknownBlock, Repeated}
 use Rattle.blocks_file.specs.Records.{block_of, place_of, columns_of, value_in, shape_fault, block_fault, record_fault, is_record_of, has_record, record_among, first_fault, long_fault, record_lines}
 use Rattle.blocks_file.specs.Denotes.{origin}
 use Rattle.blocks_file.specs.Internal.{HoldsValues, ArePut, AreKept}

@@ -1,8 +1,8 @@
 -- How faults are printed.
 use Rattle.std.specs.Prelude.{ℕ, List, codes}
 pub use Rattle.fixed_worth.specs.FaultText.{at_line}
-use Rattle.blocks_file.specs.declared.faults.BlocksFault.{BlocksFault}
-use Rattle.blocks_file.specs.declared.faults.BlocksFault.TheVariants.{Text, Number, NoColumn, UnknownBlock, Repeated, TooMany, NoMemory}
+use Rattle.blocks_file.specs.declared.blocks_fault.BlocksFault.{BlocksFault}
+use Rattle.blocks_file.specs.declared.blocks_fault.BlocksFault.TheVariants.{Text, Number, NoColumn, UnknownBlock, Repeated, TooMany, NoMemory}
 
 -- The fault's name, with its line number in parentheses where it has one.
 abbrev pub blocks_fault_text : BlocksFault → List ℕ

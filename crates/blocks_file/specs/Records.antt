@@ -10,8 +10,8 @@ use Rattle.fixed_worth.specs.Text.{fields_of}
 use Rattle.fixed_worth.specs.Record.{Line, reads, is_skipped}
 pub use Rattle.fixed_worth.specs.Record.{lines_in, number_of}
 use Rattle.blocks_file.specs.declared.place.Place.{Place}
-use Rattle.blocks_file.specs.declared.faults.BlocksFault.{BlocksFault}
-use Rattle.blocks_file.specs.declared.faults.BlocksFault.TheVariants.{Text, Number, NoColumn, UnknownBlock, Repeated, TooMany, NoMemory}
+use Rattle.blocks_file.specs.declared.blocks_fault.BlocksFault.{BlocksFault}
+use Rattle.blocks_file.specs.declared.blocks_fault.BlocksFault.TheVariants.{Text, Number, NoColumn, UnknownBlock, Repeated, TooMany, NoMemory}
 
 -- A whole number of 32 bits; -(2 ^ 31) - 1 and 2 ^ 31 are the nearest that are none.
 abbrev pub in_range : Result ℤ NumberFault → Option ℤ

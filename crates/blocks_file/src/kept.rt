@@ -18,7 +18,7 @@ pub(crate) struct Kept {
     pub values: Vec<Micros>,
 }
 
-// Nothing, so many times.
+// So many amounts of zero.
 pub(crate) fn zeros(alloc: Global, count: usize) -> Result<Vec<Micros>, AllocError>
     ensures { IfOk result (λ values. values.items ≡ replicate count (pos 0)) }
 {

@@ -13,8 +13,8 @@
 #![tactic(auto)]
 
 mod block_model;
+mod blocks_fault;
 mod counting;
-mod faults;
 mod kept;
 mod limits;
 mod place;
@@ -23,7 +23,7 @@ mod record;
 mod row;
 
 pub use block_model::BlockModel;
-pub use faults::BlocksFault;
+pub use blocks_fault::BlocksFault;
 pub use limits::MOST_COLUMNS;
 pub use place::Place;
 pub use reading::read_blocks;

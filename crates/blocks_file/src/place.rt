@@ -12,7 +12,7 @@ pub struct Place {
     pub x: i32,
     /// Along the second axis.
     pub y: i32,
-    /// Along the third axis, which is the height.
+    /// Along the third axis; whether it counts upward is for the slopes to say.
     pub z: i32,
 }
 

@@ -7,7 +7,7 @@ use Rattle.std.specs.declared.cmp.Ordering.TheVariants.{Less, Equal, Greater}
 use Rattle.closure_net.proofs.Views.{at_view}
 use Rattle.ordered_group.specs.Amount.{Amount, zero_amount, is_zero, minus, positive, FitsPair}
 use Rattle.ordered_group.specs.Sums.{amount_at}
-use Rattle.closure_net.specs.Flows.{Within, WithinAt, room_at}
+use Rattle.closure_net.specs.Flows.{Within, WithinAt, residual_at}
 
 -- the opposite of the value that was read at i fits
 pub opposite_here : {X : Type 0} (f : X → Amount) (xs : List X) (amounts : List Amount) (i : ℕ) (x : X) → map f xs ≡ amounts → i < length xs → x ≡ get_or xs i x → FitsPair (minus zero_amount (amount_at amounts i)) → FitsPair (minus zero_amount (f x))
@@ -22,8 +22,8 @@ within_there f ws ss ts worths source sink i w s t is_w is_s is_t hw hs ht ew es
     subst P (sym (at_view f worths ws i w is_w hw ew)) (subst Q (sym (at_view f source ss i s is_s hs es)) (subst R (sym (at_view f sink ts i t is_t ht et)) h))
 
 -- what the source could still give block i, by what was read and computed
-pub room_here : (ws ss : List Amount) (i : ℕ) (w s p r : Amount) → amount_at ws i ≡ w → amount_at ss i ≡ s → p ≡ positive w → r ≡ minus p s → room_at ws ss i ≡ r
-room_here ws ss i w s p r is_w is_s e d = ap (λ x. minus (positive x) (amount_at ss i)) is_w ∙ ap (minus (positive w)) is_s ∙ ap (λ x. minus x s) (sym e) ∙ sym d
+pub residual_here : (ws ss : List Amount) (i : ℕ) (w s p r : Amount) → amount_at ws i ≡ w → amount_at ss i ≡ s → p ≡ positive w → r ≡ minus p s → residual_at ws ss i ≡ r
+residual_here ws ss i w s p r is_w is_s e d = ap (λ x. minus (positive x) (amount_at ss i)) is_w ∙ ap (minus (positive w)) is_s ∙ ap (λ x. minus x s) (sym e) ∙ sym d
 
 equal_then : (a b : Ordering) → is_eq (ordering_then a b) ≡ (is_eq a && is_eq b)
 equal_then Less b = refl

@@ -13,7 +13,7 @@ use Rattle.ordered_group.proofs.Totals.{total-same, total-minus, total-zero, tot
 use Rattle.prec_file.specs.Rests.{IsRests, from_at, to_at}
 use Rattle.closure_net.specs.Network.{NetView, IsAscending, holds_of}
 use Rattle.closure_net.specs.Closure.{group_worth}
-use Rattle.closure_net.specs.Flows.{Balanced, still_to_give, inflow, outflow}
+use Rattle.closure_net.specs.Flows.{Balanced, source_residual, inflow, outflow}
 use Rattle.closure_net.proofs.Holding.{place_of}
 use Rattle.check_pit.specs.declared.lines_of_body.LineKind.{LineKind}
 use Rattle.check_pit.specs.declared.lines_of_body.LineKind.TheVariants.{Source, Rest, Sink}
@@ -21,7 +21,7 @@ use Rattle.check_pit.specs.declared.lines_of_body.BodyLine.{BodyLine}
 use Rattle.check_pit.specs.BodyLines.{lines_in, is_of_model}
 use Rattle.check_pit.specs.Certificate.{Denotes, has_pair, pit_of, amount_of, given, gives_source, gives_rest, gives_sink}
 use Rattle.check_pit.specs.Checks.{NoneBelowZero, AllWithin}
-use Rattle.check_pit.specs.LineSums.{balance_of, left_to_give, worth_of_blocks, flow_of, keeps_by, KeepLimits}
+use Rattle.check_pit.specs.LineSums.{balance_of, residual_behind, worth_of_blocks, flow_of, keeps_by, KeepLimits}
 use Rattle.check_pit.specs.LineLaws.{LineSumsTell}
 use Rattle.check_pit.proofs.Order.{InOrder, Good, in_order_weaker, stands_in_order, ascending, known}
 use Rattle.check_pit.proofs.LineOrder.{Has, has_good, Proper, good_is_proper, found}
@@ -127,7 +127,7 @@ module _ (net : NetView) (ls : List BodyLine) (rests : IsRests (record { blocks 
   balanced b h =
       balance_tells (balance_of ls b) (sum_giving (gives_source b) ls) (end_sum (λ l. l.other) b ls) (sum_giving (gives_sink b) ls) (end_sum (λ l. l.block) b ls) _ _ _ _ (balance_is ls b) (from_source b h) (in_over b) (to_sink b h) (out_over b)
 
-  pub still_left : still_to_give net (flow_of (length net.worths) net.pairs ls) ≡ left_to_give net.worths ls
+  pub still_left : source_residual net (flow_of (length net.worths) net.pairs ls) ≡ residual_behind net.worths ls
   still_left =
       total-minus (λ b. positive (amount_at net.worths b)) (amount_at (flow_of (length net.worths) net.pairs ls).source) (length net.worths)
       ∙ ap (minus (total (λ b. positive (amount_at net.worths b)) (length net.worths)))

@@ -14,7 +14,7 @@ use Rattle.check_pit.specs.declared.lines_of_body.LineKind.{LineKind}
 use Rattle.check_pit.specs.declared.lines_of_body.LineKind.TheVariants.{Pit, Source, Rest, Sink, End}
 use Rattle.check_pit.specs.declared.lines_of_body.BodyLine.{BodyLine}
 use Rattle.check_pit.specs.Certificate.{block_if_pit, pit_of, amount_of}
-use Rattle.check_pit.specs.LineSums.{brings_by, balance_of, source_by, source_sum, worth_of_blocks, left_to_give, SomeLineSumOverflows}
+use Rattle.check_pit.specs.LineSums.{brings_by, balance_of, source_by, source_sum, worth_of_blocks, residual_behind, SomeLineSumOverflows}
 use Rattle.std.specs.Option.{is_some}
 use Rattle.check_pit.specs.PitLists.{blocks_of}
 use Rattle.check_pit.specs.Rooms.{RoomView, IsRoomFor, AreSumsOf, WithLine, SumOverflowsWith, RefusedWhere, PutsLine, RefusesLine, with_balance, with_left}
@@ -32,7 +32,7 @@ sources_more (m ∷ ms) l = ap (plus (source_by m.kind (amount_of m))) (sources_
 taken_twice : (t x y : Amount) → minus t (plus x y) ≡ minus (minus t x) y
 taken_twice t x y = Amount_eq _ _ (omega (arith, ints)) (omega (arith, ints))
 
-pub left_more : (ws : List Amount) (ls : List BodyLine) (l : BodyLine) → left_to_give ws (ls ++ l ∷ []) ≡ minus (left_to_give ws ls) (source_by l.kind (amount_of l))
+pub left_more : (ws : List Amount) (ls : List BodyLine) (l : BodyLine) → residual_behind ws (ls ++ l ∷ []) ≡ minus (residual_behind ws ls) (source_by l.kind (amount_of l))
 left_more ws ls l =
     let all = total (λ b. positive (amount_at ws b)) (length ws) in
     ap (minus all) (sources_more ls l) ∙ taken_twice all (source_sum ls) (source_by l.kind (amount_of l))

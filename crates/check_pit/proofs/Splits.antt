@@ -3,7 +3,7 @@ use Rattle.std.proofs.Common.{◌≡◌, ℕ, zero, suc, get_or, ◌+◌, ◌<�
 use Rattle.fixed_worth.specs.declared.limits.TheConstants.{LINE_BYTES}
 use Rattle.fixed_worth.proofs.Cuts.{position_none}
 use Rattle.std.specs.Prelude.{position}
-use Rattle.std.specs.List.{onto_first, position_or_len}
+use Rattle.std.specs.List.{position_or_len}
 use Rattle.std.proofs.lemmas.List.Quantifiers.{position-Some}
 use Rattle.std.proofs.lemmas.List.{length-take-le}
 use Rattle.std.proofs.lemmas.Bool.Decides.{nat_tests}
@@ -55,29 +55,6 @@ pub none_left : (bs : List ℕ) → eqb (length bs) 0 ≡ eqb (length (pieces_of
 none_left [] = refl
 none_left (b ∷ bs) = more_than_none (length bs) ∙ sym (some_at b bs (eqb b 10) refl)
 
--- The first word ends at the first space.
-word_to : (bs : List ℕ) (j : ℕ) → j < length bs → eqb (get_or bs j 0) 32 ≡ true → ((k : ℕ) → k < j → eqb (get_or bs k 0) 32 ≡ false)
-    → words_of bs ≡ take j bs ∷ words_of (drop 1 (drop j bs))
-word_to [] j h e f = absurd (omega arith)
-word_to (b ∷ bs) zero h e f = rw e refl
-word_to (b ∷ bs) (suc j) h e f =
-    let z : eqb b 32 ≡ false = f 0 (omega arith) in
-    rw z (ap (onto_first b) (word_to bs j (omega arith) e (λ k i. f (suc k) (omega arith))))
-
-pub first_word : (bs : List ℕ) (j : ℕ) → position (λ x. eqb x 32) bs ≡ Some j → words_of bs ≡ take j bs ∷ words_of (drop 1 (drop j bs))
-first_word bs j e = let q = position-Some (λ x. eqb x 32) bs j 0 e in word_to bs j q.0 q.1 q.2
-
-word_at : (b : ℕ) (bs : List ℕ) (t : Bool) → eqb b 32 ≡ t → length (b ∷ bs) ≡ position_or_len (λ x. eqb x 32) (b ∷ bs) → (length bs ≡ position_or_len (λ x. eqb x 32) bs → words_of bs ≡ bs ∷ []) → words_of (b ∷ bs) ≡ (b ∷ bs) ∷ []
-word_at b bs true e h ih = let g = rw e at h in absurd (omega (arith, g))
-word_at b bs false e h ih = let g = rw e at h in rw e (ap (onto_first b) (ih (omega (arith, g))))
-
-unspaced : (bs : List ℕ) → length bs ≡ position_or_len (λ x. eqb x 32) bs → words_of bs ≡ bs ∷ []
-unspaced [] h = refl
-unspaced (b ∷ bs) h = word_at b bs (eqb b 32) refl h (unspaced bs)
-
-pub last_word : (bs : List ℕ) → position (λ x. eqb x 32) bs ≡ None → words_of bs ≡ bs ∷ []
-last_word bs e = unspaced bs (position_none _ bs e)
-
 -- The steps of the readers.
 too_long : (k : ℕ) (p : Piece) (bs : List ℕ) → p.text ≡ bs → LINE_BYTES < length bs → no_line k p ≡ Some (fault.Text k)
 too_long k p bs e h =
@@ -105,13 +82,10 @@ cut_off bs k v is e h =
 pub line_given : (bs line back rest : List ℕ) (j k : ℕ) (v : Unread) → record { pieces = pieces_of bs; number = k } ≡ v → position (λ x. eqb x 10) bs ≡ Some j → line ≡ take j bs → back ≡ drop j bs → rest ≡ drop 1 back → v.pieces ≡ record { text = line; ended = true } ∷ pieces_of rest
 line_given bs line back rest j k v is e f g h = sym (ap (λ (w : Unread). w.pieces) is) ∙ rw (f, h, g) (first_piece bs j e)
 
-pub word_given : (bs word back rest : List ℕ) (j : ℕ) → position (λ x. eqb x 32) bs ≡ Some j → word ≡ take j bs → back ≡ drop j bs → rest ≡ drop 1 back → words_of bs ≡ word ∷ words_of rest
-word_given bs word back rest j e f g h = rw (f, h, g) (first_word bs j e)
-
 pub words_left : (ws : List (List ℕ)) (d t : Bool) (bs : List ℕ) → cond d [] (words_of bs) ≡ ws → d ≡ t → cond t [] (words_of bs) ≡ ws
 words_left ws d t bs is e = subst (λ (b : Bool). cond b [] (words_of bs) ≡ ws) e is
 
-pub word_step : (ws : List (List ℕ)) (d : Bool) (bs word back rest : List ℕ) (j : ℕ) → cond d [] (words_of bs) ≡ ws → d ≡ false → position (λ x. eqb x 32) bs ≡ Some j → word ≡ take j bs → back ≡ drop j bs → rest ≡ drop 1 back → ws ≡ word ∷ cond d [] (words_of rest)
-word_step ws d bs word back rest j is off e f g h =
+pub word_step : (ws : List (List ℕ)) (d : Bool) (bs word rest : List ℕ) → cond d [] (words_of bs) ≡ ws → d ≡ false → words_of bs ≡ word ∷ words_of rest → ws ≡ word ∷ cond d [] (words_of rest)
+word_step ws d bs word rest is off cut =
     let now : words_of bs ≡ ws = words_left ws d false bs is off in
-    rw off (sym now ∙ word_given bs word back rest j e f g h)
+    rw off (sym now ∙ cut)

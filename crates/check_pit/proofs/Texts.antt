@@ -9,6 +9,7 @@ use Rattle.std.specs.Fmt.{decimal, signed_decimal}
 use Rattle.std.proofs.lemmas.Bool.Decides.{nat_tests}
 use Rattle.std.proofs.lemmas.List.Folds.{list_all-append}
 use Rattle.std.proofs.lemmas.Fmt.{decimal_by_steps_wide}
+use Rattle.fixed_worth.proofs.Parts.{some_part}
 use Rattle.check_pit.specs.Pieces.{Piece, onto_piece, pieces_of, words_of}
 use Rattle.check_pit.specs.Written.{spaced}
 
@@ -34,25 +35,12 @@ onto_spaced b [] = refl
 onto_spaced b (w ∷ []) = refl
 onto_spaced b (w ∷ v ∷ ws) = refl
 
--- There is always a word.
-pub onto_some : (b : ℕ) (ws : List (List ℕ)) → 0 < length (onto_first b ws)
-onto_some b [] = omega arith
-onto_some b (w ∷ ws) = omega arith
-
-some_at : (b : ℕ) (bs : List ℕ) (t : Bool) → 0 < length (cond t ([] ∷ words_of bs) (onto_first b (words_of bs)))
-some_at b bs true = omega arith
-some_at b bs false = onto_some b (words_of bs)
-
-some_word : (bs : List ℕ) → 0 < length (words_of bs)
-some_word [] = omega arith
-some_word (b ∷ bs) = some_at b bs (eqb b 32)
-
 spaced_behind : (w : List ℕ) (ws : List (List ℕ)) → 0 < length ws → spaced (w ∷ ws) ≡ w ++ (32 ∷ spaced ws)
 spaced_behind w [] h = absurd (omega arith)
 spaced_behind w (v ∷ ws) h = refl
 
 words_at : (b : ℕ) (bs : List ℕ) (t : Bool) → eqb b 32 ≡ t → spaced (words_of bs) ≡ bs → spaced (cond t ([] ∷ words_of bs) (onto_first b (words_of bs))) ≡ b ∷ bs
-words_at b bs true e ih = let s : b ≡ 32 = grind (arith, nat_tests) in spaced_behind [] (words_of bs) (some_word bs) ∙ ap (λ (xs : List ℕ). 32 ∷ xs) ih ∙ ap (λ (x : ℕ). x ∷ bs) (sym s)
+words_at b bs true e ih = let s : b ≡ 32 = grind (arith, nat_tests) in spaced_behind [] (words_of bs) (some_part 32 bs) ∙ ap (λ (xs : List ℕ). 32 ∷ xs) ih ∙ ap (λ (x : ℕ). x ∷ bs) (sym s)
 words_at b bs false e ih = onto_spaced b (words_of bs) ∙ ap (λ (xs : List ℕ). b ∷ xs) ih
 
 pub words_make_line : (bs : List ℕ) → spaced (words_of bs) ≡ bs

@@ -1,9 +1,9 @@
 -- What a certificate's text says, and what is wrong with it.
 use Rattle.std.specs.Prelude.{◌≡◌, ℕ, ◌<◌, ◌==◌, ◌&&◌, Bool, true, false, cond, List, [], ◌∷◌, length, drop, slice_index_or, All, Option, Some, None, Result, Ok, Err}
-use Rattle.std.specs.List.{list_any}
 use Rattle.ordered_group.specs.declared.groups.Group.{Group}
 use Rattle.ordered_group.specs.Amount.{Amount, zero_amount}
 use Rattle.ordered_group.specs.Sums.{amount_at}
+pub use Rattle.prec_file.specs.Rests.{has_pair}
 use Rattle.closure_net.specs.Network.{FlowView, IsAscending}
 use Rattle.check_pit.specs.declared.header.Header.{Header}
 use Rattle.check_pit.specs.declared.header.Wanted.{Wanted}
@@ -17,10 +17,6 @@ use Rattle.check_pit.specs.Pieces.{Piece, pieces_of}
 use Rattle.check_pit.specs.Header.{header_for}
 use Rattle.check_pit.specs.BodyLines.{body_fault, lines_in}
 use Rattle.check_pit.specs.Written.{header_with, text_of}
-
--- the pair is among these
-abbrev pub has_pair : List (ℕ × ℕ) → ℕ → ℕ → Bool
-has_pair pairs b p = list_any (λ q. (q.0 == b) && (q.1 == p)) pairs
 
 -- the lines behind the header
 abbrev pub body_of : List ℕ → List Piece

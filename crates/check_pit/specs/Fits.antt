@@ -4,7 +4,7 @@ use Rattle.ordered_group.specs.Amount.{Amount, plus, FitsPair}
 use Rattle.ordered_group.specs.Sums.{total, where_so, at_end, amount_at}
 use Rattle.prec_file.specs.Rests.{from_at, to_at}
 use Rattle.closure_net.specs.Network.{NetView, FlowView, holds_of}
-use Rattle.closure_net.specs.Flows.{room_at}
+use Rattle.closure_net.specs.Flows.{residual_at}
 
 -- start, and after it the amounts of the pairs that end at b in their order: each sum on the way fits
 abbrev pub EndFits : Amount → (ℕ → ℕ) → (ℕ → Amount) → ℕ → ℕ → Type 0
@@ -31,12 +31,12 @@ abbrev pub SetOverflows : List Amount → (ℕ → Bool) → Type 0
 SetOverflows ws e = (k : ℕ) × (k < length ws) × IsTrue (e k) × ¬ (FitsPair (plus (total (λ b. where_so (e b) (amount_at ws b)) k) (amount_at ws k)))
 
 -- what the source could still give block k fits, and so does its sum with that of the blocks before
-abbrev pub RoomFits : List Amount → List Amount → ℕ → Type 0
-RoomFits ws ss k = FitsPair (room_at ws ss k) × FitsPair (plus (total (room_at ws ss) k) (room_at ws ss k))
+abbrev pub ResidualFits : List Amount → List Amount → ℕ → Type 0
+ResidualFits ws ss k = FitsPair (residual_at ws ss k) × FitsPair (plus (total (residual_at ws ss) k) (residual_at ws ss k))
 
 -- at some block one of the two doesn't
-abbrev pub RoomOverflows : List Amount → List Amount → Type 0
-RoomOverflows ws ss = (k : ℕ) × (k < length ws) × ¬ (RoomFits ws ss k)
+abbrev pub ResidualOverflows : List Amount → List Amount → Type 0
+ResidualOverflows ws ss = (k : ℕ) × (k < length ws) × ¬ (ResidualFits ws ss k)
 
 -- the sums of some block's balance don't all fit
 abbrev pub SomeBalanceOverflows : NetView → FlowView → Type 0
@@ -46,8 +46,8 @@ SomeBalanceOverflows net flow = (b : ℕ) × (b < length net.worths) × BalanceO
 pub record SumsFit (net : NetView) (flow : FlowView) (pit : List ℕ) : Type 0 where
   pub balances : (b : ℕ) → b < length net.worths → BalanceFits net flow b
   pub set : SetFits net.worths (holds_of pit)
-  pub room : (k : ℕ) → k < length net.worths → RoomFits net.worths flow.source k
+  pub room : (k : ℕ) → k < length net.worths → ResidualFits net.worths flow.source k
 
 -- one of them doesn't
 abbrev pub SomeSumOverflows : NetView → FlowView → List ℕ → Type 0
-SomeSumOverflows net flow pit = SomeBalanceOverflows net flow ⊎ (SetOverflows net.worths (holds_of pit) ⊎ RoomOverflows net.worths flow.source)
+SomeSumOverflows net flow pit = SomeBalanceOverflows net flow ⊎ (SetOverflows net.worths (holds_of pit) ⊎ ResidualOverflows net.worths flow.source)

@@ -9,13 +9,13 @@ use Rattle.check_pit.specs.Pieces.{Piece}
 use Rattle.check_pit.specs.BodyLines.{body_fault, lines_in}
 use Rattle.check_pit.specs.Certificate.{Denotes, has_pair, pit_of}
 use Rattle.check_pit.specs.Checks.{NoneBelowZero, AllWithin}
-use Rattle.check_pit.specs.LineSums.{balance_of, worth_of_blocks, left_to_give, flow_of, KeepLimits}
+use Rattle.check_pit.specs.LineSums.{balance_of, worth_of_blocks, residual_behind, flow_of, KeepLimits}
 
 -- the lines denote this flow; and of it the sums over the lines tell whether a block is balanced and the pit tight
 pub record LinesTell (net : NetView) (ls : List BodyLine) : Type 0 where
   pub denotes : Denotes (length net.worths) net.pairs ls (pit_of ls) (flow_of (length net.worths) net.pairs ls)
   pub balanced : (b : ℕ) → b < length net.worths → Balanced net (flow_of (length net.worths) net.pairs ls) b ↔ (balance_of ls b ≡ zero_amount)
-  pub tight : IsTight net (flow_of (length net.worths) net.pairs ls) (holds_of (pit_of ls)) ↔ (worth_of_blocks net.worths (pit_of ls) ≡ left_to_give net.worths ls)
+  pub tight : IsTight net (flow_of (length net.worths) net.pairs ls) (holds_of (pit_of ls)) ↔ (worth_of_blocks net.worths (pit_of ls) ≡ residual_behind net.worths ls)
   pub limits : KeepLimits net.worths ls → NoneBelowZero (flow_of (length net.worths) net.pairs ls) × AllWithin net (flow_of (length net.worths) net.pairs ls)
 
 -- so it is for the lines behind the header of every text without a fault

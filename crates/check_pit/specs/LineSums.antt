@@ -35,9 +35,9 @@ abbrev pub source_sum : List BodyLine → Amount
 source_sum [] = zero_amount
 source_sum (l ∷ ls) = plus (source_by l.kind (amount_of l)) (source_sum ls)
 
--- what the source could still give behind the lines
-abbrev pub left_to_give : List Amount → List BodyLine → Amount
-left_to_give ws ls = minus (total (λ b. positive (amount_at ws b)) (length ws)) (source_sum ls)
+-- the residual capacity of the source behind the lines: what it could still give
+abbrev pub residual_behind : List Amount → List BodyLine → Amount
+residual_behind ws ls = minus (total (λ b. positive (amount_at ws b)) (length ws)) (source_sum ls)
 
 -- what the blocks of a list are worth
 abbrev pub worth_of_blocks : List Amount → List ℕ → Amount
@@ -67,4 +67,4 @@ flow_of n pairs ls =
 abbrev pub SomeLineSumOverflows : NetView → List BodyLine → Type 0
 SomeLineSumOverflows net ls =
     ((b : ℕ) × (b < length net.worths) × ¬ (FitsPair (balance_of ls b)))
-    ⊎ (¬ (FitsPair (worth_of_blocks net.worths (pit_of ls))) ⊎ ¬ (FitsPair (left_to_give net.worths ls)))
+    ⊎ (¬ (FitsPair (worth_of_blocks net.worths (pit_of ls))) ⊎ ¬ (FitsPair (residual_behind net.worths ls)))

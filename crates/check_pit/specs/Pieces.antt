@@ -1,9 +1,9 @@
 -- A text as pieces between line feeds, and a line as words between spaces.
 use Rattle.std.specs.Prelude.{◌≡◌, ℕ, ℤ, pos, negsuc, ◌+◌, ◌==◌, Bool, true, false, cond, List, [], ◌∷◌, length, nat_lt, slice_index_or, Option, Some, None, Result, Ok, Err}
-use Rattle.std.specs.List.{onto_first}
 use Rattle.fixed_worth.specs.declared.limits.TheConstants.{LINE_BYTES}
 use Rattle.fixed_worth.specs.declared.numerals.NumberFault.{NumberFault}
 use Rattle.fixed_worth.specs.Numeral.{plain_of}
+use Rattle.fixed_worth.specs.Text.{parts}
 use Rattle.check_pit.specs.declared.cert_fault.CertFault.{CertFault}
 use Rattle.check_pit.specs.declared.cert_fault.CertFault.TheVariants as fault
 use Rattle.check_pit.specs.declared.cert_fault.LineFault.{LineFault}
@@ -26,8 +26,7 @@ pieces_of (b ∷ bs) = cond (b == 10) (record { text = []; ended = true } ∷ pi
 
 -- the words of a line, which single spaces divide: one more than there are spaces
 abbrev pub words_of : List ℕ → List (List ℕ)
-words_of [] = [] ∷ []
-words_of (b ∷ bs) = cond (b == 32) ([] ∷ words_of bs) (onto_first b (words_of bs))
+words_of line = parts 32 line
 
 -- the pieces that are left of a text, and the number of the line last read
 pub record Unread : Type 0 where

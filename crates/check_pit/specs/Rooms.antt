@@ -11,7 +11,7 @@ use Rattle.check_pit.specs.declared.lines_of_body.LineKind.{LineKind}
 use Rattle.check_pit.specs.declared.lines_of_body.LineKind.TheVariants.{Pit, Source, Rest, Sink, End}
 use Rattle.check_pit.specs.declared.lines_of_body.BodyLine.{BodyLine}
 use Rattle.check_pit.specs.Certificate.{block_if_pit, pit_of, amount_of}
-use Rattle.check_pit.specs.LineSums.{brings_by, balance_of, source_by, worth_of_blocks, left_to_give, flow_of, keeps_by, SomeLineSumOverflows}
+use Rattle.check_pit.specs.LineSums.{brings_by, balance_of, source_by, worth_of_blocks, residual_behind, flow_of, keeps_by, SomeLineSumOverflows}
 use Rattle.check_pit.specs.LineLaws.{LinesTell}
 
 -- a balance for each block; the blocks of the pit so far, how many there is space for, and whether they are a pit already,
@@ -43,7 +43,7 @@ pub record AreSumsOf (net : NetView) (ls : List BodyLine) (room : RoomView) : Ty
   pub balances : (b : ℕ) → b < length net.worths → amount_at room.balances b ≡ balance_of ls b
   pub blocks : room.blocks ≡ pit_of ls
   pub worth : room.worth ≡ worth_of_blocks net.worths (pit_of ls)
-  pub left : room.left ≡ left_to_give net.worths ls
+  pub left : room.left ≡ residual_behind net.worths ls
 
 -- a block of a PIT line stands behind those before it, and they are no pit yet
 abbrev pub TakesBlock : LineKind → RoomView → ℕ → Type 0

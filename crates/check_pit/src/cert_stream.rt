@@ -42,6 +42,9 @@ impl<R> Model for CertStream<R> {
 
 impl<R: Drop> CertStream<R> {
     /// The certificate that a device gives from here on. Takes the memory for one line, and reads nothing yet.
+    ///
+    /// # Errors
+    /// Where memory is refused.
     pub fn new(alloc: Global, from: R) -> Result<CertStream<R>, AllocError>
         ensures from { IfOk result (λ s. s.lines.from ≡ from) }
         ensures held { IfOk result (λ s. s.lines.held ≡ []) }
@@ -60,7 +63,8 @@ impl<R: Drop> CertStream<R> {
 }
 
 impl<R> CertStream<R> {
-    /// The certificate that a device gives from here on, with memory that was taken before. Reads nothing yet.
+    /// The certificate that a device gives from here on, with memory that was taken before and holds no byte. Reads nothing
+    /// yet.
     pub fn over(held: StreamBytes, from: R) -> CertStream<R>
         requires { held ≡ [] }
         ensures from { result.lines.from ≡ from }
@@ -127,6 +131,9 @@ impl<R: CountedRead> CertStream<R> {
 ///
 /// Takes no memory but what the room has. Its time is linear in the numbers of blocks and pairs and in the length of the
 /// text, but for the search of the predecessor of each REST line among those of its block.
+///
+/// The header that was read names this group and the number of blocks of the net, for as many blocks the room was made, and
+/// the device has counted fewer than 2^64 - 1 failures, so that one more can be counted.
 ///
 /// # Errors
 /// `Device` where a read failed; `InputTooLong` where more than 2^32 bytes were read. Otherwise the first of these that the

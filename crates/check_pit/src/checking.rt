@@ -13,7 +13,7 @@ ghost use Rattle.check_pit.specs.Balances.{BalanceFault};
 use crate::accepted::Accepted;
 use crate::closing::first_open;
 use crate::pit_fault::PitFault;
-use crate::sums::{balance_of, pit_worth, room_left};
+use crate::sums::{balance_of, pit_worth, residual_of_source};
 use closure_net::{Carried, Flow, Net, Pit};
 use ordered_group::{OrderedGroup, at_most, negative_part, positive_part, same};
 
@@ -150,7 +150,7 @@ pub fn check<'a, G: OrderedGroup>(
     }
     balances(net, flow)?;
     let worth = pit_worth(net, pit).ok_or(PitFault::TooLarge)?;
-    let room = room_left(net, flow).ok_or(PitFault::TooLarge)?;
+    let room = residual_of_source(net, flow).ok_or(PitFault::TooLarge)?;
     if !same(worth, room) {
         return Err(PitFault::NotTight);
     }

@@ -31,9 +31,9 @@ mod room;
 mod stream_body;
 mod stream_bytes;
 mod stream_checking;
-pub mod stream_fault;
+mod stream_fault;
 mod stream_header;
-pub mod stream_lines;
+mod stream_lines;
 mod sums;
 mod writing;
 
@@ -47,6 +47,7 @@ pub use header::{Header, Price};
 pub use pit_fault::PitFault;
 pub use room::Room;
 pub use stream_bytes::StreamBytes;
+pub use stream_fault::StreamFault;
 pub use writing::write_certificate;
 
 #[cfg(test)]

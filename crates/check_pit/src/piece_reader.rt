@@ -1,11 +1,11 @@
 //! The pieces of a text and the words of a line, one after another.
 
-ghost use Rattle.std.specs.Prelude.{◌≡◌, ℕ, ◌+◌, ◌<◌, ◌≤◌, ◌^◌, ◌==◌, Bool, true, cond, List, [], ◌∷◌, length, MatchResult, Some, None, position};
+ghost use Rattle.std.specs.Prelude.{◌≡◌, ℕ, ◌+◌, ◌<◌, ◌≤◌, ◌^◌, ◌==◌, Bool, true, cond, List, [], ◌∷◌, length, MatchResult, Some, None};
 ghost use Rattle.std.specs.Iterator.{item_count, YieldsFirstBy};
 ghost use Rattle.check_pit.specs.Pieces.{Unread, pieces_of, piece_at, no_line, words_of};
 
 use crate::cert_fault::CertFault;
-use fixed_worth::{LINE_BYTES, behind_first, first_line_feed};
+use fixed_worth::{LINE_BYTES, behind_first, cut_at, first_line_feed};
 use std::marker::Model;
 
 /// The pieces of a text, of which each that ends in a line feed is a line.
@@ -21,12 +21,6 @@ impl<'a> Model for Pieces<'a> {
     ghost view = { λ s. record { pieces = pieces_of s.rest.now; number = s.number } };
 
     ghost invariant = { λ s. s.number + length s.rest.now < 2 ^ 63 };
-}
-
-fn first_space(text: &[u8]) -> Option<usize>
-    ensures { result ≡ position (λ b. b == 32) text.now }
-{
-    text.iter().position(|b| *b == b' ')
 }
 
 impl<'a> Pieces<'a> {
@@ -118,10 +112,9 @@ impl<'a> Iterator for Words<'a> {
         if self.done {
             return None;
         }
-        match first_space(self.rest) {
-            Some(end) => {
-                let (word, rest) = self.rest.split_at(end);
-                self.rest = behind_first(rest);
+        match cut_at(b' ', self.rest) {
+            Some((word, rest)) => {
+                self.rest = rest;
                 Some(word)
             }
             None => {

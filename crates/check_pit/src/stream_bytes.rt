@@ -65,6 +65,9 @@ fn read_behind<R: CountedRead>(
 
 impl StreamBytes {
     /// No bytes, with memory for all that may ever be held.
+    ///
+    /// # Errors
+    /// Where memory is refused.
     pub fn new(alloc: Global) -> Result<StreamBytes, AllocError>
         ensures { IfOk result (λ b. b ≡ []) }
     {

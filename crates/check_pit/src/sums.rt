@@ -6,8 +6,8 @@ ghost use Rattle.ordered_group.specs.Sums.{amount_at};
 ghost use Rattle.prec_file.specs.Rests.{from_at, to_at};
 ghost use Rattle.closure_net.specs.Network.{holds_of, FlowFits, IsNet};
 ghost use Rattle.closure_net.specs.Closure.{group_worth};
-ghost use Rattle.closure_net.specs.Flows.{inflow, outflow, still_to_give};
-ghost use Rattle.check_pit.specs.Fits.{EndFits, EndOverflows, SetFits, SetOverflows, RoomFits, RoomOverflows};
+ghost use Rattle.closure_net.specs.Flows.{inflow, outflow, source_residual};
+ghost use Rattle.check_pit.specs.Fits.{EndFits, EndOverflows, SetFits, SetOverflows, ResidualFits, ResidualOverflows};
 
 use closure_net::{Carried, Flow, Net, Pit};
 use ordered_group::{OrderedGroup, positive_part, same};
@@ -97,12 +97,12 @@ pub(crate) fn pit_worth<G: OrderedGroup>(net: &Net<G>, pit: &Pit) -> Option<G>
     Some(sum)
 }
 
-// What the source could still give, summed in the order of the blocks.
-pub(crate) fn room_left<G: OrderedGroup>(net: &Net<G>, flow: &Flow<G>) -> Option<G>
+// The residual capacity of the source, summed in the order of the blocks.
+pub(crate) fn residual_of_source<G: OrderedGroup>(net: &Net<G>, flow: &Flow<G>) -> Option<G>
     requires { FlowFits net.now flow.now }
     ensures { let ws = net.now.worths in let ss = flow.now.source in MatchOption result
-        (RoomOverflows ws ss)
-        (λ r. (G.parts_of r ≡ still_to_give net.now flow.now) × ((k : ℕ) → k < length ws → RoomFits ws ss k)) }
+        (ResidualOverflows ws ss)
+        (λ r. (G.parts_of r ≡ source_residual net.now flow.now) × ((k : ℕ) → k < length ws → ResidualFits ws ss k)) }
 {
     let worths = net.worths();
     let source = flow.source();

@@ -300,7 +300,8 @@ fn put_body<G: OrderedGroup, W: CountedWrite>(
 }
 
 /// Writes a certificate. It takes no memory. Where its number of blocks is the model's, its factor is at most 10,000 and
-/// its pit has blocks of the model alone, [`crate::read_certificate`] reads it back, for the same blocks and pairs.
+/// its pit has blocks of the model alone, [`crate::read_certificate`] reads it back, for the same blocks and pairs. The flow
+/// has an amount for each of these blocks and pairs.
 ///
 /// # Errors
 /// `Device` at the first write that fails: the writer has then received a prefix of the text.

@@ -4,7 +4,7 @@ use Rattle.std.proofs.lemmas.Bool.{cases_eq, cases_lt, eq-eqb, eqb-true, lt-ltb,
 use Rattle.std.proofs.lemmas.List.{get_or-map, get_or_default, length-map}
 use Rattle.prec_file.specs.Rests.{from_at, to_at, passing, numbers, above_of, below_of, IsKnown}
 use Rattle.prec_file.proofs.Passing.{passing_at, passing_here, passing_after, passing_grows}
-use Rattle.closure_net.specs.Reached.{IsBegin, Carries, Reaches, IsReached}
+use Rattle.closure_net.specs.Reached.{HasSourceResidual, Carries, Reaches, IsReached}
 use Rattle.closure_net.specs.Network.{NetView, FlowView, holds_of, IsAscending}
 use Rattle.closure_net.specs.Searches.{Passed, Always, above_at, sender_at, SendsAt}
 use Rattle.closure_net.proofs.Finds.{holds_grows, get_grows, length_grows}
@@ -12,7 +12,7 @@ use Rattle.closure_net.proofs.Holding.{holds_at, place_of}
 
 -- the blocks before place h were looked at: what is beside them is found, and nothing that a set of this kind could lack
 pub record Searched (net : NetView) (flow : FlowView) (found : List ℕ) (h : ℕ) : Type 0 where
-  pub begun : (b : ℕ) → b < length net.worths → IsBegin net.worths flow.source b → holds_of found b ≡ true
+  pub begun : (b : ℕ) → b < length net.worths → HasSourceResidual net.worths flow.source b → holds_of found b ≡ true
   pub down : (i k : ℕ) → i < h → k < length net.pairs → from_at net.pairs k ≡ get_or found i 0 → holds_of found (to_at net.pairs k) ≡ true
   pub up : (i k : ℕ) → i < h → k < length net.pairs → Carries flow.rest k → to_at net.pairs k ≡ get_or found i 0 → holds_of found (from_at net.pairs k) ≡ true
   pub sound : (c : ℕ → Bool) → Reaches net flow c → (x : ℕ) → holds_of found x ≡ true → c x ≡ true

@@ -9,7 +9,7 @@ use Rattle.closure_net.specs.declared.net.NetFault.TheVariants.{WrongLength, Too
 abbrev pub OppositesFit : List Amount → Type 0
 OppositesFit ws = (b : ℕ) → b < length ws → FitsPair (minus zero_amount (amount_at ws b))
 
--- the opposite of one of them doesn't
+-- the opposite of some worth doesn't fit
 abbrev pub OppositeOverflows : List Amount → Type 0
 OppositeOverflows ws = (b : ℕ) × (b < length ws) × ¬ (FitsPair (minus zero_amount (amount_at ws b)))
 
@@ -17,7 +17,7 @@ OppositeOverflows ws = (b : ℕ) × (b < length ws) × ¬ (FitsPair (minus zero_
 abbrev pub PositivesFit : List Amount → Type 0
 PositivesFit ws = SumFits (λ b. positive (amount_at ws b)) (length ws)
 
--- one of those sums doesn't
+-- some sum of the positive worths in their order doesn't fit
 abbrev pub PositivesOverflow : List Amount → Type 0
 PositivesOverflow ws = SumOverflows (λ b. positive (amount_at ws b)) (length ws)
 

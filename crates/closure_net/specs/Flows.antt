@@ -39,17 +39,17 @@ pub record IsFlow (net : NetView) (flow : FlowView) : Type 0 where
   pub capacity : (b : ℕ) → b < length net.worths → WithinAt net.worths flow.source flow.sink b
   pub balance : (b : ℕ) → b < length net.worths → Balanced net flow b
 
--- what the source could still give a block
-abbrev pub room_at : List Amount → List Amount → ℕ → Amount
-room_at ws ss b = minus (positive (amount_at ws b)) (amount_at ss b)
+-- the residual capacity from the source to a block: what it could still give the block
+abbrev pub residual_at : List Amount → List Amount → ℕ → Amount
+residual_at ws ss b = minus (positive (amount_at ws b)) (amount_at ss b)
 
--- what the source could still give, summed over all blocks
-abbrev pub still_to_give : NetView → FlowView → Amount
-still_to_give net flow = total (room_at net.worths flow.source) (length net.worths)
+-- the residual capacity of the source, summed over all blocks
+abbrev pub source_residual : NetView → FlowView → Amount
+source_residual net flow = total (residual_at net.worths flow.source) (length net.worths)
 
--- the set sums to what the source could still give
+-- the set sums to the residual capacity of the source
 abbrev pub IsTight : NetView → FlowView → (ℕ → Bool) → Type 0
-IsTight net flow e = group_worth net.worths e ≡ still_to_give net flow
+IsTight net flow e = group_worth net.worths e ≡ source_residual net flow
 
 -- no flow takes more from the source
 pub record IsGreatestFlow (net : NetView) (flow : FlowView) : Type 0 where

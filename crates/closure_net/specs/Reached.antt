@@ -5,9 +5,9 @@ use Rattle.ordered_group.specs.Sums.{amount_at}
 use Rattle.prec_file.specs.Rests.{from_at, to_at}
 use Rattle.closure_net.specs.Network.{NetView, FlowView}
 
--- the source could still give b something
-abbrev pub IsBegin : List Amount → List Amount → ℕ → Type 0
-IsBegin ws ss b = ¬ (AtMost (positive (amount_at ws b)) (amount_at ss b))
+-- the residual capacity from the source to b is positive: the source could still give b something
+abbrev pub HasSourceResidual : List Amount → List Amount → ℕ → Type 0
+HasSourceResidual ws ss b = ¬ (AtMost (positive (amount_at ws b)) (amount_at ss b))
 
 -- the pair k carries something
 abbrev pub Carries : List Amount → ℕ → Type 0
@@ -15,7 +15,7 @@ Carries fs k = ¬ (AtMost (amount_at fs k) zero_amount)
 
 -- a set that holds each block to which the source could still give something, and with a block each one that it rests on and each one that sends something to it
 pub record Reaches (net : NetView) (flow : FlowView) (e : ℕ → Bool) : Type 0 where
-  pub begins : (b : ℕ) → b < length net.worths → IsBegin net.worths flow.source b → IsTrue (e b)
+  pub begins : (b : ℕ) → b < length net.worths → HasSourceResidual net.worths flow.source b → IsTrue (e b)
   pub down : (k : ℕ) → k < length net.pairs → IsTrue (e (from_at net.pairs k)) → IsTrue (e (to_at net.pairs k))
   pub up : (k : ℕ) → k < length net.pairs → Carries flow.rest k → IsTrue (e (to_at net.pairs k)) → IsTrue (e (from_at net.pairs k))
 

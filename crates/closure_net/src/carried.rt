@@ -45,6 +45,9 @@ impl<G: OrderedGroup> Carried<G> {
     }
 
     /// Nothing over each of so many pairs.
+    ///
+    /// # Errors
+    /// Where memory is refused.
     pub fn nothing(alloc: Global, pairs: u32) -> Result<Carried<G>, AllocError>
         ensures { IfOk result (λ c. c ≡ replicate pairs zero_amount) }
     {

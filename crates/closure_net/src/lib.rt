@@ -10,13 +10,13 @@
 #![tactic(auto)]
 
 mod carried;
+mod equality;
 mod flow;
 mod graph;
 pub mod laws;
 mod net;
 mod pit;
 mod port;
-mod sameness;
 mod search;
 mod source_side;
 #[cfg(test)]
@@ -24,10 +24,10 @@ mod tests;
 mod worths;
 
 pub use carried::Carried;
+pub use equality::same_pairs;
 pub use flow::Flow;
 pub use graph::{Graph, GraphRef};
 pub use net::{Net, NetFault};
 pub use pit::Pit;
 pub use port::{Port, PortKind};
-pub use sameness::same_pairs;
 pub use source_side::pit_of;

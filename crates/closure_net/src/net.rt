@@ -7,8 +7,8 @@ ghost use Rattle.closure_net.specs.Network.{net_view, IsNet};
 ghost use Rattle.closure_net.specs.FaultStands.{NetFaultStands, WorthsFaultStands};
 ghost use Rattle.closure_net.specs.FaultText.{net_fault_text};
 
+use crate::equality::{same_amounts, same_pairs};
 use crate::graph::GraphRef;
-use crate::sameness::{same_amounts, same_pairs};
 use crate::worths::{opposite_part, worths_fit, worths_of_blocks};
 use ordered_group::{OrderedGroup, positive_part};
 use prec_file::Rests;
@@ -39,7 +39,7 @@ impl fmt::Display for NetFault {
     }
 }
 
-/// What each block rests on, and what it is worth.
+/// Picard's network: the pairs, which are found by block and by predecessor, and what each block is worth.
 #[derive(Drop)]
 pub struct Net<G: OrderedGroup> {
     rests: Rests,
@@ -159,6 +159,9 @@ impl<G: OrderedGroup> Net<G> {
     }
 
     /// The same net, with memory of its own.
+    ///
+    /// # Errors
+    /// Where memory is refused.
     pub fn copy(&self, alloc: Global) -> Result<Net<G>, AllocError>
         ensures { IfOk result (λ n. n ≡ self.now) }
     {

@@ -48,11 +48,11 @@ fn forward_at(rests: &Rests, b: u32, i: u32) -> Option<Port>
     // proof: a `Rests` is in order, with at most `MOST_PAIRS` pairs
     let _n = rests.len();
     let first = rests.first(b);
-    let tops = rests.above(b);
-    if i as usize >= tops.len() {
+    let predecessors = rests.above(b);
+    if i as usize >= predecessors.len() {
         return None;
     }
-    let other = tops[i as usize];
+    let other = predecessors[i as usize];
     let slot = first + i;
     Some(Port {
         kind: PortKind::Forward,

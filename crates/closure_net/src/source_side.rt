@@ -3,7 +3,7 @@
 ghost use Rattle.std.specs.Prelude.{◌≡◌, ◌↔◌, ◌<◌, All, IsTrue, length, IfOk};
 ghost use Rattle.prec_file.specs.Rests.{above_of, below_of};
 ghost use Rattle.closure_net.specs.Network.{FlowFits, holds_of};
-ghost use Rattle.closure_net.specs.Reached.{IsReached, IsBegin, Carries};
+ghost use Rattle.closure_net.specs.Reached.{IsReached, HasSourceResidual, Carries};
 ghost use Rattle.closure_net.specs.Searches.{Passed, Always, above_at, sender_at, SendsAt};
 
 use crate::flow::Flow;
@@ -18,7 +18,7 @@ use std::alloc::{AllocError, Global};
 fn has_room<G: OrderedGroup>(net: &Net<G>, flow: &Flow<G>, b: u32) -> bool
     requires known { b < length net.now.worths }
     requires fits { length flow.now.source ≡ length net.now.worths }
-    ensures { IsTrue result ↔ IsBegin net.now.worths flow.now.source b }
+    ensures { IsTrue result ↔ HasSourceResidual net.now.worths flow.now.source b }
 {
     !at_most(net.positive(b), flow.source()[b as usize])
 }
@@ -36,7 +36,7 @@ fn begin<G: OrderedGroup>(search: &mut Search, net: &Net<G>, flow: &Flow<G>)
     requires blocks { search.old.blocks ≡ length net.now.worths }
     requires fits { length flow.now.source ≡ length net.now.worths }
     ensures blocks { search.new.blocks ≡ search.old.blocks }
-    ensures found { Passed (IsBegin net.now.worths flow.now.source) (λ b. b) search.old.found search.new.found (length net.now.worths) }
+    ensures found { Passed (HasSourceResidual net.now.worths flow.now.source) (λ b. b) search.old.found search.new.found (length net.now.worths) }
 {
     for b in 0..net.len() {
         if has_room(net, flow, b) {
@@ -80,7 +80,7 @@ fn spread_up<G: OrderedGroup>(search: &mut Search, rests: &Rests, flow: &Flow<G>
 /// The blocks that the source reaches in what is left of the network by a flow: the least set that
 /// holds each block to which the source could still give something, and with a block each one that
 /// it rests on and each one that sends something to it. Where the flow is a greatest one, this is
-/// the least of the greatest closed sets (Picard, 1976).
+/// the least of the greatest closed sets (Picard, 1976). The flow has the lengths of the net.
 ///
 /// Breadth first, in time and memory linear in the blocks and pairs.
 ///

@@ -5,7 +5,7 @@ use Rattle.std.specs.Io.KnownBytes.{Appends}
 use Rattle.blocks_file.specs.Records as blocks
 use Rattle.prec_file.specs.Rests.{RestsView}
 use Rattle.settings_file.specs.declared.keys.Key.{Key}
-use Rattle.settings_file.specs.declared.faults.SettingsFault.TheVariants as settings_fault
+use Rattle.settings_file.specs.declared.settings_fault.SettingsFault.TheVariants as settings_fault
 use Rattle.settings_file.specs.Settings.{SettingsView, first_missing}
 use Rattle.settings_file.proofs.Known.{settings_are, settings_read}
 use Rattle.shells.specs.Prices.{PricesView, PricesFaultStands, NoneNegative, blocks_of, price_of, worths_at}

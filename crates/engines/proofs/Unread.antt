@@ -8,12 +8,12 @@ use Rattle.std.proofs.lemmas.List.FromFn.{length-map-range_with_len}
 use Rattle.fixed_worth.specs.declared.limits.TheConstants.{MOST_BLOCKS}
 use Rattle.settings_file.specs.Settings.{settings_of}
 use Rattle.blocks_file.specs.Records as blocks
-use Rattle.blocks_file.specs.declared.faults.BlocksFault.TheVariants as blocks_fault
+use Rattle.blocks_file.specs.declared.blocks_fault.BlocksFault.TheVariants as blocks_fault
 use Rattle.ordered_group.specs.declared.groups.Group.{Group}
 use Rattle.prec_file.specs.Records as prec
 use Rattle.prec_file.specs.declared.prec_fault.PrecFault.{PrecFault}
 use Rattle.upit_file.specs.Records as upit
-use Rattle.upit_file.specs.declared.fault.UpitFault.{UpitFault}
+use Rattle.upit_file.specs.declared.upit_fault.UpitFault.{UpitFault}
 use Rattle.closure_net.specs.Network.{NetView}
 use Rattle.closure_net.specs.Mine.{IsNetOf}
 use Rattle.closure_net.specs.declared.net.NetFault.{NetFault}
@@ -22,9 +22,9 @@ use Rattle.check_pit.specs.Certificate.{fault_of}
 use Rattle.check_pit.specs.declared.cert_fault.CertFault.{CertFault}
 use Rattle.engines.specs.declared.engine_fault.Problem.{Problem}
 use Rattle.engines.specs.declared.engine_fault.Problem.TheVariants as problem
-use Rattle.blocks_file.specs.declared.faults.BlocksFault.{BlocksFault}
-use Rattle.settings_file.specs.declared.faults.SettingsFault.{SettingsFault}
-use Rattle.settings_file.specs.declared.faults.SettingsFault.TheVariants as settings_fault
+use Rattle.blocks_file.specs.declared.blocks_fault.BlocksFault.{BlocksFault}
+use Rattle.settings_file.specs.declared.settings_fault.SettingsFault.{SettingsFault}
+use Rattle.settings_file.specs.declared.settings_fault.SettingsFault.TheVariants as settings_fault
 use Rattle.settings_file.proofs.Known.{no_settings_fault}
 use Rattle.shells.specs.Prices.{AreCharged}
 use Rattle.shells.specs.declared.prices_fault.PricesFault.{PricesFault}

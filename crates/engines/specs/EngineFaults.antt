@@ -1,12 +1,12 @@
 -- The engine's fault of a reader's, of a pattern's and of a net's: want of memory is one of its own.
-use Rattle.blocks_file.specs.declared.faults.BlocksFault.{BlocksFault}
-use Rattle.blocks_file.specs.declared.faults.BlocksFault.TheVariants as blocks_fault
-use Rattle.upit_file.specs.declared.fault.UpitFault.{UpitFault}
-use Rattle.upit_file.specs.declared.fault.UpitFault.TheVariants as upit_fault
+use Rattle.blocks_file.specs.declared.blocks_fault.BlocksFault.{BlocksFault}
+use Rattle.blocks_file.specs.declared.blocks_fault.BlocksFault.TheVariants as blocks_fault
+use Rattle.upit_file.specs.declared.upit_fault.UpitFault.{UpitFault}
+use Rattle.upit_file.specs.declared.upit_fault.UpitFault.TheVariants as upit_fault
 use Rattle.prec_file.specs.declared.prec_fault.PrecFault.{PrecFault}
 use Rattle.prec_file.specs.declared.prec_fault.PrecFault.TheVariants as prec_fault
-use Rattle.settings_file.specs.declared.faults.SettingsFault.{SettingsFault}
-use Rattle.settings_file.specs.declared.faults.SettingsFault.TheVariants as settings_fault
+use Rattle.settings_file.specs.declared.settings_fault.SettingsFault.{SettingsFault}
+use Rattle.settings_file.specs.declared.settings_fault.SettingsFault.TheVariants as settings_fault
 use Rattle.check_pit.specs.declared.cert_fault.CertFault.{CertFault}
 use Rattle.check_pit.specs.declared.cert_fault.CertFault.TheVariants as certificate_fault
 use Rattle.trace_file.specs.declared.trace_fault.TraceFault.{TraceFault}

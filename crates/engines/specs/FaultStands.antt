@@ -5,7 +5,7 @@ use Rattle.closure_net.specs.FaultStands.{WorthsFaultStands}
 use Rattle.closure_net.specs.declared.net.NetFault.{NetFault}
 use Rattle.closure_net.specs.declared.net.NetFault.TheVariants as net_fault
 use Rattle.upit_file.specs.Records as upit
-use Rattle.upit_file.specs.declared.fault.UpitFault.{UpitFault}
+use Rattle.upit_file.specs.declared.upit_fault.UpitFault.{UpitFault}
 use Rattle.prec_file.specs.Records as prec
 use Rattle.prec_file.specs.declared.prec_fault.PrecFault.{PrecFault}
 use Rattle.check_pit.specs.declared.cert_fault.CertFault.{CertFault}
@@ -22,8 +22,8 @@ use Rattle.engines.specs.declared.engine_fault.CertificateProblem.{CertificatePr
 use Rattle.engines.specs.declared.engine_fault.CertificateProblem.TheVariants as certificate_problem
 use Rattle.engines.specs.declared.engine_fault.EngineFault.{EngineFault}
 use Rattle.engines.specs.declared.engine_fault.EngineFault.TheVariants as engine
-use Rattle.blocks_file.specs.declared.faults.BlocksFault.{BlocksFault}
-use Rattle.settings_file.specs.declared.faults.SettingsFault.{SettingsFault}
+use Rattle.blocks_file.specs.declared.blocks_fault.BlocksFault.{BlocksFault}
+use Rattle.settings_file.specs.declared.settings_fault.SettingsFault.{SettingsFault}
 use Rattle.shells.specs.declared.prices_fault.PricesFault.{PricesFault}
 use Rattle.engines.specs.Limits.{IsTooLong, IsWithinLimit}
 use Rattle.engines.specs.PricedTexts.{price_keys, SettingsFails, PricedBlocksFail, PricesFail}

@@ -9,7 +9,7 @@ use Rattle.blocks_file.specs.Records as blocks
 use Rattle.blocks_file.specs.Denotes.{BlocksView}
 use Rattle.settings_file.specs.Settings.{SettingsView, ReadsSettings, first_missing}
 use Rattle.settings_file.specs.declared.keys.Key.{Key}
-use Rattle.settings_file.specs.declared.faults.SettingsFault.TheVariants as settings_fault
+use Rattle.settings_file.specs.declared.settings_fault.SettingsFault.TheVariants as settings_fault
 use Rattle.shells.specs.Prices.{PricesView, PricesFaultStands}
 use Rattle.engines.specs.declared.engine_fault.Problem.TheVariants as problem
 use Rattle.engines.specs.declared.priced_inputs.ChargeColumns.{ChargeColumns}

@@ -1,8 +1,8 @@
 -- The mine that texts denote.
 use Rattle.std.specs.Prelude.{◌≡◌, ℕ, ℤ, pos, ◌*ℤ◌, ◌==◌, ◌&&◌, Bool, not, List, None, Ok}
-use Rattle.std.specs.List.{list_any}
 use Rattle.closure_net.specs.Mine.{Mine}
 use Rattle.prec_file.specs.Records as prec
+use Rattle.prec_file.specs.Rests.{has_pair}
 use Rattle.upit_file.specs.Records as upit
 use Rattle.check_pit.specs.declared.header.Price.{Price}
 use Rattle.check_pit.specs.declared.header.Price.TheVariants.{Objective}
@@ -33,7 +33,7 @@ worth_by (priced_texts settings blocks precedence factor) b = worth_at (table_of
 
 -- b rests on p where the pair is listed and they are two blocks
 abbrev pub rests_by : List (ℕ × ℕ) → ℕ → ℕ → Bool
-rests_by listed b p = not (b == p) && list_any (λ q. (q.0 == b) && (q.1 == p)) listed
+rests_by listed b p = not (b == p) && has_pair listed b p
 
 -- The mine of n blocks: who rests on whom is by the precedence.
 abbrev pub mine_of : ℕ → MineTexts → Mine

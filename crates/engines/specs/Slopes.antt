@@ -7,7 +7,7 @@ use Rattle.prec_file.specs.Rests.{RestsView}
 use Rattle.prec_file.specs.Written.{prec_text}
 use Rattle.settings_file.specs.declared.keys.Key.{Key}
 use Rattle.settings_file.specs.declared.keys.Key.TheVariants.{Offsets}
-use Rattle.settings_file.specs.declared.faults.SettingsFault.{SettingsFault}
+use Rattle.settings_file.specs.declared.settings_fault.SettingsFault.{SettingsFault}
 use Rattle.settings_file.specs.Settings.{SettingsView, settings_of}
 use Rattle.slope.specs.declared.pattern.TheConstants.{MOST_CONE_NUMBER, MOST_OFFSETS}
 use Rattle.slope.specs.Lists.{AreMoreThan}

@@ -119,7 +119,7 @@ pub fn rests_from<R: CountedRead>(alloc: Global, from: &mut R, n: u32) -> Result
     ensures kept { ¬ IsErrOf result EngineFault.Device → R.failed from.new ≡ R.failed from.old }
 {
     let listed = listed_from(alloc, from, n)?;
-    Ok(listed.settle(alloc)?)
+    Ok(listed.into_rests(alloc)?)
 }
 
 /// The predecessors of each of n blocks, without what only those need who look for a flow.

@@ -21,9 +21,9 @@ ghost use Rattle.engines.specs.ReadMines.{AreRead, ArePricesRead, IsGroupNamed, 
 use crate::engine_fault::{CertificateProblem, EngineFault};
 use crate::judgement::Judgement;
 use crate::mines::nanos_of;
-use check_pit::stream_fault::StreamFault;
 use check_pit::{
-    Accepted, AcceptedPit, CertFault, CertStream, Header, Price, Room, StreamBytes, check_graph,
+    Accepted, AcceptedPit, CertFault, CertStream, Header, Price, Room, StreamBytes, StreamFault,
+    check_graph,
 };
 use closure_net::{Graph, GraphRef, laws};
 use core::mem::replace_with;

@@ -1,4 +1,4 @@
--- Amounts of a unit's tenth powers, as they are printed.
+-- Amounts in a power of ten of a unit, as they are printed.
 use Rattle.std.specs.Prelude.{ℕ, ℤ, ◌-◌, ◌/◌, ◌%◌, ◌^◌, ◌==◌, cond, List, [], ◌∷◌, ◌++◌, length, replicate, unsigned_abs}
 use Rattle.std.specs.Fmt.{decimal, sign_text}
 use Rattle.std.specs.Int.{is_negative}

@@ -6,7 +6,7 @@ ghost use Rattle.fixed_worth.specs.Text.{parts};
 use crate::line_reader::behind_first;
 use memchr::memchr;
 
-/// What stands before the first such byte of a text and what stands behind it, or `None` where the text has none.
+/// The text before the first `byte` and the text behind it, or `None` where `byte` isn't in the text.
 pub fn cut_at<'a>(byte: u8, text: &'a [u8]) -> Option<(&'a [u8], &'a [u8])>
     ensures { MatchOption result
         (parts byte text.now ≡ text.now ∷ [])

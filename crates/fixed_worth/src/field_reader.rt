@@ -75,7 +75,7 @@ fn run_length(text: &[u8]) -> usize
 }
 
 impl<'a> Fields<'a> {
-    /// The fields of the line, from the first on.
+    /// The fields of a line of at most 65,536 bytes, from the first on.
     pub fn new(line: &'a [u8]) -> Fields<'a>
         requires { length line.now ≤ LINE_BYTES }
         ensures fields { result ≡ runs_from 0 line.now }

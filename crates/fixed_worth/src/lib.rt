@@ -3,7 +3,7 @@
 //! Everything that reads or prints a number goes through this crate: whole numbers, decimals in
 //! millionths, and sums in millionths and in billionths. It also cuts a text into lines and a line
 //! into fields, reads an input whole and sends a text, and counts the calls of a device that
-//! failed. It stands on the kit's `memchr`, which finds line feeds, and on nothing else.
+//! failed. It stands on the kit's `memchr`, which finds a byte in a text, and on nothing else.
 //!
 //! Upward it promises that each reader gives exactly what the definitions in `specs/` say of the
 //! text, with the fault that they name, and that nothing wraps or is rounded in silence: `Numeral`

@@ -5,7 +5,7 @@ ghost use Rattle.std.specs.Fmt.{DisplaysOnOk, decimal, sign_text};
 ghost use Rattle.std.specs.Int.{is_negative};
 ghost use Rattle.fixed_worth.specs.Printed.{fixed_width, without_trailing_zeros, fraction_text, printed};
 
-use crate::rounding::tenth_power;
+use crate::rounding::power_of_ten;
 use std::fmt;
 
 /// An amount in billionths, such as the worth of a block or of a pit.
@@ -70,7 +70,7 @@ pub(crate) fn write_amount<W: fmt::Write>(
     requires { places ≤ 9 }
     ensures { DisplaysOnOk W.write_str_gives f.old result (Some (printed places amount)) f.new }
 {
-    let unit = tenth_power(places);
+    let unit = power_of_ten(places);
     let size = amount.unsigned_abs();
     let whole = size / unit;
     let fraction = (size % unit) as u64;

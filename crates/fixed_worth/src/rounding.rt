@@ -21,8 +21,8 @@ fn scaled_up(m: u128, k: u32) -> Option<u128>
     if value > MOST { None } else { Some(value) }
 }
 
-// A tenth power, as it is needed to divide.
-pub(crate) fn tenth_power(k: u32) -> u128
+// 10^k, which fits 128 bits.
+pub(crate) fn power_of_ten(k: u32) -> u128
     requires { k ≤ 37 }
     ensures { result ≡ 10 ^ k }
 {
@@ -41,7 +41,7 @@ fn scaled_down(m: u128, k: u32) -> u128
     if k > 37 {
         return 0;
     }
-    let unit = tenth_power(k);
+    let unit = power_of_ten(k);
     (2 * m + unit) / (2 * unit)
 }
 

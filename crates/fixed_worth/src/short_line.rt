@@ -34,7 +34,7 @@ impl ShortLine {
         }
     }
 
-    /// The line with a text at its end.
+    /// Puts a text behind the line, which has at most 192 bytes with it.
     pub fn push(&mut self, text: &[u8])
         requires { length self.old + length text.now ≤ 192 }
         ensures text { self.new ≡ self.old ++ text.now }
@@ -46,7 +46,7 @@ impl ShortLine {
         self.len = end;
     }
 
-    /// The line with a number's digits at its end.
+    /// Puts the digits of a number behind the line, which has at most 153 bytes before.
     pub fn push_number(&mut self, n: u128)
         requires { length self.old + 39 ≤ 192 }
         ensures text { self.new ≡ self.old ++ decimal n }

@@ -69,7 +69,7 @@ impl fmt::Display for Group {
 ///
 /// A maximum closure by a minimum cut (Picard 1976) needs no more than this of a block's worth: sums,
 /// differences and one total order. The members with no body say which amount a value stands for; the
-/// last four are laws, which each implementation proves.
+/// last five are laws, which each implementation proves.
 pub trait OrderedGroup: Copy + Ord + Send + Sync {
     // the amount that a value stands for
     ghost parts_of: { Self → Amount };

@@ -7,7 +7,7 @@ pub mod Below
 pub mod Order
 pub mod Firsts
 pub mod Sorting
-pub mod Settled
+pub mod SortedApart
 pub mod Finding
 pub mod Shapes
 pub mod History

@@ -4,7 +4,7 @@ ghost use Rattle.std.specs.Prelude.{◌≡◌, ◌≤◌, All, length, IfOk};
 ghost use Rattle.prec_file.specs.Rests.{ArePairsOf, IsKnown};
 
 use crate::limits::MOST_PAIRS;
-use crate::pair_order::settled;
+use crate::pair_order::sorted_apart;
 use crate::rests::indexed;
 use crate::{Predecessors, Rests};
 use fixed_worth::MOST_BLOCKS;
@@ -49,20 +49,20 @@ impl ListedPairs {
     ///
     /// # Errors
     /// Where memory is refused.
-    pub fn settle(self, alloc: Global) -> Result<Rests, AllocError>
+    pub fn into_rests(self, alloc: Global) -> Result<Rests, AllocError>
         ensures { IfOk result (λ r. (r.blocks ≡ self.blocks) × ArePairsOf self.pairs r.pairs) }
     {
-        indexed(alloc, self.blocks, settled(self.pairs))
+        indexed(alloc, self.blocks, sorted_apart(self.pairs))
     }
 
-    /// The same, by block alone: the list of the pairs is given back.
+    /// The same pairs without the index by predecessor; the list of the pairs is freed.
     ///
     /// # Errors
     /// Where memory is refused.
     pub fn into_predecessors(self, alloc: Global) -> Result<Predecessors, AllocError>
         ensures { IfOk result (λ r. (r.blocks ≡ self.blocks) × ArePairsOf self.pairs r.pairs) }
     {
-        let pairs = settled(self.pairs);
+        let pairs = sorted_apart(self.pairs);
         Predecessors::of_pairs(alloc, self.blocks, &pairs)
     }
 }

@@ -6,7 +6,7 @@ ghost use Rattle.prec_file.specs.Rests.{IsRests, AreApart, IsKnown, IsRising};
 use crate::PredecessorsRef;
 use crate::first_pairs::firsts_of;
 use crate::limits::MOST_PAIRS;
-use crate::pair_order::tops_of;
+use crate::pair_order::predecessors_in;
 use fixed_worth::MOST_BLOCKS;
 use std::alloc::{AllocError, Global};
 use std::marker::Model;
@@ -23,7 +23,7 @@ pub struct Predecessors {
     // at each block up to n, the number of its first pair
     firsts: Vec<u32>,
     // the predecessor of each pair
-    tops: Vec<u32>,
+    predecessors: Vec<u32>,
     // the pairs, which only contracts read
     pairs: Snapshot<Vec<(u32, u32)>>,
 }
@@ -36,7 +36,7 @@ impl Model for Predecessors {
 
     ghost view = { λ r. record { blocks = r.blocks; pairs = r.pairs.value.items } };
 
-    ghost invariant = { λ r. AreAbove r.blocks r.pairs.value.items r.firsts.items r.tops.items };
+    ghost invariant = { λ r. AreAbove r.blocks r.pairs.value.items r.firsts.items r.predecessors.items };
 }
 
 impl Predecessors {
@@ -54,11 +54,11 @@ impl Predecessors {
         ensures { IfOk result (λ r. r ≡ record { blocks = n; pairs = pairs.now.items }) }
     {
         let firsts = firsts_of(alloc, n, pairs)?;
-        let tops = tops_of(alloc, pairs)?;
+        let predecessors = predecessors_in(alloc, pairs)?;
         Ok(Predecessors {
             blocks: n,
             firsts,
-            tops,
+            predecessors,
             pairs: Snapshot::of(pairs),
         })
     }
@@ -75,6 +75,6 @@ impl Predecessors {
     pub fn lent(&self) -> PredecessorsRef<'_>
         ensures { result ≡ self.now }
     {
-        PredecessorsRef::of_parts(self.blocks, &self.firsts, &self.tops, &self.pairs)
+        PredecessorsRef::of_parts(self.blocks, &self.firsts, &self.predecessors, &self.pairs)
     }
 }

@@ -16,7 +16,7 @@ pub struct PredecessorsRef<'a> {
     // at each block up to n, the number of its first pair
     firsts: &'a [u32],
     // the predecessor of each pair
-    tops: &'a [u32],
+    predecessors: &'a [u32],
     // the pairs, which only contracts read
     pairs: Snapshot<Snapshot<Vec<(u32, u32)>>>,
 }
@@ -29,7 +29,7 @@ impl<'a> Model for PredecessorsRef<'a> {
 
     ghost view = { λ r. record { blocks = r.blocks; pairs = r.pairs.value.value.items } };
 
-    ghost invariant = { λ r. AreAbove r.blocks r.pairs.value.value.items r.firsts.now r.tops.now };
+    ghost invariant = { λ r. AreAbove r.blocks r.pairs.value.value.items r.firsts.now r.predecessors.now };
 }
 
 impl<'a> PredecessorsRef<'a> {
@@ -37,16 +37,16 @@ impl<'a> PredecessorsRef<'a> {
     pub(crate) fn of_parts(
         blocks: u32,
         firsts: &'a [u32],
-        tops: &'a [u32],
+        predecessors: &'a [u32],
         pairs: &Snapshot<Vec<(u32, u32)>>,
     ) -> PredecessorsRef<'a>
-        requires { AreAbove blocks pairs.now.value.items firsts.now tops.now }
+        requires { AreAbove blocks pairs.now.value.items firsts.now predecessors.now }
         ensures { result ≡ record { blocks = blocks; pairs = pairs.now.value.items } }
     {
         PredecessorsRef {
             blocks,
             firsts,
-            tops,
+            predecessors,
             pairs: Snapshot::of(pairs),
         }
     }
@@ -76,7 +76,7 @@ impl<'a> PredecessorsRef<'a> {
         let firsts = self.firsts;
         let from = firsts[b as usize];
         let to = firsts[b as usize + 1];
-        part(self.tops, from, to)
+        part(self.predecessors, from, to)
     }
 
     /// The number of the pair (b, p), if there is one.

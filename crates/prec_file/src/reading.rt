@@ -73,7 +73,7 @@ fn read_pairs(alloc: Global, text: &[u8], n: u32) -> Result<Vec<(u32, u32)>, Pre
     }
 }
 
-/// The pairs that a precedence file lists for n blocks, as it lists them: those of [`read_prec`] before they are put in
+/// The pairs that a precedence file lists for n blocks, at most 2^24, as it lists them: those of [`read_prec`] before they are put in
 /// order.
 ///
 /// # Errors
@@ -88,7 +88,7 @@ pub fn read_listed(alloc: Global, text: &[u8], n: u32) -> Result<ListedPairs, Pr
     Ok(ListedPairs::of(n, pairs))
 }
 
-/// The pairs that a precedence file lists for n blocks.
+/// The pairs that a precedence file lists for n blocks, at most 2^24.
 ///
 /// Each line is a record `b k p1 .. pk`: block b rests on its k predecessors. Lines without a field, and those whose
 /// first field begins with `%`, are skipped. A block with no record has no predecessor. Pairs of a block with itself
@@ -104,5 +104,5 @@ pub fn read_prec(alloc: Global, text: &[u8], n: u32) -> Result<Rests, PrecFault>
         (λ e. UnlessMemory e (fault_of n text.now ≡ Some e)) }
 {
     let listed = read_listed(alloc, text, n)?;
-    listed.settle(alloc).map_err(|_| PrecFault::NoMemory)
+    listed.into_rests(alloc).map_err(|_| PrecFault::NoMemory)
 }

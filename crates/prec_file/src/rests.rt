@@ -8,7 +8,7 @@ ghost use Rattle.prec_file.specs.FaultStands.{FaultStands};
 use crate::first_pairs::firsts_of;
 use crate::index::{filled_by, part, starts_of};
 use crate::limits::MOST_PAIRS;
-use crate::pair_order::tops_of;
+use crate::pair_order::predecessors_in;
 use crate::{ListedPairs, PredecessorsRef, RestsFault};
 use fixed_worth::MOST_BLOCKS;
 use std::alloc::{AllocError, Global};
@@ -23,7 +23,7 @@ pub struct Rests {
     // at each block up to n, the number of its first pair
     firsts: Vec<u32>,
     // the predecessor of each pair
-    tops: Vec<u32>,
+    predecessors: Vec<u32>,
     // at each block up to n, how many pairs have a predecessor below it
     starts: Vec<u32>,
     // the numbers of the pairs, by predecessor
@@ -38,7 +38,7 @@ impl Model for Rests {
 
     ghost view = { λ r. record { blocks = r.blocks; pairs = r.pairs.items } };
 
-    ghost invariant = { λ r. IsIndexed r.blocks r.pairs.items r.firsts.items r.tops.items r.starts.items r.filled.items };
+    ghost invariant = { λ r. IsIndexed r.blocks r.pairs.items r.firsts.items r.predecessors.items r.starts.items r.filled.items };
 }
 
 // The two indexes of pairs in order.
@@ -51,14 +51,14 @@ pub(crate) fn indexed(alloc: Global, n: u32, pairs: Vec<(u32, u32)>) -> Result<R
     ensures { IfOk result (λ r. (r.blocks ≡ n) × (r.pairs ≡ pairs.items)) }
 {
     let firsts = firsts_of(alloc, n, &pairs)?;
-    let tops = tops_of(alloc, &pairs)?;
-    let starts = starts_of(alloc, n, &tops)?;
-    let filled = filled_by(alloc, n, &tops, &starts)?;
+    let predecessors = predecessors_in(alloc, &pairs)?;
+    let starts = starts_of(alloc, n, &predecessors)?;
+    let filled = filled_by(alloc, n, &predecessors, &starts)?;
     Ok(Rests {
         blocks: n,
         pairs,
         firsts,
-        tops,
+        predecessors,
         starts,
         filled,
     })
@@ -77,7 +77,7 @@ fn first_unknown(n: u32, listed: &[(u32, u32)]) -> Option<usize>
 }
 
 impl Rests {
-    /// The pairs that are listed for n blocks. Pairs of a block with itself and repeats are dropped.
+    /// The pairs that are listed for n blocks, at most 2^24. Pairs of a block with itself and repeats are dropped.
     ///
     /// # Errors
     /// In this order: `UnknownBlock` with the place of the first pair that has a block at n or above, `TooMany` for
@@ -94,23 +94,26 @@ impl Rests {
         }
         let pairs = Vec::from_slice(alloc, listed).map_err(|_| RestsFault::NoMemory)?;
         let listed = ListedPairs::of(n, pairs);
-        listed.settle(alloc).map_err(|_| RestsFault::NoMemory)
+        listed.into_rests(alloc).map_err(|_| RestsFault::NoMemory)
     }
 
     /// The same pairs, with memory of their own.
+    ///
+    /// # Errors
+    /// Where memory is refused.
     pub fn copy(&self, alloc: Global) -> Result<Rests, AllocError>
         ensures { IfOk result (λ r. r ≡ self.now) }
     {
         let pairs = Vec::from_slice(alloc, &self.pairs)?;
         let firsts = Vec::from_slice(alloc, &self.firsts)?;
-        let tops = Vec::from_slice(alloc, &self.tops)?;
+        let predecessors = Vec::from_slice(alloc, &self.predecessors)?;
         let starts = Vec::from_slice(alloc, &self.starts)?;
         let filled = Vec::from_slice(alloc, &self.filled)?;
         Ok(Rests {
             blocks: self.blocks,
             pairs,
             firsts,
-            tops,
+            predecessors,
             starts,
             filled,
         })
@@ -121,7 +124,7 @@ impl Rests {
         ensures { result ≡ self.now }
     {
         let pairs = Snapshot::of(&self.pairs);
-        PredecessorsRef::of_parts(self.blocks, &self.firsts, &self.tops, &pairs)
+        PredecessorsRef::of_parts(self.blocks, &self.firsts, &self.predecessors, &pairs)
     }
 
     /// How many blocks there are.

@@ -12,7 +12,7 @@ pub enum RestsFault {
     UnknownBlock(usize),
     /// More than 2^27 pairs are listed.
     TooMany,
-    /// There is no memory for the index.
+    /// Memory was refused, for the pairs or for their indexes.
     NoMemory,
 }
 

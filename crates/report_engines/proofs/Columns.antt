@@ -4,8 +4,8 @@ use Rattle.std.specs.Option.{option_or}
 use Rattle.std.specs.List.{list_any}
 use Rattle.fixed_worth.specs.Text.{fields_of}
 use Rattle.fixed_worth.specs.Record.{Line, is_skipped}
-use Rattle.blocks_file.specs.declared.faults.BlocksFault.{BlocksFault}
-use Rattle.blocks_file.specs.declared.faults.BlocksFault.TheVariants.{Number, NoColumn}
+use Rattle.blocks_file.specs.declared.blocks_fault.BlocksFault.{BlocksFault}
+use Rattle.blocks_file.specs.declared.blocks_fault.BlocksFault.TheVariants.{Number, NoColumn}
 use Rattle.blocks_file.specs.Records.{head_reads, is_bad, are_there, shape_fault, block_fault, block_of, record_fault, has_record, first_fault, early_fault, lines_in, count_of, fault_of}
 
 -- columns are as good as others, of which they are some: none of them is bad, and all are there, where so it is of the others

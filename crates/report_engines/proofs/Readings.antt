@@ -5,7 +5,7 @@ use Rattle.blocks_file.specs.Denotes.{BlocksView}
 use Rattle.prec_file.specs.Rests.{RestsView}
 use Rattle.settings_file.specs.declared.keys.Key.{Key}
 use Rattle.settings_file.specs.declared.keys.Key.TheVariants.{Tonnes, Factors}
-use Rattle.settings_file.specs.declared.faults.SettingsFault.TheVariants as settings_fault
+use Rattle.settings_file.specs.declared.settings_fault.SettingsFault.TheVariants as settings_fault
 use Rattle.settings_file.specs.Settings.{SettingsView, settings_of, names_mill, first_missing}
 use Rattle.settings_file.proofs.Known.{settings_are}
 use Rattle.settings_file.proofs.MissingKeys.{none_missing}

@@ -1,8 +1,8 @@
 -- How faults are printed.
 use Rattle.std.specs.Prelude.{ℕ, List, ◌++◌, codes}
 use Rattle.settings_file.specs.declared.keys.Key.{Key}
-use Rattle.settings_file.specs.declared.faults.SettingsFault.{SettingsFault}
-use Rattle.settings_file.specs.declared.faults.SettingsFault.TheVariants.{NotToml, UnknownKey, BadValue, Missing, NoMemory}
+use Rattle.settings_file.specs.declared.settings_fault.SettingsFault.{SettingsFault}
+use Rattle.settings_file.specs.declared.settings_fault.SettingsFault.TheVariants.{NotToml, UnknownKey, BadValue, Missing, NoMemory}
 use Rattle.settings_file.specs.Keys.{key_name}
 
 -- A word with a key in parentheses.

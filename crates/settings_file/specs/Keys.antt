@@ -17,7 +17,7 @@ key_name Mining = codes "mining"
 
 -- Whether a name is a key.
 abbrev pub is_known : List ℕ → Bool
-is_known name = bytes_eq name (codes "revenue") || bytes_eq name (codes "cost") || bytes_eq name (codes "tonnes") || bytes_eq name (codes "factors") || bytes_eq name (codes "report") || bytes_eq name (codes "offsets") || bytes_eq name (codes "processing") || bytes_eq name (codes "mining")
+is_known name = bytes_eq name (key_name Revenue) || bytes_eq name (key_name Cost) || bytes_eq name (key_name Tonnes) || bytes_eq name (key_name Factors) || bytes_eq name (key_name Report) || bytes_eq name (key_name Offsets) || bytes_eq name (key_name Processing) || bytes_eq name (key_name Mining)
 
 -- Whether every name of a table is a key.
 abbrev pub all_known : Members → Bool

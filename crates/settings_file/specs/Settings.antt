@@ -5,8 +5,8 @@ use Rattle.toml.specs.Data.{Data, Members, get_member}
 use Rattle.fixed_worth.specs.declared.limits.TheConstants.{MOST_FACTOR}
 use Rattle.settings_file.specs.declared.keys.Key.{Key}
 use Rattle.settings_file.specs.declared.keys.Key.TheVariants.{Revenue, Cost, Tonnes, Factors, Report, Offsets, Processing, Mining}
-use Rattle.settings_file.specs.declared.faults.SettingsFault.{SettingsFault}
-use Rattle.settings_file.specs.declared.faults.SettingsFault.TheVariants.{NotToml, UnknownKey, BadValue, Missing, NoMemory}
+use Rattle.settings_file.specs.declared.settings_fault.SettingsFault.{SettingsFault}
+use Rattle.settings_file.specs.declared.settings_fault.SettingsFault.TheVariants.{NotToml, UnknownKey, BadValue, Missing, NoMemory}
 use Rattle.settings_file.specs.Keys.{key_name, all_known}
 use Rattle.settings_file.specs.Values.{whole_within, factors_of, offsets_of, AreFactors}
 

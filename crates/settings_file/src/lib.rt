@@ -9,16 +9,16 @@
 #![tactic(auto)]
 
 mod arrays;
-mod faults;
 mod keys;
 mod reading;
 mod settings;
+mod settings_fault;
 mod values;
 
-pub use faults::SettingsFault;
 pub use keys::Key;
 pub use reading::read_settings;
 pub use settings::Settings;
+pub use settings_fault::SettingsFault;
 
 #[cfg(test)]
 mod tests;

@@ -9,9 +9,9 @@ ghost use Rattle.settings_file.specs.Internal.{IsGoodUpToFactors, IsOfTable};
 ghost use Rattle.settings_file.specs.Settings.{said_at, has_mill, cost_in, settings_in, ReadsSettings};
 
 use crate::arrays::{factors_in, offsets_in};
-use crate::faults::SettingsFault;
 use crate::keys::{Key, is_key};
 use crate::settings::Settings;
+use crate::settings_fault::SettingsFault;
 use crate::values::{MOST_COLUMN, number_at};
 use fixed_worth::MOST_FACTOR;
 use std::alloc::Global;

@@ -5,8 +5,8 @@ ghost use Rattle.toml.specs.View.{view, table_view};
 ghost use Rattle.settings_file.specs.Values.{whole_within, offset_number};
 ghost use Rattle.settings_file.specs.Settings.{said_at};
 
-use crate::faults::SettingsFault;
 use crate::keys::Key;
+use crate::settings_fault::SettingsFault;
 use toml::{Table, Value};
 
 pub(crate) const MOST_COLUMN: u32 = 65_535;

@@ -2,7 +2,7 @@
 use Rattle.std.proofs.Common.{◌≡◌, ℕ, Bool, true, false, List, length, refl, sym, ◌∙◌, subst, IsTrue, Result, Ok, Err, MatchResult}
 use Rattle.std.specs.Prelude.{Contains}
 use Rattle.ordered_group.specs.Block.{scaled_block}
-use Rattle.prec_file.specs.Rests.{RestsView, ArePairsOf}
+use Rattle.prec_file.specs.Rests.{RestsView, ArePairsOf, has_pair}
 use Rattle.prec_file.specs.Records as prec
 use Rattle.closure_net.specs.Network.{NetView}
 use Rattle.closure_net.specs.Mine.{Mine, IsBest, LiesWithin, IsNetOf}
@@ -10,7 +10,6 @@ use Rattle.closure_net.specs.FaultStands.{WorthsFaultStands}
 use Rattle.closure_net.specs.declared.net.NetFault.{NetFault}
 use Rattle.closure_net.specs.declared.net.NetFault.TheVariants as net_fault
 use Rattle.shells.specs.Prices.{PricesView, NoneNegative, worth_at, worths_at}
-use Rattle.shells.specs.Series as series
 use Rattle.shells.specs.Series.{mine_at}
 use Rattle.shells.specs.Nesting.{BestPitsAreNested}
 use Rattle.shells.proofs.OverNets.{net_of_over}
@@ -51,10 +50,10 @@ same_test true u f g = sym (f refl)
 same_test false true f g = g refl
 same_test false false f g = refl
 
-rests_same : (listed pairs : List (ℕ × ℕ)) → ArePairsOf listed pairs → (b p : ℕ) → series.rests_by pairs b p ≡ rests_by listed b p
+rests_same : (listed pairs : List (ℕ × ℕ)) → ArePairsOf listed pairs → (b p : ℕ) → has_pair pairs b p ≡ rests_by listed b p
 rests_same listed pairs a b p =
     let both = listed_rests listed pairs a b p in
-    same_test (series.rests_by pairs b p) (rests_by listed b p) (λ h. both.0 (where_listed pairs b p h)) (λ h. is_listed pairs b p (both.1 h))
+    same_test (has_pair pairs b p) (rests_by listed b p) (λ h. both.0 (where_listed pairs b p h)) (λ h. is_listed pairs b p (both.1 h))
 
 module _ (s t p : List ℕ) (table : PricesView) (rests : RestsView) (r : ArePricesRead s t p table rests) where
   pub mine_is : (k : ℕ) → mine_at rests.pairs table k ≡ mine_at_factor rests.blocks s t p k
@@ -65,7 +64,7 @@ module _ (s t p : List ℕ) (table : PricesView) (rests : RestsView) (r : ArePri
       let B : (ℕ → Bool) → Mine → Type 0 = λ d m. IsBest m d in
       let W : Mine → Type 0 = λ m. LiesWithin m e c in
       let none : NoneNegative table = subst NoneNegative (sym r.table) (r.mine j).worths_read.revenues in
-      subst W (mine_is j) (law (series.rests_by rests.pairs) table j k e c none le (subst (B e) (sym (mine_is j)) low) (subst (B c) (sym (mine_is k)) high))
+      subst W (mine_is j) (law (has_pair rests.pairs) table j k e c none le (subst (B e) (sym (mine_is j)) low) (subst (B c) (sym (mine_is k)) high))
 
   rows_of : (factors : List ℕ) (rows : List ShellRow) → AreRowsOf (mine_at rests.pairs table) factors rows → AreRowsOf (mine_at_factor rests.blocks s t p) factors rows
   rows_of factors rows h = subst (λ (m : ℕ → Mine). AreRowsOf m factors rows) (λ i k. mine_is k i) h

@@ -3,8 +3,8 @@ use Rattle.std.proofs.Common.{◌≡◌, ◌⊎◌, ℕ, List, [], ◌∷◌, sy
 use Rattle.prec_file.specs.Rests.{RestsView}
 use Rattle.settings_file.specs.declared.keys.Key.{Key}
 use Rattle.settings_file.specs.declared.keys.Key.TheVariants.{Factors}
-use Rattle.settings_file.specs.declared.faults.SettingsFault.{SettingsFault}
-use Rattle.settings_file.specs.declared.faults.SettingsFault.TheVariants as settings_fault
+use Rattle.settings_file.specs.declared.settings_fault.SettingsFault.{SettingsFault}
+use Rattle.settings_file.specs.declared.settings_fault.SettingsFault.TheVariants as settings_fault
 use Rattle.settings_file.specs.Settings.{SettingsView, settings_of, names_mill, first_missing}
 use Rattle.settings_file.proofs.Known.{settings_are}
 use Rattle.shells.specs.Prices.{PricesView}

@@ -8,12 +8,13 @@ use Rattle.ordered_group.specs.Amount.{Amount}
 use Rattle.closure_net.specs.Network.{NetView}
 use Rattle.closure_net.specs.Mine.{IsNetOf}
 use Rattle.shells.specs.Prices.{PricesView, worth_at}
-use Rattle.shells.specs.Series.{rests_by, mine_at, IsOver}
+use Rattle.prec_file.specs.Rests.{has_pair}
+use Rattle.shells.specs.Series.{mine_at, IsOver}
 
-rests_of_pair : (pairs : List (ℕ × ℕ)) (b p : ℕ) → Contains pairs (b, p) → IsTrue (rests_by pairs b p)
+rests_of_pair : (pairs : List (ℕ × ℕ)) (b p : ℕ) → Contains pairs (b, p) → IsTrue (has_pair pairs b p)
 rests_of_pair pairs b p c = list_any-from_Any (λ (q : ℕ × ℕ). (q.0 == b) && (q.1 == p)) pairs (c.0, (b, p), c.1, c.2, and_from (b == b) (p == p) (eq-eqb b b refl) (eq-eqb p p refl))
 
-pair_of_rests : (pairs : List (ℕ × ℕ)) (b p : ℕ) → IsTrue (rests_by pairs b p) → Contains pairs (b, p)
+pair_of_rests : (pairs : List (ℕ × ℕ)) (b p : ℕ) → IsTrue (has_pair pairs b p) → Contains pairs (b, p)
 pair_of_rests pairs b p held =
     let some = Any-from_list_any (λ (q : ℕ × ℕ). (q.0 == b) && (q.1 == p)) pairs held in
     let parts = and_parts (some.1.0 == b) (some.1.1 == p) some.4 in

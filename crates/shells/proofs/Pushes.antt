@@ -11,7 +11,8 @@ use Rattle.prec_file.specs.Rests.{IsRests}
 use Rattle.ordered_group.proofs.BlockSets.{worth_in-same, count_in-same}
 use Rattle.closure_net.specs.Mine.{Mine, worth_of, count_of, AreSame, IsBest}
 use Rattle.shells.specs.Prices.{PricesView}
-use Rattle.shells.specs.Series.{rests_by, mine_at, SeriesView, shell_at, is_upto, upto, IsSeries, IsAbove, with_shell, IsPushed}
+use Rattle.prec_file.specs.Rests.{has_pair}
+use Rattle.shells.specs.Series.{mine_at, SeriesView, shell_at, is_upto, upto, IsSeries, IsAbove, with_shell, IsPushed}
 use Rattle.shells.proofs.Rising.{best_is_nested}
 use Rattle.shells.proofs.Factors.{one_last, rising_more}
 
@@ -54,7 +55,7 @@ module _ (s t : SeriesView) (k : ℕ) (e : ℕ → Bool) (h : IsSeries s) (above
       let lower : x < k = above x known in
       let le : x ≤ k = omega (arith, lower) in
       let held : IsTrue (upto s.shells x b) = ap (λ o. is_upto o x) is ∙ le-leb x x (omega arith) in
-      (le, best_is_nested (rests_by s.pairs) s.prices x k (upto s.shells x) e h.prices.revenues le (h.best x known) best b l held)
+      (le, best_is_nested (has_pair s.pairs) s.prices x k (upto s.shells x) e h.prices.revenues le (h.best x known) best b l held)
 
   inside : (b : ℕ) → b < length s.prices.revenue → b < length s.shells
   inside b l = rw h.shells l

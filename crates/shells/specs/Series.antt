@@ -1,8 +1,8 @@
 -- Nested shells over one table of prices.
-use Rattle.std.specs.Prelude.{◌≡◌, ◌≢◌, ℕ, ℤ, ◌<◌, ◌≤◌, ◌==◌, ◌&&◌, ◌++◌, ◌∷◌, [], nat_le, Bool, false, cond, IsTrue, Option, Some, None, MatchOption, List, length, replicate, slice_index_or}
-use Rattle.std.specs.List.{list_any, Contains}
+use Rattle.std.specs.Prelude.{◌≡◌, ◌≢◌, ℕ, ℤ, ◌<◌, ◌≤◌, ◌++◌, ◌∷◌, [], nat_le, Bool, false, cond, IsTrue, Option, Some, None, MatchOption, List, length, replicate, slice_index_or}
+use Rattle.std.specs.List.{Contains}
 use Rattle.fixed_worth.specs.declared.limits.TheConstants.{MOST_FACTORS}
-use Rattle.prec_file.specs.Rests.{RestsView, IsRests}
+use Rattle.prec_file.specs.Rests.{RestsView, IsRests, has_pair}
 use Rattle.ordered_group.specs.Amount.{Amount}
 use Rattle.ordered_group.specs.Sums.{amount_at}
 use Rattle.closure_net.specs.Network.{IsAscending, NetView}
@@ -11,17 +11,13 @@ use Rattle.shells.specs.declared.series_fault.SeriesFault.{SeriesFault}
 use Rattle.shells.specs.declared.series_fault.SeriesFault.TheVariants.{NotHigher, WrongModel, Full, NoMemory}
 use Rattle.shells.specs.Prices.{PricesView, blocks_of, worth_at, IsTable}
 
--- whether b rests on p
-abbrev pub rests_by : List (ℕ × ℕ) → ℕ → ℕ → Bool
-rests_by pairs b p = list_any (λ q. (q.0 == b) && (q.1 == p)) pairs
-
 -- the mine of these prices at so many thousandths of the revenues, whose blocks rest on each other in this way
 abbrev pub priced : (ℕ → ℕ → Bool) → PricesView → ℕ → Mine
 priced above table k = record { blocks = blocks_of table; rests = above; worth = worth_at table k }
 
 -- the mine of these pairs and prices
 abbrev pub mine_at : List (ℕ × ℕ) → PricesView → ℕ → Mine
-mine_at pairs table k = priced (rests_by pairs) table k
+mine_at pairs table k = priced (has_pair pairs) table k
 
 -- pairs and prices, the factors pushed so far, and the shell of each block, if it has one
 pub record SeriesView : Type 0 where

@@ -18,14 +18,14 @@ mod offset_places;
 mod pattern;
 mod pattern_fault;
 mod place_index;
-mod resting;
 mod slope_fault;
+mod slope_pairs;
 mod up;
 
 pub use pattern::{MOST_CONE_NUMBER, MOST_OFFSETS, Pattern};
 pub use pattern_fault::PatternFault;
-pub use resting::{predecessors_of, rests_of};
 pub use slope_fault::SlopeFault;
+pub use slope_pairs::{predecessors_of, rests_of};
 pub use up::Up;
 
 #[cfg(test)]

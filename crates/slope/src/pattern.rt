@@ -89,7 +89,7 @@ impl Pattern {
     }
 
     /// A cone that opens upward by `run` for each `rise`: on each of so many levels above, the blocks whose distance
-    /// along the first two axes is at most level * run / rise.
+    /// along the first two axes is at most level * run / rise. Each of the three numbers is from 1 to 1,000.
     ///
     /// # Errors
     /// `TooMany` for more than 4,096 offsets, and `NoMemory`.

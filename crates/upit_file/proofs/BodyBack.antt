@@ -13,7 +13,7 @@ use Rattle.fixed_worth.specs.Printed.{printed}
 use Rattle.fixed_worth.specs.Record.{Line, numbered, is_skipped}
 use Rattle.fixed_worth.specs.Text.{is_separator, fields_of}
 use Rattle.fixed_worth.proofs.Lengths.{printed_micros_short}
-use Rattle.upit_file.specs.declared.fault.UpitFault.TheVariants.{Text}
+use Rattle.upit_file.specs.declared.upit_fault.UpitFault.TheVariants.{Text}
 use Rattle.upit_file.specs.Header.{is_long, fields_in, is_end}
 use Rattle.upit_file.specs.Body.{block_of, value_of, shape_fault, record_fault, line_fault, is_record_of, has_record, value_among, first_fault, before_end}
 use Rattle.upit_file.specs.Writing.{record_line, record_lines}

@@ -10,8 +10,8 @@ use Rattle.std.proofs.Math.ListN.{length-set}
 use Rattle.fixed_worth.specs.declared.limits.TheConstants.{LINE_BYTES}
 use Rattle.fixed_worth.specs.Text.{Left, fields_of}
 use Rattle.fixed_worth.specs.Record.{Line, numbered, is_skipped}
-use Rattle.upit_file.specs.declared.fault.UpitFault.{UpitFault}
-use Rattle.upit_file.specs.declared.fault.UpitFault.TheVariants.{UnknownBlock, Repeated}
+use Rattle.upit_file.specs.declared.upit_fault.UpitFault.{UpitFault}
+use Rattle.upit_file.specs.declared.upit_fault.UpitFault.TheVariants.{UnknownBlock, Repeated}
 use Rattle.upit_file.specs.Header.{is_end, fields_in}
 use Rattle.upit_file.specs.Body.{block_of, value_of, shape_fault, block_fault, record_fault, is_record_of, has_record, value_among, first_fault, before_end}
 use Rattle.fixed_worth.proofs.NextLine.{line, short, Next, next_is}

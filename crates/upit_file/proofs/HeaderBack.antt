@@ -15,7 +15,7 @@ use Rattle.fixed_worth.specs.Text.{Run, is_separator, run_before, runs_from}
 use Rattle.fixed_worth.proofs.Cuts.{first_run}
 use Rattle.upit_file.specs.declared.key.Key.{Key}
 use Rattle.upit_file.specs.declared.key.Key.TheVariants.{Name, FileType, Blocks, Objective}
-use Rattle.upit_file.specs.declared.fault.UpitFault.TheVariants.{Text}
+use Rattle.upit_file.specs.declared.upit_fault.UpitFault.TheVariants.{Text}
 use Rattle.upit_file.specs.Header.{is_long, fields_in, key_in, header, after_header, first_count, count_fault, key_fault, last_end, from_second, name_in, last_name, header_line_fault, header_lines_fault, last_fault, end_fault, header_fault}
 use Rattle.upit_file.specs.Records.{is_name}
 use Rattle.fixed_worth.proofs.Joined.{word_run, gap_run, word_alone}

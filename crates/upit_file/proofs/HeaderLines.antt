@@ -4,7 +4,7 @@ use Rattle.std.specs.Prelude.{◌||◌, is_some, unwrap_or}
 use Rattle.std.specs.Option.{option_or}
 use Rattle.fixed_worth.specs.Text.{Left}
 use Rattle.fixed_worth.specs.Record.{Line, numbered}
-use Rattle.upit_file.specs.declared.fault.UpitFault.{UpitFault}
+use Rattle.upit_file.specs.declared.upit_fault.UpitFault.{UpitFault}
 use Rattle.upit_file.specs.Header.{header, last_name, after_header, first_count, header_lines_fault, end_fault, header_fault}
 use Rattle.upit_file.specs.Records.{count_in}
 

@@ -4,8 +4,8 @@ use Rattle.std.specs.Option.{option_or}
 use Rattle.std.specs.List.{list_any}
 pub use Rattle.fixed_worth.specs.Decimal.{value_read}
 use Rattle.fixed_worth.specs.Record.{Line, reads, number_of, is_skipped}
-use Rattle.upit_file.specs.declared.fault.UpitFault.{UpitFault}
-use Rattle.upit_file.specs.declared.fault.UpitFault.TheVariants.{Text, Number, UnknownBlock, Repeated}
+use Rattle.upit_file.specs.declared.upit_fault.UpitFault.{UpitFault}
+use Rattle.upit_file.specs.declared.upit_fault.UpitFault.TheVariants.{Text, Number, UnknownBlock, Repeated}
 use Rattle.upit_file.specs.Header.{is_long, fields_in, is_end, after_header}
 
 -- The block that a record is for: its first field.

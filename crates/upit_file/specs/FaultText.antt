@@ -1,8 +1,8 @@
 -- How faults are printed.
 use Rattle.std.specs.Prelude.{ℕ, List, codes}
 pub use Rattle.fixed_worth.specs.FaultText.{at_line}
-use Rattle.upit_file.specs.declared.fault.UpitFault.{UpitFault}
-use Rattle.upit_file.specs.declared.fault.UpitFault.TheVariants.{Text, Number, NoObjective, NotUpit, WrongBlocks, UnknownBlock, Repeated, NoMemory}
+use Rattle.upit_file.specs.declared.upit_fault.UpitFault.{UpitFault}
+use Rattle.upit_file.specs.declared.upit_fault.UpitFault.TheVariants.{Text, Number, NoObjective, NotUpit, WrongBlocks, UnknownBlock, Repeated, NoMemory}
 
 -- The fault's name, with its line number in parentheses where it has one.
 abbrev pub upit_fault_text : UpitFault → List ℕ

@@ -8,8 +8,8 @@ use Rattle.fixed_worth.specs.Text.{Run, fields_of, runs_from}
 use Rattle.fixed_worth.specs.Record.{Line, reads, number_of}
 use Rattle.upit_file.specs.declared.key.Key.{Key}
 use Rattle.upit_file.specs.declared.key.Key.TheVariants.{Name, FileType, Blocks, Objective, End, Other}
-use Rattle.upit_file.specs.declared.fault.UpitFault.{UpitFault}
-use Rattle.upit_file.specs.declared.fault.UpitFault.TheVariants.{Text, Number, NoObjective, NotUpit, WrongBlocks}
+use Rattle.upit_file.specs.declared.upit_fault.UpitFault.{UpitFault}
+use Rattle.upit_file.specs.declared.upit_fault.UpitFault.TheVariants.{Text, Number, NoObjective, NotUpit, WrongBlocks}
 
 -- The line has more than 65,536 bytes: a fault, whatever it holds.
 abbrev pub is_long : Line → Bool

@@ -7,8 +7,8 @@ use Rattle.upit_file.specs.declared.limits.TheConstants.{NAME_BYTES}
 use Rattle.fixed_worth.specs.Text.{is_separator}
 use Rattle.fixed_worth.specs.Record.{Line}
 pub use Rattle.fixed_worth.specs.Record.{lines_in}
-use Rattle.upit_file.specs.declared.fault.UpitFault.{UpitFault}
-use Rattle.upit_file.specs.declared.fault.UpitFault.TheVariants.{NoMemory}
+use Rattle.upit_file.specs.declared.upit_fault.UpitFault.{UpitFault}
+use Rattle.upit_file.specs.declared.upit_fault.UpitFault.TheVariants.{NoMemory}
 use Rattle.upit_file.specs.Header.{header, last_name, first_count, header_fault}
 use Rattle.upit_file.specs.Body.{body, first_fault, value_among}
 

@@ -5,9 +5,9 @@ ghost use Rattle.fixed_worth.specs.Record.{numbered};
 ghost use Rattle.upit_file.specs.Body as spec;
 ghost use Rattle.upit_file.specs.Records.{UnlessMemory};
 
-use crate::fault::UpitFault;
 use crate::kept::Kept;
 use crate::record::{Record, read_record};
+use crate::upit_fault::UpitFault;
 use fixed_worth::{Lines, Micros};
 use std::alloc::Global;
 

@@ -6,9 +6,9 @@ ghost use Rattle.fixed_worth.specs.Record.{numbered};
 ghost use Rattle.upit_file.specs.Header as spec;
 ghost use Rattle.upit_file.specs.Records as records;
 
-use crate::fault::UpitFault;
 use crate::key::{Key, key_in};
 use crate::name::read_name;
+use crate::upit_fault::UpitFault;
 use fixed_worth::{Fields, LINE_BYTES, Lines, MOST_BLOCKS, whole};
 
 // The number of blocks that an NBLOCKS record names, where it is the wanted one.
@@ -32,8 +32,8 @@ fn read_count(text: &[u8], wanted: Option<u32>, line: u64) -> Result<u32, UpitFa
     }
 }
 
-// A TYPE record says that the text is of this type.
-fn read_type(text: &[u8], line: u64) -> Result<(), UpitFault>
+// Refuses a TYPE record whose second field isn't `UPIT`.
+fn check_type(text: &[u8], line: u64) -> Result<(), UpitFault>
     requires { length text.now ≤ LINE_BYTES }
     ensures { MatchResult result
         (λ _. spec.type_fault line (fields_of text.now) ≡ None)
@@ -74,7 +74,7 @@ pub(crate) fn read_header<'a>(
                 let line = lines.number();
                 match key_in(text) {
                     Key::Name => name = read_name(text, line)?,
-                    Key::FileType => read_type(text, line)?,
+                    Key::FileType => check_type(text, line)?,
                     Key::Blocks => counted = Some(read_count(text, counted.or(wanted), line)?),
                     Key::Objective => {
                         let blocks = counted.ok_or(UpitFault::WrongBlocks(line))?;

@@ -3,7 +3,7 @@
 ghost use Rattle.std.specs.Prelude.{◌≡◌, ℕ, ◌≤◌, Bool, true, false, pos, Some, None, length, replicate, slice_set, slice_index_or, IfOk, MatchResult};
 ghost use Rattle.upit_file.specs.Body as spec;
 
-use crate::fault::UpitFault;
+use crate::upit_fault::UpitFault;
 use fixed_worth::Micros;
 use std::alloc::{AllocError, Global};
 

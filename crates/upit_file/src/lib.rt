@@ -15,7 +15,6 @@
 #![tactic(auto)]
 
 mod body;
-mod fault;
 mod header;
 mod kept;
 mod key;
@@ -26,12 +25,13 @@ mod reading;
 mod record;
 mod record_line;
 mod upit;
+mod upit_fault;
 mod writing;
 
-pub use fault::UpitFault;
 pub use limits::NAME_BYTES;
 pub use reading::{declared_blocks, read_upit};
 pub use upit::Upit;
+pub use upit_fault::UpitFault;
 pub use writing::write_upit;
 
 #[cfg(test)]

@@ -3,8 +3,8 @@
 ghost use Rattle.std.specs.Prelude.{◌≡◌, ◌≤◌, Some, None, length, MatchResult};
 ghost use Rattle.upit_file.specs.Header as spec;
 
-use crate::fault::UpitFault;
 use crate::limits::NAME_BYTES;
+use crate::upit_fault::UpitFault;
 use fixed_worth::{Fields, LINE_BYTES};
 
 // The line from its second field's first byte to its last field's last.

@@ -5,9 +5,9 @@ ghost use Rattle.upit_file.specs.Header.{header_fault};
 ghost use Rattle.upit_file.specs.Records as spec;
 
 use crate::body::read_body;
-use crate::fault::UpitFault;
 use crate::header::read_header;
 use crate::upit::Upit;
+use crate::upit_fault::UpitFault;
 use fixed_worth::{Lines, MOST_BLOCKS};
 use std::alloc::Global;
 

@@ -7,7 +7,7 @@ ghost use Rattle.upit_file.specs.Header as header;
 ghost use Rattle.upit_file.specs.Body as spec;
 ghost use Rattle.upit_file.specs.Internal.{IsRecord};
 
-use crate::fault::UpitFault;
+use crate::upit_fault::UpitFault;
 use fixed_worth::{Fields, LINE_BYTES, Micros, is_remark, whole};
 
 // What a line behind the header is.

@@ -8,7 +8,7 @@ use Rattle.ordered_group.proofs.Totals.{total-same, total-plus, total_mono, tota
 use Rattle.prec_file.specs.Rests.{IsKnown}
 use Rattle.closure_net.specs.Network.{NetView, FlowView, IsNet}
 use Rattle.closure_net.specs.Closure.{group_worth}
-use Rattle.closure_net.specs.Flows.{room_at, still_to_give, IsFlow, IsTight, IsGreatestFlow}
+use Rattle.closure_net.specs.Flows.{residual_at, source_residual, IsFlow, IsTight, IsGreatestFlow}
 use Rattle.closure_net.specs.Reached.{Reaches, IsReached}
 use Rattle.closure_net.proofs.Duality.{PairsKnown, greatest_from_tight}
 use Rattle.machine_law.specs.Conservation.{all_given}
@@ -47,14 +47,14 @@ none_in : {P : Type 0} → false ≡ true → P
 none_in e = absurd cc
 
 -- where the source could give nothing more it reaches nothing
-module _ (net : NetView) (flow : FlowView) (is : IsFlow net flow) (none : AtMost (still_to_give net flow) zero_amount) where
-  rooms : (b : ℕ) → b < length net.worths → AtMost zero_amount (room_at net.worths flow.source b)
+module _ (net : NetView) (flow : FlowView) (is : IsFlow net flow) (none : AtMost (source_residual net flow) zero_amount) where
+  rooms : (b : ℕ) → b < length net.worths → AtMost zero_amount (residual_at net.worths flow.source b)
   rooms b l = let h = (is.capacity b l).0 in record { worths = omega (arith, ints, h); counts = λ i. omega (arith, ints, h, i) }
 
   full : (b : ℕ) → b < length net.worths → AtMost (positive (amount_at net.worths b)) (amount_at flow.source b)
   full b l =
       let n = length net.worths in
-      let g = room_at net.worths flow.source in
+      let g = residual_at net.worths flow.source in
       let z = same (total_none_each g n rooms (AtMost-both _ _ none (total_nonneg g n rooms)) b l) in
       record { worths = omega (arith, ints, z); counts = λ i. omega (arith, ints, z) }
 
@@ -89,10 +89,10 @@ module _ (net : NetView) (ws : List Amount) (c : IsCut net ws) (flow : FlowView)
     n = length net.worths
 
     -- over so many blocks
-    tight_at : total (λ b. where_so (e b) (amount_at ws b)) n ≡ still_to_give net flow
+    tight_at : total (λ b. where_so (e b) (amount_at ws b)) n ≡ source_residual net flow
     tight_at =
-        subst (λ (k : ℕ). total (λ b. where_so (e b) (amount_at ws b)) k ≡ total (room_at ws flow.source) k) c.size tight
-        ∙ total-same (room_at ws flow.source) (room_at net.worths flow.source) n (λ b l. ap (λ (x : Amount). minus x (amount_at flow.source b)) (c.positives b l))
+        subst (λ (k : ℕ). total (λ b. where_so (e b) (amount_at ws b)) k ≡ total (residual_at ws flow.source) k) c.size tight
+        ∙ total-same (residual_at ws flow.source) (residual_at net.worths flow.source) n (λ b l. ap (λ (x : Amount). minus x (amount_at flow.source b)) (c.positives b l))
 
     all_same : total (λ b. positive (amount_at ws b)) n ≡ all_given net
     unfolding all_given
@@ -102,7 +102,7 @@ module _ (net : NetView) (ws : List Amount) (c : IsCut net ws) (flow : FlowView)
     uncut_at : (b : ℕ) → b < n → e b ≡ true → AtMost (negative (amount_at net.worths b)) (negative (amount_at ws b))
     uncut_at b l i = elim (most_or_below (negative (amount_at net.worths b)) (all_given net)) [
       | inl m ↦ c.fits b (negative (amount_at net.worths b)) l (AtMost-refl _) m
-      | inr o ↦ elim (most_or_below (still_to_give net flow) zero_amount) [
+      | inr o ↦ elim (most_or_below (source_residual net flow) zero_amount) [
         | inl none ↦ nothing_reached net flow is none e r b i
         | inr some ↦ absurd (taken _ _ (all_given net) _ (subst (AtMost (plus (total (λ k. where_so (e k) (amount_at ws k)) n) (negative (amount_at ws b)))) all_same (less_one n (amount_at ws) e b l i))
             (c.fits b (all_given net) l (Below-most _ _ o) (AtMost-refl _)) tight_at some)

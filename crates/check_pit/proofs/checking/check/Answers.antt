@@ -28,6 +28,6 @@ pub new-requires-clause-greatest : goal.new-requires-clause-greatest
 new-requires-clause-greatest g c =
     let is = flow_found c.args.net.now c.args.flow.now c.args.pit.now (c.sizes_agree.ensures.0 c.if-not-sizes_agree.false) (c.none_below_zero.ensures.0 c.if-not-none_below_zero.false) c.in_default-first_over.ensures c.in_ok-balances.ensures in
     let sum = rw c.in_ok-worth.ensures.ok_part at c.pit_worth.ensures.sum in
-    let room = rw c.in_ok-room.ensures.ok_part at c.room_left.ensures in
+    let room = rw c.in_ok-room.ensures.ok_part at c.residual_of_source.ensures in
     λ κs le. greatest_from_tight c.args.net.now c.args.flow.now (holds_of c.args.pit.now) c.pit_worth.ensures.net.rests.known is c.in_default.ensures
     (sym sum.0 ∙ c.same.ensures.0 c.if-not-same.false ∙ room.0)

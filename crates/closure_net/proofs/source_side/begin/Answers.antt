@@ -1,5 +1,5 @@
 use Rattle.std.proofs.Common.{ap, ◌∙◌, refl}
-use Rattle.closure_net.specs.Reached.{IsBegin}
+use Rattle.closure_net.specs.Reached.{HasSourceResidual}
 use Rattle.closure_net.proofs.Holding.{apart}
 use Rattle.closure_net.proofs.Spreads.{passed_add, passed_skip, passed_same}
 use Rattle.closure_net.proofs.source_side.begin.Goals as goal
@@ -7,7 +7,7 @@ use Rattle.closure_net.proofs.source_side.begin.Goals.{then-has_room, else-has_r
 
 pub loop-b-preserved : goal.loop-b-preserved
 loop-b-preserved g c =
-    let W = IsBegin c.args.net.now.worths c.args.flow.now.source in
+    let W = HasSourceResidual c.args.net.now.worths c.args.flow.now.source in
     let b = c.loop-b.b in
     elim c.if-has_room.branch [
       | then-has_room w ↦ record {

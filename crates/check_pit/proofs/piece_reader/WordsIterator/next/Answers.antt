@@ -1,14 +1,14 @@
 use Rattle.std.proofs.Common.{rules, length, false, sym, ap, ◌∙◌}
-use Rattle.check_pit.proofs.Splits.{word_step, last_word, words_left}
+use Rattle.check_pit.proofs.Splits.{word_step, words_left}
 use Rattle.check_pit.proofs.piece_reader.WordsIterator.next.Goals as goal
 
 pub returns-in-Some-clause-steps : goal.returns-in-Some-clause-steps
 returns-in-Some-clause-steps c =
-    word_step c.args.self.now c.self.inside.done c.self.inside.rest.now c.split_at.result.0.now c.split_at.result.1.now c.behind_first-self-inside.result.now c.in-Some.end c.self.view_is c.if-self.false (sym c.in-Some.ensures) c.split_at.ensures.front c.split_at.ensures.back c.behind_first-self-inside.ensures
+    word_step c.args.self.now c.self.inside.done c.self.inside.rest.now c.in-Some.word.now c.in-Some.rest.now c.self.view_is c.if-self.false c.in-Some.ensures
 
 pub returns-in-None-clause-steps : goal.returns-in-None-clause-steps
 returns-in-None-clause-steps c =
-    sym (words_left c.args.self.now c.self.inside.done false c.self.inside.rest.now c.self.view_is c.if-self.false) ∙ last_word c.self.inside.rest.now (sym c.in-None.ensures)
+    sym (words_left c.args.self.now c.self.inside.done false c.self.inside.rest.now c.self.view_is c.if-self.false) ∙ c.in-None.ensures
 
 pub returns-in-Some-clause-goes : goal.returns-in-Some-clause-goes
 returns-in-Some-clause-goes c =

@@ -8,11 +8,11 @@ invariant_of-result c =
     let n = c.args.n in
     let ps = c.args.pairs.now.items in
     let firsts = c.in_ok-firsts.firsts.items in
-    let tops = c.in_ok-tops.tops.items in
+    let predecessors = c.in_ok-predecessors.predecessors.items in
     let P : List (ℕ × ℕ) → Type 0 = λ xs. IsStarts (from_at xs) (length xs) n firsts in
-    let Q : List (ℕ × ℕ) → Type 0 = λ xs. AreAbove n xs firsts tops in
+    let Q : List (ℕ × ℕ) → Type 0 = λ xs. AreAbove n xs firsts predecessors in
     subst Q (sym (ap (λ v. v.items) c.of.ensures)) (record {
       rests = record { blocks = c.requires.blocks; few = c.requires.few; known = c.requires.known; rising = c.requires.rising; apart = c.requires.apart };
-      tops = c.in_ok-tops.ensures ∙ ap (map (λ p. p.1)) c.deref-2.ensures.value;
+      predecessors = c.in_ok-predecessors.ensures ∙ ap (map (λ p. p.1)) c.deref-2.ensures.value;
       firsts = subst P c.deref.ensures.value c.in_ok-firsts.ensures;
     })

@@ -9,7 +9,7 @@ part-requires c =
     let ps = c.self.inside.pairs.value.value.items in
     let known : c.args.b < c.self.inside.blocks = omega (arith, c.requires, ap (λ v. v.blocks) c.self.view_is) in
     let r = starts_ascend (from_at ps) (length ps) c.self.inside.blocks c.args.b c.self.inside.firsts.now c.self.invariant.firsts known in
-    let len : length c.self.inside.tops.now ≡ length ps = ap length c.self.invariant.tops ∙ length-map ps (λ (p : ℕ × ℕ). p.1) in
+    let len : length c.self.inside.predecessors.now ≡ length ps = ap length c.self.invariant.predecessors ∙ length-map ps (λ (p : ℕ × ℕ). p.1) in
     record { rises = r.0; inside = omega (arith, r.1, len) }
 
 pub returns : goal.returns
@@ -17,5 +17,5 @@ returns c =
     let ps = c.self.inside.pairs.value.value.items in
     let known : c.args.b < c.self.inside.blocks = omega (arith, c.requires, ap (λ v. v.blocks) c.self.view_is) in
     c.part.ensures
-    ∙ above_is ps c.self.invariant.rests.rising c.self.inside.blocks c.args.b _ _ c.self.inside.firsts.now c.self.inside.tops.now c.self.invariant.firsts c.self.invariant.tops known refl refl
+    ∙ above_is ps c.self.invariant.rests.rising c.self.inside.blocks c.args.b _ _ c.self.inside.firsts.now c.self.inside.predecessors.now c.self.invariant.firsts c.self.invariant.predecessors known refl refl
     ∙ ap (λ v. above_of v.pairs c.args.b) c.self.view_is
