@@ -9,8 +9,8 @@ use Rattle.ordered_group.specs.Sums.{amount_at}
 use Rattle.prec_file.specs.Rests.{IsRising}
 use Rattle.prec_file.proofs.Pairs.{is_pair, tells_pair, pair_told}
 use Rattle.closure_net.specs.Network.{flow_view}
-use Rattle.check_pit.specs.declared.lines_of_body.LineKind.TheVariants.{Rest}
-use Rattle.check_pit.specs.declared.lines_of_body.BodyLine.{BodyLine}
+use Rattle.check_pit.specs.declared.body_lines.LineKind.TheVariants.{Rest}
+use Rattle.check_pit.specs.declared.body_lines.BodyLine.{BodyLine}
 use Rattle.check_pit.specs.BodyLines.{is_of_model}
 use Rattle.check_pit.specs.Certificate.{Covers, has_pair, amount_of}
 use Rattle.check_pit.specs.Gathered.{Gathered, with_source, with_rest, with_sink, Adds}

@@ -15,9 +15,9 @@ use Rattle.closure_net.specs.Network.{NetView, IsAscending, holds_of}
 use Rattle.closure_net.specs.Closure.{group_worth}
 use Rattle.closure_net.specs.Flows.{Balanced, source_residual, inflow, outflow}
 use Rattle.closure_net.proofs.Holding.{place_of}
-use Rattle.check_pit.specs.declared.lines_of_body.LineKind.{LineKind}
-use Rattle.check_pit.specs.declared.lines_of_body.LineKind.TheVariants.{Source, Rest, Sink}
-use Rattle.check_pit.specs.declared.lines_of_body.BodyLine.{BodyLine}
+use Rattle.check_pit.specs.declared.body_lines.LineKind.{LineKind}
+use Rattle.check_pit.specs.declared.body_lines.LineKind.TheVariants.{Source, Rest, Sink}
+use Rattle.check_pit.specs.declared.body_lines.BodyLine.{BodyLine}
 use Rattle.check_pit.specs.BodyLines.{lines_in, is_of_model}
 use Rattle.check_pit.specs.Certificate.{Denotes, has_pair, pit_of, amount_of, given, gives_source, gives_rest, gives_sink}
 use Rattle.check_pit.specs.Checks.{NoneBelowZero, AllWithin}

@@ -7,8 +7,8 @@ use Rattle.std.specs.declared.cmp.Ordering.{Ordering}
 use Rattle.std.specs.declared.cmp.Ordering.TheVariants.{Less, Equal, Greater}
 use Rattle.std.proofs.lemmas.Cmp.{nat_cmp_total, on_total, then_total}
 use Rattle.ordered_group.specs.Amount.{Amount, zero_amount, is_zero}
-use Rattle.check_pit.specs.declared.lines_of_body.LineKind.TheVariants.{Pit}
-use Rattle.check_pit.specs.declared.lines_of_body.BodyLine.{BodyLine}
+use Rattle.check_pit.specs.declared.body_lines.LineKind.TheVariants.{Pit}
+use Rattle.check_pit.specs.declared.body_lines.BodyLine.{BodyLine}
 use Rattle.check_pit.specs.BodyLines.{rank, is_end, is_above, is_of_model}
 use Rattle.check_pit.specs.Certificate.{amount_of, given, is_rest}
 use Rattle.check_pit.proofs.Amounts.{zero_numbers}

@@ -1,6 +1,6 @@
 -- Why a stream gives no further line.
 use Rattle.std.proofs.Common.{◌≡◌, ℕ, get_or, ◌+◌, ◌<◌, ◌≤◌, Bool, true, false, ltb, List, [], ◌++◌, length, take, drop, Option, Some, None, Result, Ok, Err, refl, sym, ap, ◌∙◌, subst, arith}
-use Rattle.std.specs.Prelude.{unwrap_or, Contains, MatchOption, MatchResult}
+use Rattle.std.specs.Prelude.{cond, nat_lt, unwrap_or, Contains, MatchOption, MatchResult}
 use Rattle.std.specs.Io.KnownBytes.{Consumes}
 use Rattle.std.specs.Option.{is_some}
 use Rattle.std.specs.Result.{result_err}
@@ -11,8 +11,8 @@ use Rattle.check_pit.specs.declared.cert_fault.CertFault.{CertFault}
 use Rattle.check_pit.specs.declared.cert_fault.CertFault.TheVariants as fault
 use Rattle.check_pit.specs.declared.cert_fault.LineFault.{LineFault}
 use Rattle.check_pit.specs.declared.cert_fault.LineFault.TheVariants.{Text, Number}
-use Rattle.check_pit.specs.declared.lines_of_body.LineKind.TheVariants.{Rest}
-use Rattle.check_pit.specs.declared.lines_of_body.BodyLine.{BodyLine}
+use Rattle.check_pit.specs.declared.body_lines.LineKind.TheVariants.{Rest}
+use Rattle.check_pit.specs.declared.body_lines.BodyLine.{BodyLine}
 use Rattle.check_pit.specs.declared.pit_fault.PitFault.{PitFault}
 use Rattle.check_pit.specs.declared.stream_fault.StreamFault.{StreamFault}
 use Rattle.check_pit.specs.declared.stream_fault.StreamFault.TheVariants.{Device, InputTooLong, Cert, Pit}
@@ -27,55 +27,69 @@ use Rattle.check_pit.proofs.Additions.{absent, present}
 use Rattle.check_pit.proofs.Beginnings.{no_line_next}
 use Rattle.check_pit.proofs.HeldLines.{line_held}
 
--- Only a piece that is no line is cut off.
-abbrev IsCut : {A : Type 0} → Result A CertFault → Type 0
-IsCut r = r ≡ Err fault.Truncated
+-- Only a piece that is no line is cut off, and memory is refused to none.
+abbrev IsOutside : CertFault → Type 0
+IsOutside (fault.Text k) = ⊥
+IsOutside (fault.Number k) = ⊥
+IsOutside (fault.OutOfOrder k) = ⊥
+IsOutside (fault.UnknownPair k) = ⊥
+IsOutside fault.Truncated = Unit {0}
+IsOutside fault.NoMemory = Unit {0}
 
-in_line_whole : {A : Type 0} (k : ℕ) (r : Result A LineFault) → IsCut (in_line k r) → ⊥
-in_line_whole k (Ok a) h = cc
-in_line_whole k (Err Text) h = cc
-in_line_whole k (Err Number) h = cc
+other_fault : {A : Type 0} (x e : CertFault) → (IsOutside x → ⊥) → IsOutside e → (let r : Result A CertFault = Err x in r ≡ Err e) → ⊥
+other_fault {A = A} x e f o h = f (subst IsOutside (sym (ap (λ (r : Result A CertFault). unwrap_or (result_err r) x) h)) o)
 
-bind_whole : {A B : Type 0} (r : Result A CertFault) (f : A → Result B CertFault) → (IsCut r → ⊥) → ((a : A) → IsCut (f a) → ⊥) → IsCut (r >>= f) → ⊥
-bind_whole (Ok a) f g h e = h a e
-bind_whole {B = B} (Err x) f g h e = g (ap (λ (r : Result B CertFault). Err (unwrap_or (result_err r) x)) e)
+in_line_whole : {A : Type 0} (e : CertFault) (k : ℕ) (r : Result A LineFault) → IsOutside e → in_line k r ≡ Err e → ⊥
+in_line_whole e k (Ok a) o h = cc
+in_line_whole e k (Err Text) o h = other_fault (fault.Text k) e (λ z. z) o h
+in_line_whole e k (Err Number) o h = other_fault (fault.Number k) e (λ z. z) o h
 
-order_whole : (previous : Option BodyLine) (k : ℕ) (line : BodyLine) (t : Bool) → may_follow previous line ≡ t → IsCut (in_order previous k line) → ⊥
-order_whole previous k line true e h = let z = rw e at h in cc
-order_whole previous k line false e h = let z = rw e at h in cc
+unless_whole : {A : Type 0} (e : CertFault) (o : Option CertFault) (r : Result A CertFault) → (o ≡ Some e → ⊥) → (r ≡ Err e → ⊥) → unless_fault o r ≡ Err e → ⊥
+unless_whole e (Some x) r f g h = f (ap result_err h)
+unless_whole e None r f g h = g h
 
-model_whole : (has : ℕ → ℕ → Bool) (k : ℕ) (line : BodyLine) (t : Bool) → is_of_model has line.kind line ≡ t → IsCut (in_model has k line) → ⊥
-model_whole has k line true e h = let z = rw e at h in cc
-model_whole has k line false e h = let z = rw e at h in cc
+bind_whole : {A B : Type 0} (e : CertFault) (r : Result A CertFault) (f : A → Result B CertFault) → (r ≡ Err e → ⊥) → ((a : A) → f a ≡ Err e → ⊥) → (r >>= f) ≡ Err e → ⊥
+bind_whole e (Ok a) f g h z = h a z
+bind_whole {B = B} e (Err x) f g h z = g (ap (λ (r : Result B CertFault). Err (unwrap_or (result_err r) x)) z)
+
+order_whole : (e : CertFault) (previous : Option BodyLine) (k : ℕ) (line : BodyLine) (t : Bool) → may_follow previous line ≡ t → IsOutside e → in_order previous k line ≡ Err e → ⊥
+order_whole e previous k line true t o h = let z = rw t at h in cc
+order_whole e previous k line false t o h = other_fault (fault.OutOfOrder k) e (λ z. z) o (rw t at h)
+
+model_whole : (e : CertFault) (has : ℕ → ℕ → Bool) (k : ℕ) (line : BodyLine) (t : Bool) → is_of_model has line.kind line ≡ t → IsOutside e → in_model has k line ≡ Err e → ⊥
+model_whole e has k line true t o h = let z = rw t at h in cc
+model_whole e has k line false t o h = other_fault (fault.UnknownPair k) e (λ z. z) o (rw t at h)
+
+read_whole : {A : Type 0} (e : CertFault) (f : List ℕ → Result A LineFault) (k : ℕ) (p : Piece) → IsOutside e → (no_line k p ≡ Some e → ⊥) → read_line f k p ≡ Err e → ⊥
+read_whole e f k p o g = unless_whole e (no_line k p) (in_line k (f p.text)) g (in_line_whole e k (f p.text) o)
+
+next_whole : (e : CertFault) (counts : Bool) (n : ℕ) (has : ℕ → ℕ → Bool) (previous : Option BodyLine) (k : ℕ) (p : Piece) → IsOutside e → (no_line k p ≡ Some e → ⊥) → next_line counts n has previous k p ≡ Err e → ⊥
+next_whole e counts n has previous k p o g =
+    bind_whole e (line_behind counts n previous k p) (in_model has k)
+    (bind_whole e (read_line (line_of counts n) k p) (in_order previous k) (read_whole e (line_of counts n) k p o g) (λ l. order_whole e previous k l (may_follow previous l) refl o))
+    (λ l. model_whole e has k l (is_of_model has l.kind l) refl o)
 
 no_fault : (k : ℕ) (text : List ℕ) → length text ≤ LINE_BYTES → no_line k (record { text = text; ended = true }) ≡ None
 no_fault k text h =
     let t : ltb LINE_BYTES (length text) ≡ false = grind (arith, nat_tests) in
     rw t refl
 
-read_whole_line : (counts : Bool) (n k : ℕ) (text : List ℕ) → length text ≤ LINE_BYTES → IsCut (read_line (line_of counts n) k (record { text = text; ended = true })) → ⊥
-read_whole_line counts n k text h e = in_line_whole k (line_of counts n text) (sym (ap (λ (o : Option CertFault). unless_fault o (in_line k (line_of counts n text))) (no_fault k text h)) ∙ e)
-
-next_whole : (counts : Bool) (n : ℕ) (has : ℕ → ℕ → Bool) (previous : Option BodyLine) (k : ℕ) (text : List ℕ) → length text ≤ LINE_BYTES → IsCut (next_line counts n has previous k (record { text = text; ended = true })) → ⊥
-next_whole counts n has previous k text h =
-    let p : Piece = record { text = text; ended = true } in
-    bind_whole (line_behind counts n previous k p) (in_model has k)
-    (bind_whole (read_line (line_of counts n) k p) (in_order previous k) (read_whole_line counts n k text h) (λ l. order_whole previous k l (may_follow previous l) refl))
-    (λ l. model_whole has k l (is_of_model has l.kind l) refl)
+not_cut : (k : ℕ) (text : List ℕ) → length text ≤ LINE_BYTES → no_line k (record { text = text; ended = true }) ≡ Some fault.Truncated → ⊥
+not_cut k text h e = let z = sym (no_fault k text h) ∙ e in cc
 
 -- What f makes of a piece: the fault of one that is no line, and of a line never that it is cut off.
 pub record ReadsLines {A : Type 0} (f : ℕ → Piece → Result A CertFault) : Type 0 where
   pub none : (k : ℕ) (p : Piece) (e : CertFault) → no_line k p ≡ Some e → f k p ≡ Err e
-  pub whole : (k : ℕ) (text : List ℕ) → length text ≤ LINE_BYTES → IsCut (f k (record { text = text; ended = true })) → ⊥
+  pub whole : (k : ℕ) (text : List ℕ) → length text ≤ LINE_BYTES → f k (record { text = text; ended = true }) ≡ Err fault.Truncated → ⊥
 
 read_none : {A : Type 0} (f : List ℕ → Result A LineFault) (k : ℕ) (p : Piece) (e : CertFault) → no_line k p ≡ Some e → read_line f k p ≡ Err e
 read_none f k p e h = rw h refl
 
 pub line_reads : {A : Type 0} (f : List ℕ → Result A LineFault) → ReadsLines (read_line f)
-line_reads f = record { none = read_none f; whole = λ k text h e. in_line_whole k (f text) (sym (ap (λ (o : Option CertFault). unless_fault o (in_line k (f text))) (no_fault k text h)) ∙ e) }
+line_reads f = record { none = read_none f; whole = λ k text h. read_whole fault.Truncated f k (record { text = text; ended = true }) tt (not_cut k text h) }
 
 pub next_reads : (counts : Bool) (n : ℕ) (has : ℕ → ℕ → Bool) (previous : Option BodyLine) → ReadsLines (next_line counts n has previous)
-next_reads counts n has previous = record { none = no_line_next counts n has previous; whole = next_whole counts n has previous }
+next_reads counts n has previous = record { none = no_line_next counts n has previous; whole = λ k text h. next_whole fault.Truncated counts n has previous k (record { text = text; ended = true }) tt (not_cut k text h) }
 
 -- A fault of the line that is held, whatever follows it.
 stays : {R A : Type 0} (left : Option (List ℕ)) (f : ℕ → Piece → Result A CertFault) (s : LineView R) (e : CertFault) → (e ≡ fault.Truncated → ⊥) → ((future : List ℕ) → f (s.number + 1) (piece_at (pieces_of (s.held ++ future)) 0) ≡ Err e) → NoNextLine left f s (Cert e)
@@ -93,6 +107,25 @@ line_wrong left f s count e r h bad =
     stays left f s e
     (λ cut. r.whole (s.number + 1) (take count s.held) short (bad ∙ ap (λ (x : CertFault). Err x) cut))
     (λ future. ap (λ (ps : List Piece). f (s.number + 1) (piece_at ps 0)) (line_held s.held count h.ends future) ∙ bad)
+
+memory_at : (k : ℕ) (long ended : Bool) → cond long (Some (fault.Text k)) (cond ended None (Some fault.Truncated)) ≡ Some fault.NoMemory → ⊥
+memory_at k true ended h = cc
+memory_at k false true h = cc
+memory_at k false false h = cc
+
+-- That there is no further line is no want of memory.
+pub lacks_no_memory : {R T : Type 0} (left : Option (List ℕ)) (counts : Bool) (n : ℕ) (has : ℕ → ℕ → Bool) (previous : Option BodyLine) (s : LineView R) (e : StreamFault) → NoNextLine left (next_line counts n has previous) s e → (let r : Result T StreamFault = Err e in r ≡ Err (Cert fault.NoMemory)) → ⊥
+lacks_no_memory left counts n has previous s Device h z = cc
+lacks_no_memory left counts n has previous s InputTooLong h z = cc
+lacks_no_memory left counts n has previous s (Cert (fault.Text k)) h z = cc
+lacks_no_memory left counts n has previous s (Cert (fault.Number k)) h z = cc
+lacks_no_memory left counts n has previous s (Cert (fault.OutOfOrder k)) h z = cc
+lacks_no_memory left counts n has previous s (Cert (fault.UnknownPair k)) h z = cc
+lacks_no_memory left counts n has previous s (Cert fault.Truncated) h z = cc
+lacks_no_memory left counts n has previous s (Cert fault.NoMemory) h z =
+    let p = piece_at (pieces_of (s.held ++ [])) 0 in
+    next_whole fault.NoMemory counts n has previous (s.number + 1) p tt (memory_at (s.number + 1) (nat_lt LINE_BYTES (length p.text)) p.ended) (h [])
+lacks_no_memory left counts n has previous s (Pit x) h z = cc
 
 -- A fault of one thing, as one of another.
 pub fault_as : (left : Option (List ℕ)) (taken : ℕ) (has had : List ℕ → CertFault → Type 0) (p q : PitFault → Type 0) (e : StreamFault) → ((future : List ℕ) (x : CertFault) → has future x → had future x) → ((x : PitFault) → p x → q x) → FaultIs left taken has p e → FaultIs left taken had q e

@@ -10,9 +10,9 @@ use Rattle.closure_net.specs.Network.{IsAscending}
 use Rattle.check_pit.specs.declared.cert_fault.CertFault.{CertFault}
 use Rattle.check_pit.specs.declared.cert_fault.CertFault.TheVariants as fault
 use Rattle.check_pit.specs.declared.cert_fault.LineFault.{LineFault}
-use Rattle.check_pit.specs.declared.lines_of_body.LineKind.{LineKind}
-use Rattle.check_pit.specs.declared.lines_of_body.LineKind.TheVariants.{Pit, Source, Rest, Sink, End}
-use Rattle.check_pit.specs.declared.lines_of_body.BodyLine.{BodyLine}
+use Rattle.check_pit.specs.declared.body_lines.LineKind.{LineKind}
+use Rattle.check_pit.specs.declared.body_lines.LineKind.TheVariants.{Pit, Source, Rest, Sink, End}
+use Rattle.check_pit.specs.declared.body_lines.BodyLine.{BodyLine}
 use Rattle.check_pit.specs.Pieces.{Piece, read_line}
 use Rattle.check_pit.specs.Header.{◌>>=◌}
 use Rattle.check_pit.specs.BodyLines.{line_of, is_end, is_of_model, is_above, may_follow, rank, line_behind, next_line, in_order, in_model, end_fault, fault_from, body_fault, lines_in, lines_from}

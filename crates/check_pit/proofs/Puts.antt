@@ -6,8 +6,8 @@ use Rattle.fixed_worth.specs.Device.{ReceivedPrefix, SentOrHeld}
 use Rattle.fixed_worth.proofs.Pieces.{all_held, held_more, held_more_prefix, prefix_of_first, held_both, held_sent, held_prefix, prefix_in_first, prefix_in_second}
 use Rattle.ordered_group.specs.Amount.{Amount, zero_amount, is_zero}
 use Rattle.closure_net.specs.Network.{FlowView}
-use Rattle.check_pit.specs.declared.lines_of_body.LineKind.TheVariants.{Source, Sink}
-use Rattle.check_pit.specs.declared.lines_of_body.BodyLine.{BodyLine}
+use Rattle.check_pit.specs.declared.body_lines.LineKind.TheVariants.{Source, Sink}
+use Rattle.check_pit.specs.declared.body_lines.BodyLine.{BodyLine}
 use Rattle.check_pit.specs.Written.{spaced, line_words, body_text, amount_lines, pit_at, block_at, pair_at, flow_lines}
 
 -- Of all that is to be put, behind what was held at first, this is left.

@@ -18,9 +18,9 @@ use Rattle.check_pit.specs.declared.header.Version.{Version}
 use Rattle.check_pit.specs.declared.header.Version.TheVariants.{One, Two}
 use Rattle.check_pit.specs.declared.cert_fault.LineFault.{LineFault}
 use Rattle.check_pit.specs.declared.cert_fault.LineFault.TheVariants.{Text}
-use Rattle.check_pit.specs.declared.lines_of_body.LineKind.{LineKind}
-use Rattle.check_pit.specs.declared.lines_of_body.LineKind.TheVariants.{Pit, Source, Rest, Sink, End}
-use Rattle.check_pit.specs.declared.lines_of_body.BodyLine.{BodyLine}
+use Rattle.check_pit.specs.declared.body_lines.LineKind.{LineKind}
+use Rattle.check_pit.specs.declared.body_lines.LineKind.TheVariants.{Pit, Source, Rest, Sink, End}
+use Rattle.check_pit.specs.declared.body_lines.BodyLine.{BodyLine}
 use Rattle.check_pit.specs.Pieces.{Piece, pieces_of, words_of, read_line, no_line, number_below}
 use Rattle.check_pit.specs.Header.{header_for, version_in, value_behind, value_behind_both, or_number, wanted_blocks, blocks_said, blocks_in, factor_of, price_said, mill_of, mill_said, price_in, group_named, group_said, group_in}
 use Rattle.check_pit.specs.BodyLines.{line_of, is_end, rank, is_of_model, may_follow, next_line, end_fault, fault_from, body_fault, lines_from, lines_in}

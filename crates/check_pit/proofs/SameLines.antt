@@ -7,9 +7,9 @@ use Rattle.std.proofs.lemmas.Bool.Decides.{nat_tests}
 use Rattle.ordered_group.specs.Amount.{Amount, zero_amount, is_zero}
 use Rattle.ordered_group.specs.Sums.{amount_at}
 use Rattle.closure_net.specs.Network.{FlowView}
-use Rattle.check_pit.specs.declared.lines_of_body.LineKind.{LineKind}
-use Rattle.check_pit.specs.declared.lines_of_body.LineKind.TheVariants.{Pit, Source, Rest, Sink, End}
-use Rattle.check_pit.specs.declared.lines_of_body.BodyLine.{BodyLine}
+use Rattle.check_pit.specs.declared.body_lines.LineKind.{LineKind}
+use Rattle.check_pit.specs.declared.body_lines.LineKind.TheVariants.{Pit, Source, Rest, Sink, End}
+use Rattle.check_pit.specs.declared.body_lines.BodyLine.{BodyLine}
 use Rattle.check_pit.specs.BodyLines.{rank, is_end, is_of_model}
 use Rattle.check_pit.specs.Certificate.{Denotes, has_pair, pit_of, block_if_pit, amount_of, given, gives_source, gives_rest, gives_sink, is_source, is_rest, is_sink}
 use Rattle.check_pit.proofs.Going.{carries}

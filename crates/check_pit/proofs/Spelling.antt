@@ -13,9 +13,9 @@ use Rattle.check_pit.specs.declared.cert_fault.CertFault.{CertFault}
 use Rattle.check_pit.specs.declared.cert_fault.CertFault.TheVariants as fault
 use Rattle.check_pit.specs.declared.cert_fault.LineFault.{LineFault}
 use Rattle.check_pit.specs.declared.cert_fault.LineFault.TheVariants.{Text}
-use Rattle.check_pit.specs.declared.lines_of_body.LineKind.{LineKind}
-use Rattle.check_pit.specs.declared.lines_of_body.LineKind.TheVariants.{Pit, Source, Rest, Sink, End}
-use Rattle.check_pit.specs.declared.lines_of_body.BodyLine.{BodyLine}
+use Rattle.check_pit.specs.declared.body_lines.LineKind.{LineKind}
+use Rattle.check_pit.specs.declared.body_lines.LineKind.TheVariants.{Pit, Source, Rest, Sink, End}
+use Rattle.check_pit.specs.declared.body_lines.BodyLine.{BodyLine}
 use Rattle.check_pit.specs.Pieces.{Piece, within, number_below, words_of, read_line, no_line, in_line, unless_fault}
 use Rattle.check_pit.specs.BodyLines.{kind_of, is_amount, amount_said, amount_in, pit_line, block_line, rest_line, end_line, line_with, line_of_words, line_of, is_end, next_line, end_fault, fault_from, body_fault, lines_from, lines_in}
 use Rattle.check_pit.specs.Written.{spaced, words_with, line_words, body_text, end_text}

@@ -7,7 +7,7 @@ use Rattle.closure_net.specs.Network.{NetView}
 use Rattle.check_pit.specs.declared.cert_fault.CertFault.{CertFault}
 use Rattle.check_pit.specs.declared.stream_fault.StreamFault.{StreamFault}
 use Rattle.fixed_worth.specs.declared.limits.TheConstants.{MOST_BYTES}
-use Rattle.check_pit.specs.declared.lines_of_body.BodyLine.{BodyLine}
+use Rattle.check_pit.specs.declared.body_lines.BodyLine.{BodyLine}
 use Rattle.check_pit.specs.Pieces.{Piece, pieces_of, piece_at}
 use Rattle.check_pit.specs.BodyLines.{is_end, next_line, lines_in}
 use Rattle.check_pit.specs.Certificate.{UnlessMemory, has_pair}

@@ -13,9 +13,9 @@ use Rattle.ordered_group.proofs.Order.{is_eq_tells}
 use Rattle.prec_file.proofs.Pairs.{tells_pair, pair_told}
 use Rattle.prec_file.specs.Rests.{IsRising, IsKnown}
 use Rattle.closure_net.specs.Network.{FlowView, IsAscending}
-use Rattle.check_pit.specs.declared.lines_of_body.LineKind.{LineKind}
-use Rattle.check_pit.specs.declared.lines_of_body.LineKind.TheVariants.{Pit, Source, Rest, Sink, End}
-use Rattle.check_pit.specs.declared.lines_of_body.BodyLine.{BodyLine}
+use Rattle.check_pit.specs.declared.body_lines.LineKind.{LineKind}
+use Rattle.check_pit.specs.declared.body_lines.LineKind.TheVariants.{Pit, Source, Rest, Sink, End}
+use Rattle.check_pit.specs.declared.body_lines.BodyLine.{BodyLine}
 use Rattle.check_pit.specs.BodyLines.{rank, is_end, may_follow, is_of_model}
 use Rattle.check_pit.specs.Certificate.{Covers, Denotes, has_pair, pit_of, block_if_pit, amount_of, given, gives_source, gives_rest, gives_sink}
 use Rattle.check_pit.specs.Written.{pit_at, block_at, pair_at, amount_lines, flow_lines, value_lines}

@@ -11,7 +11,7 @@ use Rattle.closure_net.specs.Network.{FlowView, IsAscending}
 use Rattle.check_pit.specs.declared.header.Header.{Header}
 use Rattle.check_pit.specs.declared.header.Wanted.{Wanted}
 use Rattle.check_pit.specs.declared.header.Price.{Price}
-use Rattle.check_pit.specs.declared.lines_of_body.BodyLine.{BodyLine}
+use Rattle.check_pit.specs.declared.body_lines.BodyLine.{BodyLine}
 use Rattle.check_pit.specs.declared.cert_fault.CertFault.{CertFault}
 use Rattle.check_pit.specs.Pieces.{Piece, Unread, pieces_of}
 use Rattle.check_pit.specs.Header.{header_for}
@@ -30,7 +30,7 @@ use Rattle.check_pit.proofs.SameLines.{say_the_same}
 use Rattle.check_pit.proofs.ValueLines.{EachLine, each_all, each_both, value_in_order, value_says, value_proper}
 use Rattle.check_pit.proofs.Readable.{Readable, pit_readable, source_readable, rest_readable, sink_readable}
 use Rattle.check_pit.proofs.ReadBack.{Both, ReadAs, body_read, header_read, body_left}
-use Rattle.check_pit.specs.declared.lines_of_body.LineKind.TheVariants.{Source, Sink}
+use Rattle.check_pit.specs.declared.body_lines.LineKind.TheVariants.{Source, Sink}
 
 -- A text without a fault is the text of the value that it gives.
 pub spelled : (counts : Bool) (name : Group) (n : ℕ) (pairs : List (ℕ × ℕ)) (text : List ℕ) (price : Price) (pit : List ℕ) (flow : FlowView) → IsRests (record { blocks = n; pairs = pairs }) → header_for (wanted_for n name) (pieces_of text) ≡ Ok (header_with n price name)

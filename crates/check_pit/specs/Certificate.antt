@@ -10,9 +10,9 @@ use Rattle.check_pit.specs.declared.header.Wanted.{Wanted}
 use Rattle.check_pit.specs.declared.header.Price.{Price}
 use Rattle.check_pit.specs.declared.cert_fault.CertFault.{CertFault}
 use Rattle.check_pit.specs.declared.cert_fault.CertFault.TheVariants.{NoMemory}
-use Rattle.check_pit.specs.declared.lines_of_body.LineKind.{LineKind}
-use Rattle.check_pit.specs.declared.lines_of_body.LineKind.TheVariants.{Pit, Source, Rest, Sink, End}
-use Rattle.check_pit.specs.declared.lines_of_body.BodyLine.{BodyLine}
+use Rattle.check_pit.specs.declared.body_lines.LineKind.{LineKind}
+use Rattle.check_pit.specs.declared.body_lines.LineKind.TheVariants.{Pit, Source, Rest, Sink, End}
+use Rattle.check_pit.specs.declared.body_lines.BodyLine.{BodyLine}
 use Rattle.check_pit.specs.Pieces.{Piece, pieces_of}
 use Rattle.check_pit.specs.Header.{header_for}
 use Rattle.check_pit.specs.BodyLines.{body_fault, lines_in}

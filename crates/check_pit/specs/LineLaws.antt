@@ -4,7 +4,7 @@ use Rattle.ordered_group.specs.Amount.{zero_amount}
 use Rattle.prec_file.specs.Rests.{IsRests}
 use Rattle.closure_net.specs.Network.{NetView, holds_of}
 use Rattle.closure_net.specs.Flows.{Balanced, IsTight}
-use Rattle.check_pit.specs.declared.lines_of_body.BodyLine.{BodyLine}
+use Rattle.check_pit.specs.declared.body_lines.BodyLine.{BodyLine}
 use Rattle.check_pit.specs.Pieces.{Piece}
 use Rattle.check_pit.specs.BodyLines.{body_fault, lines_in}
 use Rattle.check_pit.specs.Certificate.{Denotes, has_pair, pit_of}

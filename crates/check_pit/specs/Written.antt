@@ -11,9 +11,9 @@ use Rattle.check_pit.specs.declared.header.Price.{Price}
 use Rattle.check_pit.specs.declared.header.Price.TheVariants.{Objective, Factor, Mill}
 use Rattle.check_pit.specs.declared.header.Version.{Version}
 use Rattle.check_pit.specs.declared.header.Version.TheVariants.{One, Two}
-use Rattle.check_pit.specs.declared.lines_of_body.LineKind.{LineKind}
-use Rattle.check_pit.specs.declared.lines_of_body.LineKind.TheVariants.{Pit, Source, Rest, Sink, End}
-use Rattle.check_pit.specs.declared.lines_of_body.BodyLine.{BodyLine}
+use Rattle.check_pit.specs.declared.body_lines.LineKind.{LineKind}
+use Rattle.check_pit.specs.declared.body_lines.LineKind.TheVariants.{Pit, Source, Rest, Sink, End}
+use Rattle.check_pit.specs.declared.body_lines.BodyLine.{BodyLine}
 
 -- words with a single space between two
 abbrev pub spaced : List (List ℕ) → List ℕ

@@ -6,9 +6,9 @@ ghost use Rattle.check_pit.specs.BodyLines.{body_fault, lines_in};
 ghost use Rattle.check_pit.specs.Certificate.{Covers, UnlessMemory, has_pair};
 ghost use Rattle.check_pit.specs.Gathered.{Adds};
 
+use crate::body_lines::{BodyLine, LineKind, read_in_order};
 use crate::cert_fault::CertFault;
 use crate::gathering::{Parts, counts};
-use crate::lines_of_body::{BodyLine, LineKind, read_in_order};
 use crate::piece_reader::Pieces;
 use ordered_group::OrderedGroup;
 use prec_file::Rests;

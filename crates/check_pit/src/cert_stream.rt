@@ -1,6 +1,6 @@
 //! A certificate that is read from a device, line by line.
 
-ghost use Rattle.std.specs.Prelude.{◌≡◌, ℕ, ◌+◌, ◌-◌, ◌^◌, ◌<◌, ◌++◌, true, false, List, [], length, Some, None, Ok, Err, IfOk, IfErr, IsErrOf, MatchResult};
+ghost use Rattle.std.specs.Prelude.{◌≡◌, ℕ, ◌+◌, ◌-◌, ◌^◌, ◌<◌, ◌≤◌, ◌++◌, true, false, List, [], length, Some, None, Ok, Err, IfOk, IfErr, IsErrOf, MatchResult};
 ghost use Rattle.check_pit.specs.CertStreams.{IsReadFor};
 ghost use Rattle.check_pit.specs.StreamChecks.{ReadsOn, BodyFails, BodyProves};
 ghost use Rattle.check_pit.specs.StreamHeaders.{GivesHeader, LacksHeader};
@@ -140,8 +140,9 @@ impl<R: CountedRead> CertStream<R> {
 /// lines come to: `Cert` with the fault of a line; `NotClosed` with the first such pair, at the first line behind the PIT
 /// lines; `Negative`, `OverCapacity` and then `TooLarge` of a line; behind END `Unbalanced` with the first such block, and
 /// then `NotTight`. `TooLarge` is a sum over the lines so far that doesn't fit: the balance of a block, the worth of the
-/// pit, or what the source could still give. A fault that the stream has answered before is answered again, and `Cert`
-/// with `Truncated` once the certificate was accepted.
+/// pit, or what the source could still give. `Cert` with `NoMemory` only in a room that has served a check before, where
+/// memory for the list of the pit's blocks is refused. A fault that the stream has answered before is answered again, and
+/// `Cert` with `Truncated` once the certificate was accepted.
 pub fn check_graph<'a, R: CountedRead, G: OrderedGroup>(
     stream: &mut CertStream<R>,
     net: GraphRef<'a, G>,
@@ -160,6 +161,7 @@ pub fn check_graph<'a, R: CountedRead, G: OrderedGroup>(
     ensures header { stream.new.header ≡ stream.old.header }
     ensures device { stream.old.fault ≡ None → IsErrOf result StreamFault.Device → R.failed stream.new.lines.from ≡ R.failed stream.old.lines.from + 1 }
     ensures kept { ¬ IsErrOf result StreamFault.Device → R.failed stream.new.lines.from ≡ R.failed stream.old.lines.from }
+    ensures memory { stream.old.fault ≡ None → room.old.is_pit ≡ false → length net.entry.worths ≤ room.old.space → ¬ IsErrOf result (StreamFault.Cert CertFault.NoMemory) }
 {
     if let Some(fault) = stream.fault {
         return Err(fault);
@@ -204,6 +206,7 @@ pub fn check_stream<'a, R: CountedRead, G: OrderedGroup>(
     ensures header { stream.new.header ≡ stream.old.header }
     ensures device { stream.old.fault ≡ None → IsErrOf result StreamFault.Device → R.failed stream.new.lines.from ≡ R.failed stream.old.lines.from + 1 }
     ensures kept { ¬ IsErrOf result StreamFault.Device → R.failed stream.new.lines.from ≡ R.failed stream.old.lines.from }
+    ensures memory { stream.old.fault ≡ None → room.old.is_pit ≡ false → length net.now.worths ≤ room.old.space → ¬ IsErrOf result (StreamFault.Cert CertFault.NoMemory) }
 {
     match check_graph(stream, net.graph(), room) {
         Ok(accepted) => Ok(Accepted::new(net, accepted.pit(), accepted.worth())),

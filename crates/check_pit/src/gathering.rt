@@ -9,8 +9,8 @@ ghost use Rattle.check_pit.specs.BodyLines.{is_end, is_of_model};
 ghost use Rattle.check_pit.specs.Certificate.{Covers, UnlessMemory, amount_of, has_pair};
 ghost use Rattle.check_pit.specs.Gathered.{Gathered, Adds, with_block, with_source, with_rest, with_sink};
 
+use crate::body_lines::{BodyLine, LineKind};
 use crate::cert_fault::CertFault;
-use crate::lines_of_body::{BodyLine, LineKind};
 use closure_net::{Carried, Flow, Pit};
 use ordered_group::{OrderedGroup, zeros};
 use prec_file::Rests;

@@ -11,6 +11,7 @@
 
 mod accepted;
 mod accepted_pit;
+mod body_lines;
 mod body_reader;
 mod cert_fault;
 mod cert_stream;
@@ -21,7 +22,6 @@ mod gathering;
 mod header;
 mod header_lines;
 pub mod laws;
-mod lines_of_body;
 mod marks;
 mod piece_reader;
 mod pit_fault;

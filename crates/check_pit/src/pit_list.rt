@@ -1,6 +1,6 @@
 //! The blocks of a pit while they come, and the pit once they are all there.
 
-ghost use Rattle.std.specs.Prelude.{◌≡◌, ◌<◌, ◌≤◌, ◌∷◌, ◌++◌, [], true, false, length, IfOk};
+ghost use Rattle.std.specs.Prelude.{◌≡◌, ◌<◌, ◌≤◌, ◌∷◌, ◌++◌, [], true, false, length, IfOk, IsOk};
 ghost use Rattle.closure_net.specs.Network.{IsAscending};
 
 use closure_net::Pit;
@@ -41,6 +41,7 @@ impl PitList {
         ensures blocks { IfOk result (λ _. self.new.blocks ≡ []) }
         ensures space { IfOk result (λ _. n ≤ self.new.space) }
         ensures open { IfOk result (λ _. self.new.is_pit ≡ false) }
+        ensures succeeds { self.old.is_pit ≡ false → n ≤ self.old.space → IsOk result }
     {
         // the pit's list has the space already, so that no memory is asked for
         if let Some(pit) = self.pit.take() {

@@ -1,20 +1,20 @@
 //! The sums of a check while lines are read.
 
-ghost use Rattle.std.specs.Prelude.{◌≡◌, ◌↔◌, ℕ, ◌<◌, ◌≤◌, ◌⊎◌, true, false, IsTrue, pos, List, [], length, IfOk, IfErr, IfSome, MatchOption, MatchResult};
+ghost use Rattle.std.specs.Prelude.{◌≡◌, ◌↔◌, ℕ, ◌<◌, ◌≤◌, ◌⊎◌, true, false, IsTrue, pos, List, [], length, IfOk, IsOk, IfErr, IfSome, MatchOption, MatchResult};
 ghost use Rattle.ordered_group.specs.Amount.{zero_amount, plus, minus, positive, AtMost, FitsPair};
 ghost use Rattle.ordered_group.specs.Sums.{total, amount_at};
 ghost use Rattle.prec_file.specs.Rests.{IsFirstNot};
 ghost use Rattle.closure_net.specs.Network.{NetView, IsAscending, holds_of};
 ghost use Rattle.closure_net.specs.Closure.{IsClosed};
-ghost use Rattle.check_pit.specs.declared.lines_of_body.LineKind.TheVariants as kind;
-ghost use Rattle.check_pit.specs.declared.lines_of_body.BodyLine.{BodyLine as LineView};
+ghost use Rattle.check_pit.specs.declared.body_lines.LineKind.TheVariants as kind;
+ghost use Rattle.check_pit.specs.declared.body_lines.BodyLine.{BodyLine as LineView};
 ghost use Rattle.check_pit.specs.Certificate.{amount_of};
 ghost use Rattle.check_pit.specs.Closing.{IsFirstOpen};
 ghost use Rattle.check_pit.specs.LineSums.{keeps_by};
 ghost use Rattle.check_pit.specs.Rooms.{IsRoomFor, AreSumsOf, MayPut, WithLine, SumOverflowsWith, RefusedWhere, PutsLine, RefusesLine, with_balance, with_left, IsFirstUnbalanced, TellsTight};
 
+use crate::body_lines::{BodyLine, LineKind};
 use crate::gathering::amount;
-use crate::lines_of_body::{BodyLine, LineKind};
 use crate::marks::{first_open, mark};
 use crate::pit_fault::PitFault;
 use crate::pit_list::PitList;
@@ -85,6 +85,7 @@ impl<G: OrderedGroup> Room<G> {
     pub fn new(alloc: Global, net: &Net<G>) -> Result<Room<G>, AllocError>
         ensures balances { IfOk result (λ r. length r.balances ≡ length net.now.worths) }
         ensures space { IfOk result (λ r. length net.now.worths ≤ r.space) }
+        ensures open { IfOk result (λ r. r.is_pit ≡ false) }
     {
         Room::of_blocks(alloc, net.len())
     }
@@ -96,6 +97,7 @@ impl<G: OrderedGroup> Room<G> {
     pub fn of_blocks(alloc: Global, blocks: u32) -> Result<Room<G>, AllocError>
         ensures balances { IfOk result (λ r. length r.balances ≡ blocks) }
         ensures space { IfOk result (λ r. blocks ≤ r.space) }
+        ensures open { IfOk result (λ r. r.is_pit ≡ false) }
     {
         Ok(Room {
             balances: zeros(alloc, blocks)?,
@@ -116,6 +118,8 @@ impl<G: OrderedGroup> Room<G> {
     fn clear_balances(&mut self)
         ensures size { length self.new.balances ≡ length self.old.balances }
         ensures zero { (b : ℕ) → b < length self.old.balances → amount_at self.new.balances b ≡ zero_amount }
+        ensures space { self.new.space ≡ self.old.space }
+        ensures pit { self.new.is_pit ≡ self.old.is_pit }
     {
         for b in 0..self.balances.len() {
             self.balances[b] = G::zero();
@@ -128,6 +132,7 @@ impl<G: OrderedGroup> Room<G> {
         ensures size { length self.new.balances ≡ length self.old.balances }
         ensures sums { IfOk result (λ _. AreSumsOf net.now [] self.new) }
         ensures open { IfOk result (λ _. self.new.is_pit ≡ false) }
+        ensures succeeds { self.old.is_pit ≡ false → length net.now.worths ≤ self.old.space → IsOk result }
     {
         self.clear_balances();
         self.worth = G::zero();

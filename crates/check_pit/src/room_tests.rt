@@ -3,8 +3,8 @@
 ghost use Rattle.std.specs.Prelude.{◌≡◌, ◌<◌, length, IfOk};
 
 use crate::PitFault;
+use crate::body_lines::{BodyLine, LineKind};
 use crate::check_tests::{same, three_blocks};
-use crate::lines_of_body::{BodyLine, LineKind};
 use crate::room::Room;
 use closure_net::Net;
 use ordered_group::WorthSize;

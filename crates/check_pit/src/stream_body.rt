@@ -7,9 +7,9 @@ ghost use Rattle.check_pit.specs.Certificate.{has_pair};
 ghost use Rattle.check_pit.specs.StreamLines.{IsLine};
 ghost use Rattle.check_pit.specs.TakenLines.{TakesLine, LacksLine, NoNextLine, held_piece};
 
+use crate::body_lines::{BodyLine, LineKind, line_of, may_follow};
 use crate::cert_fault::CertFault;
 use crate::header_lines::in_line;
-use crate::lines_of_body::{BodyLine, LineKind, line_of, may_follow};
 use crate::stream_fault::StreamFault;
 use crate::stream_lines::StreamLines;
 use fixed_worth::CountedRead;

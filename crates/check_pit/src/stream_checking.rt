@@ -1,6 +1,6 @@
 //! The check of the lines of a stream, one after another.
 
-ghost use Rattle.std.specs.Prelude.{◌≡◌, ℕ, ◌+◌, ◌-◌, ◌^◌, ◌<◌, ◌++◌, true, false, not, cond, List, length, IfOk, IsErrOf, MatchResult};
+ghost use Rattle.std.specs.Prelude.{◌≡◌, ℕ, ◌+◌, ◌-◌, ◌^◌, ◌<◌, ◌≤◌, ◌++◌, true, false, not, cond, List, length, IfOk, IsErrOf, MatchResult};
 ghost use Rattle.ordered_group.specs.Amount.{zero_amount};
 ghost use Rattle.ordered_group.specs.Sums.{amount_at};
 ghost use Rattle.closure_net.specs.Network.{IsAscending, holds_of};
@@ -13,10 +13,10 @@ ghost use Rattle.check_pit.specs.TakenLines.{TakesLine, LacksLine};
 ghost use Rattle.check_pit.specs.StreamChecks as spec;
 ghost use Rattle.check_pit.specs.StreamChecks.{ClosesPit, IsOpenPit, SumsSettle, SumsFail, EndFails, ReadsOn, BodyFails, BodyProves};
 
+use crate::body_lines::{BodyLine, LineKind};
 use crate::body_reader::is_end;
 use crate::cert_fault::CertFault;
 use crate::gathering::counts;
-use crate::lines_of_body::{BodyLine, LineKind};
 use crate::pit_fault::PitFault;
 use crate::room::Room;
 use crate::stream_body::next_line;
@@ -139,6 +139,7 @@ pub fn check_lines<R: CountedRead, G: OrderedGroup>(
     ensures greatest { IfOk result (λ _. IsGreatest net.now (holds_of room.new.blocks)) }
     ensures device { IsErrOf result StreamFault.Device → R.failed lines.new.from ≡ R.failed lines.old.from + 1 }
     ensures kept { ¬ IsErrOf result StreamFault.Device → R.failed lines.new.from ≡ R.failed lines.old.from }
+    ensures memory { room.old.is_pit ≡ false → length net.now.worths ≤ room.old.space → ¬ IsErrOf result (StreamFault.Cert CertFault.NoMemory) }
 {
     let Ok(()) = room.begin(net) else {
         return Err(StreamFault::Cert(CertFault::NoMemory));

@@ -11,9 +11,9 @@ ghost use Rattle.check_pit.specs.Written.{spaced, line_words, lines_text, header
 ghost use Rattle.check_pit.specs.Certificate.{Covers};
 ghost use Rattle.check_pit.specs.ReadBack.{Writable, AreWritable, IsPrice, IsReadBack};
 
+use crate::body_lines::{BodyLine, LineKind};
 use crate::certificate::Certificate;
 use crate::header::{Header, Price};
-use crate::lines_of_body::{BodyLine, LineKind};
 use closure_net::{Carried, Flow, Pit};
 use fixed_worth::{CountedWrite, MOST_BLOCKS, Page, ShortLine, WriteFault};
 use ordered_group::{Group, OrderedGroup, is_zero};

@@ -1,5 +1,7 @@
-use Rattle.std.proofs.Common.{rules, [], ◌∷◌, ◌++◌, refl, sym, ◌∙◌}
+use Rattle.std.proofs.Common.{rules, length, [], ◌∷◌, ◌++◌, refl, sym, ◌∙◌}
 use Rattle.std.proofs.lemmas.Result.{err_from_is_err_and}
+use Rattle.check_pit.specs.Certificate.{has_pair}
+use Rattle.check_pit.proofs.NextLines.{lacks_no_memory}
 use Rattle.check_pit.proofs.StreamReadings.{reads_nothing, reading_begins, reading_on, reading_lacks, line_met}
 use Rattle.check_pit.proofs.StreamRooms.{summed_begins, summed_on, blocks_ascend, met_sound, may_put, line_refused, pit_open, end_answered}
 use Rattle.check_pit.proofs.stream_checking.check_lines.Goals as goal
@@ -19,6 +21,13 @@ returns-in_err-line-clause-checked g c =
     let q = c.loop-line.invariant.so_far in
     let p = err_from_is_err_and c.from_residual.result c.from_residual.ensures.1 in
     rw (p.1, p.2) (reading_lacks g.R.Read.remaining g.G.OrderedGroup.counts c.args.net.now c.args.lines.now c.loop-line.lines c.line_for.new.lines c.loop-line.previous q.0 q.1 c.in_err-line.field-0.0 q.2 c.in_err-line.ensures.line)
+
+pub returns-in_err-line-clause-memory : goal.returns-in_err-line-clause-memory
+returns-in_err-line-clause-memory g c = λ fresh space.
+    let lines = c.line_for.new.lines in
+    let net = c.args.net.now in
+    let p = err_from_is_err_and c.from_residual.result c.from_residual.ensures.1 in
+    rw (p.1, p.2) (lacks_no_memory (g.R.Read.remaining lines.from) g.G.OrderedGroup.counts (length net.worths) (has_pair net.pairs) c.loop-line.previous lines c.in_err-line.field-0.0 c.in_err-line.ensures.line.1)
 
 pub close_pit-requires-clause-ascending : goal.close_pit-requires-clause-ascending
 close_pit-requires-clause-ascending g c κs within =

@@ -13,4 +13,6 @@ loop-b-preserved g c =
       size = cleared_size items c.loop-b.b c.zero.result _ c.loop-b.invariant.size;
       marks = c.loop-b.invariant.marks ∙ sym (length-set items c.loop-b.b c.zero.result);
       zero = cleared_more parts items c.loop-b.b c.zero.result (omega (arith, c.loop-b.invariant.size, is)) c.zero.ensures c.loop-b.invariant.zero;
+      space = c.loop-b.invariant.space;
+      pit = c.loop-b.invariant.pit;
     }
