@@ -3,7 +3,8 @@ of the crates has each crate, on a floor that is no lower than those of the crat
 import re
 
 PAGES = ("*.md", "docs/*.md", "crates/*.md", "bench/**/*.md", "examples/**/*.md", "python/*.md", "python/*/*.md", "tests/cases/*.md")
-CITING = ("docs/PROOFS.md", "docs/CALLS.md", "docs/DEFINITIONS.md", "docs/PROOF_GUIDE.md", "crates/README.md")
+CITING = ("docs/PROOFS.md", "docs/CALLS.md", "docs/DEFINITIONS.md", "docs/PROOF_GUIDE.md", "docs/ARCHITECTURE.md", "docs/ASSURANCE.md",
+          "crates/README.md")
 LINK = re.compile(r"\]\(([^()\s]+)\)")
 QUOTED = re.compile(r"`([^`\n]+)`")
 NAME = re.compile(r"[A-Za-z_][\w-]*(?:::[A-Za-z_][\w-]*)*")
@@ -60,7 +61,8 @@ def is_known(top, quoted, texts, words):
 def unknown_names(top):
     """What the citing pages name and the code hasn't, and what isn't defined in the file that they name for it."""
     texts, wrong = sources(top), []
-    words = set(re.findall(r"[\w-]+", "\n".join([*texts.values(), (top / "crates.txt").read_text()])))
+    others = [top / "crates.txt", *top.glob("python/**/*.py")]
+    words = set(re.findall(r"[\w-]+", "\n".join([*texts.values(), *(file.read_text() for file in others)])))
     for page in (top / name for name in CITING if (top / name).exists()):
         text = without_code(page.read_text())
         wrong += ["%s: there is no %s" % (page.name, quoted) for quoted in QUOTED.findall(text) if not is_known(top, quoted, texts, words)]
