@@ -39,7 +39,8 @@ fn main(rt: HostRuntime) -> std::process::ExitCode {
 def repository(top, room):
     """A repository with this one's scripts, a library `small` and a program `pit`."""
     tree = Path(room) / "repository"
-    for file in ("build", "run-example", "tests/run", *("tests/" + module.name for module in (top / "tests").glob("*.py"))):
+    scripts = [file.relative_to(top) for folder in ("tests", "tools") for file in (top / folder).glob("*.py")]
+    for file in ("build", "run-example", "tests/run", *scripts):
         (tree / file).parent.mkdir(parents=True, exist_ok=True)
         shutil.copy(top / file, tree / file)
     (tree / "crates.txt").write_text("small:\npit: small\n")
