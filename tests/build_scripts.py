@@ -1,4 +1,4 @@
-"""Tests of ./build, ./install, and ./run-example, in a tree of four small crates and with a stand-in for the kit."""
+"""Tests of ./build, ./install, ./run-example and ./release, in a tree of four small crates and with a stand-in for the kit."""
 import os
 import re
 import shutil
@@ -200,7 +200,7 @@ def no_answer_without_proof_is_told(tree):
 
 
 def an_unknown_word_is_refused(tree):
-    answers = [tree.ran("run-example", "--fast"), tree.ran("build", "--all"), tree.ran("build", "--all")]
+    answers = [tree.ran("run-example", "--fast"), tree.ran("build", "--all"), tree.ran("release", "--all")]
     return all(status and "./" in said for status, said in answers) and not tree.log(), repr(answers)
 
 
@@ -210,12 +210,78 @@ def install_copies_the_program(tree):
     return status == 0 and done.stdout == "ACCEPTED 90 71040\n", said
 
 
+def released(tree):
+    tree.commit()
+    status, said = tree.ran("release")
+    files = {file.name: file.read_bytes() for file in (tree.top / "dist").glob("*")}
+    return status, said, files
+
+
+def two_folders_make_the_same_release(tree):
+    with tempfile.TemporaryDirectory() as room:
+        other = Tree(Path(__file__).resolve().parent.parent, Path(room) / "elsewhere")
+        first = released(tree)
+        other.commit()
+        os.utime(other.top / "README.md", (1, 1))
+        (other.top / "LICENSE").chmod(0o600)
+        second = other.ran("release"), {file.name: file.read_bytes() for file in (other.top / "dist").glob("*")}
+    names = ["BUILT.txt", "SHA256SUMS", "pit-0.1.0-x86_64-linux.tar.gz", "pit_0.1.0_amd64.deb"]
+    sums = subprocess.run(["sha256sum", "-c", "SHA256SUMS"], cwd=tree.top / "dist", stdout=subprocess.PIPE, text=True)
+    well = first[0] == 0 and sorted(first[2]) == names and first[2] == second[1] and sums.returncode == 0
+    return well, first[1] + second[0][1] + sums.stdout
+
+
+def a_release_holds_what_it_should(tree):
+    _, said, files = released(tree)
+    (tree.room / "a.tar.gz").write_bytes(files["pit-0.1.0-x86_64-linux.tar.gz"])
+    (tree.room / "a.deb").write_bytes(files["pit_0.1.0_amd64.deb"])
+    for words in (["tar", "-xzf", "a.tar.gz"], ["dpkg-deb", "-x", "a.deb", "installed"], ["dpkg-deb", "-e", "a.deb", "control"]):
+        subprocess.run(words, cwd=tree.room, check=True)
+    listed = subprocess.run(["tar", "-tvzf", "a.tar.gz"], cwd=tree.room, stdout=subprocess.PIPE, text=True, check=True).stdout
+    answers = [subprocess.run([str(tree.room / at)], stdout=subprocess.PIPE, text=True).stdout
+               for at in ("pit-0.1.0-x86_64-linux/pit", "installed/usr/bin/pit")]
+    needs = re.search(r"^Depends: (.*)$", (tree.room / "control/control").read_text(), re.M)[1]
+    wanted = ["pit-0.1.0-x86_64-linux/" + it for it in ("LICENSE", "README.md", "pit.1", "examples/copper/copper.prec")]
+    wanted += ["installed/usr/share/man/man1/pit.1.gz", "installed/usr/share/doc/pit/examples/copper/copper.cert"]
+    commit = subprocess.run(["git", "rev-parse", "HEAD"], cwd=tree.top, stdout=subprocess.PIPE, text=True).stdout.strip()
+    about = files["BUILT.txt"].decode()
+    told = all(it in about for it in (commit, "stand-in", "0123456789abcdef", "C library 2.34"))
+    well = answers == ["ACCEPTED 90 71040\n"] * 2 and needs == "libc6 (>= 2.34)" and all((tree.room / it).exists() for it in wanted)
+    return well and told and "root/root" in listed, said + listed + about
+
+
+def a_release_is_compared_with_another_build(tree):
+    released(tree)
+    tree.log()
+    status, said = tree.ran("release", "--check")
+    well = status == 0 and said.count("same   ") == 4 and "proved anew: pit; 3 libraries taken" in said and not tree.has("out/again")
+    anew, more = tree.ran("release", "--check", "--anew")
+    return well and anew == 0 and "proved anew: " in more and "0 libraries taken" in more, said + more
+
+
+def another_program_fails_the_comparison(tree):
+    released(tree)
+    archive = next((tree.top / "dist").glob("*.tar.gz"))
+    subprocess.run("mkdir x && tar -xzf %s -C x && (echo '# more' | tee -a x/*/pit >/dev/null) && tar -czf %s -C x ." % (archive, archive),
+                   shell=True, cwd=tree.room, check=True)
+    status, said = tree.ran("release", "--check")
+    return status == 1 and "DIFFERS  pit-0.1.0-x86_64-linux.tar.gz" in said and "same     SHA256SUMS" in said, said
+
+
+def what_is_not_committed_is_not_released(tree):
+    tree.commit()
+    tree.write("README.md", "another text\n")
+    status, said = tree.ran("release")
+    return status == 1 and "README.md" in said and not tree.has("dist") and not tree.log(), said
+
+
 CASES = [
     the_program_stays_where_the_gate_leaves_it, a_change_is_proved, the_room_is_in_the_tree, ctrl_c_ends_with_one_line,
     sigterm_leaves_nothing_behind, a_closed_terminal_leaves_nothing_behind, a_killed_build_is_cleared_away_by_the_next,
     a_second_build_waits_and_says_so, the_gate_waits_for_a_build, what_is_proved_is_kept_where_one_fails, a_crate_of_few_functions_gets_one_process,
     limits_of_a_container_count, an_answer_comes_before_any_proof, quick_stops_after_the_first_answer, no_answer_without_proof_is_told,
-    an_unknown_word_is_refused, install_copies_the_program,
+    an_unknown_word_is_refused, install_copies_the_program, two_folders_make_the_same_release, a_release_holds_what_it_should,
+    a_release_is_compared_with_another_build, another_program_fails_the_comparison, what_is_not_committed_is_not_released,
 ]
 
 
