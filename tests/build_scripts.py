@@ -118,7 +118,13 @@ def a_second_build_waits_and_says_so(tree):
     return (status, first.returncode) == (0, 0) and once and said.startswith("another build, or the gate, is at work in this tree"), said
 
 
-GATE = "import importlib.machinery as m, sys; sys.path.insert(0, 'tests'); print(m.SourceFileLoader('run', 'tests/run').load_module().gate())"
+ASKED = "import importlib.machinery as m, sys; sys.path.insert(0, 'tests'); run = m.SourceFileLoader('run', 'tests/run').load_module(); print(run.%s)"
+
+
+def asked(tree, call):
+    """What a call of a function of tests/run prints, and then its answer."""
+    return subprocess.run([sys.executable, "-B", "-W", "ignore", "-c", ASKED % call], cwd=tree.top, env=tree.around, stdout=subprocess.PIPE,
+                          stderr=subprocess.STDOUT, text=True).stdout
 
 
 def the_gate_waits_for_a_build(tree):
@@ -126,11 +132,30 @@ def the_gate_waits_for_a_build(tree):
     tree.write("out/again/crates.txt", "of a check that was killed\n")
     build = tree.starts("build")
     until(lambda: tree.has("out/room"))
-    gate = subprocess.run([sys.executable, "-B", "-W", "ignore", "-c", GATE], cwd=tree.top, env=tree.around, stdout=subprocess.PIPE, text=True)
+    gate = asked(tree, "gate()")
     build.communicate(timeout=30)
     last = tree.log()[-1][0]
-    well = gate.stdout.startswith("another build") and gate.stdout.endswith("(1, 0)\n") and last == "ci" and not tree.has("out/again")
-    return well and build.returncode == 0, gate.stdout
+    well = gate.startswith("another build") and gate.endswith("(1, 0)\n") and last == "ci" and not tree.has("out/again")
+    return well and build.returncode == 0, gate
+
+
+EDIT = "# function: one\nfile: src/lib.rt\nold: fn one() {}\nnew: fn one() {} // %s\n"
+
+
+def the_gate_tries_edits_over_its_own_libraries(tree):
+    tree.commit()
+    tree.ran("build")
+    tree.write("crates/high/edits/wrong.edit", EDIT % "REFUSED")
+    tree.log()
+    first = asked(tree, "gate()")
+    lines = tree.log()
+    tree.write("crates/high/edits/accepted.edit", EDIT % "nothing")
+    tree.write("crates/high/edits/elsewhere.edit", EDIT % "OTHER")
+    second = asked(tree, "gate()")
+    told = "high/accepted: ACCEPTED" in second and "high/elsewhere: refused by the whole crate, and not by one" in second
+    well = first.endswith("(2, 0)\n") and lines[-1] == ["try", "one", "['by-the-gate']"] and second.endswith("(3, 1)\n") and told
+    is_back = tree.has("crates/high/out/rlib/stamp") and not tree.has(".git/pit-libraries") and tree.ran("build", "--is-built")[0] == 0
+    return well and is_back, first + second
 
 
 def what_is_proved_is_kept_where_one_fails(tree):
@@ -275,13 +300,32 @@ def what_is_not_committed_is_not_released(tree):
     return status == 1 and "README.md" in said and not tree.has("dist") and not tree.log(), said
 
 
+def the_manual_page_follows_the_help_texts(tree):
+    help_text = "Digs.\\n\\nUsage: pit <COMMAND>\\n\\nCommands:\\n  dig   Digs\\n  help  Print\\n\\nOptions:\\n  -h, --help  Print help\\n\\nExit status:\\n  0  done\\n"
+    of_dig = "Digs a .pit\\n\\nUsage: pit dig [OPTIONS]\\n\\nOptions:\\n      --deep <N>\\n          How deep: 3 by default\\n"
+    program = "#!/bin/sh\ncase \"$*\" in\n--version) echo pit 7.8.9;;\n--help) printf '%s';;\n'dig --help') printf '%s';;\nesac\n"
+    tree.write("out/pit", program % (help_text, of_dig), 0o755)
+    status, said = tree.ran("tools/man_page.py")
+    page = (tree.top / "docs/pit.1").read_text()
+    parts = ['.TH PIT 1 "" "pit 7.8.9"', ".SH NAME\npit \\- digs.", ".B pit dig [OPTIONS]", ".SS pit dig\nDigs a .pit\n",
+             ".TP\n.B \\-\\-deep <N>\nHow deep: 3 by default\n", ".SH EXIT STATUS\n.TP\n.B 0\ndone\n"]
+    compared = [asked(tree, "manual(run.tree.PROGRAM)")]
+    tree.write("out/pit", program % (help_text, of_dig.replace("3 by", "4 by")), 0o755)
+    compared.append(asked(tree, "manual(run.tree.PROGRAM)"))
+    told = "docs/pit.1 isn't what the help texts of the program say" in compared[1] and "tools/man_page.py writes it anew" in compared[1]
+    well = status == 0 and all(part in page for part in parts) and compared[0] == "(1, 0)\n" and compared[1].endswith("(0, 1)\n") and told
+    return well, said + page + repr(compared)
+
+
 CASES = [
     the_program_stays_where_the_gate_leaves_it, a_change_is_proved, the_room_is_in_the_tree, ctrl_c_ends_with_one_line,
     sigterm_leaves_nothing_behind, a_closed_terminal_leaves_nothing_behind, a_killed_build_is_cleared_away_by_the_next,
-    a_second_build_waits_and_says_so, the_gate_waits_for_a_build, what_is_proved_is_kept_where_one_fails, a_crate_of_few_functions_gets_one_process,
+    a_second_build_waits_and_says_so, the_gate_waits_for_a_build,
+    the_gate_tries_edits_over_its_own_libraries, what_is_proved_is_kept_where_one_fails, a_crate_of_few_functions_gets_one_process,
     limits_of_a_container_count, an_answer_comes_before_any_proof, quick_stops_after_the_first_answer, no_answer_without_proof_is_told,
     an_unknown_word_is_refused, install_copies_the_program, two_folders_make_the_same_release, a_release_holds_what_it_should,
     a_release_is_compared_with_another_build, another_program_fails_the_comparison, what_is_not_committed_is_not_released,
+    the_manual_page_follows_the_help_texts,
 ]
 
 

@@ -26,6 +26,7 @@ pub fn some_number() -> u64 {
 REFUSED = "file: src/lib.rt\nold:     n + 1\nnew:     n\n"
 ACCEPTED = "file: src/lib.rt\nold:     7\nnew:     8\n"
 STALE = "file: src/lib.rt\nold:     9\nnew:     8\n"
+NEXT, SOME = "# function: next\n", "# function: some_number\n"
 MAIN = """//! A program for the tests of the scripts.
 #![tactic(auto)]
 
@@ -76,6 +77,17 @@ def an_accepted_edit_fails(tree):
     return status == 1 and is_told and said.endswith("1 passed, 2 failed\n"), said
 
 
+def edits_are_tried_by_their_function(tree):
+    for name, text in {"of_next": NEXT + REFUSED, "of_another": SOME + REFUSED, "harmless": SOME + ACCEPTED, "unnamed": REFUSED,
+                       "stale": NEXT + STALE, "unreadable": NEXT + REFUSED.replace("new:     n", "new:     nobody")}.items():
+        write(tree, "small/edits/%s.edit" % name, text)
+    status, said = ran(tree, "tests/run", "--edits", "small")
+    wanted = ["of_next: refused: ", "of_another: refused by the whole crate, and not by some_number", "harmless: ACCEPTED",
+              "unnamed: cannot be tried", "stale: cannot be tried", "unreadable: cannot be tried"]
+    shutil.rmtree(tree / "crates/small/edits")
+    return status == 1 and all("small/" + it in said for it in wanted) and said.endswith("2 passed, 4 failed\n"), said
+
+
 def a_build_says_what_it_proved(tree):
     status, said = ran(tree, "build")
     again, nothing = ran(tree, "build")
@@ -101,7 +113,7 @@ def version_is_up_to_date(top):
 
 
 # the build comes first: the copies in which edits are tried begin with what it made
-CASES = [a_build_says_what_it_proved, refused_edits_pass, an_accepted_edit_fails, a_failed_proof_fails_the_example]
+CASES = [a_build_says_what_it_proved, edits_are_tried_by_their_function, refused_edits_pass, an_accepted_edit_fails, a_failed_proof_fails_the_example]
 
 
 def test(top):

@@ -38,9 +38,8 @@ def documents():
 
 def toolchain(tool, *words):
     """Runs a tool of the kit's LLVM, which is one program under several names, and gives its standard output."""
-    kit = Path(subprocess.run(["rt", "doc"], stdout=subprocess.PIPE, check=True, text=True).stdout.strip()).parent
-    done = subprocess.run([tool, *words], executable=kit / "toolchain" / "bin" / "clang", stdout=subprocess.PIPE, check=True, text=True)
-    return done.stdout
+    clang = tree.kit_folder() / "toolchain" / "bin" / "clang"
+    return subprocess.run([tool, *words], executable=clang, stdout=subprocess.PIPE, check=True, text=True).stdout
 
 
 def stripped(program, room):

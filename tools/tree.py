@@ -74,6 +74,11 @@ def kit():
         sys.exit(2)
 
 
+def kit_folder():
+    """The folder in which the kit lies."""
+    return Path(subprocess.run(["rt", "doc"], stdout=subprocess.PIPE, check=True, text=True).stdout.strip()).parent
+
+
 def digest(crates):
     """A sum of all that the program is made from, the kit's identity among it."""
     total = hashlib.sha256(kit().encode() + b"\n")
