@@ -4,6 +4,7 @@ An archive's bytes depend on its files' names, modes and bytes and on the time o
 machine: members are sorted, belong to root, and have the commit's time.
 """
 import gzip
+import hashlib
 import io
 import os
 import re
@@ -109,7 +110,9 @@ def control(package, version, depends, files):
 def debian(files, about_package, time, room):
     """A Debian package of the files, with this control file."""
     folder = Path(room) / "package"
-    for path, file in {"DEBIAN/control": File(about_package, 0o644), **files}.items():
+    sums = "".join("%s  %s\n" % (hashlib.md5(files[path].data).hexdigest(), path) for path in sorted(files))
+    of_package = {"DEBIAN/control": File(about_package, 0o644), "DEBIAN/md5sums": File(sums.encode(), 0o644)}
+    for path, file in {**of_package, **files}.items():
         to = folder / path
         to.parent.mkdir(parents=True, exist_ok=True)
         to.write_bytes(file.data)
