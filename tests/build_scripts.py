@@ -224,6 +224,25 @@ def no_answer_without_proof_is_told(tree):
     return quick == 1 and told in said and "ACCEPTED" not in said + more and status == 1 and "pit NOT PROVED" in more, said + more
 
 
+def the_page_of_the_example_is_made(tree):
+    tree.ran("build")
+    tree.write("examples/copper/study.toml", "")
+    log = tree.room / "planned"
+    tree.write("bin/pitplan", "#!/bin/sh\necho \"$* $PIT\" >> %s\n" % log, 0o755)
+    made = tree.ran("run-example")
+    steps = log.read_text().splitlines()
+    quick = tree.ran("run-example", "--quick")
+    tree.write("bin/pitplan", "#!/bin/sh\necho pitplan needs the Python package pandas: apt-get >&2\nexit 1\n", 0o755)
+    lacking = tree.ran("run-example")
+    tree.write("bin/pitplan", "#!/bin/sh\nexit 3\n", 0o755)
+    failed = tree.ran("run-example")
+    answer = "ACCEPTED 90 71040\n"
+    well = steps == ["%s examples/copper %s/out/pit" % (step, tree.top) for step in ("build", "shells", "page")] and quick == (0, answer)
+    well = well and made == (0, answer + "The page of the example: examples/copper/out/page.html\n")
+    well = well and lacking == (0, answer + "No page of the example: pitplan needs the Python package pandas: apt-get\n")
+    return well and failed == (1, answer + "No page of the example; what pitplan said is in out/pitplan.log\n"), repr([made, lacking, failed])
+
+
 def an_unknown_word_is_refused(tree):
     answers = [tree.ran("run-example", "--fast"), tree.ran("build", "--all"), tree.ran("release", "--all")]
     return all(status and "./" in said for status, said in answers) and not tree.log(), repr(answers)
@@ -323,6 +342,7 @@ CASES = [
     a_second_build_waits_and_says_so, the_gate_waits_for_a_build,
     the_gate_tries_edits_over_its_own_libraries, what_is_proved_is_kept_where_one_fails, a_crate_of_few_functions_gets_one_process,
     limits_of_a_container_count, an_answer_comes_before_any_proof, quick_stops_after_the_first_answer, no_answer_without_proof_is_told,
+    the_page_of_the_example_is_made,
     an_unknown_word_is_refused, install_copies_the_program, two_folders_make_the_same_release, a_release_holds_what_it_should,
     a_release_is_compared_with_another_build, another_program_fails_the_comparison, what_is_not_committed_is_not_released,
     the_manual_page_follows_the_help_texts,
