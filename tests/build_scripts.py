@@ -7,6 +7,7 @@ import subprocess
 import sys
 import tempfile
 import time
+import traceback
 from pathlib import Path
 
 from stand_in import MAIN, Tree
@@ -354,7 +355,10 @@ def test(top):
     passed = failed = 0
     for case in CASES:
         with tempfile.TemporaryDirectory(prefix="pit-scripts-") as room:
-            well, said = case(Tree(top, room))
+            try:
+                well, said = case(Tree(top, room))
+            except Exception:  # a case that can't be played to its end has failed, and the others are still played
+                well, said = False, traceback.format_exc()
         if not well:
             print("%s: failed:\n%s" % (case.__name__, said))
         passed, failed = passed + bool(well), failed + (not well)
