@@ -26,7 +26,8 @@ TRY_MEMORY = 2_000_000_000
 PARTS = ("src", "specs", "proofs")
 # What the prover says where a proof file names what the edit took away: that shows nothing of a contract.
 OF_NAMES = re.compile(r"(note: )?(\./)?proofs/.*(has no field|is not in scope|has no `|was not admitted)")
-TOLD = re.compile(r"(note: )?(\./)?(\S+?):\d+:\d+: ")
+TOLD = re.compile(r"(note: )?\S+:\d+:\d+: ")
+OF_TEXT = re.compile(r"(?:\./)?(\S+?):\d+:\d+: error: (?:(`[^`]*`): )?(.*)")
 UNREADABLE = re.compile(r"is not in scope|has no field|is no name|operand is missing|expected the end|cannot continue")
 
 
@@ -111,11 +112,19 @@ def checked(edit, texts, functions):
     return ran.returncode, ran.stdout.rstrip("\n").split("\n")
 
 
+def is_unread(line, texts):
+    """Whether this line says that a text of the sources or of the edit can't be read, where another mistake only leaves a goal open."""
+    said = OF_TEXT.match(line)
+    if not said or said[1] not in texts and not said[1].startswith(("src/", "specs/")):
+        return False
+    return not said[2] or bool(UNREADABLE.search(re.sub(r"`[^`]*`", "", said[3])))
+
+
 def goal_refused(texts, lines):
     """The line with which the prover refuses a goal; BadEdit where it refuses the edit's text, or a name alone."""
     told = [line for line in lines if TOLD.match(line) and (": error" in line or line.startswith("note: "))]
     for line in told:
-        if TOLD.match(line)[3] in texts and UNREADABLE.search(re.sub(r"`[^`]*`", "", line)):
+        if is_unread(line, texts):
             raise BadEdit("the prover can't read the edited text: %s" % line[:200])
     goals = [line for line in told if not OF_NAMES.match(line)]
     if not goals:
