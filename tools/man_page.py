@@ -98,7 +98,7 @@ def command_section(name, text):
 def of_program(program):
     """The manual page by the help texts of a program."""
     def said(*words):
-        return subprocess.run([str(program), *words], stdin=subprocess.DEVNULL, stdout=subprocess.PIPE, check=True, text=True).stdout
+        return subprocess.run(["pit", *words], executable=program, stdin=subprocess.DEVNULL, stdout=subprocess.PIPE, check=True, text=True).stdout
 
     main = Help(said("--help"))
     names = [name for name, _ in rows(main.blocks["Commands"]) if name != "help"]
