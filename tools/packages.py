@@ -28,8 +28,13 @@ def read(name):
     return (tree.TOP / name).read_bytes()
 
 
+def file(name):
+    """A file of the tree. Of its mode only counts whether it can be run, which is all that git keeps."""
+    return File(read(name), 0o755 if os.access(tree.TOP / name, os.X_OK) else 0o644)
+
+
 def names_in(folder, pattern="*"):
-    return sorted("%s/%s" % (folder, file.name) for file in (tree.TOP / folder).glob(pattern) if file.is_file())
+    return sorted("%s/%s" % (folder, at.name) for at in (tree.TOP / folder).glob(pattern) if at.is_file())
 
 
 def documents():
@@ -71,18 +76,18 @@ def tarred(files, time):
             member = tarfile.TarInfo(path)
             member.uname = member.gname = "root"
             member.mtime = time
-            file = files.get(path)
-            member.type, member.mode = (tarfile.REGTYPE, file.mode) if file else (tarfile.DIRTYPE, 0o755)
-            member.size = len(file.data) if file else 0
-            archive.addfile(member, io.BytesIO(file.data) if file else None)
+            its = files.get(path)
+            member.type, member.mode = (tarfile.REGTYPE, its.mode) if its else (tarfile.DIRTYPE, 0o755)
+            member.size = len(its.data) if its else 0
+            archive.addfile(member, io.BytesIO(its.data) if its else None)
     return text.getvalue()
 
 
 def tarball(name, program, about, time):
     """The archive to unpack anywhere: the program, its manual page, the documents and the example, below a folder of this name."""
-    files = {"pit": File(program, 0o755), "pit.1": File(read("docs/pit.1"), 0o644), "BUILT.txt": File(about, 0o644)}
-    files.update({path: File(read(path), 0o644) for path in documents()})
-    return zipped(tarred({"%s/%s" % (name, path): file for path, file in files.items()}, time))
+    files = {"pit": File(program, 0o755), "pit.1": file("docs/pit.1"), "BUILT.txt": File(about, 0o644)}
+    files.update({path: file(path) for path in documents()})
+    return zipped(tarred({"%s/%s" % (name, path): its for path, its in files.items()}, time))
 
 
 def debian_files(program, about):
@@ -92,16 +97,16 @@ def debian_files(program, about):
         "usr/bin/pit": File(program, 0o755),
         "usr/share/man/man1/pit.1.gz": File(zipped(read("docs/pit.1")), 0o644),
         own + "BUILT.txt": File(about, 0o644),
-        own + "copyright": File(read("LICENSE"), 0o644),
+        own + "copyright": file("LICENSE"),
         own + "changelog.gz": File(zipped(read("CHANGELOG.md")), 0o644),
     }
-    files.update({own + path: File(read(path), 0o644) for path in documents() if path not in ("LICENSE", "CHANGELOG.md")})
+    files.update({own + path: file(path) for path in documents() if path not in ("LICENSE", "CHANGELOG.md")})
     return files
 
 
 def control(package, version, depends, files):
     """The text of a Debian package's control file."""
-    size = sum(-(-len(file.data) // 1024) for file in files.values())
+    size = sum(-(-len(its.data) // 1024) for its in files.values())
     return ("Package: %s\nVersion: %s\nArchitecture: amd64\nMaintainer: Pontihaw maintainers <maintainers@users.noreply.pontihaw.example>\n"
             "Installed-Size: %d\nDepends: %s\nSection: science\nPriority: optional\nDescription: %s"
             % (package, version, size, depends, DESCRIPTION)).encode()
@@ -112,11 +117,11 @@ def debian(files, about_package, time, room):
     folder = Path(room) / "package"
     sums = "".join("%s  %s\n" % (hashlib.md5(files[path].data).hexdigest(), path) for path in sorted(files))
     of_package = {"DEBIAN/control": File(about_package, 0o644), "DEBIAN/md5sums": File(sums.encode(), 0o644)}
-    for path, file in {**of_package, **files}.items():
+    for path, its in {**of_package, **files}.items():
         to = folder / path
         to.parent.mkdir(parents=True, exist_ok=True)
-        to.write_bytes(file.data)
-        to.chmod(file.mode)
+        to.write_bytes(its.data)
+        to.chmod(its.mode)
     for at in [folder, *folder.rglob("*")]:
         if at.is_dir():
             at.chmod(0o755)
