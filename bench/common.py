@@ -11,7 +11,7 @@ from collections import namedtuple
 from pathlib import Path
 
 HERE = Path(__file__).resolve().parent
-PIT = HERE.parent / "crates" / "pit" / "out" / "pit"
+PIT = HERE.parent / "out" / "pit"
 PEERS = HERE / "peers" / "out"
 MODELS = HERE / "out"
 

@@ -27,6 +27,8 @@ def copy_of(top, room):
         shutil.rmtree(crate / "must-fail", ignore_errors=True)
         if (crate / "planted").is_dir():
             (crate / "planted").rename(crate / "must-fail")
+    # so that the build looks at each library: the gate leaves the program, and not what the libraries were built to
+    (tree / "out" / "built-from").unlink(missing_ok=True)
     return tree
 
 

@@ -29,6 +29,7 @@ pub fn some_number() -> u64 {
 REFUSED = "file: src/lib.rt\nold:     n + 1\nnew:     n\n"
 ACCEPTED = "file: src/lib.rt\nold:     7\nnew:     8\n"
 STALE = "file: src/lib.rt\nold:     9\nnew:     8\n"
+NEXT, SOME = "# function: next\n", "# function: some_number\n"
 MAIN = """//! A program for the tests of the scripts.
 #![tactic(auto)]
 
@@ -42,7 +43,8 @@ fn main(rt: HostRuntime) -> std::process::ExitCode {
 def repository(top, room):
     """A repository with this one's scripts, a library `small` and a program `pit`."""
     tree = Path(room) / "repository"
-    for file in ("build", "run-example", "tests/run", *("tests/" + module.name for module in (top / "tests").glob("*.py"))):
+    scripts = [file.relative_to(top) for folder in ("tests", "tools") for file in (top / folder).glob("*.py")]
+    for file in ("build", "run-example", "tests/run", *scripts):
         (tree / file).parent.mkdir(parents=True, exist_ok=True)
         shutil.copy(top / file, tree / file)
     (tree / "crates.txt").write_text("small:\npit: small\n")
@@ -76,6 +78,17 @@ def an_accepted_edit_fails(tree):
     status, said = ran(tree, "tests/run", "--planted")
     is_told = "small/harmless: ACCEPTED" in said and "small/stale: cannot be tried" in said
     return status == 1 and is_told and said.endswith("1 passed, 2 failed\n"), said
+
+
+def edits_are_tried_by_their_function(tree):
+    for name, text in {"of_next": NEXT + REFUSED, "of_another": SOME + REFUSED, "harmless": SOME + ACCEPTED, "unnamed": REFUSED,
+                       "stale": NEXT + STALE, "unreadable": NEXT + REFUSED.replace("new:     n", "new:     nobody")}.items():
+        write(tree, "small/edits/%s.edit" % name, text)
+    status, said = ran(tree, "tests/run", "--edits", "small")
+    wanted = ["of_next: refused: ", "of_another: refused by the whole crate, and not by some_number", "harmless: ACCEPTED",
+              "unnamed: cannot be tried", "stale: cannot be tried", "unreadable: cannot be tried"]
+    shutil.rmtree(tree / "crates/small/edits")
+    return status == 1 and all("small/" + it in said for it in wanted) and said.endswith("2 passed, 4 failed\n"), said
 
 
 def a_build_says_what_it_proved(tree):
@@ -123,7 +136,8 @@ def wrong_pages_are_told(tree):
 
 OF_THIS_TREE = [version_is_up_to_date, pages_are_right]
 # the build comes first: the copies in which edits are tried begin with what it made
-CASES = [a_build_says_what_it_proved, refused_edits_pass, an_accepted_edit_fails, a_failed_proof_fails_the_example, wrong_pages_are_told]
+CASES = [a_build_says_what_it_proved, edits_are_tried_by_their_function, refused_edits_pass, an_accepted_edit_fails,
+         a_failed_proof_fails_the_example, wrong_pages_are_told]
 
 
 def test(top):

@@ -1,0 +1,365 @@
+"""Tests of ./build, ./install, ./run-example and ./release, in a tree of four small crates and with a stand-in for the kit."""
+import os
+import re
+import shutil
+import signal
+import subprocess
+import sys
+import tempfile
+import time
+import traceback
+from pathlib import Path
+
+from stand_in import MAIN, Tree
+
+SLOW = "fn one() {}\n// SLEEP 30\n"
+
+
+def until(is_so, seconds=20):
+    """Waits until something is so, and says whether it came to be."""
+    end = time.monotonic() + seconds
+    while not is_so() and time.monotonic() < end:
+        time.sleep(0.05)
+    return is_so()
+
+
+def proved(tree):
+    """The crates that the stand-in worked on."""
+    return sorted(line[0] for line in tree.log())
+
+
+def is_left_alone(tree):
+    """Whether no room is left, and no process works in the tree."""
+    def working():
+        links = []
+        for entry in Path("/proc").glob("[0-9]*/cwd"):
+            try:
+                links.append(os.readlink(entry))
+            except OSError:
+                pass
+        return [it for it in links if it.startswith(str(tree.top))]
+    return until(lambda: not working(), 5) and not tree.has("out/room")
+
+
+def the_program_stays_where_the_gate_leaves_it(tree):
+    status, said = tree.ran("build")
+    first = proved(tree)
+    for crate in (tree.top / "crates").iterdir():
+        shutil.rmtree(crate / "out")
+    again, nothing = tree.ran("build")
+    answer = tree.ran("run-example")
+    well = status == 0 and first == ["beside", "high", "low", "pit"] and tree.has("out/pit") and "[ 4/4] pit" in said
+    return well and (again, nothing, tree.log()) == (0, "", []) and answer == (0, "ACCEPTED 90 71040\n"), said + nothing + answer[1]
+
+
+def a_change_is_proved(tree):
+    tree.ran("build")
+    tree.log()
+    tree.crate("high", "fn two() {}\n")
+    is_built = tree.ran("build", "--is-built")[0]
+    status, said = tree.ran("build")
+    return (is_built, status) == (1, 0) and tree.ran("build", "--is-built")[0] == 0, said
+
+
+def the_room_is_in_the_tree(tree):
+    status, said = tree.ran("build")
+    folders = [line[2] for line in tree.log()]
+    well = all(folder.startswith(str(tree.top / "out" / "room")) for folder in folders) and len(folders) == 4
+    return status == 0 and well and is_left_alone(tree), "%s%r" % (said, folders)
+
+
+def stopped_by(tree, number, whole_group=False):
+    """Stops a build while a crate is at work, and gives what it printed where all is as it should be, or None."""
+    tree.crate("high", SLOW)
+    build = tree.starts("build")
+    until(lambda: tree.has("out/room/high/crates/high/out/incremental/half"))
+    (os.killpg if whole_group else os.kill)(build.pid, number)
+    said, _ = build.communicate(timeout=30)
+    well = build.returncode == 128 + number and "Traceback" not in said and said.splitlines()[-1].startswith("stopped;")
+    kept = tree.has("crates/low/out/rlib/stamp") and tree.has("crates/high/out/incremental/half")
+    tree.log()
+    tree.crate("high", "fn one() {}\n")
+    is_free = is_left_alone(tree)
+    status, more = tree.ran("build")
+    goes_on = [line for line in tree.log() if line[0] == "high" and line[3] == "again"]
+    return well and kept and is_free and status == 0 and bool(goes_on), said + more
+
+
+def ctrl_c_ends_with_one_line(tree):
+    return stopped_by(tree, signal.SIGINT, whole_group=True)
+
+
+def sigterm_leaves_nothing_behind(tree):
+    return stopped_by(tree, signal.SIGTERM)
+
+
+def a_closed_terminal_leaves_nothing_behind(tree):
+    return stopped_by(tree, signal.SIGHUP)
+
+
+def a_killed_build_is_cleared_away_by_the_next(tree):
+    tree.crate("high", SLOW)
+    build = tree.starts("build")
+    until(lambda: tree.has("out/room/high/crates/high/out/incremental/half"))
+    build.kill()
+    build.communicate()
+    was_there = tree.has("out/room")
+    tree.crate("high", "fn one() {}\n")
+    status, said = tree.ran("build")
+    return was_there and status == 0 and is_left_alone(tree), said
+
+
+def a_second_build_waits_and_says_so(tree):
+    tree.crate("high", "fn one() {}\n// SLEEP 2\n")
+    first = tree.starts("build")
+    until(lambda: tree.has("out/room"))
+    status, said = tree.ran("build")
+    first.communicate(timeout=30)
+    once = proved(tree) == ["beside", "high", "low", "pit"]
+    return (status, first.returncode) == (0, 0) and once and said.startswith("another build, or the gate, is at work in this tree"), said
+
+
+ASKED = "import importlib.machinery as m, sys; sys.path.insert(0, 'tests'); run = m.SourceFileLoader('run', 'tests/run').load_module(); print(run.%s)"
+
+
+def asked(tree, call):
+    """What a call of a function of tests/run prints, and then its answer."""
+    return subprocess.run([sys.executable, "-B", "-W", "ignore", "-c", ASKED % call], cwd=tree.top, env=tree.around, stdout=subprocess.PIPE,
+                          stderr=subprocess.STDOUT, text=True).stdout
+
+
+def the_gate_waits_for_a_build(tree):
+    tree.crate("low", "fn one() {}\n// SLEEP 2\n")
+    tree.write("out/again/crates.txt", "of a check that was killed\n")
+    build = tree.starts("build")
+    until(lambda: tree.has("out/room"))
+    gate = asked(tree, "gate()")
+    build.communicate(timeout=30)
+    last = tree.log()[-1][0]
+    well = gate.startswith("another build") and gate.endswith("(1, 0)\n") and last == "ci" and not tree.has("out/again")
+    return well and build.returncode == 0, gate
+
+
+EDIT = "# function: one\nfile: src/lib.rt\nold: fn one() {}\nnew: fn one() {} // %s\n"
+
+
+def the_gate_tries_edits_over_its_own_libraries(tree):
+    tree.commit()
+    tree.ran("build")
+    tree.write("crates/high/edits/wrong.edit", EDIT % "REFUSED")
+    tree.log()
+    first = asked(tree, "gate()")
+    lines = tree.log()
+    tree.write("crates/high/edits/accepted.edit", EDIT % "nothing")
+    tree.write("crates/high/edits/elsewhere.edit", EDIT % "OTHER")
+    second = asked(tree, "gate()")
+    told = "high/accepted: ACCEPTED" in second and "high/elsewhere: refused by the whole crate, and not by one" in second
+    well = first.endswith("(2, 0)\n") and lines[-1] == ["try", "one", "['by-the-gate']"] and second.endswith("(3, 1)\n") and told
+    is_back = tree.has("crates/high/out/rlib/stamp") and not tree.has(".git/pit-libraries") and tree.ran("build", "--is-built")[0] == 0
+    return well and is_back, first + second
+
+
+def what_is_proved_is_kept_where_one_fails(tree):
+    tree.crate("low", "fn one() {}\n")
+    tree.crate("beside", SLOW)
+    tree.crate("high", "fn one() {}\n// FAIL\n")
+    status, said = tree.ran("build")
+    kept = tree.has("crates/low/out/rlib/stamp") and tree.has("crates/beside/out/incremental/half")
+    kept = kept and tree.has("crates/high/out/incremental/half") and not tree.has("out/pit")
+    return status == 1 and "high NOT PROVED" in said and "a goal is open" in said and kept and is_left_alone(tree), said
+
+
+def a_crate_of_few_functions_gets_one_process(tree):
+    tree.crate("high", "fn one() {}\n" * 60)
+    tree.ran("build")
+    jobs = {line[0]: int(line[1]) for line in tree.log()}
+    return (jobs["low"], jobs["high"], jobs["pit"]) == (1, min(4, len(os.sched_getaffinity(0))), 1), repr(jobs)
+
+
+def limits_of_a_container_count(tree):
+    groups = tree.room / "groups"
+    for name, text in {"cpu.max": "max 100000", "box/cpu.max": "200000 100000", "box/in/cpu.max": "max 100000",
+                       "box/memory.max": "8000000000", "box/memory.stat": "anon 1000000000\nshmem 500000000\nfile 9"}.items():
+        (groups / name).parent.mkdir(parents=True, exist_ok=True)
+        (groups / name).write_text(text + "\n")
+    (tree.room / "own").write_text("0::/box/in\n")
+    (tree.room / "meminfo").write_text("MemTotal: 99 kB\nMemAvailable:   20000000 kB\n")
+    (tree.room / "one").mkdir()
+    for name, text in {"cpu/cpu.cfs_quota_us": "150000", "cpu/cpu.cfs_period_us": "100000", "memory/memory.limit_in_bytes": "4000000000",
+                       "memory/memory.stat": "cache 7\ntotal_rss 1000000000"}.items():
+        (tree.room / "one" / name).parent.mkdir(parents=True, exist_ok=True)
+        (tree.room / "one" / name).write_text(text + "\n")
+    asked = ("import machine, sys; from pathlib import Path; r = Path(sys.argv[1]);"
+             "print(machine.processors(r / 'groups', r / 'own'), machine.free_memory(r / 'groups', r / 'own', r / 'meminfo'),"
+             " machine.processors(r / 'one', r / 'own'), machine.free_memory(r / 'one', r / 'own', r / 'meminfo'),"
+             " machine.free_memory(r / 'none', r / 'own', r / 'meminfo'))")
+    said = subprocess.run([sys.executable, "-c", asked, str(tree.room)], cwd=tree.top / "tools", stdout=subprocess.PIPE,
+                          stderr=subprocess.STDOUT, text=True).stdout
+    return said == "%d 6500000000 1 3000000000 20480000000\n" % min(2, len(os.sched_getaffinity(0))), said
+
+
+def an_answer_comes_before_any_proof(tree):
+    status, said = tree.ran("run-example")
+    log = [line[0] for line in tree.log()]
+    parts = ["before anything is proved", "ACCEPTED 90 71040", "run-time checks, and not proved", "Now every function is proved",
+             "[ 4/4] pit", "The same check by the proved program", "ACCEPTED 90 71040"]
+    at = [match.start() for match in re.finditer("|".join(map(re.escape, parts)), said)]
+    return status == 0 and len(at) == 7 and log[0] == "try" and len(log) == 5, said
+
+
+def quick_stops_after_the_first_answer(tree):
+    status, said = tree.ran("run-example", "--quick")
+    log = tree.log()
+    given = "--data copper.prec=../../examples/copper/copper.prec" in " ".join(log[0])
+    well = status == 0 and given and len(log) == 1 and said.splitlines()[1] == "ACCEPTED 90 71040" and not tree.has("out/pit")
+    tree.ran("build")
+    tree.log()
+    return well and tree.ran("run-example", "--quick") == (0, "ACCEPTED 90 71040\n") and not tree.log(), said
+
+
+def no_answer_without_proof_is_told(tree):
+    tree.crate("pit", MAIN + "// FAIL\n")
+    quick, said = tree.ran("run-example", "--quick")
+    status, more = tree.ran("run-example")
+    told = "The kit gave no answer without a proof; what it said is in out/try.log"
+    return quick == 1 and told in said and "ACCEPTED" not in said + more and status == 1 and "pit NOT PROVED" in more, said + more
+
+
+def the_page_of_the_example_is_made(tree):
+    tree.ran("build")
+    tree.write("examples/copper/study.toml", "")
+    log = tree.room / "planned"
+    tree.write("bin/pitplan", "#!/bin/sh\necho \"$* $PIT\" >> %s\n" % log, 0o755)
+    made = tree.ran("run-example")
+    steps = log.read_text().splitlines()
+    quick = tree.ran("run-example", "--quick")
+    tree.write("bin/pitplan", "#!/bin/sh\necho pitplan needs the Python package pandas: apt-get >&2\nexit 1\n", 0o755)
+    lacking = tree.ran("run-example")
+    tree.write("bin/pitplan", "#!/bin/sh\nexit 3\n", 0o755)
+    failed = tree.ran("run-example")
+    answer = "ACCEPTED 90 71040\n"
+    well = steps == ["%s examples/copper %s/out/pit" % (step, tree.top) for step in ("build", "shells", "page")] and quick == (0, answer)
+    well = well and made == (0, answer + "The page of the example: examples/copper/out/pits.html\n")
+    well = well and lacking == (0, answer + "No page of the example: pitplan needs the Python package pandas: apt-get\n")
+    return well and failed == (1, answer + "No page of the example; what pitplan said is in out/pitplan.log\n"), repr([made, lacking, failed])
+
+
+def an_unknown_word_is_refused(tree):
+    answers = [tree.ran("run-example", "--fast"), tree.ran("build", "--all"), tree.ran("release", "--all")]
+    return all(status and "./" in said for status, said in answers) and not tree.log(), repr(answers)
+
+
+def install_copies_the_program(tree):
+    status, said = tree.ran("install", str(tree.room / "bin"))
+    done = subprocess.run([str(tree.room / "bin" / "pit")], stdout=subprocess.PIPE, text=True)
+    return status == 0 and done.stdout == "ACCEPTED 90 71040\n", said
+
+
+def released(tree):
+    tree.commit()
+    status, said = tree.ran("release")
+    files = {file.name: file.read_bytes() for file in (tree.top / "dist").glob("*")}
+    return status, said, files
+
+
+def two_folders_make_the_same_release(tree):
+    with tempfile.TemporaryDirectory() as room:
+        other = Tree(Path(__file__).resolve().parent.parent, Path(room) / "elsewhere")
+        first = released(tree)
+        other.commit()
+        os.utime(other.top / "README.md", (1, 1))
+        (other.top / "LICENSE").chmod(0o600)
+        second = other.ran("release"), {file.name: file.read_bytes() for file in (other.top / "dist").glob("*")}
+    names = ["BUILT.txt", "SHA256SUMS", "pit-0.1.0-x86_64-linux.tar.gz", "pit_0.1.0_amd64.deb"]
+    sums = subprocess.run(["sha256sum", "-c", "SHA256SUMS"], cwd=tree.top / "dist", stdout=subprocess.PIPE, text=True)
+    well = first[0] == 0 and sorted(first[2]) == names and first[2] == second[1] and sums.returncode == 0
+    return well, first[1] + second[0][1] + sums.stdout
+
+
+def a_release_holds_what_it_should(tree):
+    _, said, files = released(tree)
+    (tree.room / "a.tar.gz").write_bytes(files["pit-0.1.0-x86_64-linux.tar.gz"])
+    (tree.room / "a.deb").write_bytes(files["pit_0.1.0_amd64.deb"])
+    for words in (["tar", "-xzf", "a.tar.gz"], ["dpkg-deb", "-x", "a.deb", "installed"], ["dpkg-deb", "-e", "a.deb", "control"]):
+        subprocess.run(words, cwd=tree.room, check=True)
+    listed = subprocess.run(["tar", "-tvzf", "a.tar.gz"], cwd=tree.room, stdout=subprocess.PIPE, text=True, check=True).stdout
+    answers = [subprocess.run([str(tree.room / at)], stdout=subprocess.PIPE, text=True).stdout
+               for at in ("pit-0.1.0-x86_64-linux/pit", "installed/usr/bin/pit")]
+    needs = re.search(r"^Depends: (.*)$", (tree.room / "control/control").read_text(), re.M)[1]
+    wanted = ["pit-0.1.0-x86_64-linux/" + it for it in ("LICENSE", "README.md", "pit.1", "examples/copper/copper.prec")]
+    wanted += ["installed/usr/share/man/man1/pit.1.gz", "installed/usr/share/doc/pit/examples/copper/copper.cert"]
+    commit = subprocess.run(["git", "rev-parse", "HEAD"], cwd=tree.top, stdout=subprocess.PIPE, text=True).stdout.strip()
+    about = files["BUILT.txt"].decode()
+    told = all(it in about for it in (commit, "stand-in", "0123456789abcdef", "C library 2.34"))
+    well = answers == ["ACCEPTED 90 71040\n"] * 2 and needs == "libc6 (>= 2.34)" and all((tree.room / it).exists() for it in wanted)
+    return well and told and "root/root" in listed, said + listed + about
+
+
+def a_release_is_compared_with_another_build(tree):
+    released(tree)
+    tree.log()
+    status, said = tree.ran("release", "--check")
+    well = status == 0 and said.count("same   ") == 4 and "proved anew: pit; 3 libraries taken" in said and not tree.has("out/again")
+    anew, more = tree.ran("release", "--check", "--anew")
+    return well and anew == 0 and "proved anew: " in more and "0 libraries taken" in more, said + more
+
+
+def another_program_fails_the_comparison(tree):
+    released(tree)
+    archive = next((tree.top / "dist").glob("*.tar.gz"))
+    subprocess.run("mkdir x && tar -xzf %s -C x && (echo '# more' | tee -a x/*/pit >/dev/null) && tar -czf %s -C x ." % (archive, archive),
+                   shell=True, cwd=tree.room, check=True)
+    status, said = tree.ran("release", "--check")
+    return status == 1 and "DIFFERS  pit-0.1.0-x86_64-linux.tar.gz" in said and "same     SHA256SUMS" in said, said
+
+
+def what_is_not_committed_is_not_released(tree):
+    tree.commit()
+    tree.write("README.md", "another text\n")
+    status, said = tree.ran("release")
+    return status == 1 and "README.md" in said and not tree.has("dist") and not tree.log(), said
+
+
+def the_manual_page_follows_the_help_texts(tree):
+    help_text = "Digs.\\n\\nUsage: pit <COMMAND>\\n\\nCommands:\\n  dig   Digs\\n  help  Print\\n\\nOptions:\\n  -h, --help  Print help\\n\\nExit status:\\n  0  done\\n"
+    of_dig = "Digs a .pit\\n\\nUsage: pit dig [OPTIONS]\\n\\nOptions:\\n      --deep <N>\\n          How deep: 3 by default\\n"
+    program = "#!/bin/sh\ncase \"$*\" in\n--version) echo pit 7.8.9;;\n--help) printf '%s';;\n'dig --help') printf '%s';;\nesac\n"
+    tree.write("out/pit", program % (help_text, of_dig), 0o755)
+    status, said = tree.ran("tools/man_page.py")
+    page = (tree.top / "docs/pit.1").read_text()
+    parts = ['.TH PIT 1 "" "pit 7.8.9"', ".SH NAME\npit \\- digs.", ".B pit dig [OPTIONS]", ".SS pit dig\nDigs a .pit\n",
+             ".TP\n.B \\-\\-deep <N>\nHow deep: 3 by default\n", ".SH EXIT STATUS\n.TP\n.B 0\ndone\n"]
+    compared = [asked(tree, "manual(run.tree.PROGRAM)")]
+    tree.write("out/pit", program % (help_text, of_dig.replace("3 by", "4 by")), 0o755)
+    compared.append(asked(tree, "manual(run.tree.PROGRAM)"))
+    told = "docs/pit.1 isn't what the help texts of the program say" in compared[1] and "tools/man_page.py writes it anew" in compared[1]
+    well = status == 0 and all(part in page for part in parts) and compared[0] == "(1, 0)\n" and compared[1].endswith("(0, 1)\n") and told
+    return well, said + page + repr(compared)
+
+
+CASES = [
+    the_program_stays_where_the_gate_leaves_it, a_change_is_proved, the_room_is_in_the_tree, ctrl_c_ends_with_one_line,
+    sigterm_leaves_nothing_behind, a_closed_terminal_leaves_nothing_behind, a_killed_build_is_cleared_away_by_the_next,
+    a_second_build_waits_and_says_so, the_gate_waits_for_a_build,
+    the_gate_tries_edits_over_its_own_libraries, what_is_proved_is_kept_where_one_fails, a_crate_of_few_functions_gets_one_process,
+    limits_of_a_container_count, an_answer_comes_before_any_proof, quick_stops_after_the_first_answer, no_answer_without_proof_is_told,
+    the_page_of_the_example_is_made,
+    an_unknown_word_is_refused, install_copies_the_program, two_folders_make_the_same_release, a_release_holds_what_it_should,
+    a_release_is_compared_with_another_build, another_program_fails_the_comparison, what_is_not_committed_is_not_released,
+    the_manual_page_follows_the_help_texts,
+]
+
+
+def test(top):
+    """Runs the tests, each in a tree of its own, and gives how many passed and failed."""
+    passed = failed = 0
+    for case in CASES:
+        with tempfile.TemporaryDirectory(prefix="pit-scripts-") as room:
+            try:
+                well, said = case(Tree(top, room))
+            except Exception:  # a case that can't be played to its end has failed, and the others are still played
+                well, said = False, traceback.format_exc()
+        if not well:
+            print("%s: failed:\n%s" % (case.__name__, said))
+        passed, failed = passed + bool(well), failed + (not well)
+    return passed, failed

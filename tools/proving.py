@@ -1,0 +1,276 @@
+"""Proves crates side by side, each in a folder of its own.
+
+The kit lets one `rt` at a time into a crate and into all crates below it, so that two crates with a common library
+would wait for each other. Each crate is therefore proved in a folder of its own, beside copies of what it stands on,
+and its `out` is moved back once it is proved. These folders lie in `out/room`, on the file system of the tree, where a
+copy shares its bytes and a move is a change of name.
+"""
+import ctypes
+import os
+import re
+import shutil
+import signal
+import subprocess
+import sys
+import time
+from contextlib import contextmanager, suppress
+from pathlib import Path
+
+import machine
+import tree
+
+JOB_MEMORY = 1_500_000_000
+GROWS_FOR = 60  # the seconds in which a process that was just begun takes most of its memory
+FEW_FUNCTIONS = 40
+FUNCTION = re.compile(rb"^\s*(?:pub(?:\([^)]*\))? )?(?:ghost )?(?:const )?fn ", re.M)
+STOPS = (signal.SIGINT, signal.SIGTERM, signal.SIGHUP)
+DEATH_SIGNAL = 1  # prctl's PR_SET_PDEATHSIG
+LIBC = ctypes.CDLL(None)
+
+
+class Stopped(BaseException):
+    """The build was told to stop, by this signal."""
+
+    def __init__(self, number):
+        super().__init__(number)
+        self.number = number
+
+
+def stop_by_signals():
+    """Lets ctrl-C, SIGTERM and a terminal that is closed end the build by an exception, so that it clears its room away."""
+
+    def stop(number, _frame):
+        raise Stopped(number)
+
+    for number in STOPS:
+        if signal.getsignal(number) is not signal.SIG_IGN:  # nohup's SIGHUP stays ignored
+            signal.signal(number, stop)
+
+
+@contextmanager
+def unbroken():
+    """Holds such signals back while something is half done."""
+    before = signal.pthread_sigmask(signal.SIG_BLOCK, STOPS)
+    try:
+        yield
+    finally:
+        signal.pthread_sigmask(signal.SIG_SETMASK, before)
+
+
+def as_a_child():
+    """In a process that was just made: it takes signals again, and ends when the build does, however that ends."""
+    signal.pthread_sigmask(signal.SIG_UNBLOCK, STOPS)
+    LIBC.prctl(DEATH_SIGNAL, signal.SIGTERM)
+
+
+def copied(source, target):
+    """A copy that shares the bytes where the file system can."""
+    try:
+        os.link(source, target)
+    except OSError:
+        shutil.copy2(source, target)
+
+
+def is_at_work(folder):
+    """Whether a process works in this folder."""
+    for entry in Path("/proc").glob("[0-9]*/cwd"):
+        with suppress(OSError):
+            if Path(folder) in [Path(os.readlink(entry)), *Path(os.readlink(entry)).parents]:
+                return True
+    return False
+
+
+def weigh(crates):
+    """Gives each crate `functions`, and `chain`: its lines and those of the longest chain of crates that wait for it."""
+    for crate in reversed(list(crates.values())):
+        above = [it.chain for it in crates.values() if crate in it.uses]
+        crate.chain = crate.lines() + max(above, default=0)
+        crate.functions = sum(len(FUNCTION.findall(file.read_bytes())) for file in crate.files() if file.suffix == ".rt")
+
+
+class Proof:
+    """A crate that is being proved, in a folder of its own."""
+
+    def __init__(self, crate, jobs, is_urgent):
+        self.crate, self.began, self.room = crate, time.monotonic(), tree.ROOM / crate.name
+        self.jobs = jobs
+        self.place()
+        what = ["run", "--jobs", str(jobs), "--", "--help"] if crate.is_program else ["lib", "--jobs", str(jobs)]
+        self.said = open(self.room / "said", "w+b")
+        self.process = subprocess.Popen(([] if is_urgent else ["nice", "-n", "10"]) + ["rt"] + what, cwd=self.folder,
+                                        stdin=subprocess.DEVNULL, stdout=self.said, stderr=subprocess.STDOUT,
+                                        preexec_fn=as_a_child)
+
+    def place(self):
+        self.folder = self.room / "crates" / self.crate.name
+        wanted = [*self.crate.below.values(), self.crate]
+        for crate in wanted:
+            to = self.room / "crates" / crate.name
+            to.mkdir(parents=True)
+            for part in tree.PARTS:
+                if (crate.folder / part).is_dir():
+                    shutil.copytree(crate.folder / part, to / part)
+            made = Path("out") if crate is self.crate else Path("out") / "rlib"
+            if (crate.folder / made).is_dir():
+                shutil.copytree(crate.folder / made, to / made, copy_function=copied)
+        (self.room / "crates.txt").write_text("".join(crate.line + "\n" for crate in wanted))
+
+    def seconds(self):
+        return round(time.monotonic() - self.began)
+
+    def end(self):
+        """Moves what was made back, and gives the text that the kit printed and whether all is proved."""
+        self.said.seek(0)
+        said = self.said.read().decode(errors="replace")
+        self.said.close()
+        is_proved = self.process.returncode == 0
+        self.move_back("out" if is_proved else "out/incremental")
+        shutil.rmtree(self.room, ignore_errors=True)
+        return said, is_proved
+
+    def stop(self):
+        """Ends the proof, and keeps what it has proved so far: the crate's next proof goes on from there."""
+        self.process.terminate()
+        self.process.wait()
+        until = time.monotonic() + 10
+        while is_at_work(self.room) and time.monotonic() < until:
+            time.sleep(0.1)
+        self.said.close()
+        self.move_back("out/incremental")
+
+    def move_back(self, part):
+        """Puts this part of the folder in place of the crate's own."""
+        made, to, old = self.folder / part, self.crate.folder / part, self.room / "old"
+        if not made.is_dir():
+            return
+        to.parent.mkdir(parents=True, exist_ok=True)
+        with unbroken():
+            if to.exists():
+                to.rename(old)
+            made.rename(to)
+        shutil.rmtree(old, ignore_errors=True)
+
+
+class Screen:
+    """What is printed: lines as crates end, and on a terminal a last line with those that are being proved."""
+
+    def __init__(self, count):
+        self.count, self.ended, self.is_live, self.shown = count, 0, sys.stdout.isatty(), 0
+
+    def line(self, text):
+        self.clear()
+        print(text, flush=True)
+
+    def clear(self):
+        if self.shown:
+            sys.stdout.write("\r\033[K")
+            self.shown = 0
+
+    def live(self, running):
+        if self.is_live and running:
+            text = "proving " + ", ".join("%s %d s" % (it.crate.name, it.seconds()) for it in running)
+            sys.stdout.write("\r\033[K" + text[: shutil.get_terminal_size().columns - 1])
+            sys.stdout.flush()
+            self.shown = 1
+
+    def crate(self, proof, said):
+        self.ended += 1
+        proved = re.findall(r"^logic=proved functions=(\d+)", said, re.M)
+        what = "%4s functions proved" % proved[-1] if proved else "   as it was built     "
+        self.line("[%2d/%d] %-16s %s %5d s" % (self.ended, self.count, proof.crate.name, what, proof.seconds()))
+
+    def failed(self, proof, said, log):
+        self.line("%s NOT PROVED; the end of %s:\n" % (proof.crate.name, log))
+        self.line("\n".join(said.splitlines()[-40:]))
+
+
+class Host:
+    """What the machine has for the proofs: its processors, and the memory that isn't taken or about to be."""
+
+    def __init__(self):
+        self.processors = machine.processors()
+
+    def jobs_of_memory(self, running):
+        """For how many processes there is memory, once those that were begun a moment ago have taken theirs."""
+        growing = sum(it.jobs for it in running if it.seconds() < GROWS_FOR)
+        return int(machine.free_memory() // JOB_MEMORY) - growing
+
+
+def jobs_for(crate, waiting, running, host):
+    """How many processes prove the crate, and whether it is of the longest chain, on which all waits. No process while it has to wait.
+
+    A crate of the longest chain gets as many as there are processors; the others use, at a lower priority, what it leaves.
+    A crate of few functions gets one: several would each read all that it stands on, and take longer than one does.
+    """
+    longest = max(it.chain for it in waiting + [proof.crate for proof in running])
+    is_urgent = crate.chain >= longest
+    room = host.jobs_of_memory(running)
+    if running and (room < 2 or not is_urgent and sum(proof.jobs for proof in running) >= host.processors + 2):
+        return 0, False
+    jobs = 1 if crate.functions < FEW_FUNCTIONS else 4 if is_urgent else 2 if 2 * crate.chain > longest else 1
+    return max(1, min(jobs, host.processors if is_urgent else (host.processors + 1) // 2, room)), is_urgent
+
+
+class Run:
+    """The proof of all crates: which wait, which are at work, which are done."""
+
+    def __init__(self, crates, log):
+        self.log, self.host, self.screen = log, Host(), Screen(len(crates))
+        self.waiting = sorted(crates.values(), key=lambda it: -it.chain)
+        self.running, self.done = [], set()
+
+    def begin_some(self):
+        for crate in [it for it in self.waiting if self.done.issuperset(it.below)]:
+            jobs, is_urgent = jobs_for(crate, self.waiting, self.running, self.host)
+            if jobs:
+                self.waiting.remove(crate)
+                with unbroken():  # so that no process is begun that isn't known here
+                    self.running.append(Proof(crate, jobs, is_urgent))
+
+    def take_ended(self):
+        """Takes the proofs that have ended, and says whether each was well."""
+        for proof in [it for it in self.running if it.process.poll() is not None]:
+            self.running.remove(proof)
+            said, is_proved = proof.end()
+            self.log.write("== %s\n%s" % (proof.crate.name, said))
+            self.log.flush()
+            if not is_proved:
+                self.screen.failed(proof, said, self.log.name)
+                return False
+            self.done.add(proof.crate.name)
+            self.screen.crate(proof, said)
+        return True
+
+    def stop(self):
+        """Ends what is at work, and clears the room away."""
+        for number in STOPS:
+            signal.signal(number, signal.SIG_IGN)
+        for proof in self.running:
+            proof.stop()
+        shutil.rmtree(tree.ROOM, ignore_errors=True)
+        with suppress(OSError):  # the terminal may be gone
+            self.screen.clear()
+
+    def all(self):
+        while self.waiting or self.running:
+            self.begin_some()
+            if not self.take_ended():
+                return False
+            self.screen.live(self.running)
+            time.sleep(0.2)
+        return True
+
+
+def prove(crates, log):
+    """Proves all crates, the longest chain first, and says whether all are proved.
+
+    Where one isn't, or where the build is told to stop, those at work are ended, and what each of them has proved is kept.
+    """
+    weigh(crates)
+    tree.clear_rooms()
+    tree.ROOM.mkdir(parents=True)
+    run = Run(crates, log)
+    try:
+        return run.all()
+    finally:
+        run.stop()
