@@ -1,0 +1,285 @@
+"""README, GUIDE and ENGINES, read by a program: every command is typed, and every number compared.
+
+- **Sessions.** In a code block a line that begins with `$` is given to a shell, in a copy of examples/, and what is
+  printed has to be what the page shows below it. ` .. ` stands for any text within a line, and `..` alone for any lines.
+  Where the status is 0, what comes on standard error may be left out.
+- **Facts.** Sentences and rows of tables that have numbers are made anew, of the answers, of the files of examples/ and
+  of bench/RESULTS.md, and have to be in the page.
+- **Other numbers.** A number from 10 on that is in no fact has to be in a command, an answer, a help text, a table of
+  examples/, or in OTHERS, which says where it is from.
+- **Other commands.** A line of a code block that looks like a command and isn't typed has to be in UNTYPED.
+
+From blocks to slopes has a test of its own for its angles; of that section the sessions alone are played here.
+"""
+import csv
+import re
+import shutil
+import subprocess
+from collections import namedtuple
+from pathlib import Path
+
+PAGES = "README.md", "docs/GUIDE.md", "docs/ENGINES.md"
+COMMANDS = "slopes", "solve", "check", "shells", "report", "replay"
+STATUSES = (("REFUSED", 1), ("UNSETTLED", 1), ("HISTORYFULL", 1), ("error:", 2), ("fault: device", 4), ("fault: memory", 4), ("fault:", 3))
+LOOKS_TYPED = re.compile(r"(pit|python3|pitplan|\./\S+|cd|grep|sed|cut|cat) ")
+UNTYPED = {"README.md": ("./run-example", "./install", "python3 tests/run"),
+           "docs/GUIDE.md": ("python3 examples/csv_to_minelib.py mine.csv 20 20 10 mine revenue cost tonnes",)}   # typed by tests/day
+OWN_TEST = "## From blocks to slopes"
+NUMBER = re.compile(r"(?<![\w.,-])\d[\d,]*(?:\.\d+)?")
+OTHERS = {1965: "Lerchs and Grossmann's paper", 1976: "Picard's", 2008: "Hochbaum's and Hong's", 2026: "the year of RESULTS",
+          30: "minutes of a first build, timed", 45: "the same", 27: "2^27", 32: "2^32", 40: "2^40", 64: "bits of a word", 128: "bits",
+          75: "turns, in RESULTS", 12: "seconds, and 10^12", 2000: "blocks of dense slopes, tried", 10**10: "steps, in RESULTS",
+          10**11: "steps, of the reader's choice", 500: "the same", 1250.75: "an example of a decimal", 1060: "blocks of bench/README",
+          3865: "its pairs", 9400: "blocks of bench/README", 130697: "its pairs", 65: "per cent", 80: "the same", 100: "the same, and a block",
+          13: "a line of the trace, typed below"}
+
+Session = namedtuple("Session", "line command shown")
+Typed = namedtuple("Typed", "line text")
+
+
+def code_lines(text):
+    """Each line of the code blocks of a page, with its number, and an empty one after each block."""
+    is_fenced = was_code = False
+    for number, line in enumerate(text.split("\n"), 1):
+        if line.startswith("```"):
+            is_fenced = not is_fenced
+        elif is_fenced or line.startswith("    "):
+            was_code = True
+            yield Typed(number, line)
+        elif was_code:
+            was_code = False
+            yield Typed(number, "")
+
+
+def sessions(text):
+    """The commands that a page types, each with the lines that it shows as the answer; and lines that only look typed."""
+    found, untyped, margin = [], [], None
+    for number, line in code_lines(text):
+        if line.lstrip().startswith("$ "):
+            margin = len(line) - len(line.lstrip())
+            found.append(Session(number, line[margin + 2:], []))
+        elif not line:
+            margin = None
+        elif margin is not None:
+            found[-1].shown.append(line[margin:].rstrip())
+        elif LOOKS_TYPED.match(line.lstrip()):
+            untyped.append(line.lstrip())
+    return found, untyped
+
+
+def pattern_of(shown):
+    """What the lines of an answer stand for, as a regular expression."""
+    return "".join(r"(?:.*\n)*" if line == ".." else re.escape(line).replace(r"\ \.\.\ ", " .* ") + r"\n" for line in shown)
+
+
+def status_of(shown):
+    """The exit status that goes with an answer."""
+    for start, status in STATUSES:
+        if any(line.startswith(start) for line in shown):
+            return status
+    return int(any(line.endswith(" OPEN") for line in shown))
+
+
+def numbers_of(text):
+    return [float(found.rstrip(",").replace(",", "")) for found in NUMBER.findall(text)]
+
+
+class Reader:
+    """Somebody who types what a page says, in a copy of examples/."""
+
+    def __init__(self, day, top, page):
+        self.day, self.page, self.text, self.seen = day, page, (top / page).read_text(), ""
+        self.place = self.top = Path(day.folder) / Path(page).stem
+        self.top.mkdir()
+        shutil.copytree(top / "examples", self.top / "examples")
+
+    def types(self, session):
+        """Types a command, and compares its answer and its status."""
+        where = "%s:%d: %s" % (self.page, session.line, session.command)
+        if session.command.startswith("cd "):
+            self.place = (self.place / session.command[3:]).resolve()
+            self.day.same(where, self.place.is_dir(), True)
+            return
+        done = subprocess.run(["sh", "-c", session.command], cwd=self.place, env=self.day.around, stdin=subprocess.DEVNULL,
+                              stdout=subprocess.PIPE, stderr=subprocess.PIPE, text=True, errors="replace")
+        self.seen += session.command + "\n" + done.stdout + done.stderr
+        printed = [done.stderr + done.stdout] + [done.stdout] * (done.returncode == 0)
+        printed = [re.sub(r" +\n", "\n", text) for text in printed]
+        is_shown = any(re.fullmatch(pattern_of(session.shown), text) for text in printed)
+        wanted = "".join(line + "\n" for line in session.shown)
+        self.day.same(where, wanted if is_shown else printed[-1], wanted)
+        self.day.same(where + " (status)", done.returncode, status_of(session.shown))
+
+    def asks(self, command):
+        """What a command prints that no page shows."""
+        return subprocess.run(["sh", "-c", command], cwd=self.place, env=self.day.around, stdin=subprocess.DEVNULL,
+                              stdout=subprocess.PIPE, text=True).stdout
+
+    def plays(self):
+        """Types every command of the page."""
+        found, untyped = sessions(self.text)
+        for session in found:
+            self.types(session)
+        allowed = UNTYPED.get(self.page, ())
+        self.day.same("%s: commands that nobody types" % self.page, [line for line in untyped if not line.startswith(allowed)], [])
+
+    def has(self, *facts):
+        """Compares facts with the page, and takes them out of it."""
+        for fact in facts:
+            self.day.same("%s lacks" % self.page, [fact] * (fact not in self.text), [])
+            self.text = self.text.replace(fact, " ")
+
+    def has_no_other_number(self, texts):
+        """Compares what numbers are left in the text of the page with those that are known: by these texts, or by what was seen."""
+        known = set(numbers_of(self.seen + texts)) | set(OTHERS)
+        code = {line.line for line in code_lines(self.text) if line.text}
+        prose, is_own = [], True
+        for number, line in enumerate(self.text.split("\n"), 1):
+            is_own = line != OWN_TEST if line.startswith("## ") else is_own
+            if is_own and number not in code and line:
+                prose.append(re.sub(r"\]\([^)]*\)", "]", line))
+        left = [(number, line[:60]) for line in prose for number in numbers_of(line) if number >= 10 and number not in known]
+        self.day.same("%s: numbers from nowhere" % self.page, left, [])
+
+
+def table_of(results, title):
+    """The rows of the first table below a heading of RESULTS, by their first cell."""
+    below = results[results.index("\n%s\n" % title):]
+    rows = re.search(r"(?:^\|.*\n)+", below, re.M)[0].splitlines()[2:]
+    return {cells[0]: cells for cells in ([cell.strip() for cell in row.strip("|").split("|")] for row in rows)}
+
+
+def seconds(cell):
+    return ("%.2f s" if float(cell) < 1 else "%.1f s") % float(cell)
+
+
+def megabytes(cell):
+    return "{:,.0f} MB".format(float(cell))
+
+
+def size_rows(results):
+    """What README and GUIDE say of sizes and times, by the tables of RESULTS."""
+    whole = table_of(results, "## Whole runs of `pit solve`, by pseudoflow")
+    check = table_of(results, "## The check of a certificate")
+    readme = ["| %s | %s, %s | %s, %s | %s, %s, no certificate |" % (
+        row[1], seconds(row[4]), megabytes(row[7]), seconds(check[name][3]), megabytes(check[name][6]), seconds(row[5]), megabytes(row[8]))
+        for name, row in whole.items() if name in ("marvin", "b2m")]
+    guide = ["| %s | %s | %s | %s |" % (row[1], row[2], seconds(row[4]), megabytes(row[7])) for row in whole.values()]
+    return readme, guide
+
+
+def commas(number):
+    return "{:,}".format(int(number))
+
+
+def shell_lines(text):
+    """The lines of `pit shells`: factor, blocks, worth."""
+    return [tuple(map(int, found)) for found in re.findall(r"^SHELL (\d+) (\d+) (\d+)$", text, re.M)]
+
+
+def table_facts(reader):
+    """Of the small table: its blocks, and the first of its pit in the spreadsheet's row."""
+    folder = reader.top
+    with open(folder / "examples" / "small_model.csv", newline="") as file:
+        rows = list(csv.DictReader(file))
+    along = [len({row[axis] for row in rows}) for axis in "zxy"]
+    pit = re.findall(r"^PIT (\d+)$", (folder / "small.cert").read_text(), re.M)
+    count, worth = re.search(r"ACCEPTED (\d+) (\d+)", reader.seen).groups()
+    lines = (folder / "examples" / "small_model.csv").read_text().splitlines()
+    return ["of %s benches of %d by %d blocks" % ({2: "two"}[along[0]], *along[1:]),
+            "The best pit has %s blocks, and is worth %s." % (count, commas(worth)),
+            "`PIT %s` is the third row below the header, here %s" % (pit[0], rows[2]["id"]) if pit[0] == "2" else "the third row",
+            "".join("    %s\n" % line for line in lines[:3])]
+
+
+def copper_facts(reader):
+    """Of the example mine: its shape, its files, its prices."""
+    folder = reader.top / "examples" / "copper"
+    blocks = [list(map(int, line.split())) for line in (folder / "priced.blocks").read_text().splitlines()]
+    across, along, benches = (1 + max(block[axis] for block in blocks) for axis in (1, 2, 3))
+    _, x, y, z, revenue, cost, tonnes, *_ = blocks[1]
+    top = [block for block in blocks if block[3] == benches - 1]
+    haul = {block[5] - top[0][5] for block in blocks if block[3] == benches - 2} | {block[8] - top[0][8] for block in blocks if block[3] == benches - 2}
+    return ["%s benches of %d by %d blocks" % ({3: "three"}[benches], across, along),
+            "block 1 is at x = %d, y = %d on bench %d, has a revenue of %s dollars and a cost of %s, and weighs %s tonnes" % (
+                x, y, z, commas(revenue), commas(cost), commas(tonnes)),
+            "The first charges %s dollars for every block, the second %d to dig it and %d more where it is treated. In both the haul costs %d more" % (
+                commas(top[0][5]), top[0][8], top[0][7], *haul),
+            "the waste that it strips costs %d dollars and not %s" % (top[0][8], commas(top[0][5])),
+            "".join("    %s\n" % line for line in (folder / "priced.blocks").read_text().splitlines()[:3]),
+            *("".join("    %s\n" % line for line in (folder / name).read_text().splitlines()) for name in ("settings.toml", "mill.toml"))]
+
+
+def shell_facts(reader):
+    """Of the shells: the pit at each factor, what each adds, and those of the mill beside them."""
+    model = "--prec copper.prec --blocks priced.blocks --settings"
+    costs, mill = (shell_lines(reader.asks("pit shells %s %s" % (model, name))) for name in ("settings.toml", "mill.toml"))
+    facts = []
+    for factor, count, worth in costs:
+        answer = reader.asks("pit solve %s settings.toml --factor %d > of.cert; pit check %s settings.toml of.cert" % (model, factor, model))
+        reader.day.same("pit check at %d" % factor, answer, "ACCEPTED %d %d\n" % (count, worth))
+        facts += ["| %d | `%s`" % (factor, answer.strip())] * (factor != 650)
+    for this, above in zip(costs, costs[1:] + [None]):
+        adds = " %d blocks " % (above[1] - this[1]) if above else " "
+        facts.append("| %d %% | %d | %s |%s|" % (this[0] / 10, this[1], commas(this[2]), adds))
+    facts += ["| %d %% | %d, %s | %d, %s |" % (one[0] / 10, one[1], commas(one[2]), two[1], commas(two[2])) for one, two in zip(costs, mill)]
+    by_factor = {line[0]: line for line in costs}
+    return facts + ["the best pit has %d blocks, and is worth %s dollars at that price" % (by_factor[800][1], commas(by_factor[800][2])),
+                    "each of the {} blocks is one of the {}, and each of the {} one of the {}".format(
+                        by_factor[800][1], by_factor[1000][1], by_factor[1000][1], by_factor[1200][1]),
+                    "The first %d blocks pay at half the price" % by_factor[500][1]]
+
+
+def bench_facts(reader):
+    """Of the bench table: how it is read, and its pivot."""
+    with open(reader.place / "benches.csv", newline="") as file:
+        rows = [{column: int(cell) for column, cell in row.items()} for row in csv.DictReader(file)]
+    at = {(row["z"], row["shell"]): row for row in rows}
+    shells = sorted({row["shell"] for row in rows})
+    first = [at[z, 500] for z in (2, 1)]
+    half = next(worth for factor, _, worth in shell_lines(reader.seen) if factor == 500)
+    last = [at[z, 1000] for z in (2, 1, 0)]
+    pivot = ["| %d | %s |" % (z, " | ".join(str(at.get((z, shell), {"tonnes": 0})["tonnes"]) for shell in shells)) for z in (2, 1, 0)]
+    return pivot + ["| z | %s |" % " | ".join(map(str, shells)),
+                    "the first shell has %d blocks on the top bench and %d below, %s tonnes in all" % (
+                        first[0]["blocks"], first[1]["blocks"], commas(sum(row["tonnes"] for row in first))),
+                    "Its worth, %s and %s, is %s dollars at the full price; at half the price, as `pit shells` says, it is %s." % (
+                        *(commas(row["worth"]) for row in first), commas(sum(row["worth"] for row in first)), commas(half)),
+                    "strips %d blocks on the top bench, which lose %s dollars, to come to %s on bench 1 and %s on bench 0" % (
+                        last[0]["blocks"], commas(-last[0]["worth"]), commas(last[1]["worth"]), commas(last[2]["worth"])),
+                    "The rows of the shells up to 1000 have %s dollars together" % commas(sum(row["worth"] for row in rows if row["shell"] <= 1000))]
+
+
+def trace_facts(reader):
+    """Of the trace: what its first lines are about, by the files of the mine."""
+    values = [line.split() for line in (reader.place / "copper.upit").read_text().splitlines()[4:-1]]
+    block, value = next((int(block), int(value)) for block, value in values if int(value) > 0)
+    above = (reader.place / "copper.prec").read_text().splitlines()[block].split()[2:]
+    steps = len((reader.place / "copper.trace").read_text().splitlines()) - 2
+    most = 2**63 // 10**17 * 10**8
+    return ["All %s steps are steps of push-relabel" % commas(steps),
+            "Block %d is the first with a positive value, %s dollars" % (block, commas(value)),
+            "reads its excess, %s dollars" % commas(value), "the %s dollars that came from there" % commas(value),
+            "its predecessors %s and %s, in this order" % (", ".join(above[:-1]), above[-1]),
+            "block %s's is the first of the lowest" % above[0],
+            "the number of blocks plus 2, here %d" % (len(values) + 2),
+            "sum to %s divided by the number of blocks, as %s for 1,000 blocks" % (commas(most), commas(most / 1000))]
+
+
+def play(day, top):
+    """Plays the three pages, each in a folder of its own."""
+    results = (top / "bench" / "RESULTS.md").read_text()
+    readme_sizes, guide_sizes = size_rows(results)
+    readers = {page: Reader(day, top, page) for page in PAGES}
+    readers["docs/ENGINES.md"].place = readers["docs/ENGINES.md"].top / "examples" / "copper"
+    for reader in readers.values():
+        reader.plays()
+    readme, guide, engines = (readers[page] for page in PAGES)
+    pit = tuple(map(int, re.search(r"ACCEPTED (\d+) (\d+)", readme.seen).groups()))
+    readme.has(*readme_sizes, "The best pit has {} blocks and is worth {:,} dollars".format(*pit), "# the example mine: ACCEPTED %d %d\n" % pit,
+               "pit check ─► ACCEPTED %d %d\n" % pit, " %d blocks, worth %d:\n" % pit)
+    guide.has(*guide_sizes, *table_facts(guide), *copper_facts(guide), *shell_facts(guide), *bench_facts(guide))
+    engines.has(*trace_facts(engines))
+    known = "".join(readme.asks("pit %s --help" % command) for command in COMMANDS) + readme.asks("cat ../small_model.csv priced.blocks | tr , ' '")
+    for reader in readers.values():
+        reader.has_no_other_number(known)
