@@ -5,8 +5,8 @@
   Where the status is 0, what comes on standard error may be left out.
 - **Facts.** Sentences and rows of tables that have numbers are made anew, of the answers, of the files of examples/ and
   of bench/RESULTS.md, and have to be in the page.
-- **Other numbers.** A number from 10 on that is in no fact has to be in a command, an answer, a help text, a table of
-  examples/, or in OTHERS, which says where it is from.
+- **Other numbers.** A number from 10 on that is in no fact has to be in a command, an answer, a help text, or in OTHERS,
+  which says where it is from.
 - **Other commands.** A line of a code block that looks like a command and isn't typed has to be in UNTYPED.
 
 From blocks to slopes has a test of its own for its angles; of that section the sessions alone are played here.
@@ -30,8 +30,7 @@ OTHERS = {1965: "Lerchs and Grossmann's paper", 1976: "Picard's", 2008: "Hochbau
           30: "minutes of a first build, timed", 45: "the same", 27: "2^27", 32: "2^32", 40: "2^40", 64: "bits of a word", 128: "bits",
           75: "turns, in RESULTS", 12: "seconds, and 10^12", 2000: "blocks of dense slopes, tried", 10**10: "steps, in RESULTS",
           10**11: "steps, of the reader's choice", 500: "the same", 1250.75: "an example of a decimal", 1060: "blocks of bench/README",
-          3865: "its pairs", 9400: "blocks of bench/README", 130697: "its pairs", 65: "per cent", 80: "the same", 100: "the same, and a block",
-          13: "a line of the trace, typed below"}
+          3865: "its pairs", 9400: "blocks of bench/README", 130697: "its pairs", 65: "per cent", 80: "the same", 100: "the same"}
 
 Session = namedtuple("Session", "line command shown")
 Typed = namedtuple("Typed", "line text")
@@ -182,13 +181,17 @@ def table_facts(reader):
     folder = reader.top
     with open(folder / "examples" / "small_model.csv", newline="") as file:
         rows = list(csv.DictReader(file))
-    along = [len({row[axis] for row in rows}) for axis in "zxy"]
+    places = {axis: sorted({int(row[axis]) for row in rows}) for axis in "xyz"}
+    sizes = tuple(places[axis][1] - places[axis][0] for axis in "xyz")
     pit = re.findall(r"^PIT (\d+)$", (folder / "small.cert").read_text(), re.M)
     count, worth = re.search(r"ACCEPTED (\d+) (\d+)", reader.seen).groups()
     lines = (folder / "examples" / "small_model.csv").read_text().splitlines()
-    return ["of %s benches of %d by %d blocks" % ({2: "two"}[along[0]], *along[1:]),
+    return ["of {2} benches of {0} by {1} blocks, ".format(*(len(places[axis]) for axis in "xyz")).replace("of 2 ", "of two ")
+            + "each %d by %d metres and %d metres high" % sizes,
+            "`.. %d %d %d small tonnes grade` writes" % sizes,
+            "a centre at %d, %d or %d metres has the index 0, 1 or 2 where a block is %d metres wide" % (*places["x"][:3], sizes[0]),
             "The best pit has %s blocks, and is worth %s." % (count, commas(worth)),
-            "`PIT %s` is the third row below the header, here %s" % (pit[0], rows[2]["id"]) if pit[0] == "2" else "the third row",
+            "`PIT %s` is the %s row below the header, here %s" % (pit[0], {"2": "third"}.get(pit[0]), rows[int(pit[0])]["id"]),
             "".join("    %s\n" % line for line in lines[:3])]
 
 
@@ -224,7 +227,9 @@ def shell_facts(reader):
         facts.append("| %d %% | %d | %s |%s|" % (this[0] / 10, this[1], commas(this[2]), adds))
     facts += ["| %d %% | %d, %s | %d, %s |" % (one[0] / 10, one[1], commas(one[2]), two[1], commas(two[2])) for one, two in zip(costs, mill)]
     by_factor = {line[0]: line for line in costs}
-    return facts + ["the best pit has %d blocks, and is worth %s dollars at that price" % (by_factor[800][1], commas(by_factor[800][2])),
+    best = "%d blocks, worth %s dollars" % (by_factor[1000][1], commas(by_factor[1000][2]))
+    return facts + ["The second checks it: %s." % best, "\n%s. No other set" % best,
+                    "the best pit has %d blocks, and is worth %s dollars at that price" % (by_factor[800][1], commas(by_factor[800][2])),
                     "each of the {} blocks is one of the {}, and each of the {} one of the {}".format(
                         by_factor[800][1], by_factor[1000][1], by_factor[1000][1], by_factor[1200][1]),
                     "The first %d blocks pay at half the price" % by_factor[500][1]]
@@ -257,7 +262,10 @@ def trace_facts(reader):
     above = (reader.place / "copper.prec").read_text().splitlines()[block].split()[2:]
     steps = len((reader.place / "copper.trace").read_text().splitlines()) - 2
     most = 2**63 // 10**17 * 10**8
+    refusal = re.search(r"^(REFUSED (\d+) .*)$", reader.seen, re.M)
     return ["All %s steps are steps of push-relabel" % commas(steps),
+            "`%s`: step %s isn't one" % refusal.groups(), "This is what line %d of the trace gives" % (int(refusal[2]) + 1),
+            "finds block %s below it" % above[0], "raises the flow to block %s" % above[0], "gives it to block %s" % above[0],
             "Block %d is the first with a positive value, %s dollars" % (block, commas(value)),
             "reads its excess, %s dollars" % commas(value), "the %s dollars that came from there" % commas(value),
             "its predecessors %s and %s, in this order" % (", ".join(above[:-1]), above[-1]),
@@ -280,6 +288,6 @@ def play(day, top):
                "pit check ─► ACCEPTED %d %d\n" % pit, " %d blocks, worth %d:\n" % pit)
     guide.has(*guide_sizes, *table_facts(guide), *copper_facts(guide), *shell_facts(guide), *bench_facts(guide))
     engines.has(*trace_facts(engines))
-    known = "".join(readme.asks("pit %s --help" % command) for command in COMMANDS) + readme.asks("cat ../small_model.csv priced.blocks | tr , ' '")
+    known = "".join(readme.asks("pit %s --help" % command) for command in COMMANDS) 
     for reader in readers.values():
         reader.has_no_other_number(known)
