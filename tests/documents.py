@@ -12,6 +12,7 @@
 From blocks to slopes has a test of its own for its angles; of that section the sessions alone are played here.
 """
 import csv
+import math
 import re
 import shutil
 import subprocess
@@ -189,6 +190,8 @@ def table_facts(reader):
     return ["of {2} benches of {0} by {1} blocks, ".format(*(len(places[axis]) for axis in "xyz")).replace("of 2 ", "of two ")
             + "each %d by %d metres and %d metres high" % sizes,
             "`.. %d %d %d small tonnes grade` writes" % sizes,
+            "For blocks %d metres wide and %d high this is a wall of about %.0f degrees along the axes" % (
+                sizes[0], sizes[2], math.degrees(math.atan2(sizes[2], sizes[0]))),
             "a centre at %d, %d or %d metres has the index 0, 1 or 2 where a block is %d metres wide" % (*places["x"][:3], sizes[0]),
             "The best pit has %s blocks, and is worth %s." % (count, commas(worth)),
             "`PIT %s` is the %s row below the header, here %s" % (pit[0], {"2": "third"}.get(pit[0]), rows[int(pit[0])]["id"]),
