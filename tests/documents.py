@@ -30,7 +30,7 @@ NUMBER = re.compile(r"(?<![\w.,-])\d[\d,]*(?:\.\d+)?")
 OTHERS = {1965: "Lerchs and Grossmann's paper", 1976: "Picard's", 2008: "Hochbaum's and Hong's", 2026: "the year of RESULTS",
           30: "minutes of a first build, timed", 45: "the same", 27: "2^27", 32: "2^32", 40: "2^40", 64: "bits of a word", 128: "bits",
           75: "turns, in RESULTS", 12: "seconds, and 10^12", 2000: "blocks of dense slopes, tried", 10**10: "steps, in RESULTS",
-          10**11: "steps, of the reader's choice", 500: "the same", 1250.75: "an example of a decimal", 1060: "blocks of bench/README",
+          10**11: "steps, of the reader's choice", 500: "the same", 1001: "one more than 1,000", 10**4: "blocks, in DECISIONS", 50000: "blocks of a chain, in RESULTS", 1250.75: "an example of a decimal", 1060: "blocks of bench/README",
           3865: "its pairs", 9400: "blocks of bench/README", 130697: "its pairs", 65: "per cent", 80: "the same", 100: "the same"}
 
 Session = namedtuple("Session", "line command shown")
