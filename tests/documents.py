@@ -27,11 +27,14 @@ UNTYPED = {"README.md": ("./run-example", "./install", "python3 tests/run"),
            "docs/GUIDE.md": ("python3 examples/csv_to_minelib.py mine.csv 20 20 10 mine revenue cost tonnes",)}   # typed by tests/day
 OWN_TEST = "## From blocks to slopes"
 NUMBER = re.compile(r"(?<![\w.,-])\d[\d,]*(?:\.\d+)?")
-OTHERS = {1965: "Lerchs and Grossmann's paper", 1976: "Picard's", 2008: "Hochbaum's and Hong's", 2026: "the year of RESULTS",
-          30: "minutes of a first build, timed", 45: "the same", 27: "2^27", 32: "2^32", 40: "2^40", 64: "bits of a word", 128: "bits",
-          75: "turns, in RESULTS", 12: "seconds, and 10^12", 2000: "blocks of dense slopes, tried", 10**10: "steps, in RESULTS",
-          10**11: "steps, of the reader's choice", 500: "the same", 1001: "one more than 1,000", 10**4: "blocks, in DECISIONS", 50000: "blocks of a chain, in RESULTS", 1250.75: "an example of a decimal", 1060: "blocks of bench/README",
-          3865: "its pairs", 9400: "blocks of bench/README", 130697: "its pairs", 65: "per cent", 80: "the same", 100: "the same"}
+OTHERS = {
+    1965: "Lerchs and Grossmann's paper", 1976: "Picard's", 2008: "Hochbaum's and Hong's", 2026: "the year of RESULTS",
+    27: "2^27", 32: "2^32", 40: "2^40", 12: "10^12, and seconds", 64: "bits of a word", 128: "bits of an amount",
+    1001: "one more than 1,000", 10_000: "blocks, in DECISIONS", 2_000: "blocks of dense slopes, tried",
+    1_060: "blocks of newman, in bench/README", 3_865: "its pairs", 9_400: "blocks of zuck", 130_697: "its pairs",
+    50_000: "blocks of a chain, in RESULTS", 75: "turns, in RESULTS", 10**10: "steps, in RESULTS", 10**11: "steps, an example",
+    500: "steps, an example", 1250.75: "an example of a decimal", 65: "per cent", 80: "per cent", 100: "per cent",
+    30: "minutes of a first build, timed", 45: "minutes of a first build, timed"}
 
 Session = namedtuple("Session", "line command shown")
 Typed = namedtuple("Typed", "line text")
