@@ -165,11 +165,11 @@ def main():
     write("copper.blocks", ["%d %d %d %d %d %d" % (b, *place, grade(*place), values[b]) for b, place in enumerate(places)])
     columns = [revenue, cost, tonnes, processing, mining]
     write("priced.blocks", [" ".join(map(str, [b, *place] + [column(*place) for column in columns])) for b, place in enumerate(places)])
-    write("settings.toml", ["revenue = 0    # the first column behind z in priced.blocks", "cost = 1       # the second",
+    write("settings.toml", ["revenue = 0    # the first column after z in priced.blocks", "cost = 1       # the second",
                             "tonnes = 2     # the third",
                             "factors = [500, 650, 800, 1000, 1200]    # of the price of the revenues, in thousandths",
                             "report = 1000  # the factor at which `pit report` counts worths"])
-    write("mill.toml", ["revenue = 0     # the first column behind z in priced.blocks",
+    write("mill.toml", ["revenue = 0     # the first column after z in priced.blocks",
                         "processing = 3  # the fourth: what it costs to treat a block in the mill",
                         "mining = 4      # the fifth: what it costs to dig it, be it ore or waste", "tonnes = 2",
                         "factors = [500, 650, 800, 1000, 1200]"])
