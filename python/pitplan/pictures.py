@@ -33,7 +33,6 @@ from .units_shown import Scale, factor_text, scale_of
 ROCK_HATCH, ROCK_EDGE = "....", "#9a9a9a"
 CASING = [patheffects.withStroke(linewidth=3.6, foreground="white")]
 SEPARATED = FuncFormatter(lambda value, _: f"{value:,.10g}")
-BELOW = 4.2              # where the key stands: so many heights of a letter below the axes
 MANY_WORDS = 8           # words of a text column that get a colour of their own
 
 
@@ -159,35 +158,53 @@ def section(shells: Shells, *, north: float | None = None, east: float | None = 
 def draw(shells: Shells, cut: Plane, style: Style, exaggeration: float) -> tuple[Figure, Any]:
     """The blocks of a plane, the outlines of pits, the key and the titles."""
     model, colours = shells.study.model, paint(shells, style.colour)
-    wide, high = np.ptp(cut.across), np.ptp(cut.up) * exaggeration
-    figure = Figure(figsize=(10.5, float(np.clip(8.0 * high / wide + 1.9, 4.2, 11.0))), layout="constrained")
-    axes = figure.subplots()
+    figure, axes, beside = sheet(float(np.ptp(cut.across)), float(np.ptp(cut.up)) * exaggeration)
     shown = np.where(cut.number >= 0, colours.values[cut.number], np.nan)
     image = axes.pcolormesh(cut.across, cut.up, np.ma.masked_invalid(shown), cmap=colours.colours, norm=colours.norm)
     hatch(axes, (cut.number >= 0) & np.isnan(shown), cut)
     handles = add_outlines(axes, shells, cut, pit_index(shells, style.pit))
     if style.colour == "shell":
         handles.append(Patch(facecolor="white", edgecolor=ROCK_EDGE, hatch=ROCK_HATCH, label="Rock in no pit"))
-    add_colour_bar(figure, axes, image, colours)
+    add_colour_bar(figure, beside, image, colours)
     axes.set_aspect(exaggeration)
     axes.set_xlabel(cut.labels[0])
     axes.set_ylabel(cut.labels[1])
     for each in (axes.xaxis, axes.yaxis):
         each.set_major_formatter(SEPARATED)
-    axes.legend(handles=handles, loc="upper center", bbox_to_anchor=(0.5, 0.0), borderaxespad=BELOW, ncol=4, frameon=False)
-    stretched = f", heights times {exaggeration:g}" if exaggeration != 1 else ""
+    axes.locator_params(axis="x", nbins=7)
+    figure.legend(handles=handles, loc="lower center", ncol=4, frameon=False)
+    stretched = f", vertical exaggeration {exaggeration:g}" if exaggeration != 1 else ""
     axes.set_title(f"{model.name}: {cut.title}{stretched}" + (f"\n{cut.note}" if cut.note else ""), fontsize=12)
     return figure, axes
 
 
-def add_colour_bar(figure: Figure, axes: Any, image: Any, colours: Paint) -> None:
-    """The scale beside the picture, as high as it; of many factors as many are named as there is room for."""
-    bar = figure.colorbar(image, cax=axes.inset_axes([1.02, 0.0, 0.025, 1.0]), extend=colours.beyond, label=colours.label)
-    bar.ax.minorticks_off()
+def sheet(wide: float, high: float) -> tuple[Figure, Any, Any]:
+    """A sheet for a picture of this many metres, with room for labels: the figure, the axes, and those of the scale beside.
+
+    Measures are inches; the picture is as large as fits into 7.6 x 8 inches.
+    """
+    scale = min(7.6 / wide, 8.0 / high)
+    width, height = wide * scale, high * scale
+    left, right, bottom, top = 1.15, 1.35, 1.05, 0.65
+    bar = max(height, 2.5)                       # a long flat section has a scale that is higher than it
+    spare = bar - height
+    whole_width, whole_height = max(width + left + right, 8.0), height + bottom + top + spare
+    left += (whole_width - left - right - width) / 2
+    figure = Figure(figsize=(whole_width, whole_height))
+    low = bottom + spare / 2
+    axes = figure.add_axes((left / whole_width, low / whole_height, width / whole_width, height / whole_height))
+    beside = figure.add_axes(((left + width + 0.18) / whole_width, bottom / whole_height, 0.22 / whole_width, bar / whole_height))
+    return figure, axes, beside
+
+
+def add_colour_bar(figure: Figure, beside: Any, image: Any, colours: Paint) -> None:
+    """The scale beside the picture; of many factors as many are named as there is room for."""
+    bar = figure.colorbar(image, cax=beside, extend=colours.beyond, label=colours.label)
+    beside.minorticks_off()
     if colours.ticks is None:
-        bar.ax.yaxis.set_major_formatter(SEPARATED)
+        beside.yaxis.set_major_formatter(SEPARATED)
     else:
-        room = max(4, int((figure.get_figheight() - 1.9) * 4))
+        room = max(8, int(figure.get_figheight() * 4) - 7)
         ticks = colours.ticks[::-(-len(colours.ticks) // room)]
         bar.set_ticks([at for at, _ in ticks], labels=[text for _, text in ticks])
 
@@ -245,8 +262,8 @@ def pit_by_pit(table: pd.DataFrame, currency: str = "$", name: str = "") -> Figu
     currency, name : str
         The unit of money for the axis, and whose pits these are for the title.
     """
-    figure = Figure(figsize=(10.5, 6.0), layout="constrained")
-    axes = figure.subplots()
+    figure = Figure(figsize=(10.5, 6.2))
+    axes = figure.add_axes((0.085, 0.27, 0.825, 0.67))
     at = np.arange(len(table))
     rock = scale_of(table["ore_t"] + table["waste_t"], "t")
     axes.bar(at, table["ore_t"] / rock.divisor, color="#8a8a8a", edgecolor="black", linewidth=0.4, width=0.8, label="Ore")
@@ -279,7 +296,7 @@ def add_worths(right: Any, left: Any, table: pd.DataFrame, at: NDArray[np.int64]
     for each in (left.yaxis, right.yaxis):
         each.set_major_formatter(SEPARATED)
     handles = [h for a in (right, left) for h in a.get_legend_handles_labels()[0]]
-    left.legend(handles, [h.get_label() for h in handles], loc="upper center", bbox_to_anchor=(0.5, 0.0), borderaxespad=BELOW + 1.5, ncol=2, frameon=False)
+    left.legend(handles, [h.get_label() for h in handles], loc="upper center", bbox_to_anchor=(0.5, -0.17), ncol=2, frameon=False)
 
 
 def currency_of(shells: Shells) -> str:
