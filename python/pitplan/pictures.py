@@ -125,6 +125,15 @@ def paint_words(column: "pd.Series[str]", label: str) -> Paint:
     return Paint(values, table, BoundaryNorm(np.arange(len(names) + 1) - 0.5, len(names)), label, [(float(i), str(w)) for i, w in enumerate(names)])
 
 
+def middle_of(shells: Shells, style: Style = Style()) -> tuple[float, int]:
+    """Where to look where nothing is asked for: the toe of the bench halfway down the outlined pit, and its row with most blocks."""
+    model = shells.study.model
+    inside = shells.holds(pit_index(shells, style.pit))
+    blocks = model.blocks[inside] if inside.any() else model.blocks
+    level = int(np.median(blocks["iz"].unique()))
+    return model.grid.origin[2] + (level - 0.5) * model.grid.size[2], int(blocks["iy"].mode().iloc[0])
+
+
 def plan(shells: Shells, elevation: float, style: Style = Style()) -> Figure:
     """The plan of the bench at an elevation (its toe, or anything below its crest), in true coordinates.
 
