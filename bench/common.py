@@ -26,6 +26,9 @@ GENERATED = {
     "b1m": "1040000 180 180 40 five 7 1.0 box",
     "b2m": "2000000 240 240 40 five 7 1.0 box",
     "b10k": "10000 30 30 16 five 8 2 box",
+    "rich3m": "3000000 280 280 46 five 17 12 box",
+    "b10m": "10000000 420 420 66 five 12 1.5 box",
+    "b15m": "15000000 500 500 70 nine 13 1.0 box",
 }
 
 Model = namedtuple("Model", "name prec upit blocks settings")

@@ -1,5 +1,9 @@
 """Runs every engine of the built program on mines that are made up: small ones, whose best pit is found by going through
-all their closed sets; scattered ones of up to 300 blocks; and chains of 4,000, which are long for pseudoflow.
+all their closed sets; scattered ones of up to 300 blocks; and chains of 4,000.
+
+Mines of 1,001 to 20,000 blocks are solved with no word on the method: ore bodies in waste, scattered pairs, and long chains,
+on which the push-relabel machine would need more steps than it has, so that these have an answer only where pseudoflow
+is tried.
 
 A certificate at GROUP PAIR is read by plain_check.py, which says whether its flow proves the pit; at GROUP SCALED, which
 that doesn't read, the pit must be the same.
@@ -15,6 +19,7 @@ import plain_check
 from refused_calls import run
 
 ENGINES = (("pseudoflow", 1), ("push-relabel", 1), ("push-relabel", 2), ("words", 1), ("words", 2))
+USUAL = ((None, None), (None, 2))  # no word on the method, nor on the workers
 SHAPES = ("chain", "star", "cycle", "scattered")
 
 # Its worths, its pairs, what its best pit is worth and how many blocks that has (less than nothing), where that is known, and who solves it.
@@ -60,12 +65,50 @@ def scattered_mine(seed):
     return Mine(worths_of(chance, blocks), pairs_of(chance, "scattered", blocks), None, ENGINES)
 
 
-def long_chain(ore, from_below):
-    """2,000 blocks of ore, each of which rests on the next one up, under 2,000 that cost 1; numbered from below or from above."""
-    worths, pairs = [ore] * 2_000 + [-1] * 2_000, pairs_of(None, "chain", 4_000)
+def long_chain(ore, from_below, half=2_000):
+    """Half the blocks are ore, each of which rests on the next one up, under as many that cost 1; numbered from below or above."""
+    worths, pairs = [ore] * half + [-1] * half, pairs_of(None, "chain", 2 * half)
     if not from_below:
-        worths, pairs = worths[::-1], [(3_999 - b, 3_999 - p) for b, p in pairs]
-    return Mine(worths, pairs, (2_000 * (ore - 1), -4_000 if ore > 1 else 0), ENGINES[:1])
+        last = 2 * half - 1
+        worths, pairs = worths[::-1], [(last - b, last - p) for b, p in pairs]
+    return Mine(worths, pairs, (half * (ore - 1), -2 * half if ore > 1 else 0), ENGINES[:1])
+
+
+def ore_bodies(blocks, side, radius):
+    """So many blocks in benches of side by side, each of which costs 1 to 3 and rests on five of the bench above; ore
+    within a radius of some centers pays 1 to 30 beside that.
+    """
+    chance = random.Random(blocks)
+    places = [(b // side // side, b // side % side, b % side) for b in range(blocks)]
+    centers = chance.sample(places, 3)
+    worths = [-chance.randrange(1, 4) for _ in places]
+    for b, place in enumerate(places):
+        if any(sum((u - v) ** 2 for u, v in zip(place, center)) <= radius**2 for center in centers):
+            worths[b] += chance.randrange(1, 31)
+    pairs = []
+    for b, (z, y, x) in enumerate(places):
+        for j, i in ((y, x), (y - 1, x), (y + 1, x), (y, x - 1), (y, x + 1)):
+            if z > 0 and 0 <= j < side and 0 <= i < side:
+                pairs.append((b, ((z - 1) * side + j) * side + i))
+    return Mine(worths, pairs, None, USUAL)
+
+
+def large_scattered_mine(blocks):
+    """A mine of so many blocks, with up to four pairs each."""
+    chance = random.Random(blocks)
+    return Mine(worths_of(chance, blocks), pairs_of(chance, "scattered", blocks), None, USUAL)
+
+
+def longer_chain(ore, from_below):
+    """10,000 blocks of ore under 10,000 that cost 1, as in `long_chain`."""
+    return long_chain(ore, from_below, half=10_000)._replace(engines=USUAL)
+
+
+def usual_mines():
+    """The mines of 1,001 to 20,000 blocks."""
+    mines = [ore_bodies(blocks, side, radius) for blocks, side, radius in ((1_001, 12, 3), (5_000, 20, 4), (10_000, 25, 5), (20_000, 32, 6))]
+    mines += [large_scattered_mine(blocks) for blocks in (1_001, 3_000, 10_001)]
+    return mines + [longer_chain(ore, from_below) for ore in (1, 2) for from_below in (True, False)]
 
 
 def texts_of(worths, pairs):
@@ -82,7 +125,8 @@ def texts_of(worths, pairs):
 def pit_by(program, folder, engine, rests, worths):
     """The pit that an engine finds, or what is wrong with its answer, as text."""
     method, workers = engine
-    words = ["solve", "--prec", "p", "--upit", "u", "--method", method, "--workers", str(workers)]
+    words = ["solve", "--prec", "p", "--upit", "u"]
+    words += (["--method", method] if method else []) + (["--workers", str(workers)] if workers else [])
     status, certificate, errors = run(program, words, folder)
     if (status, errors) != (0, b""):
         return "status %s, %r, %r" % (status, certificate, errors)
@@ -102,7 +146,7 @@ def wrong(program, mine):
         pits = [pit_by(program, folder, engine, rests, mine.worths) for engine in mine.engines]
     for engine, pit in zip(mine.engines, pits):
         if pit != pits[0] or isinstance(pit, str):
-            return "%s by %d: %s, and by pseudoflow %s" % (*engine, pit, pits[0])
+            return "%s by %s: %s, and by %s %s" % (*engine, pit, mine.engines[0][0], pits[0])
     found = sum(mine.worths[b] for b in pits[0]), -len(pits[0])
     return None if mine.best in (None, found) else "%s in place of %s" % (found, mine.best)
 
@@ -110,7 +154,7 @@ def wrong(program, mine):
 def try_all(program):
     """Tries every mine, and gives how many were solved as they must be and how many not."""
     mines = [small_mine(seed) for seed in range(200)] + [scattered_mine(seed) for seed in range(100)]
-    mines += [long_chain(ore, from_below) for ore in (1, 2) for from_below in (True, False)]
+    mines += [long_chain(ore, from_below) for ore in (1, 2) for from_below in (True, False)] + usual_mines()
     with ThreadPoolExecutor(len(os.sched_getaffinity(0))) as pool:
         results = list(pool.map(lambda mine: wrong(program, mine), mines))
     for number, line in enumerate(results):

@@ -178,7 +178,7 @@ pub fn steps_option<'a>(alloc: Global) -> Arg<'a> {
         alloc,
         "steps",
         "STEPS",
-        "The most steps of the push-relabel machine, or turns of pseudoflow, from 1 to 1099511627776 (1000000000 by default)",
+        "The most steps of the push-relabel machine, or turns of pseudoflow, from 1 to 1099511627776 (by default 1000000000 steps and 1099511627776 turns)",
     )
 }
 
@@ -201,6 +201,13 @@ pub fn verbose_option<'a>(alloc: Global) -> Arg<'a> {
         .long("verbose")
         .action(ArgAction::SetTrue)
         .help("Tells on standard error which file failed, and the system's reason")
+}
+
+/// The same of a command that solves.
+pub fn verbose_solving_option<'a>(alloc: Global) -> Arg<'a> {
+    verbose_option(alloc).help(
+        "Tells on standard error which file failed, and the system's reason; after UNSETTLED, what to try",
+    )
 }
 
 /// A word that clap made sure of.

@@ -3,7 +3,7 @@
 
 use crate::options::{
     PREC_HELP, PRICED_BLOCKS_HELP, file_option, method_option, progress_option, steps_option,
-    text_of, verbose_option, with_options, workers_option,
+    text_of, verbose_solving_option, with_options, workers_option,
 };
 use clap::{Arg, ArgMatches, Command};
 use std::alloc::{AllocError, Global};
@@ -37,7 +37,7 @@ const METHOD_HELP: &str =
 
 const METHODS: &str = "Which engine makes the flow: auto (the default), pseudoflow or push-relabel
 
-  auto          the push-relabel machine for a mine of at most 1000 blocks, and pseudoflow where a number of its run doesn't fit; for more blocks pseudoflow, and the machine where that gives no flow that proves a pit; the machine alone where --steps is given
+  auto          up to 1000 blocks the push-relabel machine, and pseudoflow where a number of its run doesn't fit. For more blocks pseudoflow; up to 10000 blocks the machine where that gives up. Where --steps is given, the machine alone
   pseudoflow    highest-label pseudoflow alone, for as many factors at a time as there are workers; UNSETTLED where it gives up
   push-relabel  the push-relabel machine alone, with as many threads as there are workers
 
@@ -68,7 +68,7 @@ fn series_options<'a>(alloc: Global, settings_help: &'a str) -> Result<Vec<Arg<'
         steps_option(alloc),
         workers_option(alloc, WORKERS_HELP),
         progress_option(alloc, PROGRESS_HELP),
-        verbose_option(alloc),
+        verbose_solving_option(alloc),
     ]?)
 }
 

@@ -2,7 +2,7 @@
 
 use crate::options::{
     ModelWords, STATUSES, group_option, method_option, model_at_factor_options, model_words,
-    named_option, progress_option, steps_option, text_of, verbose_option, with_options,
+    named_option, progress_option, steps_option, text_of, verbose_solving_option, with_options,
     workers_option,
 };
 use clap::{Arg, ArgMatches, Command};
@@ -12,12 +12,12 @@ const ABOUT: &str = "Finds the best pit and writes its certificate";
 
 const DETAILS: &str = "Finds the best pit and writes its certificate.
 
-Prints a PITCERT text for `pit check`: the pit, and a flow that proves it. Whatever engine made the flow, it is checked before anything is written. Prints UNSETTLED where the run needs more steps than --steps allows, and REFUSED TooLarge where a number of the run, or a sum of the check of its flow, doesn't fit 128 bits (of a run by words 63); both have the status 1.
+Prints a PITCERT text for `pit check`: the pit, and a flow that proves it. Whatever engine made the flow, it is checked before anything is written. Prints UNSETTLED where the run needs more steps than --steps allows, or pseudoflow gives up, and REFUSED TooLarge where a number of the run, or a sum of the check of its flow, doesn't fit 128 bits (of a run by words 63); both have the status 1.
 
 With --trace the push-relabel machine makes the flow, and each of its steps is written to the trace, with which `pit replay` repeats the run. Prints HISTORYFULL, with the status 1, where the run needs more steps than --room has room for.
 
 Methods:
-  auto          the push-relabel machine for a mine of at most 1000 blocks, and pseudoflow where a number of its run doesn't fit; for more blocks pseudoflow, and the machine where that gives no flow that proves a pit; the machine alone where --workers or --steps is given
+  auto          up to 1000 blocks the push-relabel machine, and pseudoflow where a number of its run doesn't fit. For more blocks pseudoflow; up to 10000 blocks the machine where that gives up. Where --steps is given, the machine alone
   pseudoflow    highest-label pseudoflow alone: quick on mines of millions of blocks; UNSETTLED where it gives up
   push-relabel  the push-relabel machine alone: each step is proved, and it is slow beyond some thousand blocks
   words         the same machine without a lock: one or two workers share its state in words of 64 bits, and each step is one operation on one word. Its --group is scaled, also where that is left out, and it can't be given with --trace";
@@ -26,7 +26,7 @@ const METHOD_HELP: &str =
     "Which engine makes the flow: auto (the default), pseudoflow, push-relabel or words";
 
 const WORKERS_HELP: &str =
-    "How many threads the push-relabel machine has, from 1 to 64 (1 by default), which share one lock; with --method words 1 or 2, without a lock";
+    "How many threads the push-relabel machine has, from 1 to 64 (1 by default), which share one lock; with --method words 1 or 2, without a lock. Pseudoflow has one thread";
 
 const PROGRESS_HELP: &str = "Tells on standard error, once a second, how far the run is";
 
@@ -71,7 +71,7 @@ fn run_options<'a>(alloc: Global) -> Result<Vec<Arg<'a>>, AllocError> {
         steps_option(alloc),
         workers_option(alloc, WORKERS_HELP),
         progress_option(alloc, PROGRESS_HELP),
-        verbose_option(alloc),
+        verbose_solving_option(alloc),
         named_option(alloc, "trace", "FILE", TRACE_HELP),
         named_option(alloc, "room", "ROOM", ROOM_HELP),
     ]?)

@@ -14,7 +14,13 @@ begins_with_pseudoflow Auto n = nat_lt 1000 n
 begins_with_pseudoflow Pseudoflow n = true
 begins_with_pseudoflow PushRelabel n = false
 
--- the method where the machine's limits are asked for, or are not
+-- whether there is no pit of a mine of n blocks where pseudoflow proves none: the machine isn't tried behind it
+abbrev pub ends_with_pseudoflow : Method → ℕ → Bool
+ends_with_pseudoflow Auto n = nat_lt 10000 n
+ends_with_pseudoflow Pseudoflow n = true
+ends_with_pseudoflow PushRelabel n = false
+
+-- the method where steps are asked for, or are not
 abbrev pub method_under : Method → Bool → Method
 method_under Auto true = PushRelabel
 method_under method are_asked = method

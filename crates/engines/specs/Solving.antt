@@ -1,5 +1,5 @@
 -- How the engine of `solve` ends, by the bytes of its inputs and of its output.
-use Rattle.std.specs.Prelude.{◌≡◌, ℕ, ◌⊎◌, Bool, List, length, Option, Result, Ok, Err}
+use Rattle.std.specs.Prelude.{◌≡◌, ℕ, ◌⊎◌, Bool, true, List, length, Option, Result, Ok, Err}
 use Rattle.std.specs.Io.KnownBytes.{Appends, Keeps}
 use Rattle.fixed_worth.specs.Device.{ReceivedPrefix}
 use Rattle.ordered_group.specs.declared.groups.Group.{Group}
@@ -20,7 +20,7 @@ use Rattle.engines.specs.declared.engine_fault.EngineFault.TheVariants as engine
 use Rattle.engines.specs.declared.solving.Unsolved.{Unsolved}
 use Rattle.engines.specs.declared.solving.Unsolved.TheVariants.{Unsettled, TooLarge, GaveUp, NoMemory, NoThread, Stranger}
 use Rattle.engines.specs.declared.method.Method.{Method}
-use Rattle.engines.specs.declared.method.Method.TheVariants.{Pseudoflow}
+use Rattle.engines.specs.Methods.{ends_with_pseudoflow}
 use Rattle.engines.specs.FaultStands.{ValuesFail, SettingsFail, BlocksFail, TableFails, PrecedenceFails, ModelFails}
 use Rattle.engines.specs.Mines.{MineTexts, price_wanted, mine_of, DenoteMine}
 use Rattle.engines.specs.NetAnswers.{certificate_text, unsettled_line, too_large_line}
@@ -51,9 +51,13 @@ MachineStands net limit NoMemory = Unit {0}
 MachineStands net limit NoThread = Unit {0}
 MachineStands net limit Stranger = Unit {0}
 
--- why there is none: pseudoflow gives up only where it alone was asked for, and then nothing is said of the net
+-- whether pseudoflow may give up on a net: it alone was asked for, or the machine isn't tried behind it, since there are too many blocks
+abbrev pub MayGiveUp : NetView → Method → Type 0
+MayGiveUp net method = ends_with_pseudoflow method (length net.worths) ≡ true
+
+-- why there is none; where pseudoflow gives up nothing is said of the net
 abbrev pub UnsolvedStands : NetView → Method → ℕ → Unsolved → Type 0
-UnsolvedStands net method limit GaveUp = method ≡ Pseudoflow
+UnsolvedStands net method limit GaveUp = MayGiveUp net method
 UnsolvedStands net method limit unsolved = MachineStands net limit unsolved
 
 -- what a fault of a run means; the number of workers is always right
@@ -72,9 +76,9 @@ pub record IsCertificateOf (counts : Bool) (name : Group) (price : Price) (net :
   pub read : IsReadBack counts name (length net.worths) net.pairs text price pit flow
   pub sound : IsSound net flow pit
 
--- such a line, and why it is answered: but for pseudoflow alone, which may give up on any net, it is by the machine's run
+-- such a line, and why it is answered: but where pseudoflow may give up, it is by the machine's run
 abbrev pub IsNoOf : NetView → Method → ℕ → List ℕ → Type 0
-IsNoOf net method limit text = ((method ≡ Pseudoflow) × (text ≡ unsettled_line)) ⊎ (IsCutOff net limit × (text ≡ unsettled_line)) ⊎ (SomeNumberOverflows net limit × (text ≡ too_large_line))
+IsNoOf net method limit text = (MayGiveUp net method × (text ≡ unsettled_line)) ⊎ (IsCutOff net limit × (text ≡ unsettled_line)) ⊎ (SomeNumberOverflows net limit × (text ≡ too_large_line))
 
 -- the text that answers for a net
 abbrev pub AnswersNet : Bool → Group → Price → NetView → Method → ℕ → Verdict → List ℕ → Type 0

@@ -28,7 +28,8 @@ pub enum Unsolved {
     Unsettled,
     /// A number of a step of the machine's run, or of the check of its flow, doesn't fit.
     TooLarge,
-    /// Pseudoflow alone was asked for, and gave no flow that a check accepts.
+    /// Pseudoflow gave no flow that a check accepts, and the machine wasn't tried: pseudoflow alone was asked for, or the mine
+    /// is too large for it.
     GaveUp,
     /// Memory was refused.
     NoMemory,
@@ -125,7 +126,7 @@ where
 {
     match by_machine(rt, alloc, net, effort, gate) {
         Err(Unsolved::TooLarge) if effort.method == Method::Auto => {
-            match by_pseudoflow(alloc, net, effort.steps, gate) {
+            match by_pseudoflow(alloc, net, effort.turns, gate) {
                 Ok(Some(solution)) => Ok(solution),
                 Ok(None) => Err(Unsolved::TooLarge),
                 Err(_) => Err(Unsolved::NoMemory),
@@ -138,7 +139,8 @@ where
 /// A pit of a net with a flow that proves it, made by the effort's method.
 ///
 /// # Errors
-/// Those of `by_machine`; `GaveUp` where pseudoflow alone was asked for and proves no pit.
+/// Those of `by_machine`; `GaveUp` where pseudoflow proves no pit and alone was asked for, or, under `Auto`, the mine has more
+/// than 10,000 blocks.
 pub fn solution_of<G: OrderedGroup, R: Threads + Wait + Sync, T: Gate + Progress>(
     rt: &R,
     alloc: Global,
@@ -155,9 +157,9 @@ where
     if !effort.method.begins_with_pseudoflow(net.len()) {
         return by_machine_first(rt, alloc, net, effort, gate);
     }
-    match by_pseudoflow(alloc, net, effort.steps, gate) {
+    match by_pseudoflow(alloc, net, effort.turns, gate) {
         Ok(Some(solution)) => Ok(solution),
-        Ok(None) if effort.method == Method::Pseudoflow => Err(Unsolved::GaveUp),
+        Ok(None) if effort.method.ends_with_pseudoflow(net.len()) => Err(Unsolved::GaveUp),
         Ok(None) => by_machine(rt, alloc, net, effort, gate),
         Err(_) => Err(Unsolved::NoMemory),
     }

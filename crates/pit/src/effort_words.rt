@@ -2,12 +2,14 @@
 
 ghost use Rattle.std.specs.Prelude.{◌≤◌, IfOk};
 
+use async_step::MOST_STEPS;
 use command_line::{Commanded, NamedOption, SeriesWords, SolveWords, WrongWord};
 use engines::{Effort, Method, method_named, steps_named, workers_named};
 use word_engines::WordEffort;
 use workers::MOST_WORKERS;
 
-// The most steps of a run, where no word says.
+// The most steps of a run of the machine, where no word says: how long it runs can't be told from a mine's size, so it is
+// bounded. Pseudoflow isn't, but by the most that the option takes.
 const USUAL_STEPS: u64 = 1_000_000_000;
 
 // The words that say how much solving a mine may use, of a command that has them.
@@ -18,16 +20,14 @@ struct EffortWords<'a> {
     workers: Option<&'a str>,
 }
 
-/// How `solve` solves the mine by a method. Steps and workers are the push-relabel machine's, so that `auto` leaves the
-/// choice to it where one of them is given.
+/// How `solve` solves the mine by a method.
 pub fn effort_to_solve<'a>(words: SolveWords<'a>, method: Method) -> Result<Effort, WrongWord<'a>> {
-    let limits_are_given = words.workers.is_some() || words.steps.is_some();
     let words = EffortWords {
         command: Commanded::Solve,
         steps: words.steps,
         workers: words.workers,
     };
-    effort_asked(words, method.where_limits_are(limits_are_given))
+    effort_asked(words, method)
 }
 
 /// How much a run of `solve` without a lock may use: it has one worker or two.
@@ -46,24 +46,27 @@ pub fn effort_by_words<'a>(words: SolveWords<'a>) -> Result<WordEffort, WrongWor
     })
 }
 
-/// How `shells` and `report` solve the mine at each factor. Workers are of use to both engines here, so that steps alone
-/// leave the choice to the push-relabel machine.
+/// How `shells` and `report` solve the mine at each factor.
 pub fn effort_for_series<'a>(words: SeriesWords<'a>) -> Result<Effort, WrongWord<'a>> {
     let command = Commanded::Series(words.command);
     let method = method_asked(command, words.method)?;
-    let limits_are_given = words.steps.is_some();
     let words = EffortWords {
         command,
         steps: words.steps,
         workers: words.workers,
     };
-    effort_asked(words, method.where_limits_are(limits_are_given))
+    effort_asked(words, method)
 }
 
+// Steps are the push-relabel machine's, so that `auto` leaves the choice to it where they are given; workers say only how
+// many it has where it runs.
 fn effort_asked<'a>(words: EffortWords<'a>, method: Method) -> Result<Effort, WrongWord<'a>> {
     let workers = workers_asked(words)?;
     let steps = steps_asked(words)?;
-    Ok(Effort::new(method, workers, steps))
+    let are_given = words.steps.is_some();
+    let turns = if are_given { steps } else { MOST_STEPS };
+    let method = method.where_steps_are(are_given);
+    Ok(Effort::new(method, workers, steps, turns))
 }
 
 /// The method: by the mine's size, where no word says.

@@ -2,6 +2,7 @@
 
 ghost use Rattle.engines.specs.Slopes.{IsChoice};
 
+use crate::advice::advice_for_series;
 use crate::opened::{PricedFiles, ValueFiles, file, open_prices, open_values};
 use crate::told::output;
 use command_line::{CheckWords, ModelWords, ReplayWords, SeriesCommand, SeriesWords, SlopesWords};
@@ -40,7 +41,7 @@ fn check_values<'a, R: Files + Print + Eprint + AllocGlobal>(
 ) -> Result<Verdict, EngineFault> {
     let ValueFiles { mut upit, mut prec } = open_values(rt, words.verbose, words.prec, upit)?;
     let mut certificate = file(rt, words.verbose, words.certificate)?;
-    let mut out = Counted::new(output(rt, words.verbose));
+    let mut out = Counted::new(output(rt, words.verbose, None));
     check_engine(rt.alloc(), &mut upit, &mut prec, &mut certificate, &mut out)
 }
 
@@ -56,7 +57,7 @@ fn check_prices<'a, R: Files + Print + Eprint + Threads + Sync + AllocGlobal>(
         mut prec,
     } = open_prices(rt, words.verbose, words.prec, settings, blocks)?;
     let mut certificate = file(rt, words.verbose, words.certificate)?;
-    let mut out = Counted::new(output(rt, words.verbose));
+    let mut out = Counted::new(output(rt, words.verbose, None));
     check_priced_engine(
         rt,
         rt.alloc(),
@@ -77,7 +78,7 @@ pub fn replay_files<'a, R: Files + Print + Eprint + AllocGlobal>(
 ) -> Result<Verdict, EngineFault> {
     let ValueFiles { mut upit, mut prec } = open_values(rt, words.verbose, words.prec, upit)?;
     let mut trace = file(rt, words.verbose, words.trace)?;
-    let mut out = Counted::new(output(rt, words.verbose));
+    let mut out = Counted::new(output(rt, words.verbose, None));
     replay_engine(
         rt.alloc(),
         &mut upit,
@@ -103,7 +104,7 @@ pub fn replay_priced_files<'a, R: Files + Print + Eprint + Threads + Sync + Allo
         mut prec,
     } = open_prices(rt, words.verbose, words.prec, settings, blocks)?;
     let mut trace = file(rt, words.verbose, words.trace)?;
-    let mut out = Counted::new(output(rt, words.verbose));
+    let mut out = Counted::new(output(rt, words.verbose, None));
     replay_priced_engine(
         rt,
         rt.alloc(),
@@ -128,7 +129,7 @@ pub fn series_files<
         mut blocks,
         mut prec,
     } = open_prices(rt, words.verbose, words.prec, words.settings, words.blocks)?;
-    let mut out = Counted::new(output(rt, words.verbose));
+    let mut out = Counted::new(output(rt, words.verbose, Some(advice_for_series(words))));
     let alloc = rt.alloc();
     match words.command {
         SeriesCommand::Shells => shells_engine(
@@ -164,7 +165,7 @@ pub fn slopes_file<R: Files + Print + Eprint + AllocGlobal>(
     requires { IsChoice pattern }
 {
     let mut blocks = file(rt, words.verbose, words.blocks)?;
-    let mut out = Counted::new(output(rt, words.verbose));
+    let mut out = Counted::new(output(rt, words.verbose, None));
     slopes_engine(rt.alloc(), &mut blocks, pattern, up, &mut out)
 }
 
@@ -177,6 +178,6 @@ pub fn listed_slopes_files<R: Files + Print + Eprint + AllocGlobal>(
 ) -> Result<Verdict, EngineFault> {
     let mut settings = file(rt, words.verbose, settings)?;
     let mut blocks = file(rt, words.verbose, words.blocks)?;
-    let mut out = Counted::new(output(rt, words.verbose));
+    let mut out = Counted::new(output(rt, words.verbose, None));
     slopes_from_settings_engine(rt.alloc(), &mut settings, &mut blocks, up, &mut out)
 }

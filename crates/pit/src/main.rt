@@ -4,6 +4,7 @@
 //! the words of the command line, to files and to standard output, and the exit status is given.
 #![tactic(auto)]
 
+mod advice;
 mod effort_words;
 mod files;
 mod opened;

@@ -1,5 +1,6 @@
 //! The engines of `solve` on files: all files are opened before any is read.
 
+use crate::advice::advice_to_solve;
 use crate::opened::{PricedFiles, ValueFiles, made_file, open_prices, open_values};
 use crate::solve_options::TraceAsked;
 use crate::solving_asked::SolvingAsked;
@@ -80,7 +81,7 @@ fn words_files<'a, R: Files + Print + Eprint + Threads + Wait + Sync + AllocGlob
     watch: &T,
 ) -> Result<Verdict, EngineFault> {
     let ValueFiles { mut upit, mut prec } = open_values(rt, words.verbose, words.prec, upit)?;
-    let mut out = Counted::new(output(rt, words.verbose));
+    let mut out = Counted::new(output(rt, words.verbose, Some(advice_to_solve(words))));
     solve_words_engine(
         rt,
         rt.alloc(),
@@ -107,7 +108,7 @@ fn words_priced_files<'a, R: Files + Print + Eprint + Threads + Wait + Sync + Al
         mut blocks,
         mut prec,
     } = open_prices(rt, words.verbose, words.prec, settings, blocks)?;
-    let mut out = Counted::new(output(rt, words.verbose));
+    let mut out = Counted::new(output(rt, words.verbose, Some(advice_to_solve(words))));
     solve_priced_words_engine(
         rt,
         rt.alloc(),
@@ -135,7 +136,7 @@ fn solve_files<
     watch: &T,
 ) -> Result<Verdict, EngineFault> {
     let ValueFiles { mut upit, mut prec } = open_values(rt, words.verbose, words.prec, upit)?;
-    let mut out = Counted::new(output(rt, words.verbose));
+    let mut out = Counted::new(output(rt, words.verbose, Some(advice_to_solve(words))));
     solve_engine(
         rt,
         rt.alloc(),
@@ -160,7 +161,7 @@ fn trace_files<'a, R: Files + Print + Eprint + Threads + Wait + Sync + AllocGlob
 ) -> Result<Verdict, EngineFault> {
     let ValueFiles { mut upit, mut prec } = open_values(rt, words.verbose, words.prec, upit)?;
     let mut trace = made_file(rt, words.verbose, asked.file)?;
-    let mut out = Counted::new(output(rt, words.verbose));
+    let mut out = Counted::new(output(rt, words.verbose, Some(advice_to_solve(words))));
     solve_traced_engine(
         rt,
         rt.alloc(),
@@ -195,7 +196,7 @@ fn solve_priced_files<
         mut blocks,
         mut prec,
     } = open_prices(rt, words.verbose, words.prec, settings, blocks)?;
-    let mut out = Counted::new(output(rt, words.verbose));
+    let mut out = Counted::new(output(rt, words.verbose, Some(advice_to_solve(words))));
     solve_priced_engine(
         rt,
         rt.alloc(),
@@ -228,7 +229,7 @@ fn trace_priced_files<'a, R: Files + Print + Eprint + Threads + Wait + Sync + Al
         mut prec,
     } = open_prices(rt, words.verbose, words.prec, settings, blocks)?;
     let mut trace = made_file(rt, words.verbose, asked.file)?;
-    let mut out = Counted::new(output(rt, words.verbose));
+    let mut out = Counted::new(output(rt, words.verbose, Some(advice_to_solve(words))));
     solve_traced_priced_engine(
         rt,
         rt.alloc(),

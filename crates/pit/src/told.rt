@@ -1,17 +1,20 @@
 //! Files and the output, which tell why they failed where that is asked for.
 
+use crate::advice::Advice;
 use std::fs::File;
 use std::io;
 use std::io::{Printer, Read, Write};
 use std::rt::Files;
 
 /// A file or the output under its name. Where a call on it fails, it tells the system's reason on standard error, if that
-/// was asked for, and hands the failure on.
+/// was asked for, and hands the failure on. The output of a command that solves tells then, too, what to try where the line
+/// says that no pit is proved.
 #[derive(Drop)]
 pub struct Told<'a, R, D> {
     rt: &'a R,
     verbose: bool,
     name: &'a str,
+    advice: Option<Advice>,
     device: D,
 }
 
@@ -29,6 +32,7 @@ pub fn opened<'a, R: Files + Eprint>(
             rt,
             verbose,
             name,
+            advice: None,
             device,
         }),
         Err(error) => {
@@ -52,6 +56,7 @@ pub fn made<'a, R: Files + Eprint>(
             rt,
             verbose,
             name,
+            advice: None,
             device,
         }),
         Err(error) => {
@@ -61,12 +66,17 @@ pub fn made<'a, R: Files + Eprint>(
     }
 }
 
-/// Standard output.
-pub fn output<'a, R: Print + Eprint>(rt: &'a R, verbose: bool) -> Told<'a, R, Printer<'a, R>> {
+/// Standard output of a command that may be given advice.
+pub fn output<'a, R: Print + Eprint>(
+    rt: &'a R,
+    verbose: bool,
+    advice: Option<Advice>,
+) -> Told<'a, R, Printer<'a, R>> {
     Told {
         rt,
         verbose,
         name: "standard output",
+        advice,
         device: io::writer(rt),
     }
 }
@@ -86,7 +96,10 @@ impl<R: Eprint, D: Read> Read for Told<'_, R, D> {
 impl<R: Eprint, D: Write> Write for Told<'_, R, D> {
     fn write(&mut self, buf: &[u8]) -> io::Result<usize> {
         match self.device.write(buf) {
-            Ok(count) => Ok(count),
+            Ok(count) => {
+                advise(self.rt, self.verbose, self.advice, buf);
+                Ok(count)
+            }
             Err(error) => {
                 tell(self.rt, self.verbose, "write to", self.name, error);
                 Err(error)
@@ -104,5 +117,14 @@ impl<R: Eprint, D: Write> Write for Told<'_, R, D> {
 fn tell<R: Eprint>(rt: &R, verbose: bool, what: &str, name: &str, why: io::Error) {
     if verbose {
         let _ = rt.eprintln(format_args!("reason: cannot {what} {name}: {why}"));
+    }
+}
+
+// Tells what to try where this was written.
+fn advise<R: Eprint>(rt: &R, verbose: bool, advice: Option<Advice>, written: &[u8]) {
+    if let (true, Some(advice)) = (verbose, advice) {
+        if let Some(text) = advice.after(written) {
+            let _ = rt.eprintln(format_args!("advice: {text}"));
+        }
     }
 }

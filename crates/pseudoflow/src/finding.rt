@@ -27,8 +27,14 @@ fn end_of_look(from: usize, pairs: usize, turns: u64) -> usize
     from.saturating_add(most).min(pairs)
 }
 
-// The first place in a range of a block with the label, or the end of the range where none has it.
-fn first_with_label(labels: &Labels, blocks: &[u32], from: usize, to: usize, label: u32) -> usize
+/// The first place in a range of a block with the label, or the end of the range where none has it.
+pub(crate) fn first_with_label(
+    labels: &Labels,
+    blocks: &[u32],
+    from: usize,
+    to: usize,
+    label: u32,
+) -> usize
     requires known { All (λ b. b < labels.now) blocks.now }
     requires to { to ≤ length blocks.now }
     ensures { result ≤ to }

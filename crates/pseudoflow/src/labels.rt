@@ -107,6 +107,13 @@ impl Labels {
         self.relabel(b, self.highest)
     }
 
+    /// Whether b is lifted out of the search.
+    pub(crate) fn is_lifted(&self, b: u32) -> bool
+        requires { b < self.now }
+    {
+        self.at(b) == self.highest
+    }
+
     /// How many blocks were lifted out of the search.
     pub(crate) fn lifted(&self) -> u32 {
         self.count(self.highest)

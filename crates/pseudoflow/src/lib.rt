@@ -8,7 +8,7 @@
 //!
 //! - All arcs of the source and the sink are saturated at first, so that each block has its worth as its excess, or as its
 //!   deficit where it is negative. The other arcs that carry something form a forest (`forest`). A tree is strong where its
-//!   root has an excess, and weak otherwise.
+//!   root has an excess, and weak otherwise. The labels are exact then (`first_labels`).
 //! - The strong tree whose root has the highest label (`labels`, `buckets`) is searched for a merger arc, a pair that leads
 //!   to a block of the next lower label (`finding`). The tree is hung under that block (`merging`), and its excess is pushed
 //!   up to the new root. A block whose arc can't take all of it is split off as a new strong tree (`pushing`).
@@ -27,6 +27,7 @@ mod buckets;
 mod budget;
 mod fault;
 mod finding;
+mod first_labels;
 mod forest;
 mod labels;
 mod lifting;

@@ -7,6 +7,7 @@ use crate::amounts::Amounts;
 use crate::buckets::Buckets;
 use crate::budget::Budget;
 use crate::fault::PseudoflowFault;
+use crate::first_labels::first_labels;
 use crate::forest::Forest;
 use crate::labels::Labels;
 use crate::recovery::flow_of_forest;
@@ -42,48 +43,53 @@ impl<'a, G: OrderedGroup> Model for Search<'a, G> {
     ghost invariant = { λ s. (s.rests.now.blocks ≡ s.forest) × (s.labels ≡ s.forest) × (s.amounts ≡ s.forest) };
 }
 
-// Puts the blocks of positive worth, of which each is a tree of its own, into the bucket of label 1.
-fn add_positive_blocks<G: OrderedGroup>(
-    amounts: &Amounts<G>,
+// Puts the blocks of positive worth that aren't lifted, of which each is a tree of its own, into the buckets of their
+// labels: the highest of these labels, and 0 where there are none.
+fn add_strong_blocks(
+    labels: &Labels,
     n: u32,
     forest: &mut Forest,
-    labels: &mut Labels,
     buckets: &mut Buckets,
-) -> Result<(), PseudoflowFault>
+) -> Result<u32, PseudoflowFault>
     requires blocks { n ≡ forest.old }
-    requires amounts { amounts.now ≡ forest.old }
-    requires labels { labels.old ≡ forest.old }
-    ensures forest { forest.new ≡ forest.old }
-    ensures labels { labels.new ≡ labels.old }
+    requires labels { labels.now ≡ forest.old }
+    ensures { forest.new ≡ forest.old }
 {
+    let mut highest = 0;
     for b in (0..n).rev() {
-        if amounts.excess(b).is_positive() {
-            labels.raise(b)?;
-            buckets.push(forest, 1, b)?;
+        let label = labels.at(b);
+        if label > 0 && !labels.is_lifted(b) {
+            buckets.push(forest, label, b)?;
+            highest = label.max(highest);
         }
     }
-    Ok(())
+    Ok(highest)
 }
 
 impl<'a, G: OrderedGroup> Search<'a, G> {
-    /// Each block is a tree of its own, and those of positive worth wait as strong roots of label 1.
-    pub(crate) fn open(alloc: Global, net: &'a Net<G>) -> Result<Search<'a, G>, PseudoflowFault>
-        ensures { IfOk result (λ s. s ≡ length net.now.worths) }
+    /// Each block is a tree of its own, and those of positive worth wait as strong roots.
+    pub(crate) fn open(
+        alloc: Global,
+        net: &'a Net<G>,
+        budget: &mut Budget,
+    ) -> Result<Search<'a, G>, PseudoflowFault>
+        ensures blocks { IfOk result (λ s. s ≡ length net.now.worths) }
+        ensures less { budget.new.left ≤ budget.old.left }
     {
         let rests = net.rests();
         let n = rests.len();
         let amounts = Amounts::new(alloc, net.worths())?;
         let mut forest = Forest::new(alloc, n)?;
-        let mut labels = Labels::new(alloc, n)?;
+        let labels = first_labels(alloc, rests, &amounts, budget)?;
         let mut buckets = Buckets::new(alloc, n as usize + 2)?;
-        add_positive_blocks(&amounts, n, &mut forest, &mut labels, &mut buckets)?;
+        let highest = add_strong_blocks(&labels, n, &mut forest, &mut buckets)?;
         Ok(Search {
             rests,
             forest,
             labels,
             buckets,
             amounts,
-            highest: 1,
+            highest,
         })
     }
 

@@ -32,7 +32,7 @@ pub fn solve<G: OrderedGroup, P: Progress>(
     ensures { IfOk result (λ flow. FlowFits net.now flow) }
 {
     let mut budget = Budget { left: turns };
-    let mut search = Search::open(alloc, net)?;
+    let mut search = Search::open(alloc, net, &mut budget)?;
     search.run(&mut budget, progress)?;
     search.flow(alloc, net, &mut budget)
 }

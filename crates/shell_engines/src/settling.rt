@@ -13,8 +13,8 @@ use crate::series_inputs::SeriesMine;
 use crate::series_progress::SeriesProgress;
 use crate::shell_rows::ShellRow;
 use crate::solving_at::solution_at;
+use engines::Effort;
 use engines::solving::Unsolved;
-use engines::{Effort, Method};
 use fixed_worth::MOST_FACTORS;
 use prec_file::Rests;
 use pseudoflow::Progress;
@@ -48,7 +48,7 @@ impl Shells {
     }
 }
 
-// The best pit of a mine at a factor, looked for now.
+// The best pit of a mine at a factor, looked for now: where the method ends with pseudoflow, that gave up on it.
 fn best_at<R: Threads + Wait + Sync, T: Gate + Progress>(
     rt: &R,
     alloc: Global,
@@ -62,7 +62,7 @@ fn best_at<R: Threads + Wait + Sync, T: Gate + Progress>(
     ensures fault { IfErr result (λ e. (factors : List ℕ) → Contains factors factor → NoSeriesStands scaled_block rests.now prices.now factors effort e) }
 {
     let net = net_at(rt, alloc, prices, rests.copy(alloc)?, factor)?;
-    if effort.method == Method::Pseudoflow {
+    if effort.method.ends_with_pseudoflow(net.len()) {
         return Err(NoSeries::Unsolved(factor.get(), Unsolved::GaveUp));
     }
     let solution = match solution_at(rt, alloc, &net, effort, gate) {
@@ -136,7 +136,7 @@ fn found_first<R: Threads + Sync, T: SeriesProgress + Sync>(
         rests,
         factors,
         threads,
-        effort.steps,
+        effort.turns,
         gate,
     )
 }
@@ -145,7 +145,7 @@ fn found_first<R: Threads + Sync, T: SeriesProgress + Sync>(
 /// the series, in the order of the factors.
 ///
 /// Where pseudoflow begins, as many threads as the effort has workers take the factors one after another, each the next that
-/// no other has taken; what they find no proof for is looked for then. Otherwise, and then, the workers are those of the
+/// no other has taken; what they find no proof for is looked for then, unless the method ends with pseudoflow. Otherwise, and then, the workers are those of the
 /// push-relabel machine, and one factor is solved after another: one worker or two run without a lock, and more under one.
 /// What pits come of it doesn't depend on the schedule: a mine has one best pit.
 ///

@@ -1,0 +1,56 @@
+//! What to try where no pit is proved.
+
+use command_line::{SeriesWords, SolveWords};
+
+/// What to try where a command answers that no pit is proved.
+#[derive(Clone, Copy)]
+pub struct Advice {
+    unsettled: &'static str,
+}
+
+const STEPS_CHOOSE_THE_MACHINE: &str =
+    "--steps without --method chooses the push-relabel machine; try --method pseudoflow, or leave --steps out";
+
+const MORE_STEPS: &str = "try more --steps, at most 1099511627776";
+
+const OTHER_METHOD: &str = "try --method pseudoflow, or --steps over 1000000000";
+
+const OTHER_AMOUNTS: &str =
+    "up to 1000 blocks try --method pseudoflow; beyond that --group scaled, or --method push-relabel with --steps 1099511627776";
+
+const MACHINE: &str =
+    "up to 1000 blocks try --method pseudoflow; beyond that --method push-relabel with --steps 1099511627776";
+
+// What to try where the method and the steps are these, if they are given; or else the last text.
+fn advice_by(method: Option<&str>, steps: Option<&str>, otherwise: &'static str) -> Advice {
+    let method = method.unwrap_or("auto");
+    let unsettled = match (method == "auto", steps.is_some()) {
+        (true, true) => STEPS_CHOOSE_THE_MACHINE,
+        (false, true) => MORE_STEPS,
+        (true, false) => otherwise,
+        (false, false) if method == "pseudoflow" => otherwise,
+        (false, false) => OTHER_METHOD,
+    };
+    Advice { unsettled }
+}
+
+/// What to try where `solve` proves no pit.
+pub fn advice_to_solve(words: SolveWords<'_>) -> Advice {
+    advice_by(words.method, words.steps, OTHER_AMOUNTS)
+}
+
+/// What to try where `shells` or `report` proves no pit at some factor: all their amounts are of one group.
+pub fn advice_for_series(words: SeriesWords<'_>) -> Advice {
+    advice_by(words.method, words.steps, MACHINE)
+}
+
+impl Advice {
+    /// What to try where this was written, if it is the line `UNSETTLED`.
+    pub fn after(self, written: &[u8]) -> Option<&'static str> {
+        if written.starts_with(b"UNSETTLED") {
+            Some(self.unsettled)
+        } else {
+            None
+        }
+    }
+}

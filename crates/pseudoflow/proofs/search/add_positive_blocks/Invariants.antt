@@ -1,8 +1,0 @@
-use Rattle.std.proofs.Common.{◌≡◌}
-use Rattle.pseudoflow.proofs.search.add_positive_blocks.Given as goal
-
-abbrev pub invariant-loop-b : goal.invariant-loop-b
-invariant-loop-b g l = record {
-  forest : l.forest ≡ l.fn.forest;
-  labels : l.labels ≡ l.fn.labels;
-}
