@@ -19,8 +19,6 @@ mod pit;
 mod port;
 mod search;
 mod source_side;
-#[cfg(test)]
-mod tests;
 mod worths;
 
 pub use carried::Carried;

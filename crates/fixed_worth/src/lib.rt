@@ -49,8 +49,3 @@ pub use sending::{WriteFault, write_text};
 pub use short_line::ShortLine;
 pub use whole_input::{InputFault, read_whole};
 pub use written_number::WrittenNumber;
-
-#[cfg(test)]
-mod device_tests;
-#[cfg(test)]
-mod tests;

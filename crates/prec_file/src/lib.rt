@@ -39,8 +39,3 @@ pub use rests::Rests;
 pub use rests_fault::RestsFault;
 pub use write_fault::PrecWriteFault;
 pub use writing::{write_prec, write_predecessors};
-
-#[cfg(test)]
-mod tests;
-#[cfg(test)]
-mod write_tests;

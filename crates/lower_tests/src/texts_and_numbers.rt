@@ -1,5 +1,5 @@
-use crate::NumberFault::{NotANumber, TooLarge, TooLong};
-use crate::{
+use fixed_worth::NumberFault::{NotANumber, TooLarge, TooLong};
+use fixed_worth::{
     Field, Fields, InputFault, Lines, Micros, MicrosTotal, Nanos, NumberFault, TextFault,
     WriteFault, WrittenNumber, behind_first, cut_at, first_line_feed, is_separator, laws,
     plain_signed, signed_whole, trimmed_fraction, whole,

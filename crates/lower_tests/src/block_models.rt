@@ -1,4 +1,4 @@
-use crate::{BlockModel, BlocksFault, Place, read_blocks};
+use blocks_file::{BlockModel, BlocksFault, Place, read_blocks};
 use std::alloc::Global;
 use std::fmt::Debug;
 use std::process::Abort;

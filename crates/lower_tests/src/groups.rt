@@ -1,6 +1,6 @@
 //! The groups at the ends of their numbers, and their order.
 
-use crate::{
+use ordered_group::{
     Group, OrderedGroup, Worth, WorthSize, at_most, is_zero, laws, negative_part, positive_part,
     same, smaller, try_sum, zeros,
 };

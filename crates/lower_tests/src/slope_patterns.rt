@@ -1,6 +1,6 @@
-use crate::{Pattern, PatternFault, SlopeFault, Up, predecessors_of, rests_of};
 use blocks_file::{BlockModel, Place, read_blocks};
 use prec_file::Rests;
+use slope::{Pattern, PatternFault, SlopeFault, Up, predecessors_of, rests_of};
 use std::alloc::Global;
 use std::fmt::{Debug, Display};
 use std::process::Abort;

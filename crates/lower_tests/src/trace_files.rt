@@ -1,4 +1,3 @@
-use crate::{MOST_EVENTS, TraceFault, read_trace, write_trace};
 use fixed_worth::{Counted, WriteFault};
 use machine_law::{Event, Kind};
 use std::alloc::Global;
@@ -6,6 +5,7 @@ use std::io;
 use std::io::{Error, ErrorKind, Write};
 use std::process::Abort;
 use std::test::Fail;
+use trace_file::{MOST_EVENTS, TraceFault, read_trace, write_trace};
 
 // A run worked out by hand over three blocks, of which block 0 and block 2 rest on block 1: a block, and the kinds of
 // its next steps.

@@ -1,6 +1,6 @@
 ghost use Rattle.std.specs.Prelude.{◌≤◌};
 
-use crate::{Carried, Flow, Graph, GraphRef, Net, NetFault, Pit, Port, PortKind, pit_of};
+use closure_net::{Carried, Flow, Graph, GraphRef, Net, NetFault, Pit, Port, PortKind, pit_of};
 use fixed_worth::MOST_BLOCKS;
 use ordered_group::{Scaled, Worth, WorthSize};
 use prec_file::{Rests, read_listed};

@@ -1,7 +1,7 @@
 //! Worth and size in one number: units at their ends, and what they tell of sets.
 
-use crate::tests::equal;
-use crate::{Group, OrderedGroup, Scaled, laws};
+use crate::groups::equal;
+use ordered_group::{Group, OrderedGroup, Scaled, laws};
 
 const MOST: i128 = i128::MAX;
 

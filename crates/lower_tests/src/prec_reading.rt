@@ -1,6 +1,8 @@
 ghost use Rattle.std.specs.Prelude.{◌≡◌, IfOk};
 
-use crate::{PrecFault, Predecessors, PredecessorsRef, Rests, RestsFault, read_listed, read_prec};
+use prec_file::{
+    PrecFault, Predecessors, PredecessorsRef, Rests, RestsFault, read_listed, read_prec,
+};
 use std::alloc::Global;
 use std::fmt::{Debug, Display};
 use std::process::Abort;

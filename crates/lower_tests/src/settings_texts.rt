@@ -1,4 +1,4 @@
-use crate::{Key, Settings, SettingsFault, read_settings};
+use settings_file::{Key, Settings, SettingsFault, read_settings};
 use std::alloc::Global;
 use std::process::Abort;
 use std::test::Fail;

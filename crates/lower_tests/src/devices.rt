@@ -1,6 +1,6 @@
 // Devices of the tests' own: they claim nothing of their bytes, so what they received or gave is
 // asserted as the tests run.
-use crate::{
+use fixed_worth::{
     Counted, CountedRead, CountedWrite, Failing, Failure, InputFault, Page, WriteFault, read_whole,
     write_text,
 };

@@ -1,9 +1,9 @@
-use crate::{Upit, UpitFault, declared_blocks, laws, read_upit, write_upit};
 use fixed_worth::{Counted, CountedWrite, Micros, WriteFault};
 use std::alloc::Global;
 use std::fmt::Debug;
 use std::process::Abort;
 use std::test::Fail;
+use upit_file::{Upit, UpitFault, declared_blocks, laws, read_upit, write_upit};
 
 // Fails the test where they differ. A call of it costs the proof less than the assertion in its place.
 fn equal<T: PartialEq + Debug + Copy>(rt: &impl Abort, got: T, wanted: T) {
