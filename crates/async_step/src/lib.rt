@@ -33,8 +33,6 @@ mod replaying;
 mod saw;
 mod state;
 mod stepping;
-#[cfg(test)]
-mod tests;
 
 pub use limits::MOST_STEPS;
 pub use machine_law::{Best, Event, Kind, Operation};

@@ -12,19 +12,11 @@
 #![tactic(auto)]
 
 mod audited_board;
-#[cfg(test)]
-mod audited_tests;
 mod board;
-#[cfg(test)]
-mod board_tests;
 mod finishing;
 mod recorded_board;
-#[cfg(test)]
-mod test_nets;
 mod turn;
 mod turn_board;
-#[cfg(test)]
-mod turn_board_tests;
 
 pub use audited_board::Audited;
 pub use board::Board;

@@ -3,7 +3,7 @@
 ghost use Rattle.std.specs.Prelude.{◌≤◌};
 ghost use Rattle.async_step.specs.Answers.{IsStateOf};
 
-use crate::{ReplayFault, Saw, State, StepRefusal, replay};
+use async_step::{ReplayFault, Saw, State, StepRefusal, replay};
 use closure_net::{Carried, Flow, Net};
 use fixed_worth::MOST_BLOCKS;
 use machine_law::{Event, Kind};

@@ -2,10 +2,10 @@
 
 ghost use Rattle.std.specs.Prelude.{◌≤◌};
 
-use crate::board_tests::{leaves, same, settled};
-use crate::test_nets::{sizes_too_large, two_on_dear_waste};
-use crate::{End, Turn, TurnBoard, finish};
+use crate::board_turns::{leaves, same, settled};
+use crate::small_nets::{sizes_too_large, two_on_dear_waste};
 use async_step::MOST_STEPS;
+use boards::{End, Turn, TurnBoard, finish};
 use closure_net::Net;
 use ordered_group::WorthSize;
 use std::alloc::Global;

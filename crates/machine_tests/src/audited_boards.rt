@@ -2,10 +2,10 @@
 
 ghost use Rattle.std.specs.Prelude.{◌≤◌};
 
-use crate::board_tests::{holds, leaves, same};
-use crate::test_nets::{sizes_too_large, two_on_dear_waste};
-use crate::{Audited, End, Turn};
+use crate::board_turns::{holds, leaves, same};
+use crate::small_nets::{sizes_too_large, two_on_dear_waste};
 use async_step::{Event, Kind, MOST_STEPS, replay};
+use boards::{Audited, End, Turn};
 use closure_net::{Flow, Net};
 use machine_law::MOST_EVENTS;
 use ordered_group::WorthSize;

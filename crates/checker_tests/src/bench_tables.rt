@@ -1,6 +1,6 @@
 //! Three blocks in two shells, and sums that are too large.
 
-use crate::{BenchRow, ReportFault, ReportWriteFault, rows, write_report};
+use bench_report::{BenchRow, ReportFault, ReportWriteFault, rows, write_report};
 use blocks_file::read_blocks;
 use check_pit::check;
 use closure_net::{Carried, Flow, Net, Pit};

@@ -1,11 +1,11 @@
 //! Three blocks at three prices, and a series that is full.
 
-use crate::{Factor, Prices, PricesFault, Series, SeriesFault};
 use check_pit::{Accepted, Price, check};
 use closure_net::{Carried, Flow, Net, Pit};
 use fixed_worth::Micros;
 use ordered_group::WorthSize;
 use prec_file::Rests;
+use shells::{Factor, Prices, PricesFault, Series, SeriesFault};
 use std::alloc::Global;
 use std::fmt::{Debug, Display};
 use std::process::Abort;

@@ -2,10 +2,10 @@
 
 ghost use Rattle.std.specs.Prelude.{◌<◌};
 
-use crate::test_nets::{
+use crate::small_nets::{
     each_on_the_other, sizes_too_large, two_on_dear_waste, two_on_waste, worth_what_it_costs,
 };
-use crate::{Board, End, Turn};
+use boards::{Board, End, Turn};
 use closure_net::{Flow, Net, pit_of};
 use ordered_group::{OrderedGroup, Worth, WorthSize};
 use std::alloc::Global;
