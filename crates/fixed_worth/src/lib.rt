@@ -1,4 +1,5 @@
-//! Numbers, lines and fields of text files, and the devices that the texts come from and go to.
+//! Numbers, lines and fields of text files, and the devices that the texts come from and go to: despite its name, all that
+//! texts have in common.
 //!
 //! Everything that reads or prints a number goes through this crate: whole numbers, decimals in
 //! millionths, and sums in millionths and in billionths. It also cuts a text into lines and a line
