@@ -19,7 +19,8 @@ import sys
 COORDINATES = "x", "y", "z"     # the columns with a block's centre
 VALUE = "value"                 # the column with what the block is worth
 
-DECIMAL = re.compile(r"[+-]?(\d+\.?\d*|\.\d+)([eE][+-]?\d+)?")
+# the digits 0 to 9 alone: \d would take those of other scripts too, which pit refuses
+DECIMAL = re.compile(r"[+-]?([0-9]+\.?[0-9]*|\.[0-9]+)([eE][+-]?[0-9]+)?")
 
 
 def rows_of(table):
@@ -27,11 +28,16 @@ def rows_of(table):
         with open(table, newline="", encoding="utf-8-sig") as file:
             separator = ";" if ";" in file.readline() else ","
             file.seek(0)
-            rows = list(csv.DictReader(file, delimiter=separator))
+            reader = csv.DictReader(file, delimiter=separator)
+            columns = reader.fieldnames or []
+            rows = list(reader)
     except OSError as error:
         sys.exit("%s: %s" % (table, error.strerror))
     except UnicodeDecodeError:
         sys.exit("%s is no text in UTF-8; in Excel save it as 'CSV UTF-8'" % table)
+    twice = sorted({column for column in columns if columns.count(column) > 1})
+    if twice:
+        sys.exit("the table has two columns %s: which one counts? Rename or remove the other" % ", ".join(map(repr, twice)))
     for block, row in enumerate(rows):
         if None in row:
             sys.exit("block %d, row %d below the header, has %d cells, and the header line %d: is there a comma within a number?"
@@ -54,9 +60,26 @@ def cells(rows, column):
 
 def size_of(word):
     """The size of a block along an axis."""
-    if not DECIMAL.fullmatch(word) or float(word) <= 0:
+    if not DECIMAL.fullmatch(word) or not 0 < float(word) < math.inf:
         sys.exit("the size of a block is '%s', and has to be a number above 0" % word)
     return float(word)
+
+
+def coordinates(rows, axis):
+    """The coordinates of the blocks along an axis."""
+    found = [float(cell) for cell in cells(rows, axis)]
+    for block, coordinate in enumerate(found):
+        if math.isinf(coordinate):
+            sys.exit("block %d, row %d below the header: %s is '%s', which is too far away" % (block, block + 1, axis, rows[block][axis].strip()))
+    return found
+
+
+def written(file_name):
+    """A file to be written."""
+    try:
+        return open(file_name, "w")
+    except OSError as error:
+        sys.exit("%s: %s" % (file_name, error.strerror))
 
 
 def indices(axis, coordinates, size):
@@ -78,10 +101,10 @@ def main():
         sys.exit(__doc__)
     table, *sizes, name = sys.argv[1:6]
     rows = rows_of(table)
-    axes = [indices(axis, [float(cell) for cell in cells(rows, axis)], size_of(size)) for axis, size in zip(COORDINATES, sizes)]
+    axes = [indices(axis, coordinates(rows, axis), size_of(size)) for axis, size in zip(COORDINATES, sizes)]
     values = cells(rows, VALUE)
     further = [cells(rows, column) for column in sys.argv[6:]]
-    with open(name + ".blocks", "w") as blocks, open(name + ".upit", "w") as upit:
+    with written(name + ".blocks") as blocks, written(name + ".upit") as upit:
         upit.write("NAME: %s\nTYPE: UPIT\nNBLOCKS: %d\nOBJECTIVE_FUNCTION:\n" % (name, len(rows)))
         for number, (place, value) in enumerate(zip(zip(*axes), values)):
             blocks.write(" ".join(map(str, [number, *place, *(column[number] for column in further)])) + "\n")

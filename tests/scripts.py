@@ -1,8 +1,10 @@
 """Tests of this repository's own scripts, on a repository of one small crate that is made for them; of the version that the program tells;
 and of the pages."""
+import os
 import re
 import shutil
 import subprocess
+import sys
 import tempfile
 from pathlib import Path
 
@@ -135,6 +137,54 @@ def wrong_pages_are_told(tree):
 
 
 OF_THIS_TREE = [version_is_up_to_date, pages_are_right]
+
+
+TABLE = "x,y,z,value\n0,0,0,1\n20,0,0,-2.5\n"
+# What is wrong with a table or the words behind it, and what csv_to_minelib.py has to say of it.
+WRONG_TABLES = (
+    (TABLE.replace("z,value", "z,value,value").replace("\n", ",3\n").replace("value,3", "value"), "mine", "the table has two columns 'value': which one counts?"),
+    (TABLE.replace("20,", "1e400,"), "mine", "block 1, row 2 below the header: x is '1e400', which is too far away"),
+    (TABLE, "nowhere/mine", "nowhere/mine.blocks: No such file or directory"),
+    (TABLE.replace("-2.5", "\u0661"), "mine", "block 1, row 2 below the header: value is '\u0661', and has to be a plain decimal"),
+)
+
+
+def told_of_a_table(top, folder, table, name):
+    """Status, output and errors of csv_to_minelib.py, and what it wrote."""
+    (folder / "t.csv").write_text(table, encoding="utf-8")
+    done = subprocess.run([sys.executable, str(top / "examples" / "csv_to_minelib.py"), "t.csv", "20", "20", "10", name], cwd=folder,
+                          stdin=subprocess.DEVNULL, stdout=subprocess.PIPE, stderr=subprocess.PIPE, encoding="utf-8",
+                          env=dict(os.environ, PYTHONIOENCODING="utf-8"))
+    texts = [(folder / (name + ending)).read_text() if (folder / (name + ending)).exists() else None for ending in (".blocks", ".upit")]
+    return done.returncode, done.stdout, done.stderr, texts
+
+
+def tables_are_read_or_refused(top, folder):
+    """Whether a table becomes two files, and each wrong one a sentence and none."""
+    for table, name, wanted in WRONG_TABLES:
+        status, said, errors, texts = told_of_a_table(top, folder, table, name)
+        if (status, said, texts) != (1, "", [None, None]) or not errors.startswith(wanted) or errors.count("\n") != 1:
+            return False, "%r: status %d, %r, %r, %r" % (table, status, said, errors, texts)
+    got = told_of_a_table(top, folder, TABLE, "mine")
+    blocks, upit = "0 0 0 0\n1 1 0 0\n", "NAME: mine\nTYPE: UPIT\nNBLOCKS: 2\nOBJECTIVE_FUNCTION:\n0 1\n1 -2.5\n"
+    return got == (0, "", "", [blocks, upit]), str(got)
+
+
+def installs_where_the_caller_stands(top, folder):
+    """Whether ./install FOLDER, called from elsewhere, takes a folder of the caller's. Its build is one that does nothing."""
+    tree, caller = folder / "tree", folder / "caller"
+    (tree / "crates" / "pit" / "out").mkdir(parents=True)
+    caller.mkdir()
+    shutil.copy(top / "install", tree / "install")
+    for name, text in (("build", "#!/bin/sh\n"), ("out/pit", "the program")):
+        (tree / name).write_text(text)
+        (tree / name).chmod(0o755)
+    done = subprocess.run([str(tree / "install"), "bin"], cwd=caller, stdin=subprocess.DEVNULL, stdout=subprocess.PIPE,
+                          stderr=subprocess.STDOUT, text=True)
+    well = (caller / "bin" / "pit").exists() and not (tree / "bin").exists() and done.stdout == "installed %s/bin/pit\n" % caller.resolve()
+    return done.returncode == 0 and well, done.stdout
+
+
 # the build comes first: the copies in which edits are tried begin with what it made
 CASES = [a_build_says_what_it_proved, edits_are_tried_by_their_function, refused_edits_pass, an_accepted_edit_fails,
          a_failed_proof_fails_the_example, wrong_pages_are_told]
@@ -143,6 +193,12 @@ CASES = [a_build_says_what_it_proved, edits_are_tried_by_their_function, refused
 def test(top):
     """Runs the tests, and gives how many passed and failed."""
     passed = failed = 0
+    for case in (tables_are_read_or_refused, installs_where_the_caller_stands):
+        with tempfile.TemporaryDirectory(prefix="pit-scripts-") as room:
+            well, said = case(top, Path(room))
+        if not well:
+            print("%s: failed:\n%s" % (case.__name__, said))
+        passed, failed = passed + well, failed + (not well)
     with tempfile.TemporaryDirectory(prefix="pit-scripts-") as room:
         tree = repository(top, room)
         for case, where in [(case, top) for case in OF_THIS_TREE] + [(case, tree) for case in CASES]:

@@ -8,12 +8,14 @@
 //!
 //! Stands on `machine_law`, which says what a state and a step are and what every step keeps, on
 //! `closure_net` for nets, ports and flows, on `ordered_group` for amounts, and on `fixed_worth`
-//! for the most blocks that there may be. Promises upward: a `State` shows one state of the machine
-//! and no other; `State::open` is the opening state; a step is exactly one step of the machine and
-//! answers what was seen, moved or raised; a refusal is answered exactly where it stands, the first
-//! in order, and changes nothing; `replay` is the run of its list, or its first refused place; so
-//! the laws of `machine_law` hold of every state, at every group; and a quiet state gives its flow,
-//! which by those laws is a greatest one.
+//! for the most blocks that there may be. Promises upward:
+//!
+//! - A `State` shows one state of the machine and no other; `State::open` is the opening state.
+//! - A step is exactly one step of the machine, and returns what was seen, moved or raised. A refusal is
+//!   returned exactly where it is due, the first in order, and changes nothing.
+//! - `replay` is the run of its list, or its first refused place.
+//! - So the laws of `machine_law` are true of every state that these give, at every group. A quiet state
+//!   gives its flow, which by those laws is a maximum flow.
 //!
 //! `State::quiet` takes constant time, and `State::waiting` passes over stretches of up to 262,144
 //! blocks at once.
@@ -33,8 +35,6 @@ mod replaying;
 mod saw;
 mod state;
 mod stepping;
-#[cfg(test)]
-mod tests;
 
 pub use limits::MOST_STEPS;
 pub use machine_law::{Best, Event, Kind, Operation};

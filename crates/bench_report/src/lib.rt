@@ -26,6 +26,3 @@ pub use bench_table::rows;
 pub use report_fault::ReportFault;
 pub use write_fault::ReportWriteFault;
 pub use written_table::write_report;
-
-#[cfg(test)]
-mod tests;

@@ -27,6 +27,3 @@ pub use blocks_fault::BlocksFault;
 pub use limits::MOST_COLUMNS;
 pub use place::Place;
 pub use reading::read_blocks;
-
-#[cfg(test)]
-mod tests;

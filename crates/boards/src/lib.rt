@@ -2,29 +2,23 @@
 //! the maximum flow problem, 2008), on which one step at a time is made, whoever asks for it.
 //!
 //! Stands on `async_step`, whose state a `Board` holds together with its net. Nothing here knows of
-//! threads or locks. Promises upward: a board's type keeps a state of a run over its own net, so all
-//! that `machine_law` says of every run holds of it; a turn makes exactly one step, of the block that
-//! it is said to pick, or leaves the state as it was; a board gives a flow only where it is quiet, and
-//! then a greatest one; a `TurnBoard`, on which nothing but turns makes steps, keeps in its type that no
-//! step of its run read an excess of zero and why it is stuck; `finish` goes on with the run of the board
-//! that it takes, and says how it ends; and an `Audited` board keeps the history of its steps, whose
-//! replay leads to its state, and `finish` adds to it the steps that it makes.
+//! threads or locks. Promises upward:
+//!
+//! - A board's type keeps a state of a run over its own net, so all that `machine_law` says of every run
+//!   is true of it. A board gives a flow only where it is quiet, and then a maximum flow.
+//! - A turn makes exactly one step, of the block that it is said to pick, or leaves the state as it was.
+//! - On a `TurnBoard` nothing except turns makes steps. Its type keeps that no step of its run read an
+//!   excess of zero, and why it is stuck.
+//! - `finish` goes on with the run of the board that it takes, and says how it ends.
+//! - An `Audited` board keeps the history of its steps, whose replay leads to its state.
 #![tactic(auto)]
 
 mod audited_board;
-#[cfg(test)]
-mod audited_tests;
 mod board;
-#[cfg(test)]
-mod board_tests;
 mod finishing;
 mod recorded_board;
-#[cfg(test)]
-mod test_nets;
 mod turn;
 mod turn_board;
-#[cfg(test)]
-mod turn_board_tests;
 
 pub use audited_board::Audited;
 pub use board::Board;

@@ -1,4 +1,4 @@
-//! Flows.
+//! A flow of a net: what each block gets from the source, what each pair carries, and what each block gives the sink.
 
 ghost use Rattle.std.specs.Prelude.{◌≡◌, ◌↔◌, IsTrue, map};
 ghost use Rattle.closure_net.specs.Network.{FlowFits, flow_view};

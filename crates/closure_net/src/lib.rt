@@ -2,11 +2,13 @@
 //! each rests on and what each is worth; flows in it; and pits, which are sets of blocks. A `Graph` is
 //! the net without what only a search for a flow needs.
 //!
-//! Stands on `fixed_worth`, `ordered_group` and `prec_file`. Promises upward: every `Net` names
-//! blocks that it has, each worth has an opposite that fits, and so does each sum of the positive
-//! worths; a `Pit` is ascending; `pit_of` gives exactly the blocks that the source reaches in what a
-//! flow leaves; and `laws` leads from sums of amounts to the worth and the number of blocks of a
-//! pit: a greatest closed set is the best pit, there is at most one, and it grows where worths rise.
+//! Stands on `fixed_worth`, `ordered_group` and `prec_file`. Promises upward:
+//!
+//! - The pairs of a `Net` are of its blocks, each worth has an opposite that fits, and so does each sum
+//!   of positive worths. A `Pit` is ascending.
+//! - `pit_of` gives exactly the blocks that the source reaches in what a flow leaves.
+//! - `laws` leads from sums of amounts to the worth and the number of blocks of a pit: a greatest closed
+//!   set is the best pit, there is at most one, and it grows where worths rise.
 #![tactic(auto)]
 
 mod carried;
@@ -19,8 +21,6 @@ mod pit;
 mod port;
 mod search;
 mod source_side;
-#[cfg(test)]
-mod tests;
 mod worths;
 
 pub use carried::Carried;

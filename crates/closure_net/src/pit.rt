@@ -144,11 +144,11 @@ impl Pit {
         }
     }
 
-    /// Whether b is in the pit, looked for around a place, which is moved behind that of b where it is,
-    /// and else stays.
+    /// Whether b is in the pit, searching outward from `*place`. If it is, `*place` becomes the position after b; otherwise
+    /// it is unchanged.
     ///
-    /// The place may be any number, and the nearer it is to that of b, the sooner the answer: blocks that follow one
-    /// another in the pit are found in constant time each.
+    /// `*place` may be any number, and the nearer it is to b, the faster the answer: blocks that follow one another in the
+    /// pit are found in constant time each.
     pub fn holds_near(&self, place: &mut usize, b: u32) -> bool
         ensures is { result ≡ holds_of self.now b }
         ensures place { MatchBool result ((i : ℕ) × (i < length self.now) × (slice_index self.now i ≡ b) × (place.new ≡ i + 1)) (place.new ≡ place.old) }

@@ -8,8 +8,8 @@ ghost use Rattle.fixed_worth.specs.Numeral.{plain_of};
 ghost use Rattle.fixed_worth.specs.Laws.{AreLines, AreFields, HasOneSpelling};
 ghost use Rattle.fixed_worth.specs.Text.{lines_of, runs_from};
 
-/// The lines of a text, with a line feed behind each, give the text back, with a line feed behind its last line. No line
-/// holds a line feed.
+/// The lines of a text, with a line feed after each, give the text back, with a line feed after its last line. No line
+/// has a line feed in it.
 pub fn lines_make_the_text(text: &[u8])
     ensures { AreLines text.now (lines_of text.now) }
 {}

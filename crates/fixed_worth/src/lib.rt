@@ -1,4 +1,5 @@
-//! Numbers, lines and fields of text files, and the devices that the texts come from and go to.
+//! Numbers, lines and fields of text files, and the devices that the texts come from and go to: despite its name, all that
+//! texts have in common.
 //!
 //! Everything that reads or prints a number goes through this crate: whole numbers, decimals in
 //! millionths, and sums in millionths and in billionths. It also cuts a text into lines and a line
@@ -49,8 +50,3 @@ pub use sending::{WriteFault, write_text};
 pub use short_line::ShortLine;
 pub use whole_input::{InputFault, read_whole};
 pub use written_number::WrittenNumber;
-
-#[cfg(test)]
-mod device_tests;
-#[cfg(test)]
-mod tests;

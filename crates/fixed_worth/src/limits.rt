@@ -1,5 +1,7 @@
 //! Limits that the files and the commands of a model share.
 
+ghost use Rattle.std.specs.Prelude.{◌≡◌};
+
 /// The most blocks that a model may have.
 pub const MOST_BLOCKS: u32 = 1 << 24;
 
@@ -14,3 +16,12 @@ pub const MOST_FACTOR: u32 = 10_000;
 
 /// The most price factors of one series of pits.
 pub const MOST_FACTORS: usize = 64;
+
+// Contracts cite the limits by their names, so a wrong number would change code and contract alike: these are the numbers.
+fn numbers()
+    ensures blocks { MOST_BLOCKS ≡ 16777216 }
+    ensures line { LINE_BYTES ≡ 65536 }
+    ensures bytes { MOST_BYTES ≡ 4294967296 }
+    ensures factor { MOST_FACTOR ≡ 10000 }
+    ensures factors { MOST_FACTORS ≡ 64 }
+{}

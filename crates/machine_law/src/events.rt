@@ -1,12 +1,17 @@
 //! The steps of a run.
 
-ghost use Rattle.std.specs.Prelude.{Some};
+ghost use Rattle.std.specs.Prelude.{◌≡◌, Some};
 ghost use Rattle.machine_law.specs.KindText.{kind_text};
 
 use std::fmt;
 
 /// The most events that the history of a run, or its trace, may have.
 pub const MOST_EVENTS: u32 = 1 << 24;
+
+// Contracts cite the limit by its name, so a wrong number would change code and contract alike: this is the number.
+fn number_of_events()
+    ensures { MOST_EVENTS ≡ 16777216 }
+{}
 
 /// The kinds of step. Each reads or writes one number that several blocks may share.
 #[derive(Clone, Copy, Debug, PartialEq, Eq)]

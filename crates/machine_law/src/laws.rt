@@ -8,11 +8,13 @@ ghost use Rattle.machine_law.specs.Table.{StepsAreRows};
 /// From a state that keeps the law, a step of any block leads to one that does, over amounts of any
 /// size and so at every group.
 ///
-/// The law says of amounts that none is negative, that no block has more of the source than is
-/// positive of its worth or gave the sink more than is negative of it, and that what an operation
-/// remembers still stands; of balances that what a block has is its excess and what is coming to it
-/// less what it owes; and of labels that no arc with capacity falls by more than one label, except
-/// backward arcs that together carry at most what the block will have.
+/// The law:
+///
+/// - Amounts: none is negative; the source gave no block more than the positive part of its worth, and no
+///   block gave the sink more than the negative part; what an operation remembers is still true.
+/// - Balances: what a block has is its excess and what is coming to it, less what it owes.
+/// - Labels: no arc with residual capacity falls by more than one label, except backward arcs that together
+///   carry at most what the block will have.
 pub fn one_step_keeps_the_law()
     ensures { StepsKeepLaw }
 {}

@@ -6,10 +6,13 @@
 //! operation, which code can follow, and `Reads` what a block does next by what it read. `Amounts`,
 //! `Balances` and `Labels` have what holds after every step.
 //!
-//! Stands on `ordered_group`, `prec_file` and `closure_net`. Promises upward: the types of an operation
-//! and of an event, and what a block does next where that asks nothing of its amounts; definitions of one state over functions, so that vectors as well as words shared
-//! by threads can show it; and in `laws` that each step keeps what holds, that nothing is lost, and that
-//! a run which ends quiet leaves a greatest flow, over amounts of any size and in any order of steps.
+//! Stands on `ordered_group`, `prec_file` and `closure_net`. Promises upward:
+//!
+//! - the types of an operation and of an event, and what a block does next where that doesn't depend on
+//!   its amounts;
+//! - definitions of a state as functions, so that vectors as well as words shared by threads can show it;
+//! - in `laws`: each step keeps the law, nothing is lost, and a run that ends quiet leaves a maximum flow,
+//!   over amounts of any size and in any order of steps.
 #![tactic(auto)]
 
 mod events;

@@ -27,8 +27,3 @@ pub use scaled::Scaled;
 pub use size::SizeGroup;
 pub use worth_alone::Worth;
 pub use worth_with_size::WorthSize;
-
-#[cfg(test)]
-mod scaled_tests;
-#[cfg(test)]
-mod tests;

@@ -7,10 +7,13 @@
 //!
 //! It stands on `fixed_worth` for lines, fields, whole numbers and devices.
 //!
-//! Above it, callers may count on this: a `Rests` and a `Predecessors` are exactly the set of the pairs that were listed,
-//! but those of a block with itself; a text is refused exactly where it has a fault, with the first faulty line and the
-//! first of its faults; both types are built in the time of a sort, or in linear time where the pairs are listed in order;
-//! what is written is read back as the same pairs.
+//! Promises upward:
+//!
+//! - A `Rests` and a `Predecessors` are exactly the set of the pairs that were listed, except those of a block with itself.
+//! - A text is refused exactly where it has a fault, with the first faulty line and the first of its faults.
+//! - What is written is read back as the same pairs.
+//!
+//! Both types are built in the time of a sort, or in linear time where the pairs are listed in order.
 #![tactic(auto)]
 
 mod first_pairs;
@@ -39,8 +42,3 @@ pub use rests::Rests;
 pub use rests_fault::RestsFault;
 pub use write_fault::PrecWriteFault;
 pub use writing::{write_prec, write_predecessors};
-
-#[cfg(test)]
-mod tests;
-#[cfg(test)]
-mod write_tests;

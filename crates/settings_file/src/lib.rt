@@ -19,6 +19,3 @@ pub use keys::Key;
 pub use reading::read_settings;
 pub use settings::Settings;
 pub use settings_fault::SettingsFault;
-
-#[cfg(test)]
-mod tests;

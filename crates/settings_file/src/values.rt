@@ -11,6 +11,11 @@ use toml::{Table, Value};
 
 pub(crate) const MOST_COLUMN: u32 = 65_535;
 
+// Contracts cite the limit by its name, so a wrong number would change code and contract alike: this is the number.
+fn greatest_column()
+    ensures { MOST_COLUMN ≡ 65535 }
+{}
+
 // The whole number from 0 to `most` that a value is.
 pub(crate) fn number_within(value: &Value, most: u32) -> Option<u32>
     ensures value { result ≡ whole_within most (view value.now) }

@@ -28,6 +28,3 @@ pub use price_tables::Prices;
 pub use prices_fault::PricesFault;
 pub use series_fault::SeriesFault;
 pub use shell_series::Series;
-
-#[cfg(test)]
-mod tests;

@@ -27,6 +27,3 @@ pub use pattern_fault::PatternFault;
 pub use slope_fault::SlopeFault;
 pub use slope_pairs::{predecessors_of, rests_of};
 pub use up::Up;
-
-#[cfg(test)]
-mod tests;

@@ -18,6 +18,3 @@ pub use machine_law::MOST_EVENTS;
 pub use reading::read_trace;
 pub use trace_fault::TraceFault;
 pub use writing::write_trace;
-
-#[cfg(test)]
-mod tests;

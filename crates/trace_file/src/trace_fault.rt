@@ -8,7 +8,7 @@ use std::fmt;
 /// Why a text is no trace. Lines are numbered from 1, and the fault is that of the first faulty line.
 #[derive(Clone, Copy, Debug, PartialEq, Eq)]
 pub enum TraceFault {
-    /// The line is none that may stand there, stands behind the last line, or has more than 65,536 bytes.
+    /// The line isn't one that may come there, comes after `END`, or has more than 65,536 bytes.
     Text(u64),
     /// The text ends before its last line does.
     Truncated,

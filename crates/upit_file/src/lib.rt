@@ -33,6 +33,3 @@ pub use reading::{declared_blocks, read_upit};
 pub use upit::Upit;
 pub use upit_fault::UpitFault;
 pub use writing::write_upit;
-
-#[cfg(test)]
-mod tests;

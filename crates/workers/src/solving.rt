@@ -20,6 +20,11 @@ use std::thread::Threads;
 /// The most workers of one run.
 pub const MOST_WORKERS: u32 = 64;
 
+// Contracts cite the limit by its name, so a wrong number would change code and contract alike: this is the number.
+fn number_of_workers()
+    ensures { MOST_WORKERS ≡ 64 }
+{}
+
 /// A run that has settled.
 #[derive(Drop)]
 pub struct Solved<G: OrderedGroup> {

@@ -1,0 +1,189 @@
+use blocks_file::{BlockModel, BlocksFault, Place, read_blocks};
+use std::alloc::Global;
+use std::fmt::Debug;
+use std::process::Abort;
+use std::test::Fail;
+
+// Fails the test where they differ. A call of it costs the proof less than the assertion in its place.
+fn equal<T: PartialEq + Debug + Copy>(rt: &impl Abort, got: T, wanted: T) {
+    assert_eq!(rt; got, wanted);
+}
+
+const THREE: &[u8] =
+    b"% block x y z tonnage rock grade\n0 0 0 0 10 4 100\n1 0 0 1 0 5 80.5\n2 1 0 1 4 1 60\n";
+
+// The fault of a text with these columns, if any.
+fn fault(alloc: Global, text: &[u8], columns: &[u32]) -> Option<BlocksFault> {
+    if columns.len() > 8 {
+        return None;
+    }
+    read_blocks(alloc, text, columns).err()
+}
+
+fn place(blocks: &BlockModel, block: u32) -> Option<Place> {
+    if block < blocks.len() {
+        Some(blocks.place(block))
+    } else {
+        None
+    }
+}
+
+fn value(blocks: &BlockModel, i: u32, block: u32) -> Option<i64> {
+    if i < blocks.columns() && block < blocks.len() {
+        Some(blocks.column(i, block).get())
+    } else {
+        None
+    }
+}
+
+// What the first three columns say of a block.
+fn values(blocks: &BlockModel, block: u32) -> [Option<i64>; 3] {
+    [
+        value(blocks, 0, block),
+        value(blocks, 1, block),
+        value(blocks, 2, block),
+    ]
+}
+
+#[test]
+fn places_of_three_blocks(rt: HostRuntime) -> Result<(), Fail> {
+    let blocks = read_blocks(rt.alloc(), THREE, &[0, 1, 2])?;
+    equal(&rt, (blocks.len(), blocks.columns()), (3, 3));
+    for (block, x, y, z) in &[(0, 0, 0, 0), (1, 0, 0, 1), (2, 1, 0, 1)] {
+        let (x, y, z) = (*x, *y, *z);
+        equal(&rt, place(&blocks, *block), Some(Place { x, y, z }));
+    }
+    Ok(())
+}
+
+#[test]
+fn columns_of_three_blocks(rt: HostRuntime) -> Result<(), Fail> {
+    let blocks = read_blocks(rt.alloc(), THREE, &[0, 1, 2])?;
+    for (block, tonnage, rock, grade) in &[
+        (0, 10_000_000, 4_000_000, 100_000_000),
+        (1, 0, 5_000_000, 80_500_000),
+        (2, 4_000_000, 1_000_000, 60_000_000),
+    ] {
+        let wanted = [Some(*tonnage), Some(*rock), Some(*grade)];
+        equal(&rt, values(&blocks, *block), wanted);
+    }
+    Ok(())
+}
+
+#[test]
+fn no_columns(rt: HostRuntime) -> Result<(), Fail> {
+    let none = read_blocks(rt.alloc(), THREE, &[])?;
+    equal(&rt, (none.len(), none.columns()), (3, 0));
+    let last = Place { x: 1, y: 0, z: 1 };
+    equal(&rt, place(&none, 2), Some(last));
+    Ok(())
+}
+
+#[test]
+fn a_column_chosen_twice(rt: HostRuntime) -> Result<(), Fail> {
+    let twice = read_blocks(rt.alloc(), THREE, &[2, 0, 2])?;
+    let wanted = [Some(80_500_000), Some(0), Some(80_500_000)];
+    equal(&rt, values(&twice, 1), wanted);
+    Ok(())
+}
+
+#[test]
+fn eight_columns(rt: HostRuntime) -> Result<(), Fail> {
+    let text = b"1 0 0 1 1 2 3 4 5 6 7 8\n0 0 0 0 9 10 11 12 13 14 15 16";
+    let eight = read_blocks(rt.alloc(), text.as_slice(), &[7, 6, 5, 4, 3, 2, 1, 0])?;
+    equal(&rt, (eight.len(), eight.columns()), (2, 8));
+    for (i, block, wanted) in &[
+        (0, 0, 16_000_000),
+        (7, 0, 9_000_000),
+        (0, 1, 8_000_000),
+        (6, 1, 2_000_000),
+    ] {
+        equal(&rt, value(&eight, *i, *block), Some(*wanted));
+    }
+    Ok(())
+}
+
+// Each text has this fault, if any, where these columns are asked for.
+fn have_their_faults(
+    rt: &impl Abort,
+    alloc: Global,
+    rows: &[(&[u8], &[u32], Option<BlocksFault>)],
+) {
+    for (text, columns, wanted) in rows {
+        equal(rt, fault(alloc, text, columns), *wanted);
+    }
+}
+
+#[test]
+fn faults_of_records(rt: HostRuntime) {
+    let rows: [(&[u8], &[u32], Option<BlocksFault>); 7] = [
+        (
+            b"0 0 0 0 7\n2 0 0 1 7",
+            &[0],
+            Some(BlocksFault::UnknownBlock(2)),
+        ),
+        (b"0 0 0 0 7\n1 0 0 1", &[0], Some(BlocksFault::NoColumn(2))),
+        (b"0 0 0", &[], Some(BlocksFault::Text(1))),
+        (b"0 0 0 0\n0 0 0 1", &[], Some(BlocksFault::Repeated(2))),
+        (b"0 0 0 0 x\n", &[0], Some(BlocksFault::Number(1))),
+        (b"\n% x\n0 0 0 0 7 x", &[0], None),
+        (b"", &[0], None),
+    ];
+    have_their_faults(&rt, rt.alloc(), &rows);
+}
+
+#[test]
+fn order_within_a_line(rt: HostRuntime) {
+    let rows: [(&[u8], &[u32], Option<BlocksFault>); 3] = [
+        (b"5 0 0 0 x", &[0, 1], Some(BlocksFault::Number(1))),
+        (b"5 0 0 0 7", &[0, 1], Some(BlocksFault::NoColumn(1))),
+        (
+            b"5 0 0 0 7\n0 0 0",
+            &[0],
+            Some(BlocksFault::UnknownBlock(1)),
+        ),
+    ];
+    have_their_faults(&rt, rt.alloc(), &rows);
+}
+
+#[test]
+fn coordinates(rt: HostRuntime) -> Result<(), Fail> {
+    let alloc: Global = rt.alloc();
+    let wide = fault(alloc, b"0 0 2147483648 0", &[]);
+    equal(&rt, wide, Some(BlocksFault::Number(1)));
+    let lowest = read_blocks(alloc, b"0 -2147483648 2147483647 +3", &[])?;
+    let wanted = Place {
+        x: -2_147_483_648,
+        y: 2_147_483_647,
+        z: 3,
+    };
+    equal(&rt, place(&lowest, 0), Some(wanted));
+    Ok(())
+}
+
+// Two lines with a fault each, and a line that is too long.
+fn long_line(alloc: Global) -> Result<Vec<u8>, Fail> {
+    let mut text = Vec::from_slice(alloc, b"0 0 0\n1 0 0 x\n".as_slice())?;
+    text.extend_from_slice(&[b'%'; 65_537])?;
+    Ok(text)
+}
+
+#[test]
+fn long_line_comes_first(rt: HostRuntime) -> Result<(), Fail> {
+    let text = long_line(rt.alloc())?;
+    let found = fault(rt.alloc(), text.as_slice(), &[]);
+    equal(&rt, found, Some(BlocksFault::Text(3)));
+    Ok(())
+}
+
+fn prints(rt: &impl Abort, alloc: Global, fault: BlocksFault, text: &str) -> Result<(), Fail> {
+    let printed = fault.to_string(alloc)?;
+    equal(rt, printed.as_str(), text);
+    Ok(())
+}
+
+#[test]
+fn printed_faults(rt: HostRuntime) -> Result<(), Fail> {
+    prints(&rt, rt.alloc(), BlocksFault::Text(4), "Text(4)")?;
+    prints(&rt, rt.alloc(), BlocksFault::NoMemory, "NoMemory")
+}

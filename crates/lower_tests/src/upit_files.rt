@@ -1,0 +1,298 @@
+use fixed_worth::{Counted, CountedWrite, Micros, WriteFault};
+use std::alloc::Global;
+use std::fmt::Debug;
+use std::process::Abort;
+use std::test::Fail;
+use upit_file::{Upit, UpitFault, declared_blocks, laws, read_upit, write_upit};
+
+// Fails the test where they differ. A call of it costs the proof less than the assertion in its place.
+fn equal<T: PartialEq + Debug + Copy>(rt: &impl Abort, got: T, wanted: T) {
+    assert_eq!(rt; got, wanted);
+}
+
+const SAMPLE: &[u8] =
+    b"% a comment\r\nNAME: a b\r\nTYPE:UPIT\r\nNBLOCKS:2\r\nCREATED: today\r\nOBJECTIVE_FUNCTION:\r\n1 -2.5e0\r\nEOF\r\nrubbish here and there";
+
+// The fault of a text for three blocks, if any.
+fn fault(alloc: Global, text: &[u8]) -> Option<UpitFault> {
+    read_upit(alloc, text, 3).err()
+}
+
+// Each text has this fault, if any, where three blocks are asked for.
+fn have_their_faults(rt: &impl Abort, alloc: Global, rows: &[(&[u8], Option<UpitFault>)]) {
+    for (text, wanted) in rows {
+        equal(rt, fault(alloc, text), *wanted);
+    }
+}
+
+fn sample(alloc: Global) -> Result<Upit, Fail> {
+    Ok(read_upit(alloc, SAMPLE, 2).ok().ok_or("read")?)
+}
+
+// Whether the text of the sample tells its name and its two values.
+fn tells_the_sample(upit: &Upit) -> bool {
+    if upit.len() != 2 {
+        return false;
+    }
+    upit.name() == b"a b".as_slice()
+        && upit.value(0).get() == 0
+        && upit.value(1).get() == -2_500_000
+}
+
+#[test]
+fn a_whole_text(rt: HostRuntime) -> Result<(), Fail> {
+    equal(&rt, declared_blocks(SAMPLE), Ok(2));
+    let upit = sample(rt.alloc())?;
+    assert!(rt; tells_the_sample(&upit));
+    Ok(())
+}
+
+// Two values in millionths, if there are two.
+fn two_values(values: &[Micros]) -> Option<(i64, i64)> {
+    if values.len() != 2 {
+        return None;
+    }
+    Some((values[0].get(), values[1].get()))
+}
+
+#[test]
+fn values_in_a_row(rt: HostRuntime) -> Result<(), Fail> {
+    let upit = sample(rt.alloc())?;
+    equal(&rt, two_values(upit.values()), Some((0, -2_500_000)));
+    Ok(())
+}
+
+#[test]
+fn headers(rt: HostRuntime) {
+    let rows: [(&[u8], Option<UpitFault>); 8] = [
+        (SAMPLE, Some(UpitFault::WrongBlocks(4))),
+        (b"OBJECTIVE_FUNCTION", Some(UpitFault::WrongBlocks(1))),
+        (b"", Some(UpitFault::NoObjective(0))),
+        (b"NBLOCKS: 3\n\n% x\n", Some(UpitFault::NoObjective(3))),
+        (b"NBLOCKS: 3\nEOF\n1 x\n", Some(UpitFault::NoObjective(2))),
+        (b"NBLOCKS: 3\nEOF 1\nOBJECTIVE_FUNCTION", None),
+        (
+            b"NBLOCKS: 3\nobjective_function\n",
+            Some(UpitFault::NoObjective(2)),
+        ),
+        (
+            b"nblocks: 3\nOBJECTIVE_FUNCTION\n",
+            Some(UpitFault::WrongBlocks(2)),
+        ),
+    ];
+    have_their_faults(&rt, rt.alloc(), &rows);
+}
+
+// Whether a text for no blocks has this name.
+fn has_name(alloc: Global, text: &[u8], name: &[u8]) -> bool {
+    match read_upit(alloc, text, 0) {
+        Ok(upit) => upit.name() == name,
+        Err(_) => false,
+    }
+}
+
+#[test]
+fn names(rt: HostRuntime) {
+    let rows: [(&[u8], &[u8]); 3] = [
+        (
+            b"NAME: a\nNBLOCKS 0\nNAME\t b : c: \r\nOBJECTIVE_FUNCTION",
+            b"b : c",
+        ),
+        (b"NAME: a\nNBLOCKS 0\nNAME:\nOBJECTIVE_FUNCTION", b""),
+        (b"NBLOCKS 0\nOBJECTIVE_FUNCTION", b""),
+    ];
+    for (text, name) in &rows {
+        assert!(rt; has_name(rt.alloc(), text, name));
+    }
+}
+
+#[test]
+fn other_types(rt: HostRuntime) {
+    let rows: [(&[u8], Option<UpitFault>); 2] = [
+        (b"TYPE: PCPSP", Some(UpitFault::NotUpit(1))),
+        (b"\nTYPE:", Some(UpitFault::NotUpit(2))),
+    ];
+    have_their_faults(&rt, rt.alloc(), &rows);
+}
+
+// A text with a name of so many bytes.
+fn named_by(alloc: Global, len: usize) -> Result<Vec<u8>, Fail> {
+    let mut text = Vec::from_slice(alloc, b"NAME:")?;
+    for _ in 0..len {
+        text.push(b'x')?;
+    }
+    text.extend_from_slice(b"\nNBLOCKS 0\nOBJECTIVE_FUNCTION")?;
+    Ok(text)
+}
+
+// The blocks that a text declares whose name has so many bytes.
+fn blocks_named_by(alloc: Global, len: usize) -> Result<Result<u32, UpitFault>, Fail> {
+    let text = named_by(alloc, len)?;
+    Ok(declared_blocks(text.as_slice()))
+}
+
+#[test]
+fn long_names(rt: HostRuntime) -> Result<(), Fail> {
+    equal(&rt, blocks_named_by(rt.alloc(), 60_000)?, Ok(0));
+    let longer = blocks_named_by(rt.alloc(), 60_001)?;
+    equal(&rt, longer, Err(UpitFault::Text(1)));
+    Ok(())
+}
+
+// Whether this is a name that a text can have.
+fn is_given(alloc: Global, name: &[u8]) -> Result<bool, Fail> {
+    Ok(Upit::new(Vec::from_slice(alloc, name)?, Vec::new(alloc)).is_some())
+}
+
+#[test]
+fn given_names(rt: HostRuntime) -> Result<(), Fail> {
+    let alloc: Global = rt.alloc();
+    equal(&rt, is_given(alloc, b"")?, true);
+    equal(&rt, is_given(alloc, b"a : b")?, true);
+    equal(&rt, is_given(alloc, b" a")?, false);
+    equal(&rt, is_given(alloc, b"a:")?, false);
+    equal(&rt, is_given(alloc, b"a\nb")?, false);
+    Ok(())
+}
+
+#[test]
+fn block_counts(rt: HostRuntime) {
+    let rows: [(&[u8], Result<u32, UpitFault>); 7] = [
+        (b"NBLOCKS 3\nNBLOCKS 4\n", Err(UpitFault::WrongBlocks(2))),
+        (b"NBLOCKS:", Err(UpitFault::Text(1))),
+        (b"NBLOCKS: -3", Err(UpitFault::Number(1))),
+        (b"NBLOCKS: 18446744073709551616", Err(UpitFault::Number(1))),
+        (
+            b"NBLOCKS: 18446744073709551615",
+            Err(UpitFault::WrongBlocks(1)),
+        ),
+        (b"NBLOCKS: 16777217", Err(UpitFault::WrongBlocks(1))),
+        (
+            b"NBLOCKS: 16777216\nOBJECTIVE_FUNCTION\n9 9 9",
+            Ok(16_777_216),
+        ),
+    ];
+    for (text, wanted) in &rows {
+        equal(&rt, declared_blocks(text), *wanted);
+    }
+}
+
+#[test]
+fn records(rt: HostRuntime) {
+    let rows: [(&[u8], Option<UpitFault>); 8] = [
+        (
+            b"NBLOCKS 3\nOBJECTIVE_FUNCTION\n3 1",
+            Some(UpitFault::UnknownBlock(3)),
+        ),
+        (
+            b"NBLOCKS 3\nOBJECTIVE_FUNCTION\n2 1\n\n2 1",
+            Some(UpitFault::Repeated(5)),
+        ),
+        (
+            b"NBLOCKS 3\nOBJECTIVE_FUNCTION\n1 1 1",
+            Some(UpitFault::Text(3)),
+        ),
+        (
+            b"NBLOCKS 3\nOBJECTIVE_FUNCTION\n1",
+            Some(UpitFault::Text(3)),
+        ),
+        (
+            b"NBLOCKS 3\nOBJECTIVE_FUNCTION\n1 x",
+            Some(UpitFault::Number(3)),
+        ),
+        (
+            b"NBLOCKS 3\nOBJECTIVE_FUNCTION\nx 1",
+            Some(UpitFault::Number(3)),
+        ),
+        (
+            b"NBLOCKS 3\nOBJECTIVE_FUNCTION\n1 1000000000001",
+            Some(UpitFault::Number(3)),
+        ),
+        (
+            b"NBLOCKS 3\nOBJECTIVE_FUNCTION\n0 -1000000000000\n% x\nEOF\n0 1",
+            None,
+        ),
+    ];
+    have_their_faults(&rt, rt.alloc(), &rows);
+}
+
+#[test]
+fn long_lines(rt: HostRuntime) -> Result<(), Fail> {
+    let line = [b'%'; 65_537];
+    equal(&rt, fault(rt.alloc(), &line), Some(UpitFault::Text(1)));
+    equal(&rt, declared_blocks(&line), Err(UpitFault::Text(1)));
+    let (short, _) = line.as_slice().split_at(65_536);
+    let wanted = Some(UpitFault::NoObjective(1));
+    equal(&rt, fault(rt.alloc(), short), wanted);
+    Ok(())
+}
+
+fn prints(rt: &impl Abort, alloc: Global, fault: UpitFault, text: &str) -> Result<(), Fail> {
+    let printed = fault.to_string(alloc)?;
+    equal(rt, printed.as_str(), text);
+    Ok(())
+}
+
+#[test]
+fn printed_faults(rt: HostRuntime) -> Result<(), Fail> {
+    prints(&rt, rt.alloc(), UpitFault::WrongBlocks(4), "WrongBlocks(4)")?;
+    prints(&rt, rt.alloc(), UpitFault::NoMemory, "NoMemory")
+}
+
+const WRITTEN: &[u8] =
+    b"NAME: a b\nTYPE: UPIT\nNBLOCKS: 3\nOBJECTIVE_FUNCTION:\n0 0\n1 -2.5\n2 1000000000000\nEOF\n";
+
+// What is read is written as this text.
+fn writes(rt: &impl Abort, alloc: Global, upit: &Upit, text: &[u8]) {
+    let mut out = Counted::new(Vec::new(alloc));
+    let answer = write_upit(upit, &mut out);
+    let received = out.into_inner();
+    assert!(rt; answer == Ok(()) && received.as_slice() == text);
+}
+
+fn written_sample(alloc: Global) -> Result<Upit, Fail> {
+    Ok(read_upit(alloc, WRITTEN, 3).ok().ok_or("read")?)
+}
+
+#[test]
+fn a_written_text(rt: HostRuntime) -> Result<(), Fail> {
+    let upit = written_sample(rt.alloc())?;
+    laws::written_is_read(&upit);
+    writes(&rt, rt.alloc(), &upit, WRITTEN);
+    Ok(())
+}
+
+// Whatever a text's spelling, what it says is written in one way.
+#[test]
+fn a_read_text_is_written_plainly(rt: HostRuntime) -> Result<(), Fail> {
+    let upit = sample(rt.alloc())?;
+    let plain = b"NAME: a b\nTYPE: UPIT\nNBLOCKS: 2\nOBJECTIVE_FUNCTION:\n0 0\n1 -2.5\nEOF\n";
+    writes(&rt, rt.alloc(), &upit, plain);
+    Ok(())
+}
+
+#[test]
+fn an_empty_text(rt: HostRuntime) -> Result<(), Fail> {
+    let alloc: Global = rt.alloc();
+    let upit = Upit::new(Vec::new(alloc), Vec::new(alloc)).ok_or("name")?;
+    let empty = b"NAME: \nTYPE: UPIT\nNBLOCKS: 0\nOBJECTIVE_FUNCTION:\nEOF\n";
+    writes(&rt, alloc, &upit, empty);
+    Ok(())
+}
+
+// The answer of a device that has room for twenty bytes, how often it failed, and whether it has a prefix.
+fn into_twenty(upit: &Upit) -> (Result<(), WriteFault>, u64, bool) {
+    let mut room = [0u8; 20];
+    let mut out = Counted::new(room.as_mut_slice());
+    let answer = write_upit(upit, &mut out);
+    let failures = out.failures();
+    (answer, failures, WRITTEN.starts_with(&room))
+}
+
+#[test]
+fn a_full_device(rt: HostRuntime) -> Result<(), Fail> {
+    let upit = written_sample(rt.alloc())?;
+    let wanted = (Err(WriteFault::Device), 1, true);
+    equal(&rt, into_twenty(&upit), wanted);
+    Ok(())
+}

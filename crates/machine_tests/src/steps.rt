@@ -1,0 +1,689 @@
+//! Runs whose steps and states are known from elsewhere.
+
+ghost use Rattle.std.specs.Prelude.{◌≤◌};
+ghost use Rattle.async_step.specs.Answers.{IsStateOf};
+
+use async_step::{ReplayFault, Saw, State, StepRefusal, replay};
+use closure_net::{Carried, Flow, Net};
+use fixed_worth::MOST_BLOCKS;
+use machine_law::{Event, Kind};
+use ordered_group::{OrderedGroup, Worth, WorthSize};
+use prec_file::Rests;
+use std::alloc::Global;
+use std::fmt::{Debug, Display};
+use std::process::Abort;
+
+// Fails the test where they differ.
+fn same<T: PartialEq + Debug + Drop>(rt: &impl Abort, got: T, wanted: T) {
+    assert_eq!(rt; got, wanted);
+}
+
+// Fails the test where it is false.
+fn holds(rt: &impl Abort, fact: bool) {
+    assert!(rt; fact);
+}
+
+const RE: Kind = Kind::ReadExcess;
+
+const RC: Kind = Kind::ReadCapacity;
+
+const RL: Kind = Kind::ReadLabel;
+
+const TC: Kind = Kind::TakeCapacity;
+
+const GC: Kind = Kind::GiveCapacity;
+
+const TE: Kind = Kind::TakeExcess;
+
+const GE: Kind = Kind::GiveExcess;
+
+const RA: Kind = Kind::RaiseLabel;
+
+// A state in whole values.
+#[derive(Clone, Copy)]
+struct After {
+    labels: [u64; 3],
+    excess: [i128; 3],
+    flow: [i128; 2],
+    source: [i128; 3],
+    sink: i128,
+}
+
+// Steps of one block, and the state after them.
+struct Row {
+    block: u32,
+    kinds: &'static [Kind],
+    after: After,
+}
+
+const ROWS: [Row; 23] = [
+    Row {
+        block: 0,
+        kinds: &[RE, RL, RC, RL, RA],
+        after: After {
+            labels: [1, 0, 0],
+            excess: [4, 0, 4],
+            flow: [0, 0],
+            source: [4, 0, 4],
+            sink: 0,
+        },
+    },
+    Row {
+        block: 0,
+        kinds: &[RE, RL, RC, RL],
+        after: After {
+            labels: [1, 0, 0],
+            excess: [4, 0, 4],
+            flow: [0, 0],
+            source: [4, 0, 4],
+            sink: 0,
+        },
+    },
+    Row {
+        block: 2,
+        kinds: &[RE, RL, RC, RL, RA],
+        after: After {
+            labels: [1, 0, 1],
+            excess: [4, 0, 4],
+            flow: [0, 0],
+            source: [4, 0, 4],
+            sink: 0,
+        },
+    },
+    Row {
+        block: 2,
+        kinds: &[RE, RL, RC, RL, GC, TE, GE],
+        after: After {
+            labels: [1, 0, 1],
+            excess: [4, 4, 0],
+            flow: [0, 4],
+            source: [4, 0, 4],
+            sink: 0,
+        },
+    },
+    Row {
+        block: 1,
+        kinds: &[RE, RC, RL, RC, RC, RL, RA],
+        after: After {
+            labels: [1, 1, 1],
+            excess: [4, 4, 0],
+            flow: [0, 4],
+            source: [4, 0, 4],
+            sink: 0,
+        },
+    },
+    Row {
+        block: 1,
+        kinds: &[RE, RC, RL, RC, RC, RL, TC, TE, GE],
+        after: After {
+            labels: [1, 1, 1],
+            excess: [4, 3, 0],
+            flow: [0, 4],
+            source: [4, 0, 4],
+            sink: 1,
+        },
+    },
+    Row {
+        block: 1,
+        kinds: &[RE, RC, RC, RC, RL, RA],
+        after: After {
+            labels: [1, 2, 1],
+            excess: [4, 3, 0],
+            flow: [0, 4],
+            source: [4, 0, 4],
+            sink: 1,
+        },
+    },
+    Row {
+        block: 1,
+        kinds: &[RE, RC, RC, RC, RL, TC, TE, GE],
+        after: After {
+            labels: [1, 2, 1],
+            excess: [4, 0, 3],
+            flow: [0, 1],
+            source: [4, 0, 4],
+            sink: 1,
+        },
+    },
+    Row {
+        block: 2,
+        kinds: &[RE, RL, RC, RL, RA],
+        after: After {
+            labels: [1, 2, 3],
+            excess: [4, 0, 3],
+            flow: [0, 1],
+            source: [4, 0, 4],
+            sink: 1,
+        },
+    },
+    Row {
+        block: 2,
+        kinds: &[RE, RL, RC, RL, GC, TE, GE],
+        after: After {
+            labels: [1, 2, 3],
+            excess: [4, 3, 0],
+            flow: [0, 4],
+            source: [4, 0, 4],
+            sink: 1,
+        },
+    },
+    Row {
+        block: 1,
+        kinds: &[RE, RC, RC, RC, RL, RA],
+        after: After {
+            labels: [1, 4, 3],
+            excess: [4, 3, 0],
+            flow: [0, 4],
+            source: [4, 0, 4],
+            sink: 1,
+        },
+    },
+    Row {
+        block: 0,
+        kinds: &[GC],
+        after: After {
+            labels: [1, 4, 3],
+            excess: [4, 3, 0],
+            flow: [4, 4],
+            source: [4, 0, 4],
+            sink: 1,
+        },
+    },
+    Row {
+        block: 0,
+        kinds: &[TE, GE],
+        after: After {
+            labels: [1, 4, 3],
+            excess: [0, 7, 0],
+            flow: [4, 4],
+            source: [4, 0, 4],
+            sink: 1,
+        },
+    },
+    Row {
+        block: 1,
+        kinds: &[RE, RC, RC, RL, RC, RL, TC, TE, GE],
+        after: After {
+            labels: [1, 4, 3],
+            excess: [4, 3, 0],
+            flow: [0, 4],
+            source: [4, 0, 4],
+            sink: 1,
+        },
+    },
+    Row {
+        block: 0,
+        kinds: &[RE, RL, RC, RL, RA],
+        after: After {
+            labels: [5, 4, 3],
+            excess: [4, 3, 0],
+            flow: [0, 4],
+            source: [4, 0, 4],
+            sink: 1,
+        },
+    },
+    Row {
+        block: 0,
+        kinds: &[RE, RL, RC, RL, GC, TE, GE],
+        after: After {
+            labels: [5, 4, 3],
+            excess: [0, 7, 0],
+            flow: [4, 4],
+            source: [4, 0, 4],
+            sink: 1,
+        },
+    },
+    Row {
+        block: 1,
+        kinds: &[RE, RC, RC, RL, RC, RL, TC, TE, GE],
+        after: After {
+            labels: [5, 4, 3],
+            excess: [0, 3, 4],
+            flow: [4, 0],
+            source: [4, 0, 4],
+            sink: 1,
+        },
+    },
+    Row {
+        block: 1,
+        kinds: &[RE, RC, RC, RL, RC, RA],
+        after: After {
+            labels: [5, 6, 3],
+            excess: [0, 3, 4],
+            flow: [4, 0],
+            source: [4, 0, 4],
+            sink: 1,
+        },
+    },
+    Row {
+        block: 1,
+        kinds: &[RE, RC, RC, RL, RC, TC, TE, GE],
+        after: After {
+            labels: [5, 6, 3],
+            excess: [3, 0, 4],
+            flow: [1, 0],
+            source: [4, 0, 4],
+            sink: 1,
+        },
+    },
+    Row {
+        block: 0,
+        kinds: &[RE, RL, RC, RL, RA],
+        after: After {
+            labels: [6, 6, 3],
+            excess: [3, 0, 4],
+            flow: [1, 0],
+            source: [4, 0, 4],
+            sink: 1,
+        },
+    },
+    Row {
+        block: 0,
+        kinds: &[RE, RL, RC, RL, TC, TE, GE],
+        after: After {
+            labels: [6, 6, 3],
+            excess: [0, 0, 4],
+            flow: [1, 0],
+            source: [1, 0, 4],
+            sink: 1,
+        },
+    },
+    Row {
+        block: 2,
+        kinds: &[RE, RL, RC, RL, RA],
+        after: After {
+            labels: [6, 6, 6],
+            excess: [0, 0, 4],
+            flow: [1, 0],
+            source: [1, 0, 4],
+            sink: 1,
+        },
+    },
+    Row {
+        block: 2,
+        kinds: &[RE, RL, RC, RL, TC, TE, GE],
+        after: After {
+            labels: [6, 6, 6],
+            excess: [0, 0, 0],
+            flow: [1, 0],
+            source: [1, 0, 0],
+            sink: 1,
+        },
+    },
+];
+
+fn worth(value: i128) -> Worth {
+    Worth {
+        nanos: value.wrapping_mul(1_000_000_000),
+    }
+}
+
+fn rests(rt: &impl Abort, alloc: Global, n: u32, pairs: &[(u32, u32)]) -> Rests
+    requires { n ≤ MOST_BLOCKS }
+{
+    Rests::from_pairs(alloc, n, pairs).expect(rt, "pairs")
+}
+
+// Two blocks of worth 4 that rest on one of worth -1.
+fn two_on_waste(rt: &impl Abort, alloc: Global) -> Net<Worth> {
+    let rests = rests(rt, alloc, 3, &[(0, 1), (2, 1)]);
+    let nanos = [4_000_000_000, -1_000_000_000, 4_000_000_000];
+    Net::of_worths(alloc, rests, &nanos).expect(rt, "worths")
+}
+
+fn push_steps(rt: &impl Abort, events: &mut Vec<Event>, block: u32, kinds: &[Kind]) {
+    for kind in kinds {
+        let event = Event { block, kind: *kind };
+        events.push(event).expect(rt, "memory");
+    }
+}
+
+fn push_rows(rt: &impl Abort, events: &mut Vec<Event>) {
+    for row in &ROWS {
+        push_steps(rt, events, row.block, row.kinds);
+    }
+}
+
+// The state after a row, in whole values.
+fn is_state(rt: &impl Abort, state: &State<Worth>, row: &After) {
+    assert!(rt; state.len() == 3);
+    for b in 0..3u32 {
+        let i = b as usize;
+        same(rt, state.label(b), row.labels[i]);
+        same(rt, state.excess(b), worth(row.excess[i]));
+        same(rt, state.source(b), worth(row.source[i]));
+    }
+}
+
+// What pairs carry after it, and what block 1 gave the sink.
+fn is_flow(rt: &impl Abort, state: &State<Worth>, net: &Net<Worth>, row: &After)
+    requires { IsStateOf net.now state.now }
+{
+    assert!(rt; net.rests().pairs() == 2);
+    same(rt, state.flow(0), worth(row.flow[0]));
+    same(rt, state.flow(1), worth(row.flow[1]));
+    assert!(rt; state.len() == 3);
+    same(rt, state.sink(1), worth(row.sink));
+}
+
+// What two of the steps saw.
+fn is_known(rt: &impl Abort, steps: u64, saw: Saw<Worth>) {
+    match steps {
+        69 => same(rt, saw, Saw::Raised(4)),
+        70 => same(rt, saw, Saw::Moved(worth(4))),
+        _ => {}
+    }
+}
+
+// Makes a step that is next for its block.
+fn make(rt: &impl Abort, state: &mut State<Worth>, net: &Net<Worth>, event: Event)
+    requires { IsStateOf net.now state.old }
+    ensures { IsStateOf net.now state.new }
+{
+    assert!(rt; event.block < net.len());
+    same(rt, state.next_kind(net, event.block), event.kind);
+    holds(rt, !state.quiet());
+    let saw = state.step(net, event).expect(rt, "a step");
+    is_known(rt, state.count(), saw);
+}
+
+fn make_row(rt: &impl Abort, state: &mut State<Worth>, net: &Net<Worth>, block: u32, kinds: &[Kind])
+    requires { IsStateOf net.now state.old }
+    ensures { IsStateOf net.now state.new }
+{
+    for kind in kinds {
+        make(rt, state, net, Event { block, kind: *kind });
+    }
+}
+
+fn make_rows(rt: &impl Abort, state: &mut State<Worth>, net: &Net<Worth>)
+    requires { IsStateOf net.now state.old }
+    ensures { IsStateOf net.now state.new }
+{
+    for row in &ROWS {
+        let kinds: &[Kind] = row.kinds;
+        make_row(rt, state, net, row.block, kinds);
+        let after = row.after;
+        is_state(rt, state, &after);
+        is_flow(rt, state, net, &after);
+    }
+}
+
+fn is_quiet_after(rt: &impl Abort, state: &State<Worth>, steps: u64) {
+    same(rt, state.count(), steps);
+    holds(rt, state.quiet());
+}
+
+#[test]
+fn every_row_of_the_run(rt: HostRuntime) {
+    let alloc = rt.alloc();
+    let net = two_on_waste(&rt, alloc);
+    let mut state = State::open(alloc, &net).expect(&rt, "memory");
+    make_rows(&rt, &mut state, &net);
+    is_quiet_after(&rt, &state, 140);
+}
+
+// One unit goes from the source over the first pair into the sink.
+fn is_flow_of_one(rt: &impl Abort, flow: &Flow<Worth>) {
+    assert!(rt; flow.source() == [worth(1), worth(0), worth(0)].as_slice());
+    assert!(rt; flow.sink() == [worth(0), worth(1), worth(0)].as_slice());
+    carries_one(rt, flow.rest());
+}
+
+fn carries_one(rt: &impl Abort, rest: &Carried<Worth>) {
+    assert!(rt; rest.len() == 2);
+    same(rt, rest.at(0), worth(1));
+    same(rt, rest.at(1), worth(0));
+}
+
+// All steps of the run.
+fn run_of_rows(rt: &impl Abort, alloc: Global) -> Vec<Event> {
+    let mut events = Vec::new(alloc);
+    push_rows(rt, &mut events);
+    same(rt, events.len(), 140);
+    events
+}
+
+// The flow in which these steps end.
+fn flow_after(rt: &impl Abort, alloc: Global, net: &Net<Worth>, events: &[Event]) -> Flow<Worth> {
+    let state = replay(alloc, net, events).expect(rt, "steps");
+    match state.into_flow(net) {
+        Ok(flow) => flow,
+        Err(_) => panic!(rt; "a state that isn't quiet"),
+    }
+}
+
+#[test]
+fn the_run_ends_in_a_flow(rt: HostRuntime) {
+    let alloc = rt.alloc();
+    let net = two_on_waste(&rt, alloc);
+    let events = run_of_rows(&rt, alloc);
+    let flow = flow_after(&rt, alloc, &net, &events);
+    is_flow_of_one(&rt, &flow);
+}
+
+// A replay ends at this step, which is refused.
+fn is_refused<G: OrderedGroup>(
+    rt: &impl Abort,
+    alloc: Global,
+    net: &Net<G>,
+    events: &[Event],
+    place: usize,
+    refusal: StepRefusal,
+) {
+    let fault = replay(alloc, net, events).err();
+    assert_eq!(rt; fault, Some(ReplayFault::Refused(place, refusal)));
+}
+
+#[test]
+fn a_step_out_of_turn(rt: HostRuntime) {
+    let alloc = rt.alloc();
+    let mut events = Vec::new(alloc);
+    push_steps(
+        &rt,
+        &mut events,
+        0,
+        &[RE, RL, RC, RL, RA, RE, RL, RC, RL, GC, GE],
+    );
+    let net = two_on_waste(&rt, alloc);
+    is_refused(&rt, alloc, &net, &events, 11, StepRefusal::OutOfTurn(TE));
+}
+
+// A block and one that it rests on, with sizes that don't fit twice.
+fn large_net(rt: &impl Abort, alloc: Global) -> Net<WorthSize> {
+    let rests = rests(rt, alloc, 2, &[(0, 1)]);
+    let size = i128::MAX;
+    let worths = [WorthSize { nanos: 5, size }, WorthSize { nanos: -4, size }];
+    let worths = Vec::from_slice(alloc, &worths).expect(rt, "memory");
+    Net::build(rests, worths).expect(rt, "net")
+}
+
+// The steps up to the one that doesn't fit.
+fn steps_that_fit(rt: &impl Abort, alloc: Global) -> Vec<Event> {
+    let mut events = Vec::new(alloc);
+    push_steps_that_fit(rt, &mut events);
+    events
+}
+
+fn push_steps_that_fit(rt: &impl Abort, events: &mut Vec<Event>) {
+    push_steps(
+        rt,
+        events,
+        0,
+        &[RE, RL, RC, RL, RA, RE, RL, RC, RL, GC, TE, GE],
+    );
+    push_steps(
+        rt,
+        events,
+        1,
+        &[RE, RC, RL, RC, RL, RA, RE, RC, RL, RC, RL, TC],
+    );
+}
+
+// The step is refused, and no step is counted.
+fn is_too_large(rt: &impl Abort, state: &mut State<WorthSize>, net: &Net<WorthSize>)
+    requires { IsStateOf net.now state.old }
+    ensures { IsStateOf net.now state.new }
+{
+    let event = Event { block: 1, kind: TE };
+    same(
+        rt,
+        state.step(net, event).err(),
+        Some(StepRefusal::TooLarge),
+    );
+    same(rt, state.count(), 24);
+}
+
+// However often it is tried.
+fn stays_too_large(rt: &impl Abort, state: &mut State<WorthSize>, net: &Net<WorthSize>)
+    requires { IsStateOf net.now state.old }
+{
+    is_too_large(rt, state, net);
+    is_too_large(rt, state, net);
+}
+
+#[test]
+fn a_sum_too_large(rt: HostRuntime) {
+    let alloc = rt.alloc();
+    let net = large_net(&rt, alloc);
+    let events = steps_that_fit(&rt, alloc);
+    let mut state = replay(alloc, &net, &events).expect(&rt, "steps");
+    stays_too_large(&rt, &mut state, &net);
+}
+
+#[test]
+fn a_run_with_a_sum_too_large(rt: HostRuntime) {
+    let alloc = rt.alloc();
+    let net = large_net(&rt, alloc);
+    let mut events = steps_that_fit(&rt, alloc);
+    push_steps(&rt, &mut events, 1, &[TE]);
+    is_refused(&rt, alloc, &net, &events, 25, StepRefusal::TooLarge);
+}
+
+fn has_no_block_3(rt: &impl Abort, state: &mut State<Worth>, net: &Net<Worth>)
+    requires { IsStateOf net.now state.old }
+{
+    let event = Event { block: 3, kind: RE };
+    same(rt, state.step(net, event), Err(StepRefusal::NoSuchBlock));
+    same(rt, state.count(), 0);
+}
+
+#[test]
+fn no_such_block(rt: HostRuntime) {
+    let alloc = rt.alloc();
+    let net = two_on_waste(&rt, alloc);
+    let mut state = State::open(alloc, &net).expect(&rt, "memory");
+    has_no_block_3(&rt, &mut state, &net);
+}
+
+// A block with four units reads its excess.
+fn reads_four(rt: &impl Abort, state: &mut State<Worth>, net: &Net<Worth>, block: u32)
+    requires { IsStateOf net.now state.old }
+    ensures { IsStateOf net.now state.new }
+{
+    let event = Event { block, kind: RE };
+    let saw = state.step(net, event).ok();
+    same(rt, saw, Some(Saw::Excess(worth(4))));
+}
+
+// The first that waits from block 0, and from block 1.
+fn wait(rt: &impl Abort, state: &State<Worth>, from_0: Option<u32>, from_1: Option<u32>) {
+    assert_eq!(rt; (state.waiting(0), state.waiting(1)), (from_0, from_1));
+}
+
+fn wait_in_turn(rt: &impl Abort, state: &mut State<Worth>, net: &Net<Worth>)
+    requires { IsStateOf net.now state.old }
+{
+    wait(rt, state, Some(0), Some(2));
+    reads_four(rt, state, net, 2);
+    wait(rt, state, Some(0), Some(0));
+}
+
+#[test]
+fn waiting_goes_round(rt: HostRuntime) {
+    let alloc = rt.alloc();
+    let net = two_on_waste(&rt, alloc);
+    let mut state = State::open(alloc, &net).expect(&rt, "memory");
+    wait_in_turn(&rt, &mut state, &net);
+}
+
+// Both blocks that have excess.
+fn are_at_work(rt: &impl Abort, state: &mut State<Worth>, net: &Net<Worth>)
+    requires { IsStateOf net.now state.old }
+{
+    reads_four(rt, state, net, 2);
+    reads_four(rt, state, net, 0);
+    same(rt, (state.waiting(1), state.quiet()), (None, false));
+}
+
+#[test]
+fn no_block_waits_where_all_are_at_work(rt: HostRuntime) {
+    let alloc = rt.alloc();
+    let net = two_on_waste(&rt, alloc);
+    let mut state = State::open(alloc, &net).expect(&rt, "memory");
+    are_at_work(&rt, &mut state, &net);
+}
+
+// It stays as it was after one step of block 0.
+fn is_not_quiet(rt: &impl Abort, state: State<Worth>, net: &Net<Worth>)
+    requires { IsStateOf net.now state }
+{
+    assert!(rt; net.len() == 3);
+    match state.into_flow(net) {
+        Ok(_) => panic!(rt; "a flow of a state that isn't quiet"),
+        Err(state) => {
+            same(rt, state.count(), 1);
+            same(rt, state.next_kind(net, 0), RL);
+        }
+    }
+}
+
+#[test]
+fn a_state_that_is_not_quiet(rt: HostRuntime) {
+    let alloc = rt.alloc();
+    let net = two_on_waste(&rt, alloc);
+    let mut state = State::open(alloc, &net).expect(&rt, "memory");
+    reads_four(&rt, &mut state, &net, 0);
+    is_not_quiet(&rt, state, &net);
+}
+
+// The text of a value.
+fn prints<D: Display>(rt: &impl Abort, alloc: Global, value: &D, text: &str) {
+    let printed = value.to_string(alloc).expect(rt, "memory");
+    same(rt, printed.as_str(), text);
+}
+
+#[test]
+fn refusals_as_texts(rt: HostRuntime) {
+    let alloc = rt.alloc();
+    let texts = [
+        (StepRefusal::NoSuchBlock, "NoSuchBlock"),
+        (StepRefusal::OutOfTurn(TE), "OutOfTurn(TakeExcess)"),
+        (StepRefusal::TooLarge, "TooLarge"),
+        (StepRefusal::TooManySteps, "TooManySteps"),
+    ];
+    for (refusal, text) in texts {
+        prints(&rt, alloc, &refusal, text);
+    }
+    let fault = ReplayFault::Refused(11, StepRefusal::OutOfTurn(TE));
+    prints(&rt, alloc, &fault, "Refused(11, OutOfTurn(TakeExcess))");
+    prints(&rt, alloc, &ReplayFault::NoMemory, "NoMemory");
+}
+
+#[test]
+fn kinds_as_texts(rt: HostRuntime) {
+    let alloc = rt.alloc();
+    let texts = [
+        (RE, "ReadExcess"),
+        (RC, "ReadCapacity"),
+        (RL, "ReadLabel"),
+        (TC, "TakeCapacity"),
+        (GC, "GiveCapacity"),
+        (TE, "TakeExcess"),
+        (GE, "GiveExcess"),
+        (RA, "RaiseLabel"),
+    ];
+    for (kind, text) in texts {
+        prints(&rt, alloc, &kind, text);
+    }
+}
