@@ -58,7 +58,16 @@ def a_change_is_proved(tree):
     tree.crate("high", "fn two() {}\n")
     is_built = tree.ran("build", "--is-built")[0]
     status, said = tree.ran("build")
-    return (is_built, status) == (1, 0) and tree.ran("build", "--is-built")[0] == 0, said
+    changed = proved(tree)
+    tree.write("crates/low/specs/Lib.antt", "a definition\n")
+    tree.ran("build")
+    below = proved(tree)
+    shutil.rmtree(tree.top / "crates/low/out/rlib")
+    (tree.top / "out/built-from").unlink()
+    tree.ran("build")
+    lost = proved(tree)
+    well = (is_built, status, changed) == (1, 0, ["high", "pit"]) and below == ["high", "low", "pit"] and lost == ["low", "pit"]
+    return well and tree.ran("build", "--is-built")[0] == 0 and "beside              as it was built          0 s" in said, said
 
 
 def the_room_is_in_the_tree(tree):

@@ -8,7 +8,7 @@ import subprocess
 from pathlib import Path
 
 RT = r'''#!/usr/bin/env python3
-import os, re, sys, time
+import os, re, shutil, sys, time
 from pathlib import Path
 
 KIT = Path(__file__).resolve().parent.parent
@@ -38,7 +38,8 @@ def prove():
     if "FAIL" in text:
         print("error: a goal is open\nlogic=not-proved")
         sys.exit(1)
-    (out / "rlib" / (name + ".rlib")).mkdir(parents=True, exist_ok=True)
+    shutil.rmtree(out / "rlib", ignore_errors=True)
+    (out / "rlib" / (name + ".rlib")).mkdir(parents=True)
     stamp.write_text(text)
     if words[0] == "run":
         (out / name).write_text(program(text))
@@ -81,7 +82,7 @@ with open(Path(__file__).resolve().parent.parent / "LOG", "a") as file:
     file.write("try %s %s\n" % ("one" if "--only" in words else "all", [it.name for at in libraries for it in at.iterdir()]))
 is_refused = "REFUSED" in text or "OTHER" in text and "--only" not in words
 if is_refused:
-    print("src/lib.rt:1:1: error: a goal is open")
+    print("src/lib.rt:1:1: error: `one`: a goal is open")
 print("only=1 proved=%d" % (not is_refused) if "--only" in words else "logic=not-proved" if is_refused else "logic=proved")
 sys.exit(int(is_refused))
 '''

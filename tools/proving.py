@@ -80,6 +80,17 @@ def is_at_work(folder):
     return False
 
 
+def sum_file(folder):
+    """Where the sum lies that a library was built from. The kit removes it with the library."""
+    return folder / "out" / "rlib" / "built-from"
+
+
+def is_as_built(crate):
+    """Whether the crate's library is there, built from what the crate and those below it are now."""
+    file = sum_file(crate.folder)
+    return file.exists() and file.read_text() == tree.digest([*crate.below.values(), crate])
+
+
 def weigh(crates):
     """Gives each crate `functions`, and `chain`: its lines and those of the longest chain of crates that wait for it."""
     for crate in reversed(list(crates.values())):
@@ -114,6 +125,7 @@ class Proof:
             if (crate.folder / made).is_dir():
                 shutil.copytree(crate.folder / made, to / made, copy_function=copied)
         (self.room / "crates.txt").write_text("".join(crate.line + "\n" for crate in wanted))
+        self.sum = tree.digest(wanted, self.room)
 
     def seconds(self):
         return round(time.monotonic() - self.began)
@@ -124,6 +136,8 @@ class Proof:
         said = self.said.read().decode(errors="replace")
         self.said.close()
         is_proved = self.process.returncode == 0
+        if is_proved and not self.crate.is_program:
+            sum_file(self.folder).write_text(self.sum)
         self.move_back("out" if is_proved else "out/incremental")
         shutil.rmtree(self.room, ignore_errors=True)
         return said, is_proved
@@ -173,11 +187,11 @@ class Screen:
             sys.stdout.flush()
             self.shown = 1
 
-    def crate(self, proof, said):
+    def crate(self, crate, said="", seconds=0):
         self.ended += 1
         proved = re.findall(r"^logic=proved functions=(\d+)", said, re.M)
         what = "%4s functions proved" % proved[-1] if proved else "   as it was built     "
-        self.line("[%2d/%d] %-16s %s %5d s" % (self.ended, self.count, proof.crate.name, what, proof.seconds()))
+        self.line("[%2d/%d] %-16s %s %5d s" % (self.ended, self.count, crate.name, what, seconds))
 
     def failed(self, proof, said, log):
         self.line("%s NOT PROVED; the end of %s:\n" % (proof.crate.name, log))
@@ -238,7 +252,7 @@ class Run:
                 self.screen.failed(proof, said, self.log.name)
                 return False
             self.done.add(proof.crate.name)
-            self.screen.crate(proof, said)
+            self.screen.crate(proof.crate, said, proof.seconds())
         return True
 
     def stop(self):
@@ -251,7 +265,16 @@ class Run:
         with suppress(OSError):  # the terminal may be gone
             self.screen.clear()
 
+    def pass_over(self):
+        """Passes over the libraries that are as they were built."""
+        for crate in [it for it in self.waiting if is_as_built(it)]:
+            self.waiting.remove(crate)
+            self.done.add(crate.name)
+            self.log.write("== %s\nas it was built\n" % crate.name)
+            self.screen.crate(crate)
+
     def all(self):
+        self.pass_over()
         while self.waiting or self.running:
             self.begin_some()
             if not self.take_ended():

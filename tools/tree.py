@@ -4,6 +4,7 @@ The program and the sum that it was built from lie in `out/`, which the gate lea
 each crate aside while it runs.
 """
 import fcntl
+import functools
 import hashlib
 import os
 import shutil
@@ -35,8 +36,9 @@ class Crate:
         self.below = {}
         self.is_program = (self.folder / "src" / "main.rt").exists()
 
-    def files(self):
-        return sorted(file for part in PARTS for file in (self.folder / part).rglob("*") if file.is_file())
+    def files(self, top=TOP):
+        folder = top / "crates" / self.name
+        return sorted(file for part in PARTS for file in (folder / part).rglob("*") if file.is_file())
 
     def lines(self):
         return sum(file.read_bytes().count(b"\n") for file in self.files())
@@ -65,6 +67,7 @@ def read_crates():
     return placed
 
 
+@functools.lru_cache(maxsize=None)
 def kit():
     """The kit's own line, as `rattle-kit-13f logic dac8208d650f15bf`."""
     try:
@@ -79,13 +82,13 @@ def kit_folder():
     return Path(subprocess.run(["rt", "doc"], stdout=subprocess.PIPE, check=True, text=True).stdout.strip()).parent
 
 
-def digest(crates):
-    """A sum of all that the program is made from, the kit's identity among it."""
+def digest(crates, top=TOP):
+    """A sum of all that these crates are made from, in the tree at `top`, the kit's identity among it."""
     total = hashlib.sha256(kit().encode() + b"\n")
-    total.update((TOP / "crates.txt").read_bytes())
-    for crate in crates.values():
-        for file in crate.files():
-            total.update(str(file.relative_to(TOP)).encode() + b"\0" + file.read_bytes() + b"\0")
+    for crate in crates:
+        total.update(crate.line.encode() + b"\n")
+        for file in crate.files(top):
+            total.update(str(file.relative_to(top)).encode() + b"\0" + file.read_bytes() + b"\0")
     return total.hexdigest()
 
 
