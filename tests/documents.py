@@ -1,7 +1,7 @@
 """README, GUIDE and ENGINES, read by a program: every command is typed, and every number compared.
 
-- **Sessions.** In a code block a line that begins with `$` is given to a shell, in a copy of examples/, and what is
-  printed has to be what the page shows below it. ` .. ` stands for any text within a line, and `..` alone for any lines.
+- **Sessions.** In a code block a line that begins with `$`, with the next ones until its quotes are closed, is given to a
+  shell, in a copy of examples/, and what is printed has to be what the page shows below it. ` .. ` stands for any text within a line, and `..` alone for any lines.
   Where the status is 0, what comes on standard error may be left out.
 - **Facts.** Sentences and rows of tables that have numbers are made anew (page_facts.py), of the answers, of the files of
   examples/ and of bench/RESULTS.md, and have to be in the page.
@@ -24,7 +24,8 @@ COMMANDS = "slopes", "solve", "check", "shells", "report", "replay"
 STATUSES = (("REFUSED", 1), ("UNSETTLED", 1), ("HISTORYFULL", 1), ("error:", 2), ("fault: device", 4), ("fault: memory", 4), ("fault:", 3))
 LOOKS_TYPED = re.compile(r"(pit|python3|pitplan|\./\S+|cd|grep|sed|cut|cat) ")
 UNTYPED = {"README.md": ("./run-example", "./install", "python3 tests/run"),
-           "docs/GUIDE.md": ("python3 examples/csv_to_minelib.py mine.csv 20 20 10 mine revenue cost tonnes",)}   # typed by tests/day
+           "docs/GUIDE.md": ("python3 examples/csv_to_minelib.py mine.csv", "pit slopes --blocks mine.blocks",
+                             "pit shells --prec mine.prec", "pit report --prec mine.prec")}    # the mine of tests/day, which types them
 OWN_TEST = "## From blocks to slopes"
 NUMBER = re.compile(r"(?<![\w.,-])\d[\d,]*(?:\.\d+)?")
 OTHERS = {
@@ -63,6 +64,8 @@ def sessions(text):
             found.append(Session(number, line[margin + 2:], []))
         elif not line:
             margin = None
+        elif margin is not None and not found[-1].shown and found[-1].command.count("'") % 2:
+            found[-1] = found[-1]._replace(command=found[-1].command + "\n" + line[margin:])
         elif margin is not None:
             found[-1].shown.append(line[margin:].rstrip())
         elif LOOKS_TYPED.match(line.lstrip()):
@@ -95,6 +98,7 @@ class Reader:
         self.place = self.top = Path(day.folder) / Path(page).stem
         self.top.mkdir()
         shutil.copytree(top / "examples", self.top / "examples")
+        (self.top / "python").symlink_to(top / "python")
 
     def types(self, session):
         """Types a command, and compares its answer and its status."""
