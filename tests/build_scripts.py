@@ -330,7 +330,8 @@ def what_is_not_committed_is_not_released(tree):
 
 
 def the_manual_page_follows_the_help_texts(tree):
-    help_text = "Digs.\\n\\nUsage: pit <COMMAND>\\n\\nCommands:\\n  dig   Digs\\n  help  Print\\n\\nOptions:\\n  -h, --help  Print help\\n\\nExit status:\\n  0  done\\n"
+    help_text = ("Digs.\\n\\nUsage: pit <COMMAND>\\n\\nCommands:\\n  dig   Digs\\n  help  Print\\n\\nOptions:\\n  -h, --help  Print help\\n\\n"
+                 "Exit status:\\n  0  done\\n")
     of_dig = "Digs a .pit\\n\\nUsage: pit dig [OPTIONS]\\n\\nOptions:\\n      --deep <N>\\n          How deep: 3 by default\\n"
     program = "#!/bin/sh\ncase \"$*\" in\n--version) echo pit 7.8.9;;\n--help) printf '%s';;\n'dig --help') printf '%s';;\nesac\n"
     tree.write("out/pit", program % (help_text, of_dig), 0o755)

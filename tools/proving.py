@@ -104,13 +104,8 @@ class Proof:
 
     def __init__(self, crate, jobs, is_urgent):
         self.crate, self.began, self.room = crate, time.monotonic(), tree.ROOM / crate.name
-        self.jobs = jobs
+        self.jobs, self.is_urgent = jobs, is_urgent
         self.place()
-        what = ["run", "--jobs", str(jobs), "--", "--help"] if crate.is_program else ["lib", "--jobs", str(jobs)]
-        self.said = open(self.room / "said", "w+b")
-        self.process = subprocess.Popen(([] if is_urgent else ["nice", "-n", "10"]) + ["rt"] + what, cwd=self.folder,
-                                        stdin=subprocess.DEVNULL, stdout=self.said, stderr=subprocess.STDOUT,
-                                        preexec_fn=as_a_child)
 
     def place(self):
         self.folder = self.room / "crates" / self.crate.name
@@ -127,6 +122,12 @@ class Proof:
         (self.room / "crates.txt").write_text("".join(crate.line + "\n" for crate in wanted))
         self.sum = tree.digest(wanted, self.room)
 
+    def begin(self):
+        what = ["run", "--jobs", str(self.jobs), "--", "--help"] if self.crate.is_program else ["lib", "--jobs", str(self.jobs)]
+        self.said = open(self.room / "said", "w+b")
+        self.process = subprocess.Popen(([] if self.is_urgent else ["nice", "-n", "10"]) + ["rt"] + what, cwd=self.folder,
+                                        stdin=subprocess.DEVNULL, stdout=self.said, stderr=subprocess.STDOUT, preexec_fn=as_a_child)
+
     def seconds(self):
         return round(time.monotonic() - self.began)
 
@@ -137,6 +138,7 @@ class Proof:
         self.said.close()
         is_proved = self.process.returncode == 0
         if is_proved and not self.crate.is_program:
+            sum_file(self.folder).unlink(missing_ok=True)  # it may be a link to another folder's
             sum_file(self.folder).write_text(self.sum)
         self.move_back("out" if is_proved else "out/incremental")
         shutil.rmtree(self.room, ignore_errors=True)
@@ -238,8 +240,10 @@ class Run:
             jobs, is_urgent = jobs_for(crate, self.waiting, self.running, self.host)
             if jobs:
                 self.waiting.remove(crate)
+                proof = Proof(crate, jobs, is_urgent)
                 with unbroken():  # so that no process is begun that isn't known here
-                    self.running.append(Proof(crate, jobs, is_urgent))
+                    proof.begin()
+                    self.running.append(proof)
 
     def take_ended(self):
         """Takes the proofs that have ended, and says whether each was well."""
