@@ -88,6 +88,14 @@ def of_copper(reader):
             *("".join("    %s\n" % line for line in (folder / name).read_text().splitlines()) for name in ("settings.toml", "mill.toml"))]
 
 
+def of_regions(reader):
+    """Of two regions: the pits where one of their slopes holds everywhere."""
+    for name in "west", "east":
+        reader.asks("pit solve --prec {0}.prec --upit copper.upit > {0}.cert".format(name))
+    answers = [reader.asks("pit check --prec {0}.prec --upit copper.upit {0}.cert".format(name)).strip() for name in ("west", "east")]
+    return ["With 45 degrees everywhere the answer is `%s`, and with 38 `%s`" % tuple(answers)]
+
+
 def of_shells(reader):
     """Of the shells: the pit at each factor, what each adds, and those of the mill beside them."""
     model = "--prec copper.prec --blocks priced.blocks --settings"
