@@ -10,7 +10,7 @@
   which says where it is from.
 - **Other commands.** A line of a code block that looks like a command and isn't typed has to be in UNTYPED.
 
-From blocks to slopes has a test of its own for its angles; of that section the sessions alone are played here.
+tests/day measures walls too, in the pits of deep models.
 """
 import re
 import shlex
@@ -28,7 +28,6 @@ LOOKS_TYPED = re.compile(r"(pit|python3|pitplan|\./\S+|cd|grep|sed|cut|cat) ")
 UNTYPED = {"README.md": ("./run-example", "./install", "python3 tests/run"),
            "docs/GUIDE.md": ("python3 examples/csv_to_minelib.py mine.csv", "pit slopes --blocks mine.blocks",
                              "pit shells --prec mine.prec", "pit report --prec mine.prec")}    # the mine of tests/day, which types them
-OWN_TEST = "## From blocks to slopes"
 NUMBER = re.compile(r"(?<![\w.,-])\d[\d,]*(?:\.\d+)?")
 OTHERS = {
     1965: "Lerchs and Grossmann's paper", 1976: "Picard's", 2008: "Hochbaum's and Hong's", 2026: "the year of RESULTS",
@@ -129,7 +128,7 @@ class Reader:
     def asks(self, command):
         """What a command prints that no page shows."""
         return subprocess.run(["sh", "-c", command], cwd=self.place, env=self.day.around, stdin=subprocess.DEVNULL,
-                              stdout=subprocess.PIPE, text=True).stdout
+                              stdout=subprocess.PIPE, stderr=subprocess.DEVNULL, text=True).stdout
 
     def plays(self):
         """Types every command of the page."""
@@ -149,11 +148,8 @@ class Reader:
         """Compares what numbers are left in the text of the page with those that are known: by these texts, or by what was seen."""
         known = set(numbers_of(self.seen + texts)) | set(OTHERS)
         code = {line.line for line in code_lines(self.text) if line.text}
-        prose, is_own = [], True
-        for number, line in enumerate(self.text.split("\n"), 1):
-            is_own = line != OWN_TEST if line.startswith("## ") else is_own
-            if is_own and number not in code and line:
-                prose.append(re.sub(r"\]\([^)]*\)", "]", line))
+        lines = [line for number, line in enumerate(self.text.split("\n"), 1) if number not in code]
+        prose = [re.sub(r"\]\([^)]*\)", "]", line) for line in lines]
         left = [(number, line[:60]) for line in prose for number in numbers_of(line) if number >= 10 and number not in known]
         self.day.same("%s: numbers from nowhere" % self.page, left, [])
 
@@ -167,7 +163,8 @@ def play(day, top):
     readme, guide, engines = (readers[page] for page in PAGES)
     readme_sizes, guide_sizes = page_facts.size_rows((top / "bench" / "RESULTS.md").read_text())
     readme.has(*readme_sizes, *page_facts.of_readme(readme))
-    guide.has(*guide_sizes, *page_facts.of_table(guide), *page_facts.of_copper(guide), *page_facts.of_regions(guide), *page_facts.of_shells(guide), *page_facts.of_benches(guide))
+    guide.has(*guide_sizes, *page_facts.of_table(guide), *page_facts.of_copper(guide), *page_facts.of_patterns(guide), *page_facts.of_stretched_cones(guide),
+              *page_facts.of_regions(guide), *page_facts.of_shells(guide), *page_facts.of_benches(guide))
     engines.has(*page_facts.of_trace(engines))
     helps = "".join(readme.asks("pit %s --help" % command) for command in COMMANDS)
     for reader in readers.values():
