@@ -3,15 +3,17 @@
 - **Sessions.** In a code block a line that begins with `$`, with the next ones until its quotes are closed, is given to a
   shell, in a copy of examples/, and what is printed has to be what the page shows below it. ` .. ` stands for any text within a line, and `..` alone for any lines.
   Where the status is 0, what comes on standard error may be left out.
+- **Files.** A code block that follows a line which ends in the name of a file and a colon is that file.
 - **Facts.** Sentences and rows of tables that have numbers are made anew (page_facts.py), of the answers, of the files of
   examples/ and of bench/RESULTS.md, and have to be in the page.
 - **Other numbers.** A number from 10 on that is in no fact has to be in a command, an answer, a help text, or in OTHERS,
   which says where it is from.
 - **Other commands.** A line of a code block that looks like a command and isn't typed has to be in UNTYPED.
 
-From blocks to slopes has a test of its own for its angles; of that section the sessions alone are played here.
+tests/day measures walls too, in the pits of deep models.
 """
 import re
+import shlex
 import shutil
 import subprocess
 from collections import namedtuple
@@ -26,7 +28,6 @@ LOOKS_TYPED = re.compile(r"(pit|python3|pitplan|\./\S+|cd|grep|sed|cut|cat) ")
 UNTYPED = {"README.md": ("./run-example", "./install", "python3 tests/run"),
            "docs/GUIDE.md": ("python3 examples/csv_to_minelib.py mine.csv", "pit slopes --blocks mine.blocks",
                              "pit shells --prec mine.prec", "pit report --prec mine.prec")}    # the mine of tests/day, which types them
-OWN_TEST = "## From blocks to slopes"
 NUMBER = re.compile(r"(?<![\w.,-])\d[\d,]*(?:\.\d+)?")
 OTHERS = {
     1965: "Lerchs and Grossmann's paper", 1976: "Picard's", 2008: "Hochbaum's and Hong's", 2026: "the year of RESULTS",
@@ -37,33 +38,40 @@ OTHERS = {
     500: "steps, an example", 1250.75: "an example of a decimal", 65: "per cent", 80: "per cent", 100: "per cent",
     30: "minutes of a first build, timed", 45: "minutes of a first build, timed"}
 
+NAMED = re.compile(r".*`([\w-]+\.\w+)`:$")
 Session = namedtuple("Session", "line command shown")
-Typed = namedtuple("Typed", "line text")
+Typed = namedtuple("Typed", "line text above")       # the last line of text above it
 
 
 def code_lines(text):
     """Each line of the code blocks of a page, with its number, and an empty one after each block."""
     is_fenced = was_code = False
+    above = ""
     for number, line in enumerate(text.split("\n"), 1):
         if line.startswith("```"):
             is_fenced = not is_fenced
         elif is_fenced or line.startswith("    "):
             was_code = True
-            yield Typed(number, line)
+            yield Typed(number, line, above)
         elif was_code:
             was_code = False
-            yield Typed(number, "")
+            yield Typed(number, "", above)
+        if line and not line.startswith("    "):
+            above = line
 
 
 def sessions(text):
-    """The commands that a page types, each with the lines that it shows as the answer; and lines that only look typed."""
+    """The commands that a page types, each with the lines that it shows as the answer, and the files that it shows, as commands
+    that write them; and lines that only look typed."""
     found, untyped, margin = [], [], None
-    for number, line in code_lines(text):
+    for number, line, above in code_lines(text):
         if line.lstrip().startswith("$ "):
             margin = len(line) - len(line.lstrip())
             found.append(Session(number, line[margin + 2:], []))
         elif not line:
             margin = None
+        elif margin is None and NAMED.match(above):
+            found.append(Session(number, "echo %s >> %s" % (shlex.quote(line[4:]), NAMED.match(above)[1]), []))
         elif margin is not None and not found[-1].shown and found[-1].command.count("'") % 2:
             found[-1] = found[-1]._replace(command=found[-1].command + "\n" + line[margin:])
         elif margin is not None:
@@ -120,7 +128,7 @@ class Reader:
     def asks(self, command):
         """What a command prints that no page shows."""
         return subprocess.run(["sh", "-c", command], cwd=self.place, env=self.day.around, stdin=subprocess.DEVNULL,
-                              stdout=subprocess.PIPE, text=True).stdout
+                              stdout=subprocess.PIPE, stderr=subprocess.DEVNULL, text=True).stdout
 
     def plays(self):
         """Types every command of the page."""
@@ -140,11 +148,8 @@ class Reader:
         """Compares what numbers are left in the text of the page with those that are known: by these texts, or by what was seen."""
         known = set(numbers_of(self.seen + texts)) | set(OTHERS)
         code = {line.line for line in code_lines(self.text) if line.text}
-        prose, is_own = [], True
-        for number, line in enumerate(self.text.split("\n"), 1):
-            is_own = line != OWN_TEST if line.startswith("## ") else is_own
-            if is_own and number not in code and line:
-                prose.append(re.sub(r"\]\([^)]*\)", "]", line))
+        lines = [line for number, line in enumerate(self.text.split("\n"), 1) if number not in code]
+        prose = [re.sub(r"\]\([^)]*\)", "]", line) for line in lines]
         left = [(number, line[:60]) for line in prose for number in numbers_of(line) if number >= 10 and number not in known]
         self.day.same("%s: numbers from nowhere" % self.page, left, [])
 
@@ -158,7 +163,8 @@ def play(day, top):
     readme, guide, engines = (readers[page] for page in PAGES)
     readme_sizes, guide_sizes = page_facts.size_rows((top / "bench" / "RESULTS.md").read_text())
     readme.has(*readme_sizes, *page_facts.of_readme(readme))
-    guide.has(*guide_sizes, *page_facts.of_table(guide), *page_facts.of_copper(guide), *page_facts.of_shells(guide), *page_facts.of_benches(guide))
+    guide.has(*guide_sizes, *page_facts.of_table(guide), *page_facts.of_copper(guide), *page_facts.of_patterns(guide), *page_facts.of_stretched_cones(guide),
+              *page_facts.of_regions(guide), *page_facts.of_shells(guide), *page_facts.of_benches(guide))
     engines.has(*page_facts.of_trace(engines))
     helps = "".join(readme.asks("pit %s --help" % command) for command in COMMANDS)
     for reader in readers.values():

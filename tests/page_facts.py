@@ -5,6 +5,11 @@ import csv
 import math
 import re
 
+import walls
+
+CLIFF = "is `ACCEPTED 33 2`: the block, ten blocks of the cliff and 22 of air. Without them it is `ACCEPTED 1 12`:"    # as tests/day finds it
+MOST_PAIRS = 2**27
+
 
 def table_of(results, title):
     """The rows of the first table below a heading of RESULTS, by their first cell."""
@@ -86,6 +91,62 @@ def of_copper(reader):
             "the waste that it strips costs %d dollars and not %s" % (top[0][8], commas(top[0][5])),
             "".join("    %s\n" % line for line in (folder / "priced.blocks").read_text().splitlines()[:3]),
             *("".join("    %s\n" % line for line in (folder / name).read_text().splitlines()) for name in ("settings.toml", "mill.toml"))]
+
+
+def offsets_of(reader, named):
+    """The offsets of a pattern, by FORMATS, or those that offsets.py writes."""
+    if named.startswith("offsets.py"):
+        return walls.offsets_in(reader.asks("python3 ../%s" % named))
+    return walls.named(named)
+
+
+def errors(offsets, size, angle):
+    """Degrees by which a deep wall is steeper than asked, at four bearings a degree: the pit opens to the hull of the offsets,
+    each divided by its level."""
+    outline = walls.hull(sorted({(x * size[0] / k, y * size[1] / k) for x, y, k in offsets}))
+    return [math.degrees(math.atan2(size[2], walls.distance(outline, bearing / 4))) - angle for bearing in range(4 * 360)]
+
+
+def degrees(error):
+    return "0.0" if abs(error) < 0.05 else "%+.1f" % error
+
+
+def of_patterns(reader):
+    """The table of what patterns err by, and the limits below it."""
+    facts = []
+    for named, *size in re.findall(r"^\| `(.+?)` \| (\d+) x (\d+) x (\d+) \|", reader.text, re.M):
+        size, offsets = tuple(map(int, size)), offsets_of(reader, named)
+        off = errors(offsets, size, 45)
+        facts.append("| `%s` | %d x %d x %d | %d | %d | %s | %s | %s |" % (
+            named, *size, len(offsets), len(walls.needed(offsets)), degrees(sum(off) / len(off)), degrees(max(off)), degrees(min(off))))
+    return facts + [CLIFF, "| `--blocks {}` | a large model. `pit` takes {:,} pairs of a block and a predecessor, so each block may have {} of them. "
+                    "Where no {} offsets".format(5_000_000, MOST_PAIRS, MOST_PAIRS // 5_000_000, MOST_PAIRS // 5_000_000),
+                    "A pattern has at most 4,096 offsets, and a model at most {:,} pairs: 185 offsets fit {:,} blocks, and 25 offsets {:,}".format(
+                        MOST_PAIRS, MOST_PAIRS // 185 // 1000 * 1000, MOST_PAIRS // 25 // 10**5 * 10**5)]
+
+
+def of_stretched_cones(reader):
+    """The table of stretched cones by block and slope: how many offsets each has, and that it errs by no more than is said."""
+    facts = []
+    for head, *cells in re.findall(r"^\| (cubes|20 x .*?|25 x .*?) \| (.*?) \| (.*?) \| (.*?) \|$", reader.text, re.M):
+        size = tuple(map(int, head.split(",")[0].split(" x "))) if head != "cubes" else (1, 1, 1)
+        for angle, cell in zip((40, 45, 50), cells):
+            named = re.search(r"`(.*)`", cell)[1]
+            offsets = offsets_of(reader, named)
+            off = errors(offsets, size, angle)
+            is_near = sum(map(abs, off)) / len(off) <= 0.5 and max(map(abs, off)) <= 1 and min(off) < 0 < max(off)
+            reader.day.same("%s for %d degrees in %s" % (named, angle, head), is_near, True)
+            facts.append("%d of `%s`" % (len(offsets), named) if named.startswith("offsets.py") else "`%s` %d" % (named, len(offsets)))
+        facts.append("| %s |" % head)
+    return ["| Block, metres | 40 degrees | 45 degrees | 50 degrees |"] + facts
+
+
+def of_regions(reader):
+    """Of two regions: the pits where one of their slopes holds everywhere."""
+    for name in "west", "east":
+        reader.asks("pit solve --prec {0}.prec --upit copper.upit > {0}.cert".format(name))
+    answers = [reader.asks("pit check --prec {0}.prec --upit copper.upit {0}.cert".format(name)).strip() for name in ("west", "east")]
+    return ["With 45 degrees everywhere the answer is `%s`, and with 38 `%s`" % tuple(answers)]
 
 
 def of_shells(reader):

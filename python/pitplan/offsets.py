@@ -254,7 +254,7 @@ def error_of(asked: Wall, outline: Outline) -> Error:
     """
     off = [outline.slope(bearing) - slope for bearing, slope in enumerate(_by_degree(asked))]
     steepest, flattest = _extremes(asked, outline)
-    return Error(sum(map(abs, off)) / 360, sum(off) / 360, max(steepest, *off), min(flattest, *off))
+    return Error(sum(abs(each) for each in off) / 360, sum(off) / 360, max(steepest, *off), min(flattest, *off))
 
 
 @functools.lru_cache(maxsize=16)

@@ -206,7 +206,7 @@ class Pit:
                 text = run.stdout.read().decode(errors="replace") if run.stdout else ""
                 status = run.wait()
             except BaseException:
-                run.kill()
+                ended_now(run)
                 run.wait()
                 raise
             finally:
@@ -239,7 +239,7 @@ class Pit:
         with self.lock:
             self.is_stopped = True
             for run in self.running:
-                run.kill()
+                ended_now(run)
 
     def ended(self, command: str, status: int, fault: str) -> PlanError:
         """The error of a run that ended with another status than 0 or 1."""
@@ -249,6 +249,12 @@ class Pit:
         hint = "fewer --workers: memory was short, or somebody ended it" if status == -signal.SIGKILL else hint_of(fault)
         kind = MachineError if status < 0 or status == 4 else PlanError
         return kind(f"pit {command} {how}" + (f": {fault}" if fault else ""), try_this=hint)
+
+
+def ended_now(run: subprocess.Popen[bytes]) -> None:
+    """Ends a run and all that it started: it is the first of a process group of its own."""
+    if run.poll() is None:
+        os.killpg(run.pid, signal.SIGKILL)
 
 
 def hint_of(said: str) -> str | None:
@@ -293,6 +299,8 @@ def pit_lines(certificate: Path) -> tuple[int, int, npt.NDArray[np.int64], str]:
 
 def numbers_in(lines: bytes) -> npt.NDArray[np.int64]:
     """The numbers of lines ``PIT b``."""
+    if lines.translate(None, b"0123456789PIT \n"):
+        raise NotAccepted("a certificate has other lines between its PIT lines")
     if not lines:
         return np.empty(0, np.int64)
     found: npt.NDArray[np.int64] = np.fromstring(lines.replace(b"PIT ", b"").decode(), dtype=np.int64, sep="\n")
