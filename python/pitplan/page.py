@@ -78,12 +78,10 @@ def facts(shells: Shells, table: pd.DataFrame) -> tuple[list[str], list[list[str
     for name, column, scale in ((f"Ore ({rock.unit})", "ore_t", rock), (f"Waste ({rock.unit})", "waste_t", rock)):
         columns.append((name, [amount_text(v, scale) for v in table[column]]))
     columns.append(("Strip ratio (t/t)", [f"{v:.2f}" if np.isfinite(v) else "-" for v in table["strip"]]))
-    for column in table.columns:
-        if column.startswith("grade_"):
-            columns.append((f"Grade of ore, {column[6:]}", [f"{v:.4g}" if np.isfinite(v) else "-" for v in table[column]]))
-        if column.startswith("metal_"):
-            metal = scale_of(table[column], "")
-            columns.append((f"Metal, {column[6:]}" + (f" ({metal.unit.strip()})" if metal.unit else ""), [amount_text(v, metal) for v in table[column]]))
+    for metal, units in shells.study.manifest["metals"].items():
+        got = scale_of(table[f"metal_{metal}"], units["price_unit"])
+        columns.append((f"Grade of ore, {metal} ({units['grade_unit']})", [f"{v:.4g}" if np.isfinite(v) else "-" for v in table[f"grade_{metal}"]]))
+        columns.append((f"Recovered {metal} ({got.unit})", [amount_text(v, got) for v in table[f"metal_{metal}"]]))
     for name, column in (("Worth at factor 1", "worth_at_base"), ("Discounted, best case", "npv_best"), ("Discounted, worst case", "npv_worst")):
         columns.append((f"{name} ({money.unit})", [amount_text(v, money) for v in table[column]]))
     columns.append(("Years", [f"{v:.1f}" for v in table["years"]]))
