@@ -116,7 +116,13 @@ def data_of(shells: Shells, levels: NDArray[np.uint16], rows: list[list[str]], s
     corners = [place(i - 0.5, j - 0.5) for i, j in ((0, 0), (nx, 0), (nx, ny), (0, ny))]
     return {"shape": [nx, ny, nz], "size": list(grid.size), "rotation": grid.rotation, "corners": corners, "centre": place(nx / 2 - 0.5, ny / 2 - 0.5),
             "floor": grid.origin[2] - grid.size[2] / 2, "factors": ["0", *map(factor_text, shells.factors)],
-            "facts": [["-"] * len(rows[0]), *rows], "start": start, "heights": packed(levels)}
+            "facts": [["-"] * len(rows[0]), *rows], "start": start, "middle": middle(levels, start), "heights": packed(levels)}
+
+
+def middle(levels: NDArray[np.uint16], pit: int) -> list[int]:
+    """The row and the column of the model in which a pit has most blocks: where a section is first cut."""
+    dug = np.where(levels[0] == NO_COLUMN, 0, levels[0].astype(np.int64) - levels[pit])
+    return [int(dug.sum(axis=0).argmax()), int(dug.sum(axis=1).argmax())]
 
 
 def table_html(headings: list[str], factors: list[int], rows: list[list[str]]) -> str:

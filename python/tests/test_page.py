@@ -133,6 +133,36 @@ def test_the_picture_isnt_blank_and_follows_the_slider_and_the_controls(browser,
     assert len({stretched, above, coloured, browser.execute_script(PIXELS)[2]}) == 4
 
 
+def test_a_section_shows_the_first_pit_of_each_block(browser, shells):
+    """The middle of each block has the colour that stands beside the factor in the table."""
+    swatches = [re.findall(r"\d+", e.value_of_css_property("background-color"))[:3] for e in browser.find_elements(By.CLASS_NAME, "swatch")]
+    model, none = shells.study.model, len(shells.factors)
+    nz, seen = model.grid.shape[2], set()
+    slider(browser).send_keys(Keys.HOME)
+    for way, axis, other, keys in (("1", "iy", "ix", [Keys.HOME, Keys.ARROW_RIGHT]), ("0", "ix", "iy", [Keys.END])):
+        browser.execute_script("const w = document.getElementById('way'); w.value = arguments[0]; w.onchange()", way)
+        for key in keys:
+            browser.find_element(By.ID, "cut").send_keys(key)
+            at = int(browser.find_element(By.ID, "cut").get_attribute("value"))
+            name = ("northing {:,} (row {})".format(9000 + 20 * at, at), "easting {:,} (column {})".format(5000 + 20 * at, at))[axis == "ix"]
+            assert browser.find_element(By.ID, "where").text == name
+            blocks = model.blocks[model.blocks[axis] == at]
+            places = np.column_stack([blocks[other], nz - 1 - blocks["iz"]])
+            colours = browser.execute_script(CELLS, places.tolist(), model.grid.shape[0 if other == "ix" else 1], nz, 20, 15)
+            for first, colour in zip(shells.shell[blocks.index], colours):
+                seen.add(int(first))
+                if first < none:
+                    assert [str(c) for c in colour[:3]] == swatches[first]
+                else:
+                    assert colour[3] < 255                       # dots on paper
+    assert len(seen) > 2 and at == model.grid.shape[0] - 1
+
+
+CELLS = """const [places, across, levels, wide, high] = arguments, c = document.getElementById("profile"), b = c.getContext("2d"), d = devicePixelRatio;
+const scale = Math.min((c.width / d - 80) / (across * wide), 320 / (levels * high));
+return places.map(([k, down]) => [...b.getImageData(Math.round((70 + (k + 0.5) * wide * scale) * d), Math.round((8 + (down + 0.5) * high * scale) * d), 1, 1).data])"""
+
+
 def test_the_picture_turns_by_keys_and_leaves_the_slider_alone(browser):
     before, at = browser.execute_script(PIXELS)[2], slider(browser).get_attribute("value")
     browser.find_element(By.ID, "picture").send_keys(Keys.ARROW_LEFT, "+")
@@ -169,14 +199,14 @@ def test_the_page_asks_no_network(browser, file):
 
 
 def test_each_control_has_a_name_and_the_slider_comes_first(browser):
-    for control in browser.find_elements(By.CSS_SELECTOR, "input, select, button, canvas"):
+    for control in browser.find_elements(By.CSS_SELECTOR, "input, select, button, canvas, [role=region]"):
         assert control.accessible_name.strip(), control.get_attribute("outerHTML")
     browser.execute_script("const h = document.querySelector('h1'); h.tabIndex = -1; h.focus()")
     order = []
-    for _ in range(7):
+    for _ in range(9):
         browser.switch_to.active_element.send_keys(Keys.TAB)
         order.append(browser.switch_to.active_element.get_attribute("id"))
-    assert order == ["pit", "stretch", "colour", "plan", "slant", "picture", "scroll"]
+    assert order == ["pit", "stretch", "colour", "plan", "slant", "picture", "way", "cut", "scroll"]
 
 
 @pytest.mark.parametrize("scheme", ["light", "dark"])

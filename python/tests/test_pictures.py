@@ -1,5 +1,7 @@
 """Pictures: where each block is drawn, which colour it gets, what the axes say; without looking at pixels."""
 import copy
+import subprocess
+from pathlib import Path
 
 import matplotlib.image
 import numpy as np
@@ -7,15 +9,15 @@ import pytest
 from hypothesis import given, strategies as st
 from shapely.geometry import Polygon
 from shapely.ops import unary_union
-from typer.testing import CliRunner
 
 import pitplan as pp
 from mines import shells_of, table, written_study
 from pitplan import pictures, plane
-from pitplan.cli import app
 from pitplan.grid import Grid
 from pitplan.model import Model
 from pitplan.pictures import Style
+
+PITPLAN = Path(__file__).resolve().parents[2] / "bin/pitplan"
 
 
 @pytest.fixture(scope="module")
@@ -267,16 +269,19 @@ def test_pits_that_dont_pay_are_drawn_as_none(shells):
 
 def test_plot_and_page_write_what_they_name(tmp_path):
     folder = written_study(tmp_path / "s")
-    run = CliRunner(mix_stderr=False).invoke
-    for words in (["build", str(folder)], ["shells", str(folder)]):
-        assert run(app, words).exit_code == 0
-    told = run(app, ["plot", str(folder)])
-    assert told.exit_code == 0
+
+    def run(*words):
+        return subprocess.run([str(PITPLAN), *words], capture_output=True, text=True)
+
+    assert run("build", folder).returncode == 0 == run("shells", folder).returncode
+    told = run("plot", folder)
     names = sorted(line.rsplit("/", 1)[1] for line in told.stdout.splitlines())
-    assert len(names) == 3 and names[0] == "pit-by-pit.png" and names[1].startswith("plan-") and names[2].startswith("section-row-")
-    told = run(app, ["plot", str(folder), "--bench", "100", "--bench", "115", "--north", "9020", "--east", "5020", "--column", "2", "--colour", "CU", "--pit", "0.6"])
-    assert told.exit_code == 0 and len(told.stdout.splitlines()) == 5 and all(line.endswith("-CU.png") for line in told.stdout.splitlines())
-    assert run(app, ["page", str(folder), "--title", "North pit"]).exit_code == 0
+    assert told.returncode == 0 and len(names) == 3
+    assert names[0] == "pit-by-pit.png" and names[1].startswith("plan-") and names[2].startswith("section-row-")
+    told = run("plot", folder, "--bench", "100", "--bench", "115", "--north", "9020", "--east", "5020", "--column", "2", "--colour", "CU", "--pit", "0.6")
+    paths = told.stdout.splitlines()
+    assert told.returncode == 0 and len(paths) == 5 and all(p.endswith("-CU.png") and Path(p).is_file() for p in paths)
+    assert run("page", folder, "--title", "North pit").returncode == 0
     assert "<title>North pit: nested pits</title>" in (folder / "out/pits.html").read_text()
-    refused = run(app, ["plot", str(folder), "--bench", "5000"])
-    assert isinstance(refused.exception, pp.PlanError) and not list((folder / "out").glob("*5000*"))
+    refused = run("plot", folder, "--bench", "5000")
+    assert refused.returncode == 3 and "no bench at elevation 5,000" in refused.stderr and not list((folder / "out").glob("*5000*"))
