@@ -2,7 +2,7 @@
 """Solves mines of 3, 10 and 15 million blocks by `pit solve` with no further words, and checks each certificate with `pit check`
 and with bench/peers/checker: CPU seconds and peak memory of the run.
 
-    bench/large.py               rich3m, b10m and b15m: some 12 GB of disk in bench/out, and 8 GB of memory
+    bench/large.py               rich3m, b10m and b15m: some 4 GB of disk in bench/out, and 7 GB of memory
     bench/large.py --models rich3m
 
 The last line is `N passed, M failed`: a mine passes where both checks accept its certificate and say the same of it. No time is

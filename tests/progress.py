@@ -20,7 +20,8 @@ ORE = nets.Mine([1], [], None, ())
 # The mine, the words, the status, and each line on standard error, but for the seconds.
 RUNS = (
     (ORE, ["--method", "pseudoflow"], 0, ["progress: 1 of 1 blocks settled"]),
-    (CHAIN, ["--method", "pseudoflow"], 0, ["progress: 400 of 400 blocks settled"]),
+    # told after the first tree's turns, by which no tree can be lifted; the end comes in the same second
+    (CHAIN, ["--method", "pseudoflow"], 0, ["progress: 0 of 400 blocks settled"]),
     (CHAIN, ["--method", "push-relabel", "--steps", "100000"], 1, ["progress: 65536 steps, 65% of the limit"]),
     (CHAIN, ["--method", "words", "--steps", "100000"], 1, ["progress: 65536 steps, 65% of the limit"]),
 )

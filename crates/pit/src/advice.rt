@@ -8,8 +8,7 @@ pub struct Advice {
     unsettled: &'static str,
 }
 
-const STEPS_CHOOSE_THE_MACHINE: &str =
-    "--steps without --method chooses the push-relabel machine; try --method pseudoflow, or leave --steps out";
+const STEPS_CHOOSE_THE_MACHINE: &str = "leave --steps out, or try --method pseudoflow beside it";
 
 const MORE_STEPS: &str = "try more --steps, at most 1099511627776";
 

@@ -9,6 +9,7 @@ mod effort_words;
 mod files;
 mod opened;
 mod progress;
+mod reasons;
 mod slopes_words;
 mod solve_options;
 mod solving;
@@ -26,6 +27,7 @@ use files::{
 };
 use fixed_worth::Counted;
 use progress::Meter;
+use reasons::{tell_choice, tell_slope_reason};
 use shells::Factor;
 use slopes_words::{pattern_asked, up_asked};
 use solve_options::{factor_asked, group_asked};
@@ -105,6 +107,12 @@ fn solve<R: Files + Print + Eprint + Clock + Threads + Wait + Sync + AllocGlobal
         Ok(solving) => solving,
         Err(wrong) => return refused(rt, wrong),
     };
+    tell_choice(
+        rt,
+        words.verbose && words.trace.is_none(),
+        words.method,
+        words.steps,
+    );
     match words.model {
         ModelWords::Values { upit } => {
             Ok(Ending::Answered(values_solved(rt, words, upit, solving)?))
@@ -181,6 +189,7 @@ fn series<R: Files + Print + Eprint + Clock + Threads + Wait + Sync + AllocGloba
         Ok(effort) => effort,
         Err(wrong) => return refused(rt, wrong),
     };
+    tell_choice(rt, words.verbose, words.method, words.steps);
     let verdict = if words.progress {
         series_files(rt, words, effort, &Meter::new(rt, effort.steps))?
     } else {
@@ -198,14 +207,17 @@ fn slopes<R: Files + Print + Eprint + AllocGlobal>(
         Ok(up) => up,
         Err(wrong) => return refused(rt, wrong),
     };
-    let verdict = match words.offsets {
+    let answer = match words.offsets {
         OffsetsWords::Pattern(word) => match pattern_asked(word) {
-            Ok(pattern) => slopes_file(rt, words, pattern, up)?,
+            Ok(pattern) => slopes_file(rt, words, pattern, up),
             Err(wrong) => return refused(rt, wrong),
         },
-        OffsetsWords::Settings(settings) => listed_slopes_files(rt, words, settings, up)?,
+        OffsetsWords::Settings(settings) => listed_slopes_files(rt, words, settings, up),
     };
-    Ok(Ending::Answered(verdict))
+    if let Err(fault) = answer {
+        tell_slope_reason(rt, words.verbose, fault);
+    }
+    Ok(Ending::Answered(answer?))
 }
 
 // A word names nothing that its option takes.

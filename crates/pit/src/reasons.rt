@@ -1,0 +1,29 @@
+//! What an answer leaves open, told on standard error where that is asked for.
+
+use engines::{EngineFault, SlopeProblem};
+use slope::{PatternFault, SlopeFault};
+
+/// Tells that steps have chosen the push-relabel machine, where no method is given beside them.
+pub fn tell_choice<R: Eprint>(rt: &R, is_asked: bool, method: Option<&str>, steps: Option<&str>) {
+    if is_asked && steps.is_some() && method.unwrap_or("auto") == "auto" {
+        let _ = rt.eprintln(
+            "note: --steps without --method chooses the push-relabel machine, which is slow beyond some thousand blocks",
+        );
+    }
+}
+
+/// Tells of what there is too much, where the line of a fault of `slopes` doesn't say it.
+pub fn tell_slope_reason<R: Eprint>(rt: &R, is_asked: bool, fault: EngineFault) {
+    let reason = match fault {
+        EngineFault::Slope(SlopeProblem::Pattern(PatternFault::TooMany)) => {
+            "more than 4096 offsets"
+        }
+        EngineFault::Slope(SlopeProblem::Pairs(SlopeFault::TooMany)) => {
+            "the offsets give more than 134217728 pairs"
+        }
+        _ => return,
+    };
+    if is_asked {
+        let _ = rt.eprintln(format_args!("reason: {reason}"));
+    }
+}
