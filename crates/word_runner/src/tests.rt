@@ -330,6 +330,8 @@ fn turned(words: &Words, turning: Turning, number: u32, blocks: u32) -> Option<T
 {
     let Turning { seat, at } = turning;
     let mut seat = seat;
+    // proof: the words are under their rule
+    let _words = words.total;
     if at >= blocks {
         return Some(Turning { seat, at: number });
     }
@@ -390,6 +392,8 @@ fn sees_all(words: &Words, seat: WordSeat, _number: u32) -> (WordSeat, bool)
 {
     let mut seat = seat;
     let all = seat.arrived(words);
+    // proof: what is known of every seat
+    let _seat = seat.is_free();
     (seat, all)
 }
 
@@ -438,7 +442,7 @@ fn public_calls_settle_two_seats_of_one_thread(rt: HostRuntime) -> Result<(), Fa
     let (late, all) = settled_by_one_thread(alloc, &net, 1_000)?;
     let flow = late.ok().ok_or("settled")?;
     assert!(rt; all && flow.fits(&net));
-    assert!(rt; pit_of(alloc, &net, &flow)?.blocks() == [0, 1, 2]);
+    assert!(rt; pit_of(alloc, &net, &flow)?.blocks() == [0, 1, 2].as_slice());
     Ok(())
 }
 
