@@ -1,19 +1,26 @@
 //! Files and the output, which tell why they failed where that is asked for.
 
+use crate::replaced::{Replaced, open_replaced};
+use command_line::Escaped;
 use std::fs::File;
 use std::io;
 use std::io::{Printer, Read, Write};
 use std::rt::Files;
 
 /// A file or the output under its name. Where a call on it fails, it tells the system's reason on standard error, if that
-/// was asked for, and hands the failure on.
+/// was asked for, and hands the failure on. It tells also of a file that begins with the mark of UTF-8.
 #[derive(Drop)]
 pub struct Told<'a, R, D> {
     rt: &'a R,
     verbose: bool,
     name: &'a str,
     device: D,
+    // whether something was read
+    is_begun: bool,
 }
+
+// What some programs put at the head of a text in UTF-8.
+const MARK: &[u8] = b"\xEF\xBB\xBF";
 
 /// Opens a file to be read.
 ///
@@ -25,12 +32,7 @@ pub fn opened<'a, R: Files + Eprint>(
     name: &'a str,
 ) -> io::Result<Told<'a, R, R::File>> {
     match File::open(rt, name) {
-        Ok(device) => Ok(Told {
-            rt,
-            verbose,
-            name,
-            device,
-        }),
+        Ok(device) => Ok(told_by(rt, verbose, name, device)),
         Err(error) => {
             tell(rt, verbose, "open", name, error);
             Err(error)
@@ -38,7 +40,7 @@ pub fn opened<'a, R: Files + Eprint>(
     }
 }
 
-/// Makes a file to be written, or empties the one that there is.
+/// Opens a file to be replaced at the first write, or makes one.
 ///
 /// # Errors
 /// That of the system, of which it tells.
@@ -46,14 +48,9 @@ pub fn made<'a, R: Files + Eprint>(
     rt: &'a R,
     verbose: bool,
     name: &'a str,
-) -> io::Result<Told<'a, R, R::File>> {
-    match File::create(rt, name) {
-        Ok(device) => Ok(Told {
-            rt,
-            verbose,
-            name,
-            device,
-        }),
+) -> io::Result<Told<'a, R, Replaced<R::File>>> {
+    match open_replaced(rt, name) {
+        Ok(device) => Ok(told_by(rt, verbose, name, device)),
         Err(error) => {
             tell(rt, verbose, "make", name, error);
             Err(error)
@@ -63,18 +60,30 @@ pub fn made<'a, R: Files + Eprint>(
 
 /// Standard output.
 pub fn output<'a, R: Print + Eprint>(rt: &'a R, verbose: bool) -> Told<'a, R, Printer<'a, R>> {
+    told_by(rt, verbose, "standard output", io::writer(rt))
+}
+
+fn told_by<'a, R, D>(rt: &'a R, verbose: bool, name: &'a str, device: D) -> Told<'a, R, D> {
     Told {
         rt,
         verbose,
-        name: "standard output",
-        device: io::writer(rt),
+        name,
+        device,
+        is_begun: false,
     }
 }
 
 impl<R: Eprint, D: Read> Read for Told<'_, R, D> {
     fn read(&mut self, buf: &mut [u8]) -> io::Result<usize> {
         match self.device.read(buf) {
-            Ok(count) => Ok(count),
+            Ok(count) => {
+                if !self.is_begun {
+                    self.is_begun = true;
+                    let begins_with_mark = count >= MARK.len() && buf.starts_with(MARK);
+                    tell_mark(self.rt, self.verbose && begins_with_mark, self.name);
+                }
+                Ok(count)
+            }
             Err(error) => {
                 tell(self.rt, self.verbose, "read", self.name, error);
                 Err(error)
@@ -103,6 +112,17 @@ impl<R: Eprint, D: Write> Write for Told<'_, R, D> {
 // anybody can be told.
 fn tell<R: Eprint>(rt: &R, verbose: bool, what: &str, name: &str, why: io::Error) {
     if verbose {
+        let name = Escaped { word: name };
         let _ = rt.eprintln(format_args!("reason: cannot {what} {name}: {why}"));
+    }
+}
+
+// Tells of the mark, which is read as a part of the first line.
+fn tell_mark<R: Eprint>(rt: &R, is_told: bool, name: &str) {
+    if is_told {
+        let name = Escaped { word: name };
+        let _ = rt.eprintln(format_args!(
+            "note: {name} begins with the mark of UTF-8 (the bytes EF BB BF), which is read as a part of its first line: save it without the mark"
+        ));
     }
 }
