@@ -4,6 +4,7 @@ amounts of the group scaled.
 
     bench/words.py                the model of 1,060 blocks to its end, and steps a second on it and on the one of 9,400
     bench/words.py --to-the-end   the one of 9,400 to its end too: some minutes a run
+    bench/words.py --one-core     chains of 200 and of 400 blocks, whose excess crosses over at each block, on one core alone
 
 The models' values are rounded to whole thousands, of which each is a unit, so that their totals fit a word. Of a whole run each
 pit is compared with that of Boost's solver (bench/peers/boost_bk). Steps a second are those of runs that a limit cuts short, less
@@ -82,13 +83,27 @@ def steps_a_second(name, files, rounds, cores):
             for kind, s in seconds.items()]
 
 
+def chain(blocks, room):
+    """Half of the blocks worth 2, each resting on the next one up, under as many worth -1."""
+    prec, upit = (str(Path(room) / ("chain%d%s" % (blocks, ending))) for ending in (".prec", ".upit"))
+    Path(prec).write_text("".join("%d 1 %d\n" % (b, b + 1) for b in range(blocks - 1)) + "%d 0\n" % (blocks - 1))
+    Path(upit).write_text("NBLOCKS: %d\nOBJECTIVE_FUNCTION:\n" % blocks + "".join("%d %d\n" % (b, 2 if 2 * b < blocks else -1) for b in range(blocks)))
+    return ["--prec", prec, "--upit", upit]
+
+
 def main():
     words = argparse.ArgumentParser(description=__doc__, formatter_class=argparse.RawDescriptionHelpFormatter)
     words.add_argument("--rounds", type=int, default=3, metavar="N")
     words.add_argument("--cores", default=f"0-{os.cpu_count() - 1}", metavar="LIST")
     words.add_argument("--to-the-end", action="store_true")
+    words.add_argument("--one-core", action="store_true")
     given = words.parse_args()
     adopt_orphans()
+    if given.one_core:
+        with tempfile.TemporaryDirectory() as room:
+            rows = [row for blocks in (200, 400) for row in whole_runs("chain of %d" % blocks, chain(blocks, room), given.rounds, given.cores.split("-")[0])]
+        table(["model", "run", "blocks of the pit", "s passed", "CPU s", "times one locked worker"], rows)
+        return
     with tempfile.TemporaryDirectory() as room:
         files = {}
         for name in PART:

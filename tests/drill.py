@@ -1,5 +1,5 @@
 """Runs the built program where it is hardest pressed: 64 workers a thousand times, a model of 2^24 blocks of which no value is
-given, and inputs of 4 GB, a single line each, with memory for them and without.
+given, one record too many of each kind, and inputs of 4 GB, a single line each, with memory for them and without.
 
 What must come is worked out from FORMATS.md. The long inputs are files with a hole, which take no room on the disk.
 """
@@ -78,11 +78,61 @@ def long_inputs(program):
             yield None if is_right else "%s of %d bytes: %r" % (kind, length, said)
 
 
+def is_line_of(numbers, b):
+    """A record of block b with so many predecessors, each a single digit."""
+    return "%d %d%s\n" % (b, numbers, " 0" * numbers)
+
+
+def one_record_too_many(program):
+    """One predecessor more than 2^27, a block and a step more than 2^24, each at its line; and pairs by slopes below and above 2^27."""
+    most_pairs, a_line = 1 << 27, 32_000
+    lines, rest = divmod(most_pairs, a_line)
+    upit = "NBLOCKS: %d\nOBJECTIVE_FUNCTION:\n" % (lines + 1)
+    with room_with({"u": upit}) as room:
+        for more, wanted in ((0, (0, "PITCERT 1\nBLOCKS %d\nPRICE OBJECTIVE\nGROUP PAIR\nEND\n" % (lines + 1), "")),
+                             (1, (3, "", "fault: prec TooMany(%d)\n" % (lines + 1)))):
+            with open(Path(room) / "p", "w") as prec:
+                for b in range(lines):
+                    prec.write(is_line_of(a_line, b))
+                prec.write(is_line_of(rest + more, lines))
+            status, output, errors = answer(program, ["solve", *VALUES], room)
+            yield None if (status, output.decode(), errors.decode()) == wanted else "%d predecessors: %r" % (most_pairs + more, (status, output[:99], errors))
+        with open(Path(room) / "b", "w") as blocks:
+            for _ in range(MOST_BLOCKS // 4096):
+                blocks.write("0 0 0 0\n" * 4096)
+            blocks.write("0 0 0 0\n")
+        said = answer(program, ["slopes", "--blocks", "b", "--pattern", "five"], room)
+        yield None if said == (3, b"", b"fault: blocks TooMany(%d)\n" % (MOST_BLOCKS + 1)) else "%d blocks: %r" % (MOST_BLOCKS + 1, said)
+        (Path(room) / "p").write_text("")
+        with open(Path(room) / "t", "w") as trace:
+            trace.write("PITTRACE 1\n")
+            for _ in range(MOST_BLOCKS // 4096):
+                trace.write("RE 0\n" * 4096)
+            trace.write("RE 0\nEND\n")
+        said = answer(program, ["replay", *VALUES, "t"], room)
+        yield None if said == (3, b"", b"fault: trace TooMany\n") else "a trace of %d steps: %r" % (MOST_BLOCKS + 1, said)
+    yield from too_many_by_slopes(program, most_pairs)
+
+
+def too_many_by_slopes(program, most_pairs):
+    """Two benches under an offset list of 64 by 64, so that each block of the lower one rests on a square of the upper one."""
+    offsets = [[dx, dy, 1] for dx in range(-32, 32) for dy in range(-32, 32)]
+    for wide in (192, 256):
+        pairs = sum(min(x + 31, wide - 1) - max(x - 32, 0) + 1 for x in range(wide)) ** 2
+        places = [(x, y, z) for z in range(2) for y in range(wide) for x in range(wide)]
+        with room_with({"b": "".join("%d %d %d %d\n" % (b, *place) for b, place in enumerate(places)), "s": "offsets = %s\n" % offsets}) as room:
+            words = [str(program), "slopes", "--blocks", "b", "--pattern", "settings", "--settings", "s"]
+            done = subprocess.run(words, cwd=room, stdin=subprocess.DEVNULL, stdout=subprocess.DEVNULL, stderr=subprocess.PIPE, timeout=600)
+        wanted = (0, b"") if pairs <= most_pairs else (3, b"fault: slope TooMany\n")
+        yield None if (done.returncode, done.stderr) == wanted else "%d pairs by slopes: %r" % (pairs, (done.returncode, done.stderr))
+
+
 def try_all(program):
     """Tries all of it, and gives how many answers were as they must be and how many not."""
     with ThreadPoolExecutor(len(os.sched_getaffinity(0))) as pool:
         results = list(pool.map(lambda number: by_64_workers(program, number), range(RUNS)))
     results += a_model_without_values(program)
+    results += one_record_too_many(program)
     results += long_inputs(program)
     wrong = [line for line in results if line]
     for line in wrong[:10]:

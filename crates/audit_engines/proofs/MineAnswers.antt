@@ -1,5 +1,5 @@
 -- From what is written for a net to what is written for the mine of texts.
-use Rattle.std.proofs.Common.{ℕ, ℤ, Bool, List, sym, subst, Option, Some, None, Result, Ok, Err, inl, inr, IfSome}
+use Rattle.std.proofs.Common.{ℕ, ℤ, Bool, List, length, sym, subst, Option, Some, None, Result, Ok, Err, inl, inr, IfSome}
 use Rattle.ordered_group.specs.Amount.{Amount}
 use Rattle.ordered_group.specs.declared.groups.Group.{Group}
 use Rattle.prec_file.specs.Rests.{RestsView}
@@ -56,8 +56,8 @@ module _ (block : ℤ → ℕ → Amount) (counts : Bool) (texts : MineTexts) (n
   traced (Ok No) (history, sent, (text, h, out)) = (history, sent, (text, (net, by, h), out))
   traced (Err engine.Memory) h = (tt, inr (net, by, subst (λ (k : Bool). TracesNet k name (price_wanted texts) net limit room before after old new (Err engine.Memory)) (sym named.counts_is) h))
   traced (Err engine.Device) h = (tt, inr (net, by, subst (λ (k : Bool). TracesNet k name (price_wanted texts) net limit room before after old new (Err engine.Device)) (sym named.counts_is) h))
-  traced (Err engine.Thread) h = (tt, h)
-  traced (Err engine.Stranger) h = (tt, h)
+  traced (Err engine.Thread) h = ((length net.worths, by.mine), h)
+  traced (Err engine.Stranger) h = ((length net.worths, by.mine), h)
   traced (Err (engine.Upit q)) h = absurd h
   traced (Err (engine.Prec q)) h = absurd h
   traced (Err (engine.Model q)) h = absurd h

@@ -223,6 +223,34 @@ fn faults_of_a_pit_come_in_their_order(rt: HostRuntime) -> Result<(), Fail> {
     have_their_answers(&rt, rt.alloc(), rows.as_slice())
 }
 
+// How many reads of at most so many bytes the header takes, and a check behind it.
+fn reads_of(alloc: Global, text: &[u8], most: usize) -> Result<[u64; 2], Fail> {
+    let net = three_blocks(alloc)?;
+    let device = Failing::new(text, most, 0, Failure::Broken);
+    let mut stream = CertStream::new(alloc, Counted::new(device))?;
+    pass_header(&mut stream, &net)?;
+    let of_header = stream.into_device().into_inner().calls();
+    let device = Failing::new(text, most, 0, Failure::Broken);
+    let mut stream = CertStream::new(alloc, Counted::new(device))?;
+    pass_header(&mut stream, &net)?;
+    let mut room = Room::new(alloc, &net)?;
+    let _ = worth_of(check_stream(&mut stream, &net, &mut room));
+    Ok([of_header, stream.into_device().into_inner().calls()])
+}
+
+// The header has 46 bytes. The end is found by one read more than there are bytes, where each gives one; and no read is made for a
+// line that is held, as that behind END.
+#[test]
+fn a_stream_is_read_only_where_no_line_is_held(rt: HostRuntime) -> Result<(), Fail> {
+    let alloc = rt.alloc();
+    let mut text = with_header(alloc, WHOLE)?;
+    assert!(rt; reads_of(alloc, &text, 16)?[0] == 3);
+    assert!(rt; reads_of(alloc, &text, 1)? == [46, text.len() as u64 + 1]);
+    text.extend_from_slice(b"PIT 0\n")?;
+    assert!(rt; reads_of(alloc, &text, 1_000)? == [1, 1]);
+    Ok(())
+}
+
 // Fails the test where this room of the three blocks doesn't serve two checks.
 fn serves_both(
     rt: &impl Abort,

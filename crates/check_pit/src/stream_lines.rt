@@ -155,6 +155,7 @@ impl<R: CountedRead> StreamLines<R> {
     pub fn is_done(&mut self) -> Result<bool, StreamFault>
         requires { R.failed self.old.from < 2 ^ 64 - 1 }
         ensures reads { Reads R.remaining self.old self.new }
+        ensures still { 0 < length self.old.held → self.new ≡ self.old }
         ensures done { MatchResult result (λ done. DoneOrNot (R.remaining self.new.from) self.new done) (λ e. NotDone self.new e) }
         ensures device { IsErrOf result StreamFault.Device → R.failed self.new.from ≡ R.failed self.old.from + 1 }
         ensures kept { ¬ IsErrOf result StreamFault.Device → R.failed self.new.from ≡ R.failed self.old.from }

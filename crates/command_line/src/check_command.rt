@@ -9,6 +9,9 @@ use std::alloc::{AllocError, Global};
 
 const ABOUT: &str = "Checks a certificate: does its flow prove that its pit is the best?";
 
+const USAGE: &str =
+    "pit check --prec <FILE> (--upit <FILE> | --blocks <FILE> --settings <FILE>) [OPTIONS] <CERT>";
+
 const DETAILS: &str = "Checks a certificate: does its flow prove that its pit is the best?
 
 Prints ACCEPTED, the number of blocks and the worth, or REFUSED and the reason. What is accepted is proved: with each block the pit holds all its predecessors, and no such pit is worth more; and, except with a certificate of GROUP WORTH, every other that is worth as much has more blocks. With --blocks and --settings the blocks are worth what their prices give at the factor that the certificate names; then, of two pits that are accepted over the same files, neither of GROUP WORTH, the one at the lower factor lies within the other.";
@@ -29,7 +32,8 @@ pub fn check_command<'a>(alloc: Global) -> Result<Command<'a>, AllocError> {
     let command = Command::new(alloc, "check")
         .about(ABOUT)
         .long_about(DETAILS)
-        .after_help(STATUSES);
+        .after_help(STATUSES)
+        .override_usage(USAGE);
     let command = with_options(command, model_options(alloc))?;
     with_options(command, certificate_options(alloc))
 }

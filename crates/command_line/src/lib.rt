@@ -7,6 +7,7 @@
 
 mod check_command;
 mod declined;
+mod escaped;
 mod options;
 mod replay_command;
 mod report_command;
@@ -20,6 +21,7 @@ mod wrong_word;
 
 pub use check_command::CheckWords;
 pub use declined::Declined;
+pub use escaped::Escaped;
 pub use options::ModelWords;
 pub use replay_command::ReplayWords;
 pub use request::{Request, request_of};

@@ -17,7 +17,8 @@ Without words pit checks a small example that it carries, and prints the answer.
 pub const PREC_HELP: &str = "The predecessors of each block: MineLib's .prec";
 
 /// The help of `--upit`.
-pub const UPIT_HELP: &str = "What each block is worth: MineLib's .upit";
+pub const UPIT_HELP: &str =
+    "What each block is worth: MineLib's .upit; needed unless --blocks and --settings are given";
 
 /// An option that names one of a few things, or a number.
 pub fn named_option<'a>(alloc: Global, name: &'a str, shown: &'a str, help: &'a str) -> Arg<'a> {
@@ -26,6 +27,11 @@ pub fn named_option<'a>(alloc: Global, name: &'a str, shown: &'a str, help: &'a 
         .value_name(shown)
         .action(ArgAction::Set)
         .help(help)
+}
+
+/// An option that is a number. One with a minus is taken for its word too, and declined with what it may be.
+pub fn number_option<'a>(alloc: Global, name: &'a str, shown: &'a str, help: &'a str) -> Arg<'a> {
+    named_option(alloc, name, shown, help).allow_negative_numbers(true)
 }
 
 /// The command with these options more, in the order in which its help shows them, where memory wasn't refused for them.
@@ -90,7 +96,7 @@ pub fn model_options<'a>(alloc: Global) -> Result<Vec<Arg<'a>>, AllocError> {
 
 /// The same, and the option that names the factor of a priced model.
 pub fn model_at_factor_options<'a>(alloc: Global) -> Result<Vec<Arg<'a>>, AllocError> {
-    let values = values_option(alloc)?;
+    let values = values_option(alloc)?.required_unless_present("factor")?;
     let blocks = blocks_at_factor(alloc)?;
     let settings = settings_option(alloc)?;
     let factor = factor_option(alloc)?;
@@ -103,9 +109,11 @@ pub fn model_at_factor_options<'a>(alloc: Global) -> Result<Vec<Arg<'a>>, AllocE
     ]?)
 }
 
-// The values of blocks, where no prices are given.
+// The values of blocks, where neither of the files of a priced model is given.
 fn values_option<'a>(alloc: Global) -> Result<Arg<'a>, AllocError> {
-    named_option(alloc, "upit", "FILE", UPIT_HELP).required_unless_present("blocks")
+    named_option(alloc, "upit", "FILE", UPIT_HELP)
+        .required_unless_present("blocks")?
+        .required_unless_present("settings")
 }
 
 // The blocks of a priced model.
@@ -147,7 +155,7 @@ pub fn model_words<'a>(words: &ArgMatches<'a>) -> ModelWords<'a> {
 
 // The option that names the factor of a priced model, which needs one.
 fn factor_option<'a>(alloc: Global) -> Result<Arg<'a>, AllocError> {
-    named_option(
+    number_option(
         alloc,
         "factor",
         "FACTOR",
@@ -174,7 +182,7 @@ pub fn method_option<'a>(alloc: Global, help: &'a str) -> Arg<'a> {
 
 /// The option that bounds a run.
 pub fn steps_option<'a>(alloc: Global) -> Arg<'a> {
-    named_option(
+    number_option(
         alloc,
         "steps",
         "STEPS",
@@ -184,7 +192,7 @@ pub fn steps_option<'a>(alloc: Global) -> Arg<'a> {
 
 /// The option that says how many workers there are.
 pub fn workers_option<'a>(alloc: Global, help: &'a str) -> Arg<'a> {
-    named_option(alloc, "workers", "WORKERS", help)
+    number_option(alloc, "workers", "WORKERS", help)
 }
 
 /// The option that shows how far a run is.

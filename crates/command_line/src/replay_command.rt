@@ -9,6 +9,9 @@ use std::alloc::{AllocError, Global};
 
 const ABOUT: &str = "Repeats a run step by step from its trace";
 
+const USAGE: &str =
+    "pit replay --prec <FILE> (--upit <FILE> | --blocks <FILE> --settings <FILE> --factor <FACTOR>) [OPTIONS] <TRACE>";
+
 const DETAILS: &str = "Repeats a run of the push-relabel machine step by step from its trace.
 
 Prints REPLAYED, the number of steps and QUIET where all steps can be made and no block has anything left to do, and then what a check says of the flow that they lead to, as `pit check` prints it; REPLAYED, the number of steps and OPEN where some block isn't done; and REFUSED, a place and the reason where the step at that place, counted from 1, isn't one of the machine. OPEN and a refusal have the status 1.";
@@ -32,7 +35,8 @@ pub fn replay_command<'a>(alloc: Global) -> Result<Command<'a>, AllocError> {
     let command = Command::new(alloc, "replay")
         .about(ABOUT)
         .long_about(DETAILS)
-        .after_help(STATUSES);
+        .after_help(STATUSES)
+        .override_usage(USAGE);
     let command = with_options(command, model_at_factor_options(alloc))?;
     with_options(command, trace_options(alloc))
 }

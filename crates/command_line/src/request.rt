@@ -2,6 +2,7 @@
 
 use crate::check_command::{CheckWords, check_command, check_words};
 use crate::declined::Declined;
+use crate::escaped::{Escaped, has_control};
 use crate::options::STATUSES;
 use crate::replay_command::{ReplayWords, replay_command, replay_words};
 use crate::report_command::report_command;
@@ -39,8 +40,32 @@ pub enum Request<'a> {
 pub fn request_of<'a>(alloc: Global, words: &'a [String]) -> Result<Request<'a>, Declined> {
     match parsed(alloc, words) {
         Ok(request) => Ok(request),
+        Err(error) if words.iter().any(|word| has_control(word)) => {
+            Err(Declined::by(escaped_error(alloc, words, error)))
+        }
         Err(error) => Err(Declined::by(error)),
     }
+}
+
+// What is wrong with words of which some have control characters, with these escaped.
+fn escaped_error(alloc: Global, words: &[String], error: Error) -> Error {
+    let shown = match escaped_words(alloc, words) {
+        Ok(shown) => shown,
+        Err(refused) => return Error::from(refused),
+    };
+    match parsed(alloc, &shown) {
+        Ok(_) => error,
+        Err(error) => error,
+    }
+}
+
+fn escaped_words(alloc: Global, words: &[String]) -> Result<Vec<String>, AllocError> {
+    let mut shown = Vec::new(alloc);
+    for word in words {
+        let word = Escaped { word };
+        shown.push(format!(in alloc; "{word}")?)?;
+    }
+    Ok(shown)
 }
 
 fn parsed<'a>(alloc: Global, words: &'a [String]) -> Result<Request<'a>, Error> {

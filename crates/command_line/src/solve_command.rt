@@ -2,13 +2,16 @@
 
 use crate::options::{
     ModelWords, STATUSES, group_option, method_option, model_at_factor_options, model_words,
-    named_option, progress_option, steps_option, text_of, verbose_solving_option, with_options,
-    workers_option,
+    named_option, number_option, progress_option, steps_option, text_of, verbose_solving_option,
+    with_options, workers_option,
 };
 use clap::{Arg, ArgMatches, Command};
 use std::alloc::{AllocError, Global};
 
 const ABOUT: &str = "Finds the best pit and writes its certificate";
+
+const USAGE: &str =
+    "pit solve --prec <FILE> (--upit <FILE> | --blocks <FILE> --settings <FILE> --factor <FACTOR>) [OPTIONS]";
 
 const DETAILS: &str = "Finds the best pit and writes its certificate.
 
@@ -26,12 +29,12 @@ const METHOD_HELP: &str =
     "Which engine makes the flow: auto (the default), pseudoflow, push-relabel or words";
 
 const WORKERS_HELP: &str =
-    "How many threads the push-relabel machine has, from 1 to 64 (1 by default), which share one lock; with --method words 1 or 2, without a lock. Pseudoflow has one thread";
+    "How many threads the push-relabel machine has, from 1 to 64 (1 by default), which share one lock; with --method words 1 or 2, without a lock; of no effect with --method pseudoflow";
 
 const PROGRESS_HELP: &str = "Tells on standard error, once a second, how far the run is";
 
 const TRACE_HELP: &str =
-    "Writes each step of the push-relabel machine's run to this file; not with --method pseudoflow or words";
+    "Writes each step of the push-relabel machine's run to this file, in place of what is in it; not with --method pseudoflow or words, and no input";
 
 const ROOM_HELP: &str =
     "The most steps of a trace, from 1 to 16777216 (1048576 by default); of no effect without --trace";
@@ -53,12 +56,24 @@ pub struct SolveWords<'a> {
     pub verbose: bool,
 }
 
+impl SolveWords<'_> {
+    /// Whether a word is that of a file which is read.
+    pub fn reads(self, word: &str) -> bool {
+        let of_model = match self.model {
+            ModelWords::Values { upit } => word == upit,
+            ModelWords::Prices { settings, blocks } => word == settings || word == blocks,
+        };
+        of_model || word == self.prec
+    }
+}
+
 /// The command.
 pub fn solve_command<'a>(alloc: Global) -> Result<Command<'a>, AllocError> {
     let command = Command::new(alloc, "solve")
         .about(ABOUT)
         .long_about(DETAILS)
-        .after_help(STATUSES);
+        .after_help(STATUSES)
+        .override_usage(USAGE);
     let command = with_options(command, model_at_factor_options(alloc))?;
     with_options(command, run_options(alloc))
 }
@@ -73,7 +88,7 @@ fn run_options<'a>(alloc: Global) -> Result<Vec<Arg<'a>>, AllocError> {
         progress_option(alloc, PROGRESS_HELP),
         verbose_solving_option(alloc),
         named_option(alloc, "trace", "FILE", TRACE_HELP),
-        named_option(alloc, "room", "ROOM", ROOM_HELP),
+        number_option(alloc, "room", "ROOM", ROOM_HELP),
     ]?)
 }
 

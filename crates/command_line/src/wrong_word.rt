@@ -1,6 +1,7 @@
 //! A word that names nothing for its option, told in the library's form of error.
 
 use crate::declined::Declined;
+use crate::escaped::Escaped;
 use crate::replay_command::replay_command;
 use crate::report_command::report_command;
 use crate::series_options::SeriesCommand;
@@ -43,6 +44,8 @@ pub enum NamedOption {
     Workers,
     /// `--room`.
     Room,
+    /// `--trace` with the word of an input.
+    Trace,
     /// `--method` where `--trace` is given.
     TracedMethod,
     /// `--group` where `--method words` is given.
@@ -79,7 +82,7 @@ fn error_for(alloc: Global, wrong: WrongWord<'_>) -> Result<Error, AllocError> {
 fn text_for(alloc: Global, wrong: WrongWord<'_>) -> Result<String, AllocError> {
     let shown = shown(wrong.option);
     let taken = taken(wrong.command, wrong.option);
-    let word = wrong.word;
+    let word = Escaped { word: wrong.word };
     format!(in alloc; "invalid value '{word}' for '{shown}': {taken}")
 }
 
@@ -106,6 +109,7 @@ fn shown(option: NamedOption) -> &'static str {
         NamedOption::Steps => "--steps <STEPS>",
         NamedOption::Workers | NamedOption::WorkersOfWords => "--workers <WORKERS>",
         NamedOption::Room => "--room <ROOM>",
+        NamedOption::Trace => "--trace <FILE>",
     }
 }
 
@@ -121,6 +125,7 @@ fn taken(command: Commanded, option: NamedOption) -> &'static str {
         NamedOption::Steps => "a whole number from 1 to 1099511627776",
         NamedOption::Workers => "a whole number from 1 to 64",
         NamedOption::Room => "a whole number from 1 to 16777216",
+        NamedOption::Trace => "a file that isn't an input, since the trace replaces what is in it",
         NamedOption::TracedMethod => "auto or push-relabel where --trace is given",
         NamedOption::GroupOfWords => "scaled where --method words is given",
         NamedOption::WorkersOfWords => "1 or 2 where --method words is given",

@@ -76,8 +76,8 @@ module _ (block : ℤ → ℕ → Amount) (counts : Bool) (texts : MineTexts) (n
   solved old new (Err (engine.Settings q)) h = absurd h
   solved old new (Err (engine.Prices q)) h = absurd h
   solved old new (Err engine.Memory) h = (tt, h)
-  solved old new (Err engine.Thread) h = (tt, h)
-  solved old new (Err engine.Stranger) h = (tt, h)
+  solved old new (Err engine.Thread) h = ((length net.worths, by.mine), h)
+  solved old new (Err engine.Stranger) h = ((length net.worths, by.mine), h)
   solved old new (Err engine.Device) h = (tt, inr (net, by, h.0, h.1, h.2))
 
 -- there is no net of the mine

@@ -125,8 +125,8 @@ abbrev pub AnswersMine : MineTexts → Group → Method → ℕ → Verdict → 
 AnswersMine texts name method limit Done text = IsCertificate texts name text
 AnswersMine texts name method limit No text = (net : NetView) × IsNetBy texts name net × IsNoOf net method limit text
 
--- Why the engine answers a fault: it stands, and none before it does. Want of memory, of a thread, a failing device and a board that
--- comes back as another's say nothing of the texts.
+-- Why the engine answers a fault: it stands, and none before it does. Want of memory and a failing device say nothing of the texts;
+-- want of a thread and a board that comes back as another's, that they denote a mine, whose run was begun.
 abbrev pub SolveFails : MineTexts → Group → EngineFault → Type 0
 SolveFails texts name (engine.Upit p) = ValuesFail texts p
 SolveFails texts name (engine.Settings p) = SettingsFail texts p
@@ -135,8 +135,8 @@ SolveFails texts name (engine.Prices fault) = TableFails texts fault
 SolveFails texts name (engine.Prec p) = PrecedenceFails texts p
 SolveFails texts name (engine.Model fault) = (n : ℕ) × DenoteMine texts n × ModelFails texts n name fault
 SolveFails texts name engine.Memory = Unit {0}
-SolveFails texts name engine.Thread = Unit {0}
-SolveFails texts name engine.Stranger = Unit {0}
+SolveFails texts name engine.Thread = (n : ℕ) × DenoteMine texts n
+SolveFails texts name engine.Stranger = (n : ℕ) × DenoteMine texts n
 SolveFails texts name engine.Device = Unit {0}
 SolveFails texts name _ = ⊥
 

@@ -10,6 +10,7 @@ mod files;
 mod opened;
 mod progress;
 mod reasons;
+mod replaced;
 mod slopes_words;
 mod solve_options;
 mod solving;
@@ -71,7 +72,7 @@ fn run<R: Files + Print + Eprint + Env + Clock + Threads + Wait + Sync + AllocGl
     let given = match env::args(rt) {
         Ok(given) => given,
         Err(error) if error.kind() == io::ErrorKind::OutOfMemory => return Err(EngineFault::Memory),
-        Err(_) => return usage(rt),
+        Err(_) => return Ok(usage(rt)),
     };
     let words: Vec<String> = given.collect(rt.alloc())?;
     if words.len() <= 1 {
@@ -235,14 +236,14 @@ fn printed<R: Print + Eprint>(rt: &R, declined: &Declined) -> Result<Ending, Eng
     }
     match declined.print(rt) {
         Ok(()) => Ok(Ending::Printed(declined.status())),
+        // where standard error fails, the status alone says that the words are wrong
+        Err(_) if declined.status() == USAGE => Ok(Ending::Printed(USAGE)),
         Err(_) => Err(EngineFault::Device),
     }
 }
 
 // The words can't be read at all.
-fn usage<R: Eprint>(rt: &R) -> Result<Ending, EngineFault> {
-    match rt.eprintln("fault: usage") {
-        Ok(()) => Ok(Ending::Printed(USAGE)),
-        Err(_) => Err(EngineFault::Device),
-    }
+fn usage<R: Eprint>(rt: &R) -> Ending {
+    let _ = rt.eprintln("fault: usage");
+    Ending::Printed(USAGE)
 }

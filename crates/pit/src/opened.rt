@@ -2,6 +2,7 @@
 
 ghost use Rattle.std.specs.Prelude.{◌≡◌, IfOk};
 
+use crate::replaced::Replaced;
 use crate::told::{Told, made, opened};
 use engines::EngineFault;
 use fixed_worth::Counted;
@@ -85,7 +86,8 @@ pub fn file<'a, R: Files + Eprint>(
     }
 }
 
-/// Makes a file to be written, or empties the one that there is.
+/// Opens a file to be replaced at the first write, or makes one. It may be one of the inputs by a link: those are read
+/// before anything is written.
 ///
 /// # Errors
 /// `Device` where it can't be made.
@@ -93,7 +95,7 @@ pub fn made_file<'a, R: Files + Eprint>(
     rt: &'a R,
     verbose: bool,
     name: &'a str,
-) -> Result<Counted<Told<'a, R, R::File>>, EngineFault>
+) -> Result<Counted<Told<'a, R, Replaced<R::File>>>, EngineFault>
     ensures { IfOk result (λ counted. counted.failures ≡ 0) }
 {
     match made(rt, verbose, name) {

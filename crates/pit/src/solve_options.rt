@@ -50,7 +50,7 @@ pub struct TraceAsked<'a> {
 }
 
 /// The trace, where one is asked for beside a method: of the push-relabel machine alone, so that pseudoflow can't be
-/// asked for beside it.
+/// asked for beside it. It would replace an input whose word it has.
 pub fn trace_asked<'a>(
     words: SolveWords<'a>,
     method: Method,
@@ -63,12 +63,17 @@ pub fn trace_asked<'a>(
             option: NamedOption::TracedMethod,
             word: words.method.unwrap_or(""),
         }),
+        Some(file) if words.reads(file) => Err(WrongWord {
+            command: Commanded::Solve,
+            option: NamedOption::Trace,
+            word: file,
+        }),
         Some(file) => Ok(Some(TraceAsked { file, room })),
     }
 }
 
-// The most steps of a trace.
-fn room_asked<'a>(words: SolveWords<'a>) -> Result<u32, WrongWord<'a>> {
+/// The most steps of a trace.
+pub fn room_asked<'a>(words: SolveWords<'a>) -> Result<u32, WrongWord<'a>> {
     match words.room {
         Some(word) => room_named(word.as_bytes()).ok_or(WrongWord {
             command: Commanded::Solve,

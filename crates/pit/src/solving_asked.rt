@@ -1,7 +1,7 @@
 //! How `solve` is to solve a mine, by its words, or the word that names nothing that there is.
 
 use crate::effort_words::{effort_by_words, effort_to_solve, method_asked};
-use crate::solve_options::{TraceAsked, asks_for_words, group_asked, trace_asked};
+use crate::solve_options::{TraceAsked, asks_for_words, group_asked, room_asked, trace_asked};
 use command_line::{Commanded, NamedOption, SolveWords, WrongWord};
 use engines::{Effort, Method};
 use ordered_group::Group;
@@ -76,6 +76,8 @@ fn solving_by_words<'a>(
     method: &'a str,
     group: Group,
 ) -> Result<SolvingAsked<'a>, WrongWord<'a>> {
+    // of no effect without a trace, but it has to be a number
+    let _room = room_asked(words)?;
     match words.group {
         Some(word) if group != Group::Scaled => Err(wrong(NamedOption::GroupOfWords, word)),
         _ if words.trace.is_some() => Err(wrong(NamedOption::TracedMethod, method)),

@@ -1,14 +1,16 @@
 //! Files and the output, which tell why they failed where that is asked for.
 
 use crate::advice::Advice;
+use crate::replaced::{Replaced, open_replaced};
+use command_line::Escaped;
 use std::fs::File;
 use std::io;
 use std::io::{Printer, Read, Write};
 use std::rt::Files;
 
 /// A file or the output under its name. Where a call on it fails, it tells the system's reason on standard error, if that
-/// was asked for, and hands the failure on. The output of a command that solves tells then, too, what to try where the line
-/// says that no pit is proved.
+/// was asked for, and hands the failure on. It tells also of a file that begins with the mark of UTF-8. The output of a command
+/// that solves tells then, too, what to try where the line says that no pit is proved.
 #[derive(Drop)]
 pub struct Told<'a, R, D> {
     rt: &'a R,
@@ -16,7 +18,12 @@ pub struct Told<'a, R, D> {
     name: &'a str,
     advice: Option<Advice>,
     device: D,
+    // whether something was read
+    is_begun: bool,
 }
+
+// What some programs put at the head of a text in UTF-8.
+const MARK: &[u8] = b"\xEF\xBB\xBF";
 
 /// Opens a file to be read.
 ///
@@ -28,13 +35,7 @@ pub fn opened<'a, R: Files + Eprint>(
     name: &'a str,
 ) -> io::Result<Told<'a, R, R::File>> {
     match File::open(rt, name) {
-        Ok(device) => Ok(Told {
-            rt,
-            verbose,
-            name,
-            advice: None,
-            device,
-        }),
+        Ok(device) => Ok(told_by(rt, verbose, name, device)),
         Err(error) => {
             tell(rt, verbose, "open", name, error);
             Err(error)
@@ -42,7 +43,7 @@ pub fn opened<'a, R: Files + Eprint>(
     }
 }
 
-/// Makes a file to be written, or empties the one that there is.
+/// Opens a file to be replaced at the first write, or makes one.
 ///
 /// # Errors
 /// That of the system, of which it tells.
@@ -50,15 +51,9 @@ pub fn made<'a, R: Files + Eprint>(
     rt: &'a R,
     verbose: bool,
     name: &'a str,
-) -> io::Result<Told<'a, R, R::File>> {
-    match File::create(rt, name) {
-        Ok(device) => Ok(Told {
-            rt,
-            verbose,
-            name,
-            advice: None,
-            device,
-        }),
+) -> io::Result<Told<'a, R, Replaced<R::File>>> {
+    match open_replaced(rt, name) {
+        Ok(device) => Ok(told_by(rt, verbose, name, device)),
         Err(error) => {
             tell(rt, verbose, "make", name, error);
             Err(error)
@@ -72,19 +67,33 @@ pub fn output<'a, R: Print + Eprint>(
     verbose: bool,
     advice: Option<Advice>,
 ) -> Told<'a, R, Printer<'a, R>> {
+    let mut told = told_by(rt, verbose, "standard output", io::writer(rt));
+    told.advice = advice;
+    told
+}
+
+fn told_by<'a, R, D>(rt: &'a R, verbose: bool, name: &'a str, device: D) -> Told<'a, R, D> {
     Told {
         rt,
         verbose,
-        name: "standard output",
-        advice,
-        device: io::writer(rt),
+        name,
+        advice: None,
+        device,
+        is_begun: false,
     }
 }
 
 impl<R: Eprint, D: Read> Read for Told<'_, R, D> {
     fn read(&mut self, buf: &mut [u8]) -> io::Result<usize> {
         match self.device.read(buf) {
-            Ok(count) => Ok(count),
+            Ok(count) => {
+                if !self.is_begun {
+                    self.is_begun = true;
+                    let begins_with_mark = count >= MARK.len() && buf.starts_with(MARK);
+                    tell_mark(self.rt, self.verbose && begins_with_mark, self.name);
+                }
+                Ok(count)
+            }
             Err(error) => {
                 tell(self.rt, self.verbose, "read", self.name, error);
                 Err(error)
@@ -116,6 +125,7 @@ impl<R: Eprint, D: Write> Write for Told<'_, R, D> {
 // anybody can be told.
 fn tell<R: Eprint>(rt: &R, verbose: bool, what: &str, name: &str, why: io::Error) {
     if verbose {
+        let name = Escaped { word: name };
         let _ = rt.eprintln(format_args!("reason: cannot {what} {name}: {why}"));
     }
 }
@@ -126,5 +136,15 @@ fn advise<R: Eprint>(rt: &R, verbose: bool, advice: Option<Advice>, written: &[u
         if let Some(text) = advice.after(written) {
             let _ = rt.eprintln(format_args!("advice: {text}"));
         }
+    }
+}
+
+// Tells of the mark, which is read as a part of the first line.
+fn tell_mark<R: Eprint>(rt: &R, is_told: bool, name: &str) {
+    if is_told {
+        let name = Escaped { word: name };
+        let _ = rt.eprintln(format_args!(
+            "note: {name} begins with the mark of UTF-8 (the bytes EF BB BF), which is read as a part of its first line: save it without the mark"
+        ));
     }
 }

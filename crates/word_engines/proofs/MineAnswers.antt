@@ -1,5 +1,5 @@
 -- From what is written for a net to what is written for the mine of texts, where a run is by words.
-use Rattle.std.proofs.Common.{◌≡◌, ◌≢◌, ℕ, ℤ, Bool, List, sym, subst, Option, Some, None, Result, Ok, Err, inl, inr, IfSome}
+use Rattle.std.proofs.Common.{◌≡◌, ◌≢◌, ℕ, ℤ, Bool, List, length, sym, subst, Option, Some, None, Result, Ok, Err, inl, inr, IfSome}
 use Rattle.ordered_group.specs.Amount.{Amount}
 use Rattle.prec_file.specs.Rests.{RestsView}
 use Rattle.closure_net.specs.Network.{NetView}
@@ -73,7 +73,7 @@ module _ (block : ℤ → ℕ → Amount) (texts : MineTexts) (net : NetView) (w
   solved_by_words (Ok Done) (text, c, sent) = (text, certificate_is block (counts_by word_group) texts word_group net PushRelabel limit named by text c, sent)
   solved_by_words (Ok No) (text, h, sent) = (text, (net, by, h), sent)
   solved_by_words (Err engine.Memory) h = (tt, h)
-  solved_by_words (Err engine.Thread) h = (tt, h)
+  solved_by_words (Err engine.Thread) h = ((length net.worths, by.mine), h)
   solved_by_words (Err engine.Device) h = (tt, inr (net, by, h.0, h.1, h.2))
   solved_by_words (Err engine.Stranger) h = absurd h
   solved_by_words (Err (engine.Upit q)) h = absurd h

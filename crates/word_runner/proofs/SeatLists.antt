@@ -1,9 +1,10 @@
 -- One or two seats in a list.
-use Rattle.std.proofs.Common.{inl, inr, ◌⊎◌, ◌≡◌, ◌≢◌, ℕ, ◌+◌, ◌<◌, ◌≤◌, List, [], ◌∷◌, ◌++◌, length, ap, sym, ◌∙◌, subst, arith}
+use Rattle.std.proofs.Common.{inl, inr, ◌⊎◌, ◌≡◌, ◌≢◌, ℕ, zero, suc, ◌+◌, ◌<◌, ◌≤◌, List, [], ◌∷◌, ◌++◌, length, ap, sym, ◌∙◌, subst, arith}
 use Rattle.std.proofs.lemmas.List.{length-append, append-nil}
 use lib.ListN.{get_elem?}
 use Rattle.machine_law.specs.declared.operations.Operation.TheVariants.{Idle}
-use Rattle.word_runner.specs.Tells.{Own, WordsView, AreFirst, IsServed, IsWorker, AreSeats}
+use mathlib.Core.Option.{some, some-injective, some-ne-none}
+use Rattle.word_runner.specs.Tells.{Own, WordsView, IsFirst, AreFirst, IsServed, IsWorker, AreSeats}
 
 pub served_one : (w : WordsView) (xs : List Own) (s : Own) → xs ≡ s ∷ [] → AreSeats w xs → IsServed w.shared 0 1 s
 served_one w xs s e a =
@@ -22,3 +23,14 @@ first_seats w n seats e a = record {
   size = a.size ∙ sym e;
   each = λ k s at. let f = (a.each k s at).serving in (f.seat, f.told, subst (λ (m : ℕ). IsWorker k m s.place.me.0) (sym e) f.worker);
 }
+
+pub first_two : (w : WordsView) (xs : List Own) (s t : Own) → xs ≡ s ∷ t ∷ [] → AreFirst w 2 xs → IsFirst w 0 2 s × IsFirst w 1 2 t
+first_two w xs s t e a = (a.each 0 s (ap (λ (l : List Own). get_elem? l 0) e), a.each 1 t (ap (λ (l : List Own). get_elem? l 1) e))
+
+pub two_seats : (w : WordsView) (s t : Own) → w.workers ≡ 2 → IsServed w.shared 0 2 s → IsServed w.shared 1 2 t → AreSeats w (s ∷ t ∷ [])
+two_seats w s t e left right = record { size = sym e; each = each }
+  where
+    each : (k : ℕ) (u : Own) → get_elem? (s ∷ t ∷ []) k ≡ some u → IsServed w.shared k w.workers u
+    each zero u at = subst (λ (x : ℕ × Own). IsServed w.shared 0 x.0 x.1) (λ i. (sym e i, some-injective s u at i)) left
+    each (suc zero) u at = subst (λ (x : ℕ × Own). IsServed w.shared 1 x.0 x.1) (λ i. (sym e i, some-injective t u at i)) right
+    each (suc (suc k)) u at = absurd (some-ne-none u (sym at))

@@ -259,16 +259,19 @@ pub record AreFirst (w : WordsView) (workers : ℕ) (seats : List Own) : Type 0 
   pub size : length seats ≡ workers
   pub each : (k : ℕ) (s : Own) → get_elem? seats k ≡ some s → IsFirst w k workers s
 
--- the words are those of a net that is this one cut, and the seat serves all blocks
+-- the words are those of a net that is this one cut at the total, and the seat serves all blocks
 pub record IsBegun (net : NetView) (workers : ℕ) (w : WordsView) (s : Own) : Type 0 where
   pub cut : IsCutNet net w.cut
+  pub within : AreWithin w.cut w.total
   pub workers_are : w.workers ≡ workers
   pub small : AtMost (all_given net) (units 9223372036854775807)
   pub first : IsFirst w 0 1 s
 
 -- The same with a seat for each worker. So the words are opened only where what the source gives is below 2^63 units.
+-- By `cut` and `within` together a block of the cut net gives the sink the lesser of what the net's block does and the total.
 pub record IsOpened (net : NetView) (workers : ℕ) (w : WordsView) (seats : List Own) : Type 0 where
   pub cut : IsCutNet net w.cut
+  pub within : AreWithin w.cut w.total
   pub workers_are : w.workers ≡ workers
   pub small : AtMost (all_given net) (units 9223372036854775807)
   pub all : AreFirst w workers seats

@@ -8,7 +8,8 @@ use crate::seats::WordSeat;
 use crate::turns::WordTurn;
 use std::sync::atomic::AtomicBool;
 use std::sync::atomic::Ordering::SeqCst;
-use workers::Gate;
+use std::thread;
+use workers::{Gate, Pause};
 
 /// A worker's seat once its turns are over, and how many steps it made.
 #[derive(Drop)]
@@ -27,6 +28,8 @@ pub(crate) struct Round {
     found: bool,
     // what had arrived at the source, where it was loaded
     source: Option<u64>,
+    // how it waits after a round in which no block had excess
+    pause: Pause,
 }
 
 // The first round of the seat of this number.
@@ -39,6 +42,14 @@ pub(crate) fn first_round(seat: WordSeat, number: u32) -> Round
         at: number,
         found: false,
         source: None,
+        pause: Pause::shortest(),
+    }
+}
+
+// In a long round in which no block has had excess yet, lets the other worker run now and then.
+fn pause_within(at: u32, found: bool) {
+    if !found && at > 2 && at % 256 < 2 {
+        thread::yield_now();
     }
 }
 
@@ -58,6 +69,7 @@ fn step_at(words: &Words, round: Round, _number: u32, _turn: u64) -> Result<Roun
         at,
         found,
         source,
+        pause,
     } = round;
     let mut seat = seat;
     match seat.turn(words, at) {
@@ -70,23 +82,28 @@ fn step_at(words: &Words, round: Round, _number: u32, _turn: u64) -> Result<Roun
             at,
             found: true,
             source,
+            pause: Pause::shortest(),
         }),
         WordTurn::Stepped {
             event: _,
             more: false,
-        } => Ok(Round {
-            seat,
-            steps: steps + 1,
-            at: at + words.workers,
-            found,
-            source,
-        }),
+        } => {
+            pause_within(at, found);
+            Ok(Round {
+                seat,
+                steps: steps + 1,
+                at: at + words.workers,
+                found,
+                source,
+                pause,
+            })
+        }
         WordTurn::TooLarge => Err(Served { seat, steps }),
     }
 }
 
 // A load of an arrival, after a round in which no block had excess: first of the source's, and then of the sink's, after which
-// the next round begins, or the run ends where they sum to the total.
+// the run ends where they sum to the total, and else the next round begins after a pause.
 fn look_at(words: &Words, round: Round, number: u32, _turn: u64) -> Result<Round, Served>
     requires round { IsRound words.now number round.seat round.at round.steps _turn }
     requires over { (length words.now.cut.worths ≤ round.at) × (number < words.now.workers) }
@@ -100,6 +117,7 @@ fn look_at(words: &Words, round: Round, number: u32, _turn: u64) -> Result<Round
         at,
         found,
         source,
+        pause,
     } = round;
     let mut seat = seat;
     match source {
@@ -111,6 +129,7 @@ fn look_at(words: &Words, round: Round, number: u32, _turn: u64) -> Result<Round
                 at,
                 found,
                 source: Some(amount),
+                pause,
             })
         }
         Some(amount) => {
@@ -123,6 +142,7 @@ fn look_at(words: &Words, round: Round, number: u32, _turn: u64) -> Result<Round
                 at: number,
                 found,
                 source: None,
+                pause: pause.waited(),
             })
         }
     }
@@ -170,12 +190,14 @@ fn next_round(words: &Words, round: Round, number: u32, _turn: u64) -> Round
         at: number,
         found: false,
         source: None,
+        pause: round.pause,
     }
 }
 
 /// Takes at most so many turns of the seat of this number, and passes the gate before each. It goes round its blocks, ascending,
 /// with one operation for each. After a round in which no block had excess it loads both arrivals, which are two turns, and ends
-/// where they sum to the total. It ends also where a turn is too large, which it tells the other worker by the flag.
+/// where they sum to the total; where they don't, it lets the other worker run, and longer the more often it found nothing. It ends
+/// also where a turn is too large, which it tells the other worker by the flag.
 pub fn serve<T: Gate>(
     words: &Words,
     stop: &AtomicBool,

@@ -8,6 +8,7 @@ use crate::seats::WordSeat;
 use crate::serving::{Served, serve};
 use std::sync::Wait;
 use std::sync::atomic::AtomicBool;
+use std::sync::atomic::Ordering::SeqCst;
 use std::thread;
 use std::thread::{Promise, Threads};
 use workers::Gate;
@@ -80,7 +81,11 @@ pub fn serve_both<R: Threads + Wait + Sync, T: Gate>(
                     let right = second.join(rt);
                     Some((left, right))
                 }
-                _ => None,
+                // the one that was started would wait for the other until its turns are over
+                _ => {
+                    stop.store(true, SeqCst);
+                    None
+                }
             }
         },
     )

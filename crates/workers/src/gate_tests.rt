@@ -2,7 +2,7 @@
 
 use crate::test_nets::{two_on_dear_waste, two_on_waste};
 use crate::whole_run_tests::holds;
-use crate::{Gate, Locked, Shared, TurnBoard, solve};
+use crate::{Gate, Locked, Shared, TurnBoard, solve, solve_audited};
 use closure_net::Net;
 use ordered_group::{OrderedGroup, Worth, WorthSize};
 use std::alloc::Global;
@@ -88,6 +88,19 @@ fn both_workers_are_at_their_turns_at_once(rt: HostRuntime) {
     }
 }
 
+// All 64 workers of a run that are asked for are at their first turn at once.
+#[test]
+fn sixty_four_workers_take_the_turns_of_a_run(rt: HostRuntime) {
+    let alloc = rt.alloc();
+    let net: Net<WorthSize> = two_on_dear_waste(&rt, alloc);
+    let gate = Meeting::of(rt, 64, 0);
+    let solved = solve(&rt, alloc, &net, 64, 10_000_000, &gate);
+    holds(&rt, gate.all_met() && solved.is_ok());
+    let gate = Meeting::of(rt, 64, 0);
+    let audit = solve_audited(&rt, alloc, &net, 64, 10_000_000, 100_000, &gate);
+    holds(&rt, gate.all_met() && audit.is_ok());
+}
+
 // Before its first turn worker 0 waits until worker 1 has taken twenty.
 #[derive(Drop)]
 struct HeldBack<R: Clock + Sync + Drop> {
@@ -138,18 +151,20 @@ fn counts_turns_of<G: OrderedGroup, R: Abort + Threads + Wait + Sync>(
     alloc: Global,
     net: &Net<G>,
     workers: u32,
-)
+    limit: u64,
+) -> u64
 where
     Locked<TurnBoard<G>>: Shared,
 {
     let gate = Counting {
         turns: AtomicU64::new(0),
     };
-    let solved = solve(rt, alloc, net, workers, 100_000, &gate).expect(rt, "solved");
+    let solved = solve(rt, alloc, net, workers, limit, &gate).expect(rt, "solved");
     let steps = solved.steps;
     let turns = gate.turns.load(SeqCst);
     holds(rt, 0 < steps && steps <= turns);
-    holds(rt, workers > 1 || turns == steps.wrapping_add(1));
+    holds(rt, workers > 1 || turns == limit.min(steps.wrapping_add(1)));
+    steps
 }
 
 fn counts_turns<G: OrderedGroup, R: Abort + Threads + Wait + Sync>(
@@ -160,9 +175,10 @@ fn counts_turns<G: OrderedGroup, R: Abort + Threads + Wait + Sync>(
 where
     Locked<TurnBoard<G>>: Shared,
 {
-    for workers in 1..3 {
-        counts_turns_of(rt, alloc, &net, workers);
-    }
+    let steps = counts_turns_of(rt, alloc, &net, 1, 100_000);
+    // all of the limit is the workers', so that the calling thread makes none of these
+    counts_turns_of(rt, alloc, &net, 1, steps);
+    counts_turns_of(rt, alloc, &net, 2, 100_000);
 }
 
 #[test]

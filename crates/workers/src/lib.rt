@@ -24,6 +24,7 @@ mod gate_tests;
 #[cfg(test)]
 mod known_runs_tests;
 mod locked;
+mod pause;
 mod solving;
 #[cfg(test)]
 mod test_nets;
@@ -37,5 +38,6 @@ pub use auditing::{Audit, AuditEnd, AuditFault, solve_audited};
 pub use boards::{Audited, Board, End, Turn, TurnBoard};
 pub use gate::{Gate, OpenGate};
 pub use locked::{Locked, Shared};
+pub use pause::Pause;
 pub use solving::{MOST_WORKERS, SolveFault, Solved, solve};
 pub use worker::serve;

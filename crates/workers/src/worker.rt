@@ -4,6 +4,7 @@ ghost use Rattle.std.specs.Prelude.{◌≡◌, ◌+◌, ◌<◌, ◌%◌};
 
 use crate::gate::Gate;
 use crate::locked::Shared;
+use crate::pause::Pause;
 use boards::{End, Turn};
 use std::sync::Wait;
 
@@ -18,8 +19,8 @@ fn block_after(block: u32, blocks: u32) -> u32 {
 
 /// Takes the turns of one worker, at most `steps`, and passes the gate before each. It keeps its block
 /// while the operation goes on, and else asks for the next block after its last one, going round all
-/// `blocks`; at first for the one of its own number. Answers why the run ended, and the limit where it
-/// took all its turns.
+/// `blocks`; at first for the one of its own number. After a turn that found nothing it lets others run.
+/// Answers why the run ended, and the limit where it took all its turns.
 pub fn serve<R: Wait, S: Shared, T: Gate>(
     rt: &R,
     shared: &S,
@@ -29,16 +30,24 @@ pub fn serve<R: Wait, S: Shared, T: Gate>(
     steps: u64,
 ) -> End {
     let mut own = None;
+    let mut pause = Pause::shortest();
     let mut from = if blocks == 0 { 0 } else { worker % blocks };
     for turn in 0..steps {
         gate.turn(worker, turn);
         match shared.act(rt, own, from, steps) {
-            Turn::Stepped { block, more: true } => own = Some(block),
+            Turn::Stepped { block, more: true } => {
+                own = Some(block);
+                pause = Pause::shortest();
+            }
             Turn::Stepped { block, more: false } => {
                 own = None;
                 from = block_after(block, blocks);
+                pause = Pause::shortest();
             }
-            Turn::Idle => own = None,
+            Turn::Idle => {
+                own = None;
+                pause = pause.waited();
+            }
             Turn::Ended(end) => return end,
         }
     }

@@ -71,6 +71,7 @@ returns c =
     let labels : c.in_ok-labels.labels.items ≡ replicate c.len-blocks.result 0 = search rules in
     record {
       cut = is;
+      within = c.in_ok-cut.ensures.1;
       workers_are = refl;
       small = subst (λ (a : Amount). AtMost a (units 9223372036854775807)) (sym g.all) (units_above c.args.total 9223372036854775807 (omega (arith, small)));
       first = first_seat _ _ t.2 (t.0 ∙ ap (λ (l : List ℕ). length l) words ∙ widths gain loss (count net) (length net.pairs) cut.size c.in_ok-loss.ensures.size ∙ ap width (sym t.5))

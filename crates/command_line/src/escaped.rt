@@ -1,0 +1,34 @@
+//! Words as they are shown.
+
+use std::fmt;
+
+/// A word, shown with its control characters as `\u{1b}`, so that none of them acts on the terminal.
+#[derive(Clone, Copy)]
+pub struct Escaped<'a> {
+    /// The word.
+    pub word: &'a str,
+}
+
+impl fmt::Display for Escaped<'_> {
+    fn fmt<W: fmt::Write>(&self, f: &mut fmt::Formatter<W>) -> fmt::Result {
+        for letter in self.word.chars() {
+            if letter.is_control() {
+                let code = letter as u32;
+                write!(f, "\\u{{{code:x}}}")?;
+            } else {
+                f.write_char(letter)?;
+            }
+        }
+        Ok(())
+    }
+}
+
+/// Whether a word has a control character.
+pub fn has_control(word: &str) -> bool {
+    for letter in word.chars() {
+        if letter.is_control() {
+            return true;
+        }
+    }
+    false
+}
