@@ -67,6 +67,13 @@ def read_crates():
     return placed
 
 
+def crates_of_program():
+    """The crates that the program is made from, by name: those of `read_crates` without the crates of tests, on which nothing stands."""
+    crates = read_crates()
+    made_from = {name for crate in crates.values() if crate.is_program for name in [*crate.below, crate.name]}
+    return {name: crate for name, crate in crates.items() if name in made_from}
+
+
 @functools.lru_cache(maxsize=None)
 def kit():
     """The kit's own line, as `rattle-kit-13f logic dac8208d650f15bf`."""

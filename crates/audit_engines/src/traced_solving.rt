@@ -29,14 +29,14 @@ use workers::{Audited, Gate, Locked, Shared};
 /// `Done` where it wrote a certificate, as `engines::solve_engine` says; its flow is the one to which a replay of the
 /// trace leads. `No` where it wrote a line that says why there is none:
 ///
-/// - `UNSETTLED`, where the trace has as many steps as the effort allows and some block isn't done after them;
-/// - `HISTORYFULL`, the same where there is no room for another step below that limit;
-/// - `REFUSED TooLarge`, where a number of the state after the trace's next step, or of the check of the flow to which it
-///   leads, would overflow its type.
+/// - `UNSETTLED`: the trace has as many steps as the effort allows, and some block still has excess or an operation;
+/// - `HISTORYFULL`: the same, where the trace has no room for another step below that limit;
+/// - `REFUSED TooLarge`: a number of the next step, or of the check of the flow, would overflow its type.
 ///
 /// # Errors
-/// As of `solve_engine`, and in its order. Nothing is written at any, but that the trace is whole where memory is
-/// refused after the run, and a front of it, or the whole and then a front of the answer, where a write fails.
+/// The faults of `solve_engine`, in its order. Nothing has been written, with two exceptions: if memory is refused after
+/// the run the trace is complete, and if a write fails there is a prefix of the trace, or the whole trace and a prefix of
+/// the answer.
 ///
 /// Each device must have counted fewer than 2^64 - 1 failures, so that one more can be counted.
 pub fn solve_traced_engine<
@@ -82,7 +82,8 @@ pub fn solve_traced_engine<
     )
 }
 
-/// The same, where the mine is read, and its blocks are worth so many billionths at a price.
+/// `solve_traced_engine` once the mine is read: from each block's worth in billionths, the pairs and the price that the
+/// certificate names.
 pub(crate) fn trace_mine<R: Threads + Wait + Sync, T: Gate, V: CountedWrite, W: CountedWrite>(
     rt: &R,
     alloc: Global,

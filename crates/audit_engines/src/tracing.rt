@@ -24,13 +24,13 @@ use std::thread::Threads;
 use trace_file::write_trace;
 use workers::{AuditEnd, AuditFault, Audited, Gate, Locked, Shared, SolveFault, solve_audited};
 
-/// Makes a run over a net by the effort's workers, with room for so many events in its history, and
-/// writes the history to `trace`; then writes to `out` the certificate of the flow that the run leaves,
+/// Makes a run over a net by the effort's workers, with room for this many events in its history, and
+/// writes the history to `trace`. Then writes to `out` the certificate of the flow that the run leaves,
 /// once a check has accepted it, or a line that says why there is none.
 ///
 /// # Errors
-/// `Memory`, `Thread` and `Stranger` of the run, of which nothing was written; `Memory` of the check, behind the whole trace; and
-/// `Device` where a write fails: what was written is then a prefix of the trace, or the trace with a prefix of the answer.
+/// `Memory`, `Thread` and `Stranger` from the run: nothing was written. `Memory` from the check: the trace is complete. `Device`
+/// where a write fails: there is a prefix of the trace, or the whole trace and a prefix of the answer.
 pub fn trace_net<
     G: OrderedGroup,
     R: Threads + Wait + Sync,

@@ -11,7 +11,7 @@ pub enum CertFault {
     Text(u64),
     /// A number of the line is not written in its one spelling, or is out of range.
     Number(u64),
-    /// The line does not stand behind the line before it in the order of kinds, blocks and predecessors.
+    /// The line doesn't come after the line before it in the order of kinds, blocks and predecessors.
     OutOfOrder(u64),
     /// The line gives an amount to a pair that the model doesn't have.
     UnknownPair(u64),

@@ -136,13 +136,18 @@ impl<R: CountedRead> CertStream<R> {
 /// the device has counted fewer than 2^64 - 1 failures, so that one more can be counted.
 ///
 /// # Errors
-/// `Device` where a read failed; `InputTooLong` where more than 2^32 bytes were read. Otherwise the first of these that the
-/// lines come to: `Cert` with the fault of a line; `NotClosed` with the first such pair, at the first line behind the PIT
-/// lines; `Negative`, `OverCapacity` and then `TooLarge` of a line; behind END `Unbalanced` with the first such block, and
-/// then `NotTight`. `TooLarge` is a sum over the lines so far that doesn't fit: the balance of a block, the worth of the
-/// pit, or what the source could still give. `Cert` with `NoMemory` only in a room that has served a check before, where
-/// memory for the list of the pit's blocks is refused. A fault that the stream has answered before is answered again, and
-/// `Cert` with `Truncated` once the certificate was accepted.
+/// `Device` where a read failed; `InputTooLong` where more than 2^32 bytes were read. Otherwise the first that the lines
+/// show of these:
+///
+/// - `Cert` with the fault of a line;
+/// - `NotClosed` with the first such pair, at the first line after the PIT lines;
+/// - for each line `Negative`, `OverCapacity`, then `TooLarge`: a sum over the lines so far that doesn't fit (the balance
+///   of a block, the worth of the pit, or what the source could still give);
+/// - after END `Unbalanced` with the first such block, then `NotTight`.
+///
+/// `Cert` with `NoMemory` only in a room that has served a check before, where memory for the list of the pit's blocks is
+/// refused. Called again, the stream returns the fault that it returned before, or `Cert` with `Truncated` once the
+/// certificate was accepted.
 pub fn check_graph<'a, R: CountedRead, G: OrderedGroup>(
     stream: &mut CertStream<R>,
     net: GraphRef<'a, G>,

@@ -14,7 +14,9 @@ const USAGE: &str =
 
 const DETAILS: &str = "Checks a certificate: does its flow prove that its pit is the best?
 
-Prints ACCEPTED, the number of blocks and the worth, or REFUSED and the reason. What is accepted is proved: with each block the pit holds all its predecessors, and no such pit is worth more; and, except with a certificate of GROUP WORTH, every other that is worth as much has more blocks. With --blocks and --settings the blocks are worth what their prices give at the factor that the certificate names; then, of two pits that are accepted over the same files, neither of GROUP WORTH, the one at the lower factor lies within the other.";
+Prints ACCEPTED, the number of blocks and the worth, or REFUSED and the reason. What is accepted is proved. The pit contains all predecessors of each of its blocks, and no such pit is worth more. Every other that is worth as much has more blocks, except with a certificate of GROUP WORTH.
+
+With --blocks and --settings a block's worth follows from its prices at the factor that the certificate names. Then, of two pits that are accepted over the same files, the one at the lower factor lies within the other, except with a certificate of GROUP WORTH.";
 
 const CERTIFICATE_HELP: &str = "The pit and its flow: a PITCERT text";
 

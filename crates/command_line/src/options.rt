@@ -7,11 +7,11 @@ use std::alloc::{AllocError, Global};
 pub const STATUSES: &str = "Exit status:
   0  done: the answer is on standard output
   1  no: the certificate doesn't prove its pit, the run gave no pit, or the trace isn't that of a whole run
-  2  usage: the words of the command line are wrong
-  3  a file is wrong, its numbers are too large, or a pattern gives nothing for it: standard error names the fault, and the line of the file where it has one
+  2  usage: a wrong use of the command line
+  3  a file is wrong, its numbers are too large, or a pattern gives nothing for it: standard error names the fault, and the line of the file if it has one
   4  memory or a thread was refused, or a file or the output failed
 
-Without words pit checks a small example that it carries, and prints the answer.";
+`pit` alone checks a small example that it carries, and prints the answer.";
 
 /// The help of `--prec`.
 pub const PREC_HELP: &str = "The predecessors of each block: MineLib's .prec";
@@ -58,7 +58,7 @@ pub fn file_word<'a>(alloc: Global, name: &'a str, shown: &'a str, help: &'a str
 
 /// The help of `--settings`.
 pub const SETTINGS_HELP: &str =
-    "Which columns of the blocks are revenues and costs, or a mill's charges in place of costs, and the factors of shells: a TOML text";
+    "The columns of revenues and costs, or of a mill's charges instead of costs, and the factors of the shells: a TOML text";
 
 /// The help of `--blocks` of a priced model.
 pub const PRICED_BLOCKS_HELP: &str =
@@ -171,7 +171,7 @@ pub fn group_option<'a>(alloc: Global) -> Arg<'a> {
         alloc,
         "group",
         "GROUP",
-        "What amounts count. pair (the default): worth, and then the fewer blocks; scaled: the same in one number, where the numbers of pair overflow; worth: worth alone",
+        "What the flow counts: pair (the default), worth and then the fewer blocks; scaled, the same in one number, where the numbers of pair overflow; worth, worth alone",
     )
 }
 
@@ -186,7 +186,7 @@ pub fn steps_option<'a>(alloc: Global) -> Arg<'a> {
         alloc,
         "steps",
         "STEPS",
-        "The most steps of the push-relabel machine, or turns of pseudoflow, from 1 to 1099511627776 (by default 1000000000 steps and 1099511627776 turns)",
+        "The most steps of push-relabel, or turns of pseudoflow, from 1 to 1099511627776 (by default 1000000000 steps and 1099511627776 turns); without --method it chooses push-relabel",
     )
 }
 
@@ -208,13 +208,13 @@ pub fn verbose_option<'a>(alloc: Global) -> Arg<'a> {
     Arg::new(alloc, "verbose")
         .long("verbose")
         .action(ArgAction::SetTrue)
-        .help("Tells on standard error which file failed, and the system's reason")
+        .help("Reports on standard error which file failed, and the system's reason")
 }
 
 /// The same of a command that solves.
 pub fn verbose_solving_option<'a>(alloc: Global) -> Arg<'a> {
     verbose_option(alloc).help(
-        "Tells on standard error which file failed, and the system's reason; after UNSETTLED, what to try",
+        "Reports on standard error which file failed, and the system's reason; after UNSETTLED, what to try",
     )
 }
 

@@ -12,9 +12,13 @@ const ABOUT: &str = "Repeats a run step by step from its trace";
 const USAGE: &str =
     "pit replay --prec <FILE> (--upit <FILE> | --blocks <FILE> --settings <FILE> --factor <FACTOR>) [OPTIONS] <TRACE>";
 
-const DETAILS: &str = "Repeats a run of the push-relabel machine step by step from its trace.
+const DETAILS: &str =
+    "Repeats a run of push-relabel step by step from its trace. OPEN and REFUSED have the status 1.
 
-Prints REPLAYED, the number of steps and QUIET where all steps can be made and no block has anything left to do, and then what a check says of the flow that they lead to, as `pit check` prints it; REPLAYED, the number of steps and OPEN where some block isn't done; and REFUSED, a place and the reason where the step at that place, counted from 1, isn't one of the machine. OPEN and a refusal have the status 1.";
+Answers:
+  REPLAYED steps QUIET  all steps can be made, and no block has anything left to do; on the next line what `pit check` would say of the flow
+  REPLAYED steps OPEN   all steps can be made, and some block isn't done
+  REFUSED place reason  the step at this place, counted from 1, isn't one that push-relabel may make there";
 
 const TRACE_HELP: &str = "The steps of the run: a PITTRACE text";
 

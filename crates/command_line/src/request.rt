@@ -16,7 +16,7 @@ use clap::{Command, Error};
 use std::alloc::{AllocError, Global};
 
 const ABOUT: &str =
-    "Finds the ultimate pit of a block model, proves it, and checks the proof of any solver";
+    "Finds the ultimate pit of a block model and proves it, and checks the certificate of any solver";
 
 /// What the words ask for.
 #[derive(Clone, Copy)]

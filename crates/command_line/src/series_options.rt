@@ -33,21 +33,22 @@ pub struct SeriesWords<'a> {
 }
 
 const METHOD_HELP: &str =
-    "Which engine makes the flow: auto (the default), pseudoflow or push-relabel";
+    "Which solver computes the flows: auto (the default), pseudoflow or push-relabel";
 
-const METHODS: &str = "Which engine makes the flow: auto (the default), pseudoflow or push-relabel
+const METHODS: &str =
+    "Which solver computes the flows: auto (the default), pseudoflow or push-relabel
 
-  auto          up to 1000 blocks the push-relabel machine, and pseudoflow where a number of its run doesn't fit. For more blocks pseudoflow; up to 10000 blocks the machine where that gives up. Where --steps is given, the machine alone
-  pseudoflow    highest-label pseudoflow alone, for as many factors at a time as there are workers; UNSETTLED where it gives up
-  push-relabel  the push-relabel machine alone, with as many threads as there are workers
+  auto          chosen by the size of the mine, as by `pit solve`
+  pseudoflow    highest-label pseudoflow alone, at one factor for each worker at a time; UNSETTLED where it gives up
+  push-relabel  push-relabel alone, with one thread for each worker
 
-One worker or two of the machine run without a lock; where a number of that run doesn't fit 63 bits, they run again with a lock, as more workers always do. The pits are the same.";
+One or two workers of push-relabel run without a lock. Where a number of that run doesn't fit 63 bits, they run again with a lock, as more workers always do. The pits are the same.";
 
 const WORKERS_HELP: &str =
-    "How many factors pseudoflow solves at a time, or the threads of the push-relabel machine, from 1 to 64 (1 by default)";
+    "How many factors pseudoflow solves at a time, or the threads of push-relabel, from 1 to 64 (1 by default)";
 
 const PROGRESS_HELP: &str =
-    "Tells on standard error at which factor a pit is proved, and how far a run of the machine is";
+    "Reports on standard error each factor at which a pit is proved, and how far a run of push-relabel is";
 
 /// The options of such a command; the help says what its settings have.
 pub fn with_series<'a>(

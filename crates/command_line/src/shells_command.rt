@@ -5,12 +5,14 @@ use crate::series_options::with_series;
 use clap::Command;
 use std::alloc::{AllocError, Global};
 
-const ABOUT: &str = "Draws the shells: what the best pit at each price has";
+const ABOUT: &str = "Finds the shells: the best pit at each price of a series";
 
 const DETAILS: &str =
-    "Draws the shells: the best pits at rising metal prices, each of which lies within the next.
+    "Finds the shells: the best pits at rising metal prices, each of which lies within the next.
 
-Prints a line for each of the factors that the settings name, lowest first: SHELL, the factor in thousandths, the number of blocks of the best pit at that share of the revenues, and its worth. Each pit is checked with a flow that proves it, and nothing is printed before all are. Prints UNSETTLED and the factor where the run at a factor needs more steps than --steps allows, and REFUSED TooLarge where a number of a run, or a sum of the check of its flow, overflows; both have the status 1.";
+Prints a line for each of the factors that the settings name, lowest first: SHELL, the factor in thousandths, the number of blocks of the best pit at that share of the revenues, and its worth there. Each pit is checked with a flow that proves it, and nothing is printed before all are.
+
+Prints UNSETTLED and the factor where no pit was found within the limits, and REFUSED TooLarge where a number overflows; both have the status 1.";
 
 /// The command.
 pub fn shells_command<'a>(alloc: Global) -> Result<Command<'a>, AllocError> {

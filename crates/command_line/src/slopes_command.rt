@@ -13,8 +13,8 @@ Prints a .prec file: for each block a line with its number, the number of its pr
 Patterns:
   five                  the block above and the four that share a side with it (1:5)
   nine                  the square of nine blocks above (1:9)
-  cone:LEVELS:RUN:RISE  on each of LEVELS levels above, the blocks within level * RUN / RISE blocks of the axis; each number is from 1 to 1000
-  settings              the offsets that the key `offsets` of the file of --settings lists: [dx, dy, dz] each, from a block to a predecessor, dz counting levels upward and at least 1";
+  cone:LEVELS:RUN:RISE  on each of LEVELS levels above, the blocks within level * RUN / RISE blocks of the axis; each number is from 1 to 1000. RUN and RISE count blocks: docs/GUIDE.md says what walls that makes
+  settings              the offsets that the file of --settings lists under `offsets`: [dx, dy, dz] each, from a block to a predecessor; dz counts levels upward and is at least 1";
 
 // The word for the offsets of settings.
 const OF_SETTINGS: &str = "settings";
@@ -27,7 +27,7 @@ const PATTERN_HELP: &str =
 const UP_HELP: &str = "Which way is up: plus, where a greater z is higher (the default), or minus";
 
 const SETTINGS_HELP: &str =
-    "The file that lists the offsets, which --pattern settings needs: a TOML text; not opened with another pattern";
+    "The file that lists the offsets, a TOML text: needed for --pattern settings, not opened with another pattern";
 
 /// What says which blocks above a block are its predecessors.
 #[derive(Clone, Copy)]

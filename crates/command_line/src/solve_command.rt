@@ -15,29 +15,29 @@ const USAGE: &str =
 
 const DETAILS: &str = "Finds the best pit and writes its certificate.
 
-Prints a PITCERT text for `pit check`: the pit, and a flow that proves it. Whatever engine made the flow, it is checked before anything is written. Prints UNSETTLED where the run needs more steps than --steps allows, or pseudoflow gives up, and REFUSED TooLarge where a number of the run, or a sum of the check of its flow, doesn't fit 128 bits (of a run by words 63); both have the status 1.
+Prints a PITCERT text for `pit check`: the pit, and a flow that proves it. Whatever solver computed the flow, it is checked before anything is written. Prints UNSETTLED where no pit was found within the limits, and REFUSED TooLarge where a number doesn't fit 128 bits (with --method words 63); both have the status 1.
 
-With --trace the push-relabel machine makes the flow, and each of its steps is written to the trace, with which `pit replay` repeats the run. Prints HISTORYFULL, with the status 1, where the run needs more steps than --room has room for.
+With --trace push-relabel computes the flow, and each of its steps is written to the trace, with which `pit replay` repeats the run. Prints HISTORYFULL, with the status 1, where the run needs more steps than --room has room for.
 
 Methods:
-  auto          up to 1000 blocks the push-relabel machine, and pseudoflow where a number of its run doesn't fit. For more blocks pseudoflow; up to 10000 blocks the machine where that gives up. Where --steps is given, the machine alone
+  auto          push-relabel for at most 1000 blocks, and pseudoflow where a number of its run doesn't fit; for more blocks pseudoflow, and up to 10000 push-relabel where that gives no proof. Push-relabel alone where --steps is given
   pseudoflow    highest-label pseudoflow alone: quick on mines of millions of blocks; UNSETTLED where it gives up
-  push-relabel  the push-relabel machine alone: each step is proved, and it is slow beyond some thousand blocks
-  words         the same machine without a lock: one or two workers share its state in words of 64 bits, and each step is one operation on one word. Its --group is scaled, also where that is left out, and it can't be given with --trace";
+  push-relabel  push-relabel alone: each of its steps is proved, and it is slow above a few thousand blocks
+  words         push-relabel without a lock: one or two workers share its state in words of 64 bits, and each step is one operation on one word. Its --group is scaled, whether or not that is given, and it can't be given with --trace";
 
 const METHOD_HELP: &str =
-    "Which engine makes the flow: auto (the default), pseudoflow, push-relabel or words";
+    "Which solver computes the flow: auto (the default), pseudoflow, push-relabel or words";
 
 const WORKERS_HELP: &str =
-    "How many threads the push-relabel machine has, from 1 to 64 (1 by default), which share one lock; with --method words 1 or 2, without a lock; of no effect with --method pseudoflow";
+    "The threads of push-relabel, from 1 to 64 (1 by default), which share one lock; with --method words 1 or 2, without a lock; pseudoflow has one thread";
 
-const PROGRESS_HELP: &str = "Tells on standard error, once a second, how far the run is";
+const PROGRESS_HELP: &str = "Reports on standard error, once a second, how far the run is";
 
 const TRACE_HELP: &str =
-    "Writes each step of the push-relabel machine's run to this file, in place of what is in it; not with --method pseudoflow or words, and no input";
+    "Writes each step of push-relabel's run to this file, and replaces what is in it: not an input, and not with --method pseudoflow or words";
 
 const ROOM_HELP: &str =
-    "The most steps of a trace, from 1 to 16777216 (1048576 by default); of no effect without --trace";
+    "The most steps of a trace, from 1 to 16777216 (1048576 by default); no effect without --trace";
 
 /// The words of a request to solve: the files, and where they were given the factor, the method, the kind of amount, the steps, the
 /// workers, the trace and its room, and whether progress is shown and it is told why a file failed.

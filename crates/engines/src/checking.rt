@@ -14,11 +14,11 @@ use std::alloc::Global;
 
 /// Checks a certificate for the mine of two texts, and writes the answer as one line.
 ///
-/// `Done` where it wrote `ACCEPTED`: the pit of the certificate then holds every block that a
-/// block of it rests on, and no such pit is worth more; and with `GROUP PAIR` or `GROUP SCALED` every
-/// other that is worth the same has more blocks (Picard 1976). `No` where it wrote `REFUSED` with the
-/// first fault of the pit and its flow that the lines come to. The inputs are read in the order of the
-/// arguments, each to its end, but the certificate only up to its first fault.
+/// `Done` where it wrote `ACCEPTED`: the pit of the certificate contains every block that a block of it
+/// rests on, and no such pit is worth more; with `GROUP PAIR` or `GROUP SCALED` every other of equal
+/// worth has more blocks (Picard 1976). `No` where it wrote `REFUSED` with a fault of the pit or its
+/// flow, the first that the lines show. The inputs are read in the order of the arguments, each to its
+/// end, except the certificate, which is read up to its first fault.
 ///
 /// Each device must have counted fewer than 2^64 - 1 failures, so that one more can be counted.
 pub fn check_engine<U: CountedRead, P: CountedRead, C: CountedRead, W: CountedWrite>(

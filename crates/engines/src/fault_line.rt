@@ -1,4 +1,7 @@
 //! The line of a fault, made without memory, and the exit status.
+//!
+//! Each fault's text is here a second time, beside its `Display`: the kit's `fmt::Write` says what was written only on `Ok`,
+//! and this line must not fail.
 
 ghost use Rattle.std.specs.Prelude.{◌≡◌, ◌+◌, ◌-◌, ◌^◌, ◌<◌, ◌≤◌, ◌++◌, ℕ, List, length, OnOk, OnErr};
 ghost use Rattle.std.specs.Io.KnownBytes.{Appends};

@@ -24,13 +24,13 @@ use workers::{Gate, Locked, Shared, TurnBoard};
 
 /// Finds the best pit of the mine of two texts, and writes its certificate.
 ///
-/// `Done` where it wrote a certificate, which a check has accepted: with each block its pit holds all predecessors, and
-/// no such pit is worth more; and with `Group::Pair` and `Group::Scaled` every other that is worth the same has more
-/// blocks (Picard 1976). That rests on the check alone, whatever engine the effort's method chose.
+/// `Done` where it wrote a certificate that a check has accepted: its pit contains each block's predecessors, and no such
+/// pit is worth more; with `Group::Pair` and `Group::Scaled` every other of equal worth has more blocks (Picard 1976).
+/// This rests on the check alone, whichever solver computed the flow.
 ///
-/// `No` where it wrote `UNSETTLED`, since the machine's run needs more than the effort's steps, or `REFUSED TooLarge`,
-/// since a number of the run or of the check of its flow doesn't fit. With `Method::Pseudoflow` it writes `UNSETTLED`
-/// where pseudoflow gives no flow that a check accepts, which says nothing of the mine.
+/// `No` where it wrote `UNSETTLED`, because the machine's run needs more than the effort's steps, or `REFUSED TooLarge`,
+/// because a number of the run or of the check of its flow doesn't fit. With `Method::Pseudoflow` it writes `UNSETTLED`
+/// where pseudoflow finds no flow that a check accepts, which says nothing about the mine.
 ///
 /// The inputs are read in the order of the arguments, each to its end, and nothing is written before the answer is
 /// known. Each worker of the machine passes the gate before each of its turns, and pseudoflow reports to it how far it is.
@@ -77,7 +77,8 @@ pub fn solve_engine<
     solve_mine(rt, alloc, nanos, rests, price, group, effort, gate, out)
 }
 
-/// The same, where the mine is read, and its blocks are worth so many billionths at a price.
+/// `solve_engine` once the mine is read: from each block's worth in billionths, the pairs and the price that the
+/// certificate names.
 ///
 /// # Errors
 /// `Model` where an amount of the mine's net doesn't fit; then those of `solve_net`.

@@ -1,4 +1,4 @@
-//! The call.
+//! The public call: from a net and a bound on its turns to a flow, or why there is none.
 
 ghost use Rattle.std.specs.Prelude.{IfOk};
 ghost use Rattle.closure_net.specs.Network.{FlowFits};

@@ -15,10 +15,13 @@ use std::alloc::Global;
 /// Makes the steps of a trace one after the other, from the opening state of the push-relabel machine (Hong 2008) over
 /// the mine of two texts, and writes what comes of them.
 ///
-/// Where all are made and no block has excess or an operation then, it writes `REPLAYED`, their number and `QUIET`, and
-/// the line of a check of the state's flow with the pit of the blocks that the source reaches in it: `Done` where that
-/// is `ACCEPTED`, and else `No`. Where some block isn't done, it writes `REPLAYED`, their number and `OPEN`; where a
-/// step is refused, `REFUSED`, the place of the first that is, counted from 1, and why. Both are `No`.
+/// It writes one of these:
+///
+/// - `REPLAYED steps QUIET`, where all steps were made and then no block has excess or an operation. After it comes the
+///   line of a check of the state's flow, with the pit that the source reaches in it: `Done` where that is `ACCEPTED`,
+///   otherwise `No`.
+/// - `REPLAYED steps OPEN`, where all steps were made and some block has excess or an operation: `No`.
+/// - `REFUSED place refusal` with the first step that is refused, counted from 1, and why: `No`.
 ///
 /// The inputs are read in the order of the arguments, each to its end, and nothing is written before the answer is
 /// known.

@@ -36,10 +36,14 @@ use workers::Gate;
 /// the arguments, each to its end.
 ///
 /// # Errors
-/// In this order: `Settings` for a fault of this text, or the first of the keys `revenue`, `cost`, `tonnes` and `factors`
-/// that is missing, or of `revenue`, `tonnes`, `factors`, `processing` and `mining` where there is a mill; `Blocks`;
-/// `Prices` for a negative revenue; `Prec`; `Model` where at a factor of the settings an amount of the mine's net doesn't
-/// fit. `Memory`, `Thread`, `Stranger` and `Device` as of `solve_engine`.
+/// In this order:
+///
+/// - `Settings` for a fault of this text, or for the first missing key of `revenue`, `cost`, `tonnes`, `factors`, or with
+///   a mill of `revenue`, `tonnes`, `factors`, `processing`, `mining`;
+/// - `Blocks`; `Prices` for a negative revenue; `Prec`;
+/// - `Model` where an amount of the mine's net doesn't fit at one of the factors.
+///
+/// `Memory`, `Thread`, `Stranger` and `Device` as for `solve_engine`.
 ///
 /// Each device must have counted fewer than 2^64 - 1 failures, so that one more can be counted.
 pub fn report_engine<

@@ -7,10 +7,13 @@
 //! 1965, make their phases so).
 //!
 //! Stands on `check_pit`, `closure_net`, `ordered_group`, `prec_file`, `fixed_worth` and the kit's
-//! `rayon`. Promises upward: `worth` and `worths_at` are exact; a `Series` takes nothing but pits that
-//! were checked over its own pairs and its own prices at that factor, or that its caller has proved to be
-//! the best ones, so that at each of its factors the blocks with a shell of at most that factor are the
-//! best pit; and `laws` has the nesting of accepted pits for all who check pits at two factors.
+//! `rayon`. Promises upward:
+//!
+//! - `worth` and `worths_at` are exact.
+//! - A `Series` takes only pits that were checked over its own pairs and its own prices at that factor, or
+//!   that its caller has proved to be the best. So at each of its factors the blocks with a shell of at
+//!   most that factor are the best pit.
+//! - `laws`: accepted pits at two factors are nested.
 #![tactic(auto)]
 
 mod costs;

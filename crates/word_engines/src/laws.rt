@@ -2,9 +2,9 @@
 
 ghost use Rattle.word_engines.specs.Tightness.{RunsAreTight};
 
-/// The flow that a run by one or two workers without a lock leaves is a greatest one of the net that was handed in, and what the
-/// source reaches in what the flow leaves is closed there, tight, and sums to as much as any closed set: though the run was over
-/// the net with its negative worths cut at what the source gives in all.
+/// A run without a lock is over the net with its negative worths cut at what the source gives in all. Still the flow that it
+/// leaves is a maximum flow of the net that was handed in. What the source reaches in what the flow leaves is closed there, tight,
+/// and sums to as much as any closed set.
 pub fn runs_are_tight()
     ensures { RunsAreTight }
 {}

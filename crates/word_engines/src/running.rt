@@ -20,9 +20,12 @@ use workers::{Gate, SolveFault};
 /// The pit that a run of the push-relabel machine without a lock proves: its flow has passed the check of this net.
 ///
 /// # Errors
-/// `Unsettled` where the turns were over before all had arrived; `TooLarge` where the positive worths sum to 2^63 units or more,
-/// where the flow of a pair came to 2^63 in a step or a label would have, or where a sum of the check overflows. `NoMemory` where
-/// memory is refused, `NoThread` where a worker can't be started. `GaveUp` and `Stranger` never.
+/// - `Unsettled`: the turns were used up before all that the source gave had arrived.
+/// - `TooLarge`: the positive worths sum to 2^63 units or more; or a step brought the flow of a pair to 2^63, or would have
+///   brought a label there; or a sum of the check overflows.
+/// - `NoMemory`: memory is refused. `NoThread`: a worker can't be started.
+///
+/// Never `GaveUp` or `Stranger`.
 pub fn by_words<R: Threads + Wait + Sync, T: Gate>(
     rt: &R,
     alloc: Global,

@@ -24,15 +24,15 @@ use workers::Gate;
 /// Finds the best pit of the mine of two texts by a run of the push-relabel machine without a lock, in amounts of the group
 /// `scaled`, and writes its certificate.
 ///
-/// `Done` where it wrote a certificate, as `engines::solve_engine` says: its flow has passed the check of the mine's net. `No`
-/// where it wrote `UNSETTLED`, since the workers' turns were over before all that the source gave had arrived, or
-/// `REFUSED TooLarge`, where a total, a flow or a label comes to 2^63, or where a sum of the check overflows.
+/// `Done` where it wrote a certificate, as `engines::solve_engine` says: the check of the mine's own net has accepted its flow.
+/// `No` where it wrote `UNSETTLED`, because the workers' turns were used up before all that the source gave had arrived, or
+/// `REFUSED TooLarge`, because a total, a flow or a label reached 2^63, or a sum of the check overflows.
 ///
 /// The inputs are read in the order of the arguments, each to its end, and nothing is written before the answer is known. Each
 /// worker passes the gate before each of its turns.
 ///
 /// # Errors
-/// As of `solve_engine`, and in its order; `Stranger` never comes of the run.
+/// The faults of `solve_engine`, in its order, except `Stranger`.
 ///
 /// Each device must have counted fewer than 2^64 - 1 failures, so that one more can be counted.
 pub fn solve_words_engine<
@@ -69,7 +69,8 @@ pub fn solve_words_engine<
     mine_by_words(rt, alloc, nanos, rests, price, effort, gate, out)
 }
 
-/// The same, where the mine is read, and its blocks are worth so many billionths at a price.
+/// `solve_words_engine` once the mine is read: from each block's worth in billionths, the pairs and the price that the
+/// certificate names.
 pub(crate) fn mine_by_words<R: Threads + Wait + Sync, T: Gate, W: CountedWrite>(
     rt: &R,
     alloc: Global,

@@ -77,13 +77,13 @@ fn solved_by_two(
     }
 }
 
-/// Makes the steps of the machine by one or two workers without a lock, each step by one operation on one word that they share,
-/// and answers the flow that is left where no block has excess or an operation: a greatest one of the net. One worker is the
-/// calling thread, two are threads of their own.
+/// Runs the machine with one or two workers without a lock, each step one operation on one word that they share, and returns the
+/// flow once no block has excess or an operation: a maximum flow of the net. One worker is the calling thread, two are threads of
+/// their own.
 ///
 /// Each worker takes at most `steps / workers` turns, and passes the gate before each. A turn is one step, or one load of an
-/// arrival: after a round of its blocks in which none had excess a worker loads both, and ends where all has arrived. `steps` of
-/// the answer are the steps that were made. The method is that of `workers::solve`.
+/// arrival. After a round of its blocks in which none had excess, a worker loads both arrivals, and ends if all has arrived.
+/// `steps` of the result are the steps that were made. The method is that of `workers::solve`.
 ///
 /// # Errors
 /// `BadWorkers` where there are neither one nor two. `TooLarge` where the positive worths sum to 2^63 units or more, or where the

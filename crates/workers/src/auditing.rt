@@ -60,9 +60,9 @@ impl AuditFault {
     }
 }
 
-/// Makes a run as `solve` does, and writes down each step in a history with room for so many events,
-/// 8 bytes each. A replay of the history from the opening state of the net, which any program can make
-/// that knows the machine's steps, leads to the flow that is answered: a greatest one of the net.
+/// Makes a run as `solve` does, and writes down each step in a history with room for this many events,
+/// 8 bytes each. A replay of the history from the opening state of the net leads to the flow that is
+/// returned, a maximum flow of the net. Any program that knows the machine's steps can make the replay.
 ///
 /// The history is the run in the order in which the workers made its steps, one at a time under the
 /// lock; no ReadExcess of it sees zero. A room above 2^24 events counts as 2^24.

@@ -2,13 +2,14 @@
 //! maximum flow problem, 2008), here with the state under one lock: each worker takes the lock for a
 //! single step at a time, so the steps of the workers come in any order.
 //!
-//! Stands on `boards`, whose turns the workers take. Promises upward: whenever the lock is free, all that
-//! a board's type keeps holds of the board; `solve` answers a flow only where it is a greatest one of
-//! the net handed in; it answers that a run is unsettled only where turns made all its steps and the
-//! state that they led to isn't quiet, and that a number is too large only where they led to a state
-//! whose next step of some block leads to such a number; and the history that `solve_audited` gives is a
-//! run of the net handed in whose replay leads to the flow that it answers, or to where it ended without
-//! one.
+//! Stands on `boards`, whose turns the workers take. Promises upward:
+//!
+//! - Whenever the lock is free, what a board's type keeps is true of the board.
+//! - `solve` returns a flow only where it is a maximum flow of the net handed in.
+//! - It returns `Unsettled` only where turns made all its steps and the state after them isn't quiet, and
+//!   `TooLarge` only where the next step of some block after them leads to a number that doesn't fit.
+//! - The history of `solve_audited` is a run over the net handed in. Its replay leads to the flow that is
+//!   returned, or to where the run ended without one.
 //!
 //! No proof speaks of time: that workers run at once, and that a run ends settled, is shown by tests. A
 //! call that may wait meets any promise by never returning, so what is promised here holds where the

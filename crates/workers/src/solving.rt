@@ -1,4 +1,4 @@
-//! Whole runs.
+//! A whole run of the machine by workers under one lock, from a net to a maximum flow or why there is none.
 
 ghost use Rattle.std.specs.Prelude.{◌≡◌, ◌↔◌, ◌<◌, ◌≤◌, MatchResult, IsErrOf};
 ghost use Rattle.boards.specs.Boards.{shown};
@@ -75,9 +75,9 @@ pub fn serve_all<R: Threads + Wait + Sync, S: Shared, T: Gate>(
     })
 }
 
-/// Makes the steps of the machine by so many workers, each a thread of its own, until no block has
-/// excess or an operation, and answers the flow: a greatest one of the net, in which what the source
-/// reaches is closed, tight and a greatest closed set.
+/// Runs the machine with this many workers, each a thread of its own, until no block has excess or an
+/// operation, and returns the flow. It is a maximum flow of the net, in which what the source reaches is
+/// closed, tight and a greatest closed set.
 ///
 /// Each worker passes the gate before each of its turns. What is left of the run when all have ended
 /// is made by the calling thread, so a run without an end made all its steps. A limit above 2^40 steps
