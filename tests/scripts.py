@@ -1,9 +1,12 @@
-"""Tests of this repository's own scripts, on a repository of one small crate that is made for them; and of the version that the program tells."""
+"""Tests of this repository's own scripts, on a repository of one small crate that is made for them; of the version that the program tells;
+and of the pages."""
 import re
 import shutil
 import subprocess
 import tempfile
 from pathlib import Path
+
+import pages
 
 CODE = """//! A crate for the tests of the scripts.
 #![tactic(auto)]
@@ -99,20 +102,37 @@ def version_is_up_to_date(top):
     return well, "version.rt has %r, usage/version has %r, wanted is %r, in README too" % (told, case, wanted)
 
 
+def pages_are_right(top):
+    """Whether all links of the pages lead somewhere, and what they name is in the code."""
+    wrong = pages.broken_links(top) + pages.unknown_names(top) + pages.misplaced_crates(top)
+    return not wrong, "\n".join(wrong)
+
+
+def wrong_pages_are_told(tree):
+    """Whether a page is told that links to no file or heading, or names what the code hasn't, or hasn't there."""
+    write(tree, "small/specs/Small.antt", "pub record IsNext : Type 0 where\n")
+    write(tree, "README.md", "### 1. Low\n\n| `pit` | a program |\n\n### 2. High\n\n| `small` | a library |\n")
+    (tree / "docs").mkdir()
+    (tree / "docs" / "PROOFS.md").write_text("# Right\n\n[a](#right) [b](../crates/README.md#1-low) [c](gone.md) [d](#left)\n\n"
+                                             "`next`, `IsNext` in `Small.antt`; `nothing_so`, `some_number` in `Small.antt`, `Gone.antt`\n")
+    told = pages.broken_links(tree) + pages.unknown_names(tree) + pages.misplaced_crates(tree)
+    wanted = ["no file gone.md", "no heading #left", "there is no nothing_so", "there is no Gone.antt",
+              "next isn't defined", "nothing_so isn't defined", "some_number isn't defined", "pit isn't there, or below"]
+    return len(told) == len(wanted) and all(sum(one in said for said in told) == 1 for one in wanted), "\n".join(told)
+
+
+OF_THIS_TREE = [version_is_up_to_date, pages_are_right]
 # the build comes first: the copies in which edits are tried begin with what it made
-CASES = [a_build_says_what_it_proved, refused_edits_pass, an_accepted_edit_fails, a_failed_proof_fails_the_example]
+CASES = [a_build_says_what_it_proved, refused_edits_pass, an_accepted_edit_fails, a_failed_proof_fails_the_example, wrong_pages_are_told]
 
 
 def test(top):
     """Runs the tests, and gives how many passed and failed."""
-    well, said = version_is_up_to_date(top)
-    if not well:
-        print("version_is_up_to_date: failed:\n%s" % said)
-    passed, failed = int(well), int(not well)
+    passed = failed = 0
     with tempfile.TemporaryDirectory(prefix="pit-scripts-") as room:
         tree = repository(top, room)
-        for case in CASES:
-            well, said = case(tree)
+        for case, where in [(case, top) for case in OF_THIS_TREE] + [(case, tree) for case in CASES]:
+            well, said = case(where)
             if not well:
                 print("%s: failed:\n%s" % (case.__name__, said))
             passed, failed = passed + well, failed + (not well)

@@ -1,0 +1,88 @@
+"""Tests of the pages: each relative link leads somewhere, each name of the code that a page cites is in the code, and the map
+of the crates has each crate, on a floor that is no lower than those of the crates it depends on."""
+import re
+
+PAGES = ("*.md", "docs/*.md", "crates/*.md", "bench/**/*.md", "examples/**/*.md", "python/*.md", "python/*/*.md", "tests/cases/*.md")
+CITING = ("docs/PROOFS.md", "docs/CALLS.md", "docs/DEFINITIONS.md", "docs/PROOF_GUIDE.md", "docs/ARCHITECTURE.md", "docs/ASSURANCE.md",
+          "crates/README.md")
+LINK = re.compile(r"\]\(([^()\s]+)\)")
+QUOTED = re.compile(r"`([^`\n]+)`")
+NAME = re.compile(r"[A-Za-z_][\w-]*(?:::[A-Za-z_][\w-]*)*")
+# `A`, `B` in `FILE`
+IN_FILE = re.compile(r"((?:`[^`]+`(?:, | and ))*`[^`]+`) in `([\w/]+\.(?:antt|rt))`")
+DEFINES = r"^ *(?:(?:pub|abbrev|unfoldable|record|data|fn|struct|enum|trait|const|ghost) +)*%s\b"
+
+
+def without_code(text):
+    """A page without its blocks of code."""
+    return re.sub(r"^```.*?^```", "", text, flags=re.M | re.S)
+
+
+def anchors(text):
+    """The anchors of a page's headings, as GitHub makes them."""
+    titles = re.findall(r"^#+ (.*)$", without_code(text), re.M)
+    return {re.sub(r"[^\w\- ]", "", title).strip().lower().replace(" ", "-") for title in titles}
+
+
+def broken_links(top):
+    """The relative links whose file isn't there, or has no such heading."""
+    wrong = []
+    for page in sorted({page for pattern in PAGES for page in top.glob(pattern)}):
+        for link in LINK.findall(without_code(page.read_text())):
+            path, _, anchor = link.partition("#")
+            target = page.parent / path if path else page
+            if re.match(r"\w+:", link):
+                continue
+            if not target.exists():
+                wrong.append("%s: no file %s" % (page.relative_to(top), path))
+            elif anchor and anchor not in anchors(target.read_text()):
+                wrong.append("%s: %s has no heading #%s" % (page.relative_to(top), target.name, anchor))
+    return wrong
+
+
+def sources(top):
+    """The text of each source, definition and lemma, by its path."""
+    kinds = ("src/**/*.rt", "specs/**/*.antt", "proofs/**/*.antt")
+    return {file: file.read_text() for kind in kinds for file in top.glob("crates/*/" + kind)}
+
+
+def is_known(top, quoted, texts, words):
+    """Whether what a page quotes is there: a file by its path or its name, or a word of the code. Other quotes, and words in
+    capitals, which stand for something, are passed over."""
+    if re.search(r"[A-Z]{3}|[* <]", quoted):
+        return True
+    if quoted.startswith("crates/"):
+        return (top / quoted).exists()
+    if quoted.endswith((".antt", ".rt")) and "/" not in quoted:
+        return any(file.name == quoted for file in texts)
+    return not NAME.fullmatch(quoted) or quoted.split("::")[-1] in words
+
+
+def unknown_names(top):
+    """What the citing pages name and the code hasn't, and what isn't defined in the file that they name for it."""
+    texts, wrong = sources(top), []
+    others = [top / "crates.txt", *top.glob("python/**/*.py")]
+    words = set(re.findall(r"[\w-]+", "\n".join([*texts.values(), *(file.read_text() for file in others)])))
+    for page in (top / name for name in CITING if (top / name).exists()):
+        text = without_code(page.read_text())
+        wrong += ["%s: there is no %s" % (page.name, quoted) for quoted in QUOTED.findall(text) if not is_known(top, quoted, texts, words)]
+        for names, file in IN_FILE.findall(text):
+            found = [texts[one] for one in texts if (one == top / file if "/" in file else one.name == file)]
+            wrong += ["%s: %s isn't defined in %s" % (page.name, name, file) for name in QUOTED.findall(names)
+                      if not any(re.search(DEFINES % re.escape(name), one, re.M) for one in found)]
+    return wrong
+
+
+def misplaced_crates(top):
+    """The crates that the map of the crates lacks, or has below one that they depend on."""
+    floors, floor = {}, 0
+    for line in (top / "crates" / "README.md").read_text().splitlines():
+        floor = int(line[4]) if re.match(r"### \d", line) else floor
+        floors.update((name, floor) for name in re.findall(r"^\| `(\w+)` \|", line))
+    wrong = []
+    for line in (top / "crates.txt").read_text().splitlines():
+        name, _, below = line.partition(":")
+        if line and not line.startswith("#"):
+            if name not in floors or any(floors.get(one, 0) > floors[name] for one in below.split()):
+                wrong.append("crates/README.md: %s isn't there, or below a crate that it depends on" % name)
+    return wrong
