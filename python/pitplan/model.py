@@ -310,4 +310,4 @@ def columns_of(frame: pd.DataFrame, names: Mapping[str, str], grid: Grid, index:
     own["rock"] = frame[names["rock"]].fillna("").to_numpy() if "rock" in names else np.full(len(frame), "rock", object)
     own["row"] = frame.index.to_numpy().astype(np.int32)
     rest = {str(name): frame[name].to_numpy() for name in frame.columns if name not in OURS}
-    return pd.DataFrame({**own, **rest})
+    return pd.DataFrame({**own, **rest}, copy=False)        # a copy into common blocks would take as long as all checks
