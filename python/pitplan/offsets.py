@@ -199,6 +199,8 @@ class Outline:
     ----------
     corners
         Metres east and north, clockwise, from the least bearing on.
+    at
+        The corners as offsets, each of one and the same level.
     """
 
     def __init__(self, asked: Wall, offsets: Sequence[Offset]) -> None:
@@ -206,7 +208,8 @@ class Outline:
         common = math.lcm(*(k for _, _, k in offsets))
         points = sorted({(i * (common // k), j * (common // k)) for i, j, k in offsets})
         x, y, z = asked.size
-        hull = reversed(_chain(points)[:-1] + _chain(points[::-1])[:-1])
+        hull = (_chain(points)[:-1] + _chain(points[::-1])[:-1])[::-1]
+        self.at = [(i, j, common) for i, j in hull]
         corners = [asked.turned(i / common * x / z, j / common * y / z) for i, j in hull]
         starts = [math.degrees(math.atan2(east, north)) % 360 for east, north in corners]
         first = starts.index(min(starts)) if starts else 0
@@ -384,10 +387,13 @@ def _best(cones: _Cones, asked: Wall, safe: bool, fits: Fits, stretches: Sequenc
     least = math.inf                                    # badness of the best; 1 where it holds
     seen: dict[object, Error | None] = {}
     for stretch in stretches:
+        corners: list[Offset] = []
+        count = 0                                       # of the offsets that the corners are of
         for offsets in cones.needed(stretch):
             if best and best.is_held and len(offsets) > len(best.offsets) or not fits(offsets):
                 break
-            outline = Outline(asked, offsets)
+            outline = Outline(asked, corners + offsets[count:])
+            corners, count = outline.at or list(offsets), len(offsets)
             if outline.corners not in seen:             # None: the extremes alone are worse than the best
                 bound = Error(0, 0, *_extremes(asked, outline)).bound(safe)
                 seen[outline.corners] = error_of(asked, outline) if bound <= least else None

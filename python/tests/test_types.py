@@ -35,6 +35,8 @@ def test_functions_are_short():
 def test_functions_take_few_arguments():
     many = []
     for path, node in functions():
+        if any(ast.unparse(mark).startswith("app.command") for mark in node.decorator_list):
+            continue                         # a command has an argument for each of its options
         words = [a.arg for a in (*node.args.posonlyargs, *node.args.args, *node.args.kwonlyargs) if a.arg not in ("self", "cls")]
         if len(words) > ARGUMENTS:
             many.append(f"{path.name}: {node.name} has {len(words)}")
