@@ -3,8 +3,8 @@
 
     docs/make_pictures.py [FOLDER]
 
-writes hill-pit-by-pit.png, hill-plan.png, hill-section.png and hill-page.png (the page in a headless Chromium) into FOLDER,
-docs/pictures unless told. Needs `pit` (PIT, or the repository's build) and the packages of python/packages.
+writes hill-slopes.png, hill-pit-by-pit.png, hill-plan.png, hill-section.png and hill-page.png (the page in a headless
+Chromium) into FOLDER, docs/pictures unless told. Needs `pit` (PIT, or the repository's build) and the packages of python/packages.
 """
 import re
 import subprocess
@@ -53,11 +53,12 @@ def main():
         study.mkdir()
         (study / "study.toml").write_text(study_text().replace("../examples", str(TOP / "examples")))
         pitplan("build", study)
+        pitplan("slopes", study)
         pitplan("shells", study)
         graph, plan, section = pitplan("plot", study)
         page = pitplan("page", study)[0]
         photographed(page, study / "page.png")
-        for name, picture in (("pit-by-pit", graph), ("plan", plan), ("section", section), ("page", study / "page.png")):
+        for name, picture in (("slopes", study / "out/slopes.png"), ("pit-by-pit", graph), ("plan", plan), ("section", section), ("page", study / "page.png")):
             file = target / f"hill-{name}.png"
             Image.open(picture).convert("RGB").quantize(COLOURS, dither=Image.Dither.NONE).save(file, optimize=True)
             size = file.stat().st_size
