@@ -40,9 +40,19 @@ def rows_of(table):
         sys.exit("the table has two columns %s: which one counts? Rename or remove the other" % ", ".join(map(repr, twice)))
     for block, row in enumerate(rows):
         if None in row:
-            sys.exit("block %d, row %d below the header, has %d cells, and the header line %d: is there a comma within a number?"
-                     % (block, block + 1, len(row) - 1 + len(row[None]), len(row) - 1))
+            sys.exit("block %d, row %d below the header, has %d cells, and the header line %d: is there a comma within a number%s?"
+                     % (block, block + 1, len(row) - 1 + len(row[None]), len(row) - 1, "" if block else ", or a line above the header"))
     return rows
+
+
+def hint(column, columns):
+    """What may be wrong where a table has no such column."""
+    near = [name for name in columns if name.strip().lower() == column.strip().lower()]
+    if near:
+        return "; is '%s' meant? Capitals and spaces count, and the names of x, y, z and value stand near the top of this script" % near[0]
+    if len(columns) == 1:
+        return "; are there commas or semicolons between the columns, and no line above the header?"
+    return ""
 
 
 def cells(rows, column):
@@ -50,7 +60,7 @@ def cells(rows, column):
     if not rows:
         sys.exit("the table has no rows")
     if column not in rows[0]:
-        sys.exit("the table has no column %s: its header line has %s" % (column, ", ".join(map(str, rows[0]))))
+        sys.exit("the table has no column %s: its header line has %s%s" % (column, ", ".join(rows[0]), hint(column, list(rows[0]))))
     found = [(row[column] or "").strip() for row in rows]
     for block, cell in enumerate(found):
         if not DECIMAL.fullmatch(cell):
@@ -87,7 +97,8 @@ def indices(axis, coordinates, size):
     steps = [(c - lowest) / size for c in coordinates]
     for row, step in enumerate(steps):
         if abs(step - round(step)) > 0.1:
-            sys.exit("block %d: %g is %.2f blocks of %g above the lowest" % (row, coordinates[row], step, size))
+            sys.exit("block %d, row %d below the header: %s is %.10g, which is %.2f blocks of %g above the lowest, and no whole number of blocks: "
+                     "is a block %g long along %s, and are all of one size?" % (row, row + 1, axis, coordinates[row], step, size, size, axis))
     found = [round(step) for step in steps]
     apart = functools.reduce(math.gcd, found)
     if apart > 1:

@@ -14,13 +14,21 @@ def read_blocks(path):
     """The place (x, y, z) of each block, by its number."""
     with open(path, encoding="utf-8", errors="replace") as file:
         records = [line.replace(":", " ").split() for line in file if not line.lstrip(" \t:").startswith("%")]
-    return {int(record[0]): tuple(map(int, record[1:4])) for record in records if record}
+    try:
+        return {block: (x, y, z) for block, x, y, z in (map(int, record[:4]) for record in records if record)}
+    except ValueError:
+        sys.exit("%s is no .blocks file: a line of it doesn't begin with the number, x, y and z of a block" % path)
 
 
-def read_pit(path):
-    """The blocks of the pit of a certificate."""
-    with open(path, encoding="ascii") as file:
-        return {int(line.split()[1]) for line in file if line.startswith("PIT ")}
+def read_pit(path, blocks):
+    """The blocks of the pit of a certificate, of a model with so many blocks."""
+    with open(path, encoding="ascii", errors="replace") as file:
+        lines = file.read().split("\n")
+    if not lines[0].startswith("PITCERT "):
+        sys.exit("%s is no certificate: its first line is '%s'" % (path, lines[0][:40]))
+    if "BLOCKS %d" % blocks not in lines[1:2]:
+        sys.exit("%s is of another model: it says '%s', and there are %d blocks" % (path, "".join(lines[1:2]), blocks))
+    return {int(line.split()[1]) for line in lines if line.startswith("PIT ")}
 
 
 def drawn(places, pit, column, line):
@@ -56,7 +64,8 @@ def main():
     if not 3 <= len(sys.argv) <= 5:
         sys.exit(__doc__)
     try:
-        places, pit = read_blocks(sys.argv[1]), read_pit(sys.argv[2])
+        places = read_blocks(sys.argv[1])
+        pit = read_pit(sys.argv[2], len(places))
     except OSError as error:
         sys.exit("%s: %s" % (error.filename, error.strerror))
     benches = sorted({z for _, _, z in places.values()})
