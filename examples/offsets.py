@@ -64,7 +64,7 @@ def words():
         parser.add_argument(axis, help="metres of a block along " + way)
     parser.add_argument("SLOPE", help="degrees, or BEARING:SLOPE,BEARING:SLOPE,..")
     parser.add_argument("--rotation", metavar="DEGREES", default="0", help="bearing of the model's y axis, where the model is turned")
-    parser.add_argument("--safe", action="store_true", help="nowhere steeper than asked, and so flatter on average")
+    parser.add_argument("--safe", action="store_true", help="deep walls nowhere steeper than asked, and so flatter on average")
     parser.add_argument("--levels", metavar="N", type=int, help="look at most so many levels up, from 1 to 200")
     parser.add_argument("--blocks", metavar="N", type=int, default=0, help="how many blocks the model has: pit takes 134,217,728 pairs at most")
     return parser

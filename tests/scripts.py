@@ -146,6 +146,10 @@ WRONG_TABLES = (
     (TABLE.replace("20,", "1e400,"), "mine", "block 1, row 2 below the header: x is '1e400', which is too far away"),
     (TABLE, "nowhere/mine", "nowhere/mine.blocks: No such file or directory"),
     (TABLE.replace("-2.5", "\u0661"), "mine", "block 1, row 2 below the header: value is '\u0661', and has to be a plain decimal"),
+    (TABLE.replace("20,", "432037.5,"), "mine", "block 1, row 2 below the header: x is 432037.5, which is 21601.88 blocks of 20 above the lowest"),
+    (TABLE.replace("value", "Value"), "mine", "the table has no column value: its header line has x, y, z, Value; is 'Value' meant?"),
+    (TABLE.replace(",", "\t"), "mine", "the table has no column x: its header line has x\ty\tz\tvalue; are there commas or semicolons between the columns"),
+    ("made by hand\n" + TABLE, "mine", "block 0, row 1 below the header, has 4 cells, and the header line 1: is there a comma within a number, or a line above"),
 )
 
 
@@ -170,10 +174,38 @@ def tables_are_read_or_refused(top, folder):
     return got == (0, "", "", [blocks, upit]), str(got)
 
 
+# What draw_bench.py says of a certificate for two blocks that is none of them.
+WRONG_CERTIFICATES = (("UNSETTLED\n", "t.cert is no certificate: its first line is 'UNSETTLED'\n"), ("", "t.cert is no certificate: its first line is ''\n"),
+                      ("PITCERT 1\nBLOCKS 3\nPIT 2\n", "t.cert is of another model: it says 'BLOCKS 3', and there are 2 blocks\n"))
+
+
+def drawn(top, folder, blocks, certificate):
+    """Status, output and errors of draw_bench.py."""
+    (folder / "t.blocks").write_text(blocks)
+    (folder / "t.cert").write_text(certificate)
+    done = subprocess.run([sys.executable, str(top / "examples" / "draw_bench.py"), "t.blocks", "t.cert"], cwd=folder,
+                          stdin=subprocess.DEVNULL, stdout=subprocess.PIPE, stderr=subprocess.PIPE, text=True)
+    return done.returncode, done.stdout, done.stderr
+
+
+def wrong_drawings_are_refused(top, folder):
+    """Whether a pit is drawn, and what is no certificate, of another model or no model of blocks is one sentence."""
+    blocks = "0 0 0 0\n1 1 0 0\n"
+    for certificate, wanted in WRONG_CERTIFICATES:
+        got = drawn(top, folder, blocks, certificate)
+        if got != (1, "", wanted):
+            return False, "%r: %s" % (certificate, got)
+    status, said, errors = drawn(top, folder, "id,x,y,z\n", "PITCERT 1\nBLOCKS 2\n")
+    if (status, said) != (1, "") or not errors.startswith("t.blocks is no .blocks file"):
+        return False, str((status, said, errors))
+    got = drawn(top, folder, blocks, "PITCERT 1\nBLOCKS 2\nPIT 1\n")
+    return got[0] == 0 and got[2] == "" and got[1].split("\n")[1].startswith(".#"), str(got)
+
+
 def installs_where_the_caller_stands(top, folder):
     """Whether ./install FOLDER, called from elsewhere, takes a folder of the caller's. Its build is one that does nothing."""
     tree, caller = folder / "tree", folder / "caller"
-    (tree / "crates" / "pit" / "out").mkdir(parents=True)
+    (tree / "out").mkdir(parents=True)
     caller.mkdir()
     shutil.copy(top / "install", tree / "install")
     for name, text in (("build", "#!/bin/sh\n"), ("out/pit", "the program")):
@@ -193,7 +225,7 @@ CASES = [a_build_says_what_it_proved, edits_are_tried_by_their_function, refused
 def test(top):
     """Runs the tests, and gives how many passed and failed."""
     passed = failed = 0
-    for case in (tables_are_read_or_refused, installs_where_the_caller_stands):
+    for case in (tables_are_read_or_refused, wrong_drawings_are_refused, installs_where_the_caller_stands):
         with tempfile.TemporaryDirectory(prefix="pit-scripts-") as room:
             well, said = case(top, Path(room))
         if not well:
