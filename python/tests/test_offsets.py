@@ -98,7 +98,7 @@ def test_the_wall_is_the_hull_of_offset_over_level(program, tmp_path, size, angl
     measured = deep.walls(pit, [bearing - rotation for bearing in bearings])              # it measures by the model's own y axis
     off = [is_now - walls.asked(slope, bearing) for is_now, bearing in zip(measured, bearings)]
     assert sum(map(abs, off)) / 16 <= 0.6 and max(map(abs, off)) <= 1.2                   # few levels: a wall without end errs by less
-    assert measured == pytest.approx([found.built(bearing) for bearing in bearings], abs=0.5)
+    assert measured == pytest.approx([found.built(bearing) for bearing in bearings], abs=0.75)
 
 
 def pit_of(program, folder, deep, settings):
