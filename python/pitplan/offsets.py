@@ -30,7 +30,7 @@ MEAN, WORST, SIGNED = 0.5, 1.0, 0.25    # degrees that a wall may err by: on ave
 SIDE = 0.25                     # the least share that the lesser of the errors to both sides has of the greater
 FLATTEST, STEEPEST = 5.0, 89.0  # degrees that may be asked for
 SLACK = 1e-9                    # relative: numbers so near to each other are one number, spelled in two ways
-TRIES = (10, 400), (24, 150)    # the search looks so many levels up that a wall comes 10 blocks out, at 400 stretches; then further
+TRIES = (10, 400), (24, 300)    # the search looks so many levels up that a wall comes 10 blocks out, at 400 stretches; then further
 MOST_LEVELS = 200
 NARROWEST, WIDEST = 0.9, 1.6    # the least and the greatest stretch
 
