@@ -155,6 +155,7 @@ class Error:
         return self.worst / WORST + (1000 * self.steepest if is_safe and self.steepest > SLACK else 0)
 
     def __str__(self) -> str:
+        """In words, with two decimals."""
         lean = "%.2f %s" % (abs(self.signed), "steeper" if self.signed >= 0 else "flatter")
         return "%.2f degrees off on average (%s, with its sign), at most %.2f steeper and %.2f flatter than asked" % (
             self.mean, lean, max(self.steepest, 0), max(-self.flattest, 0))
@@ -233,6 +234,7 @@ class Outline:
 
 
 def _chain(points: Sequence[tuple[int, int]]) -> list[tuple[int, int]]:
+    """Half of the corners of a convex hull, of points in ascending or descending order (Andrew 1979)."""
     chain: list[tuple[int, int]] = []
     for x, y in points:
         while len(chain) > 1:
@@ -383,6 +385,7 @@ def search(asked: Wall, *, safe: bool = False, levels: int | None = None, fits: 
 
 
 def _best(cones: _Cones, asked: Wall, safe: bool, fits: Fits, stretches: Sequence[float]) -> Pattern | None:
+    """The best pattern of cones that are stretched, of any number of levels; None where none fits."""
     best: Pattern | None = None
     least = math.inf                                    # badness of the best; 1 where it holds
     seen: dict[object, Error | None] = {}
