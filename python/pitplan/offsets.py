@@ -373,7 +373,10 @@ def search(asked: Wall, *, safe: bool = False, levels: int | None = None, fits: 
     out = asked.size[2] / math.tan(math.radians(steepest)) / max(asked.size[:2])
     tried: list[Pattern] = []
     for blocks_out, most in TRIES:
-        cones = _Cones(asked, min(MOST_LEVELS, levels or MOST_LEVELS, math.ceil(blocks_out / out)))
+        high = min(MOST_LEVELS, levels or MOST_LEVELS, math.ceil(blocks_out / out))
+        if tried and high == cones.levels:
+            break
+        cones = _Cones(asked, high)
         judged = functools.partial(_best, cones, asked, safe, fits)
         found = judged(cones.cuts(NARROWEST, most)) or judged(cones.cuts(0.0, most))
         if found is None:
