@@ -4,7 +4,7 @@ import math
 import numpy as np
 import pandas as pd
 import pytest
-from hypothesis import given, strategies as st
+from hypothesis import given, settings, strategies as st
 
 import pitplan as pp
 from mines import STUDY_TOML, table, written_study
@@ -33,6 +33,7 @@ def written(folder, slopes, model):
     return [set(line[2:]) for line in lines]
 
 
+@settings(max_examples=8)
 @given(st.integers(2, 6), st.integers(2, 6), st.integers(2, 6), st.integers(0, 10 ** 6), ANGLES, ANGLES)
 def test_each_block_has_the_slopes_of_its_own_region(tmp_path_factory, nx, ny, nz, seed, angles, east):
     folder = tmp_path_factory.mktemp("s")
