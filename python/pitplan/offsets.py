@@ -372,10 +372,12 @@ def search(asked: Wall, *, safe: bool = False, levels: int | None = None, fits: 
     steepest = max(slope for _, slope in asked.slopes)
     out = asked.size[2] / math.tan(math.radians(steepest)) / max(asked.size[:2])
     tried: list[Pattern] = []
+    before = 0
     for blocks_out, most in TRIES:
         high = min(MOST_LEVELS, levels or MOST_LEVELS, math.ceil(blocks_out / out))
-        if tried and high == cones.levels:
+        if high == before:
             break
+        before = high
         cones = _Cones(asked, high)
         judged = functools.partial(_best, cones, asked, safe, fits)
         found = judged(cones.cuts(NARROWEST, most)) or judged(cones.cuts(0.0, most))
