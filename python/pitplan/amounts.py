@@ -1,0 +1,131 @@
+"""Amounts of money as whole numbers, so that sums are exact: what this package adds up is `pit`'s worth to the last digit."""
+from __future__ import annotations
+
+from dataclasses import dataclass, field
+from decimal import Decimal
+
+import numpy as np
+import numpy.typing as npt
+
+from .errors import PlanError
+
+Whole = npt.NDArray[np.int64]
+Floats = npt.NDArray[np.float64]
+Bools = npt.NDArray[np.bool_]
+
+THOUSAND = 1000                              # a factor is in thousandths
+MOST = Decimal(10) ** 12                     # the most that `pit` reads for a block
+LARGEST_FACTOR = 10_000                      # that `pit` takes, in thousandths
+
+
+def rounding_of(rounding: float | str | Decimal) -> Decimal:
+    """What amounts are rounded to, exactly: 1 is whole units of currency, 0.01 hundredths, 1000 thousands.
+
+    Raises
+    ------
+    PlanError
+        Where it isn't above 0, or has more than the six decimals that `pit` keeps.
+    """
+    try:
+        found = Decimal(str(rounding))
+    except ArithmeticError:
+        raise PlanError(f"rounding = {rounding!r} is no number") from None
+    if not found.is_finite() or found <= 0 or found != round(found, 6):
+        raise PlanError(f"rounding = {rounding} has to be above 0, with at most six decimals", try_this="rounding = 1")
+    return found
+
+
+@dataclass
+class Priced:
+    """What each block brings and costs, in whole multiples of `rounding` units of currency.
+
+    Attributes
+    ----------
+    revenue, processing, mining : int arrays of shape (blocks,)
+        At factor 1000: what a block brings if it is treated, what treating it costs, and what digging it costs.
+    rounding : Decimal
+    metal : dict of float arrays
+        The metal that is recovered of each block if it is treated, in the unit of its price.
+    grade : dict of float arrays
+        The grade of each block in place, in its own unit.
+    feed : float
+        Tonnes that the mill gets for each tonne of ore in place.
+    """
+
+    revenue: Whole
+    processing: Whole
+    mining: Whole
+    rounding: Decimal = Decimal(1)
+    metal: dict[str, Floats] = field(default_factory=dict)
+    grade: dict[str, Floats] = field(default_factory=dict)
+    feed: float = 1.0
+
+    def __len__(self) -> int:
+        return len(self.revenue)
+
+    def thousandths(self, factor: int) -> Whole:
+        """What each block is worth at a factor, in thousandths of `rounding`: whole numbers, exact.
+
+        Parameters
+        ----------
+        factor : int
+            Of the revenue, in thousandths.
+
+        Raises
+        ------
+        PlanError
+            Where a product doesn't fit 64 bits.
+        """
+        largest = max(int(self.revenue.max(initial=0)) * max(factor, THOUSAND), int(np.abs(self.processing).max(initial=0)) * THOUSAND,
+                      int(np.abs(self.mining).max(initial=0)) * THOUSAND)
+        if largest >= 1 << 61:
+            raise PlanError(f"an amount of {largest / THOUSAND * float(self.rounding):g} for one block is too large to count with", try_this="rounding = 1000 in [economics]")
+        worth: Whole = np.maximum(self.revenue * factor - self.processing * THOUSAND, 0) - self.mining * THOUSAND
+        return worth
+
+    def worth(self, factor: int) -> Floats:
+        """What each block is worth at a factor (in thousandths), in units of currency, of shape (blocks,): for pictures and tables."""
+        worth: Floats = self.thousandths(factor) * (float(self.rounding) / THOUSAND)
+        return worth
+
+    def milled(self, factor: int) -> Bools:
+        """Whether a block, once it is dug, goes to the mill at a factor (in thousandths)."""
+        milled: Bools = self.revenue * factor > self.processing * THOUSAND
+        return milled
+
+    def worth_of(self, blocks: Bools, factor: int) -> str:
+        """What a set of blocks is worth at a factor, exactly, spelled as `pit` spells a worth.
+
+        Parameters
+        ----------
+        blocks : bool array of shape (len(self),)
+        factor : int
+            In thousandths.
+        """
+        return spelled(Decimal(exact_sum(self.thousandths(factor)[blocks])) * self.rounding / THOUSAND)
+
+
+def exact_sum(values: Whole) -> int:
+    """The sum of whole numbers as Python's whole number: it is never rounded and never overflows, for up to 2^31 of them."""
+    high, low = np.divmod(values, 1 << 31)
+    return (int(high.sum(dtype=np.int64)) << 31) + int(low.sum(dtype=np.int64))
+
+
+def spelled(value: Decimal) -> str:
+    """A decimal with at most nine places and no trailing zeros, as `pit` prints a worth.
+
+    >>> spelled(Decimal("-12.500")), spelled(Decimal("1E+3")), spelled(Decimal("-0.0"))
+    ('-12.5', '1000', '0')
+    """
+    text = format(value, "f")
+    if "." in text:
+        text = text.rstrip("0").rstrip(".")
+    return "0" if text in ("-0", "") else text
+
+
+def as_text(values: Whole, rounding: Decimal) -> npt.NDArray[np.object_] | Whole:
+    """Amounts as `.blocks` has them: exact decimals, whole numbers where `rounding` is one."""
+    if rounding == rounding.to_integral_value():
+        whole: Whole = values * int(rounding)
+        return whole
+    return np.array([spelled(Decimal(int(v)) * rounding) for v in values], dtype=object)

@@ -1,0 +1,49 @@
+"""The command line: the commands of all `commands_*.py`, and what an error looks like."""
+from __future__ import annotations
+
+import importlib
+import pkgutil
+import sys
+from pathlib import Path
+
+from rich.markup import escape
+
+from .console import app, err
+from .errors import Disagreement, MachineError, NotAccepted, PlanError
+
+ORDER = ("init", "build", "slopes", "shells", "plot", "page")        # of a working day, for --help
+NO, WRONG, MACHINE, STOPPED = 1, 3, 4, 130
+
+
+def load_commands() -> None:
+    """Imports every module of commands; each registers its own."""
+    for module in pkgutil.iter_modules([str(Path(__file__).parent)]):
+        if module.name.startswith("commands_"):
+            importlib.import_module(f"{__package__}.{module.name}")
+    app.registered_commands.sort(key=lambda c: ORDER.index(c.callback.__name__) if c.callback and c.callback.__name__ in ORDER else len(ORDER))
+
+
+def status_of(error: PlanError) -> int:
+    """The exit status of an error: 1 no, 3 a file is wrong, 4 the machine."""
+    if isinstance(error, (NotAccepted, Disagreement)):
+        return NO
+    return MACHINE if isinstance(error, MachineError) else WRONG
+
+
+def main() -> None:
+    """Runs a command. Exit status: 0 done, 1 no, 2 wrong words, 3 a file is wrong, 4 the machine, 130 stopped."""
+    load_commands()
+    try:
+        app(prog_name="pitplan", standalone_mode=True)
+    except PlanError as error:
+        err.print("[red]error:[/red] " + escape(str(error)), soft_wrap=True)
+        sys.exit(status_of(error))
+    except KeyboardInterrupt:
+        err.print("stopped; what is done is kept, and the same command goes on from there")
+        sys.exit(STOPPED)
+    except MemoryError:
+        err.print("[red]error:[/red] memory was refused\n  try: fewer --workers, or a machine with more memory")
+        sys.exit(MACHINE)
+    except OSError as error:
+        err.print(f"[red]error:[/red] {escape(str(error.filename or ''))}: {escape(str(error.strerror))}", soft_wrap=True)
+        sys.exit(MACHINE)

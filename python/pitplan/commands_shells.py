@@ -1,0 +1,115 @@
+"""`pitplan shells`."""
+from __future__ import annotations
+
+import sys
+import time
+from collections.abc import Iterator
+from contextlib import contextmanager
+from pathlib import Path
+from typing import TYPE_CHECKING, Optional
+
+import typer
+from rich.markup import escape
+
+from .console import STUDY, app, described, err, opened, out, results
+from .errors import PlanError
+
+if TYPE_CHECKING:
+    from .shells import Shells
+    from .study import Told
+
+
+@app.command()
+def shells(folder: Path = STUDY, workers: Optional[int] = typer.Option(None, min=1, help="Pits at a time; as many as processors and free memory allow unless told.")) -> None:
+    """Find the proved pit at each factor, and the tables. Goes on where it was stopped."""
+    from .workers import workers_for
+    told, study = described(folder), opened(folder)
+    count = workers_for(study, workers)
+    if workers and count < workers:
+        err.print(f"[yellow]{count} of {workers} workers:[/yellow] free memory has no room for more")
+    with shown(told.factors, count) as listener:
+        found = study.shells(told.factors, count, listener)
+    write_tables(found, told.rates)
+    print_table(found, told.rates)
+    warn_of_edges(found)
+
+
+@contextmanager
+def shown(factors: list[int], workers: int) -> Iterator[Told]:
+    """Shows how far the runs are: on a terminal a bar with the time left and a line for each that runs, else a line for each
+    that is done."""
+    if not err.is_terminal:
+        yield lines(len(factors))
+        return
+    from rich.progress import BarColumn, Progress, TextColumn, TimeRemainingColumn
+    with Progress(TextColumn("{task.description}"), BarColumn(), TextColumn("{task.fields[told]}"), TimeRemainingColumn(), console=err, transient=True) as bars:
+        every = bars.add_task(f"pits, {workers} at a time", total=float(len(factors)), told="")
+        lanes: dict[int, int] = {}
+        shares: dict[int, float] = {}
+
+        def listener(factor: int, what: str, share: float) -> None:
+            shares[factor] = 1.0 if what == "done" else 0.95 * share
+            done = sum(value == 1.0 for value in shares.values())
+            bars.update(every, completed=sum(shares.values()), told=f"{done} of {len(factors)}")
+            if what in ("done", "killed"):
+                if factor in lanes:
+                    bars.remove_task(lanes.pop(factor))        # type: ignore[arg-type]
+            elif factor not in lanes:
+                lanes[factor] = bars.add_task(f"  factor {factor / 1000:g}", total=1.0, told=what)
+            else:
+                bars.update(lanes[factor], completed=share, told=what if share < 1 else "checking")     # type: ignore[arg-type]
+        yield listener
+
+
+def lines(total: int) -> Told:
+    """A line for each factor that is done, for logs."""
+    began, done = time.time(), [0]
+
+    def listener(factor: int, what: str, share: float) -> None:
+        if what in ("done", "killed"):
+            done[0] += what == "done"
+            print(f"factor {factor / 1000:g} {what}: {done[0]} of {total} after {time.time() - began:.0f} s", file=sys.stderr, flush=True)
+    return listener
+
+
+def write_tables(found: Shells, rates: dict[str, float]) -> None:
+    """Pit by pit, bench by bench, and the planner's own table with a column more."""
+    from . import table_back
+    folder = results(found.study)
+    found.table(1000, **rates).to_csv(folder / "pit_by_pit.csv", index=False)
+    found.benches().to_csv(folder / "benches.csv", index=False)
+    source = found.study.manifest["source"]
+    name = Path(source["table"]).name if source else "blocks.csv"
+    try:
+        rows = table_back.write(found, folder / name)
+        out.print(f"{folder / name}: the table with a column more, pit_shell, that {rows:,} of its rows have")
+    except PlanError as error:
+        found.of_blocks().to_csv(folder / "blocks.csv", index=False)
+        err.print(f"[yellow]{escape(str(error))}[/yellow]\n{folder / 'blocks.csv'} has the shell of each block by its id instead")
+
+
+def print_table(found: Shells, rates: dict[str, float]) -> None:
+    """The pit-by-pit table on the screen; all of its columns are in the file."""
+    from rich.table import Table
+    table, currency = found.table(1000, **rates), found.study.manifest["currency"]
+    metals = found.study.manifest["metals"]
+    shown_table = Table(title=f"pit by pit, worths in million {escape(currency)} at the full price", title_justify="left")
+    for name in ("factor", "blocks", "ore Mt", "waste Mt", "strip", *(f"{name} {unit['grade_unit']}" for name, unit in metals.items()), "worth", "best case", "worst case", "years"):
+        shown_table.add_column(escape(name), justify="right")
+    for row in table.to_dict("records"):
+        grades = ["" if row[f"grade_{name}"] != row[f"grade_{name}"] else f"{row[f'grade_{name}']:.3f}" for name in metals]
+        strip = "" if row["strip"] != row["strip"] else f"{row['strip']:.2f}"
+        shown_table.add_row(f"{row['factor']:.3f}", f"{row['blocks']:,}", f"{row['ore_t'] / 1e6:,.2f}", f"{row['waste_t'] / 1e6:,.2f}", strip, *grades,
+                            f"{row['worth_at_base'] / 1e6:,.2f}", f"{row['npv_best'] / 1e6:,.2f}", f"{row['npv_worst'] / 1e6:,.2f}", f"{row['years']:.1f}")
+    out.print(shown_table)
+    out.print(f"{found.study.folder / 'out'}: pit_by_pit.csv, benches.csv. Each pit is proved; the discounted cases are bounds and no schedule")
+
+
+def warn_of_edges(found: Shells) -> None:
+    """Says of the smallest pit that touches the model's side where that is."""
+    touching = [(i, n) for i in range(len(found.factors)) if (n := found.touches_edge(i))]
+    if touching:
+        i, n = touching[0]
+        err.print(f"[yellow]look:[/yellow] from factor {found.factors[i] / 1000:g} on a pit touches the side of the model ({n:,} blocks there, "
+                  f"{touching[-1][1]:,} at factor {found.factors[touching[-1][0]] / 1000:g}): a place that the slope asks for isn't in the model, so no wall is held there"
+                  "\n  try: a wider model, or widen in \\[model]", soft_wrap=True)

@@ -1,0 +1,72 @@
+"""What all commands share: the application, where they print, and how they find a study."""
+from __future__ import annotations
+
+import sys
+from pathlib import Path
+from typing import TYPE_CHECKING, Any
+
+import typer
+from rich.console import Console
+
+from .errors import PlanError
+
+if TYPE_CHECKING:
+    from .shells import Shells
+    from .study import Study
+    from .study_file import StudyFile
+
+app = typer.Typer(add_completion=True, no_args_is_help=True, pretty_exceptions_enable=False, rich_markup_mode=None, context_settings={"help_option_names": ["-h", "--help"]},
+                  help="From a planner's table of blocks to proved pits, tables and pictures. Every pit that it shows was accepted by `pit check`.")
+out = Console(width=None if sys.stdout.isatty() else 160, soft_wrap=not sys.stdout.isatty(), highlight=False)
+err = Console(stderr=True, highlight=False)
+STUDY: Any = typer.Argument(Path("."), help="The folder of the study, with its study.toml.", show_default="this folder")
+
+
+def described(folder: Path) -> StudyFile:
+    """What the study's study.toml says."""
+    from .study_file import read_study_file
+    return read_study_file(folder)
+
+
+def opened(folder: Path) -> Study:
+    """The study as it was built.
+
+    Raises
+    ------
+    PlanError
+        Where it wasn't built, or study.toml or the table has changed since.
+    """
+    from .program import sha256
+    from .study import Study
+    told = described(folder)
+    study = Study(told.path.parent)
+    if study.manifest["keys"] != told.digest:
+        raise PlanError(f"{told.path} has changed since the study was built", try_this="pitplan build")
+    source = study.manifest["source"]
+    if source and told.table.is_file() and sha256(told.table) != source["sha256"]:
+        raise PlanError("the table has changed since the study was built", table=told.table, try_this="pitplan build")
+    return study
+
+
+def shells_of(folder: Path) -> tuple[Shells, dict[str, float]]:
+    """The shells at all factors of study.toml, and the rates for `Shells.table`; nothing is run.
+
+    Raises
+    ------
+    PlanError
+        Where a pit hasn't been run yet.
+    """
+    from .shells import Shells
+    told = described(folder)
+    study = opened(folder)
+    missing = [factor for factor in told.factors if not study.verdict(factor)]
+    if missing:
+        raise PlanError(f"{len(missing)} of {len(told.factors)} pits haven't been run, the first at factor {missing[0] / 1000:g}", try_this="pitplan shells")
+    return Shells(study, told.factors), told.rates
+
+
+def results(study: Study) -> Path:
+    """The folder for tables and pictures, made where it isn't there."""
+    folder = study.folder / "out"
+    folder.mkdir(exist_ok=True)
+    return folder

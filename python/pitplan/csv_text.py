@@ -1,0 +1,254 @@
+"""Tables as text: CSV and CSV.gz with commas, semicolons or tabs, with or without a byte order mark."""
+from __future__ import annotations
+
+import csv
+import gzip
+import re
+import warnings
+from collections.abc import Collection, Sequence
+from dataclasses import dataclass
+from pathlib import Path
+from typing import IO, Any, cast
+
+import numpy as np
+import numpy.typing as npt
+import pandas as pd
+
+from .errors import PlanError
+
+SEPARATORS = ",;\t"
+THOUSANDS = re.compile(r"[+-]?\d{1,3}([, ]\d{3})+(\.\d+)?")
+COMMA_DECIMAL = re.compile(r"[+-]?\d+,\d+")
+PLAIN = re.compile(r"[+-]?(\d+\.?\d*|\.\d+)([eE][+-]?\d+)?")
+
+
+@dataclass(frozen=True)
+class Dialect:
+    """How a table is written: its separator, the mark of a decimal, its encoding, and how many lines stand between the
+    header line and the first block (as the descriptions that some packages export)."""
+
+    separator: str = ","
+    decimal: str = "."
+    encoding: str = "utf-8-sig"
+    skip: int = 0
+
+
+def opened(path: Path) -> IO[bytes]:
+    """The table's bytes, unpacked where its name ends in ``.gz``.
+
+    Raises
+    ------
+    PlanError
+        Where there is no such file, or it can't be opened.
+    """
+    try:
+        if path.suffix.lower() == ".gz":
+            return cast(IO[bytes], gzip.open(path, "rb"))
+        return open(path, "rb")
+    except FileNotFoundError:
+        raise PlanError("there is no such file", table=path) from None
+    except OSError as error:
+        raise PlanError(f"can't be opened: {error.strerror}", table=path) from None
+
+
+def head_of(path: Path, encoding: str = "utf-8-sig", lines: int = 12) -> list[str]:
+    """The first lines of a table, without their ends.
+
+    Raises
+    ------
+    PlanError
+        Where the file has no line, is a spreadsheet's own file, or isn't text in `encoding`.
+    """
+    try:
+        with opened(path) as file:
+            raw = [line for line in (file.readline(1 << 20) for _ in range(lines)) if line]
+    except (OSError, EOFError) as error:
+        raise PlanError(f"can't be read: {error}", table=path) from None
+    start = raw[0][:4] if raw else b""
+    if start[:2] in (b"\xff\xfe", b"\xfe\xff"):
+        raise PlanError("is text in UTF-16", table=path, try_this='save it as "CSV UTF-8"')
+    if start in (b"PK\x03\x04", b"\xd0\xcf\x11\xe0"):
+        raise PlanError("is a spreadsheet and no text", table=path, try_this='save it as "CSV UTF-8"')
+    try:
+        text = [line.decode(encoding).rstrip("\r\n") for line in raw]
+    except (UnicodeDecodeError, LookupError) as error:
+        raise PlanError(f"isn't text in {encoding.replace('utf-8-sig', 'UTF-8')}: {error}", table=path,
+                        try_this='save it as "CSV UTF-8", or encoding = "cp1252" in [model]') from None
+    if not text or not text[0].strip():
+        raise PlanError("has no header line", table=path)
+    return text
+
+
+def separator_of(header: str) -> str:
+    """The separator that a header line has most often."""
+    return max(SEPARATORS, key=header.count)
+
+
+def names_of(header: str, separator: str) -> list[str]:
+    """The names of the columns, without blanks and quotes around them; those without a name are called by number."""
+    names = [name.strip() for name in next(csv.reader([header], delimiter=separator, skipinitialspace=True))]
+    while names and not names[-1]:
+        names.pop()                          # a separator at the end of the header line
+    return [name or f"column {i + 1}" for i, name in enumerate(names)]
+
+
+def dialect_of(path: Path, encoding: str = "utf-8-sig") -> Dialect:
+    """Looks at the first lines of a table and says how it is written.
+
+    Lines below the header whose cells are words where later lines have numbers are counted as descriptions.
+    """
+    head = head_of(path, encoding)
+    separator = separator_of(head[0])
+    rows = [line.split(separator) for line in head[1:] if line.strip()]
+    commas = separator != "," and any(COMMA_DECIMAL.fullmatch(cell.strip()) for row in rows for cell in row)
+    decimal = "," if commas else "."
+    counts = [sum(bool(PLAIN.fullmatch(cell.strip().replace(decimal, "."))) for cell in row) for row in rows]
+    skip = next((i for i, n in enumerate(counts) if n >= 3), 0)
+    return Dialect(separator, decimal, encoding, skip)
+
+
+def read_frame(path: Path, dialect: Dialect, words: Collection[str] = ()) -> pd.DataFrame:
+    """A table as it stands: a row for each line that isn't blank, under the names of the header line.
+
+    Parameters
+    ----------
+    path : Path
+        CSV, or CSV.gz.
+    dialect : Dialect
+        How it is written.
+    words : collection of str
+        Columns that are read as text, as block ids and rock codes: 007 stays 007.
+
+    Returns
+    -------
+    DataFrame
+        Its index is the row below the header, counted from 0, blank lines counted too: index 3 is row 5 of a spreadsheet.
+
+    Raises
+    ------
+    PlanError
+        Where the file isn't such a table: with the row, where there is one.
+    """
+    names = names_of(head_of(path, dialect.encoding, 1)[0], dialect.separator)
+    doubled = [name for i, name in enumerate(names) if name in names[:i]]
+    if doubled:
+        raise PlanError(f"two columns are called {doubled[0]}", table=path, try_this="another name for one of them")
+    frame = parsed(path, dialect, names, words)
+    frame.index = pd.RangeIndex(dialect.skip, dialect.skip + len(frame))
+    blank = frame[names[0]].isna().to_numpy()
+    if blank.any():
+        blank = frame.isna().all(axis=1).to_numpy()
+        frame = frame[~blank]
+    if not len(frame):
+        raise PlanError("has no rows below its header line", table=path)
+    return frame
+
+
+def parsed(path: Path, dialect: Dialect, names: Sequence[str], words: Collection[str]) -> pd.DataFrame:
+    """The cells of a table by pandas; a row with more cells than the header line is told, never cut off."""
+    given: dict[str, Any] = dict(sep=dialect.separator, decimal=dialect.decimal, encoding=dialect.encoding, header=None,
+                                 skiprows=1 + dialect.skip, skipinitialspace=True, keep_default_na=False, na_values=[""],
+                                 skip_blank_lines=False, index_col=False, dtype={name: str for name in words if name in names},
+                                 compression="gzip" if path.suffix.lower() == ".gz" else None)
+    try:
+        with warnings.catch_warnings():
+            warnings.simplefilter("ignore", pd.errors.DtypeWarning)      # number_column tells the cell
+            warnings.simplefilter("error", pd.errors.ParserWarning)
+            try:
+                return pd.read_csv(path, names=list(names), **given)
+            except pd.errors.ParserWarning:
+                return without_ends(pd.read_csv(path, names=[*names, ""], **given), names, path)
+    except pd.errors.EmptyDataError:
+        raise PlanError("has no rows below its header line", table=path) from None
+    except pd.errors.ParserError as error:
+        raise uneven(path, str(error), len(names)) from None
+    except (UnicodeDecodeError, EOFError, OSError) as error:
+        raise PlanError(f"can't be read: {error}", table=path,
+                        try_this='save it as "CSV UTF-8", or encoding = "cp1252" in [model]' if isinstance(error, UnicodeDecodeError) else None) from None
+
+
+def without_ends(frame: pd.DataFrame, names: Sequence[str], path: Path) -> pd.DataFrame:
+    """The table without the empty column that a separator at the end of each row makes."""
+    more = frame[""].notna().to_numpy()
+    if more.any():
+        row = int(np.argmax(more))
+        raise PlanError(f"has {len(names) + 1} cells, and the header line {len(names)}", table=path, row=row,
+                        try_this="is there a separator within a number or a name?")
+    kept: pd.DataFrame = frame[list(names)]
+    return kept
+
+
+def uneven(path: Path, said: str, width: int) -> PlanError:
+    """pandas' words for a row that is too long, in the planner's."""
+    found = re.search(r"Expected \d+ fields in line (\d+), saw (\d+)", said)
+    if not found:
+        return PlanError(f"isn't a table: {said.strip()}", table=path)
+    return PlanError(f"has {found[2]} cells, and the header line {width}", table=path, row=int(found[1]) - 2,
+                     try_this="is there a separator within a number or a name?")
+
+
+def number_column(values: pd.Series, table: object, absent: Collection[str] = ()) -> npt.NDArray[np.float64]:
+    """A column as numbers.
+
+    Parameters
+    ----------
+    values : Series
+        Its name is the column, its index the row below the header line.
+    absent : collection of str
+        Cells that stand for "not estimated", as "-99", "-" or "" for an empty one; they count as 0.
+
+    Returns
+    -------
+    float array of shape (len(values),)
+
+    Raises
+    ------
+    PlanError
+        At the first cell that is no number or not finite: with its row, what stands there, and what to try.
+    """
+    if values.dtype.kind not in "iuf":
+        values = numbers_of(values, table, absent)
+    found: npt.NDArray[np.float64] = values.to_numpy(dtype=float, copy=True)
+    marks = [float(mark) for mark in absent if PLAIN.fullmatch(mark)]
+    if marks:
+        found[np.isin(found, marks)] = 0.0
+    if "" in absent:
+        found[np.isnan(found)] = 0.0
+    bad = ~np.isfinite(found)
+    if bad.any():
+        row = int(np.argmax(bad))
+        what = "empty" if np.isnan(found[row]) else "not finite"
+        raise PlanError(f"{cells(int(bad.sum()))} {what}", table=table, row=int(values.index[row]), column=values.name,
+                        try_this='absent = [""] in [model], if an empty cell stands for "not estimated"' if what == "empty" else None)
+    return found
+
+
+def cells(n: int) -> str:
+    return "the cell is" if n == 1 else f"{n:,} cells are"
+
+
+def numbers_of(values: pd.Series, table: object, absent: Collection[str]) -> pd.Series:
+    """The numbers that a column of words spells; the first word that spells none is told."""
+    empty = values.isna()
+    text = values.astype(str).str.strip().mask(empty, "")
+    known = text.isin([mark.strip() for mark in absent])
+    found = pd.to_numeric(text.mask(known, "0"), errors="coerce")
+    bad = found.isna().to_numpy()
+    if bad.any():
+        row = int(np.argmax(bad))
+        cell = str(text.iloc[row])
+        n = int(bad.sum())
+        what = "the cell is no number" if n == 1 else f"{n:,} cells are no numbers, the first is"
+        there = f" {cell!r}" if cell else " empty"
+        raise PlanError(what + (": it is" if n == 1 else "") + there, table=table, row=int(values.index[row]), column=values.name,
+                        try_this=remedy(cell))
+    return found.astype(float)
+
+
+def remedy(cell: str) -> str:
+    """What to try where a cell is no number."""
+    if THOUSANDS.fullmatch(cell):
+        return "take the thousands separators out"
+    if COMMA_DECIMAL.fullmatch(cell):
+        return 'decimal = "," in [model]'
+    return f'absent = ["{cell}"] in [model], if that stands for "not estimated"'

@@ -1,0 +1,264 @@
+"""From grades, prices, recoveries and costs to what each block brings and costs."""
+from __future__ import annotations
+
+import math
+from collections.abc import Mapping, Sequence
+from dataclasses import dataclass, field
+from decimal import Decimal
+from typing import Union
+
+import numpy as np
+
+from .amounts import LARGEST_FACTOR, MOST, THOUSAND, Bools, Floats, Priced, Whole, exact_sum, rounding_of
+from .errors import PlanError, meant
+from .formula import worked_out
+from .gaps import AIR
+from .model import Model
+from .units import metal_in_a_tonne
+
+# A number, a column of the table, a formula over columns, or a number by rock with "other" for the rest.
+Amount = Union[float, str, Mapping[str, float]]
+
+
+@dataclass(frozen=True)
+class Metal:
+    """A metal that is sold.
+
+    Parameters
+    ----------
+    name : str
+    grade : str
+        The column of its grade.
+    price : float
+        Of a unit of metal, at factor 1.
+    grade_unit, price_unit : str
+        As in `units.GRADES` and `units.PRICES`.
+    recovery : number, column, formula, or mapping by rock
+        The share of the metal in the mill's feed that is recovered, from 0 to 1.
+    payable : float
+        The share of the price that is paid, from 0 to 1: what the smelter keeps and what is owed as a share of the
+        price (a royalty) taken off.
+    selling : float
+        What selling a unit of metal costs, whatever its price: counted as a cost of processing, so no factor scales it.
+    """
+
+    name: str
+    grade: str
+    price: float
+    grade_unit: str = "%"
+    price_unit: str = "t"
+    recovery: Amount = 1.0
+    payable: float = 1.0
+    selling: float = 0.0
+
+    def __post_init__(self) -> None:
+        metal_in_a_tonne(self.name, self.grade_unit, self.price_unit)
+        number(f"metal {self.name}: price", self.price, 0)
+        number(f"metal {self.name}: payable", self.payable, 0, 1)
+        number(f"metal {self.name}: selling", self.selling, 0)
+
+    def content(self) -> float:
+        """Units of metal, as the price counts them, in a tonne at a grade of 1."""
+        return metal_in_a_tonne(self.name, self.grade_unit, self.price_unit)
+
+
+@dataclass(frozen=True)
+class Economics:
+    """What blocks bring and cost: the section [economics] of ``study.toml``.
+
+    Parameters
+    ----------
+    metals : sequence of Metal
+    mining : number, column, formula, or mapping by rock
+        What digging a tonne costs, be it ore or waste.
+    processing : the same
+        What treating a tonne of the mill's feed costs.
+    mill : sequence of str, optional
+        The rocks that the mill takes; all but air unless told.
+    dilution : float
+        Tonnes of waste, at no grade, that come to the mill with each tonne of ore.
+    mining_recovery : float
+        The share of the ore that reaches the mill, above 0 and at most 1.
+    rounding : float
+        What amounts are rounded to: 1 is whole units of currency. At most six decimals.
+    currency : str
+        For tables and pictures.
+    forbid : sequence of str
+        Formulas: blocks for which one of them holds may not be dug.
+    """
+
+    metals: Sequence[Metal]
+    mining: Amount
+    processing: Amount
+    mill: Sequence[str] | None = None
+    dilution: float = 0.0
+    mining_recovery: float = 1.0
+    rounding: float = 1.0
+    currency: str = "$"
+    forbid: Sequence[str] = field(default_factory=tuple)
+
+    def __post_init__(self) -> None:
+        if not self.metals:
+            raise PlanError("[economics] has no metals", try_this='metals = [ { name = "copper", grade = "CU", price = 8500 } ]')
+        names = [metal.name for metal in self.metals]
+        if len(set(names)) < len(names):
+            raise PlanError(f"[economics] two metals are called {next(n for n in names if names.count(n) > 1)}")
+        number("[economics] dilution", self.dilution, 0)
+        number("[economics] mining_recovery", self.mining_recovery, 0, 1)
+        rounding_of(self.rounding)
+        if isinstance(self.forbid, str):
+            raise PlanError("[economics] forbid is a list of formulas", try_this=f'forbid = ["{self.forbid}"]')
+
+    @property
+    def feed(self) -> float:
+        """Tonnes that the mill gets for each tonne of ore in place."""
+        return self.mining_recovery * (1 + self.dilution)
+
+    def priced(self, model: Model) -> Priced:
+        """Revenue, processing and mining of each block, in whole multiples of `rounding`.
+
+        Raises
+        ------
+        PlanError
+            Where a column, a rock, a unit, a grade, a share or a cost is wrong: with the row where there is one.
+        """
+        tonnes, to_mill = model.blocks.tonnes.to_numpy(float), self.to_mill(model)
+        revenue, selling = np.zeros(len(model)), np.zeros(len(model))
+        metal: dict[str, Floats] = {}
+        grade: dict[str, Floats] = {}
+        for m in self.metals:
+            grade[m.name] = grades_of(m, model)
+            recovery = share(f"recovery of {m.name}", amount(f"recovery of {m.name}", m.recovery, model), model)
+            units = tonnes * self.mining_recovery * grade[m.name] * m.content() * recovery * to_mill
+            metal[m.name] = units
+            revenue += units * m.price * m.payable
+            selling += units * m.selling
+        processing = tonnes * self.feed * cost("processing", self.processing, model) * to_mill + selling
+        mining = tonnes * cost("mining", self.mining, model)
+        rounding = rounding_of(self.rounding)
+        whole = [in_whole(name, values, rounding, model) for name, values in (("revenue", revenue), ("processing", processing), ("mining", mining))]
+        found = Priced(whole[0], whole[1], whole[2], rounding, metal, grade, self.feed)
+        fence = self.fenced(model)
+        if fence.any():
+            found.mining[fence] = fence_price(found, rounding)
+        return found
+
+    def to_mill(self, model: Model) -> Bools:
+        """Whether a block may go to the mill: its rock is one that the mill takes, and it is a block of the table."""
+        rock, kinds = model.blocks.rock, [str(kind) for kind in model.blocks.rock.unique()]
+        for name in self.mill or ():
+            if name not in kinds:
+                raise PlanError(f"[economics] mill: no block is of rock {name!r}{meant(name, kinds)}")
+        takes = rock.isin(list(self.mill)) if self.mill is not None else rock != AIR
+        found: Bools = takes.to_numpy() & (model.blocks["row"].to_numpy() >= 0)
+        return found
+
+    def fenced(self, model: Model) -> Bools:
+        """Which blocks may not be dug."""
+        fence: Bools = np.zeros(len(model), bool)
+        for formula in self.forbid:
+            found = worked_out(str(formula), model.blocks, "[economics] forbid")
+            if found.dtype != bool:
+                raise PlanError(f"[economics] forbid = {formula!r} says neither yes nor no", try_this='as "XC > 12000"')
+            fence |= found
+        return fence
+
+
+def number(what: str, value: object, least: float, most: float = math.inf) -> None:
+    """Refuses what is no number from `least` to `most`."""
+    if isinstance(value, bool) or not isinstance(value, (int, float)) or not least <= value <= most or not math.isfinite(value):
+        span = f"from {least:g} to {most:g}" if math.isfinite(most) else f"of at least {least:g}"
+        raise PlanError(f"{what} is {value!r}, and has to be a number {span}")
+
+
+def grades_of(metal: Metal, model: Model) -> Floats:
+    """The grade of each block, 0 for blocks that were added."""
+    found = model.numbers(metal.grade, f"metal {metal.name}")
+    found[model.blocks["row"].to_numpy() < 0] = 0.0
+    for wrong, what, hint in ((found < 0, "is below 0", 'absent = ["{:g}"] in [model], if that stands for "not estimated"'),
+                              (found * metal.content() > metal_in_a_tonne(metal.name, "%", metal.price_unit) * 100 * (1 + 1e-9),
+                               f"in {metal.grade_unit} is more than the whole rock", "another grade_unit")):
+        if wrong.any():
+            at = int(np.argmax(wrong))
+            raise PlanError(f"{found[at]:g} {what}" + (f"; {int(wrong.sum()):,} cells are so" if wrong.sum() > 1 else ""), table=model.name,
+                            row=int(model.blocks["row"].iloc[at]), column=metal.grade, try_this=hint.format(found[at]))
+    return found
+
+
+def amount(what: str, given: Amount, model: Model) -> Floats:
+    """An amount for each block: a number, a column, a formula, or by rock.
+
+    Raises
+    ------
+    PlanError
+        Where nothing is said of a rock, a cell is no number, or a formula is none.
+    """
+    b = model.blocks
+    if isinstance(given, bool) or not isinstance(given, (int, float, str, Mapping)):
+        raise PlanError(f"{what} is {given!r}", try_this="a number, a column, a formula, or { rock = number, other = number }")
+    if isinstance(given, (int, float)):
+        return np.full(len(b), float(given))
+    if isinstance(given, str):
+        return model.numbers(given, what) if given in b.columns else worked_out(given, b, what).astype(float)
+    kinds = [str(kind) for kind in b.rock.unique()]
+    unsaid = sorted(set(kinds) - set(given) - {AIR})
+    if unsaid and "other" not in given:
+        strange = next((name for name in given if name not in kinds), None)
+        raise PlanError(f"{what}: nothing is said of rock {', '.join(unsaid)}{meant(strange, unsaid) if strange else ''}",
+                        try_this=f"{{ {unsaid[0]} = .. }}, or {{ other = .. }} for the rest")
+    for rock, value in given.items():
+        number(f"{what} of rock {rock}", value, -math.inf)
+    found: Floats = b.rock.map({kind: float(given.get(kind, given.get("other", 0.0))) for kind in kinds}).to_numpy(float)
+    return found
+
+
+def share(what: str, values: Floats, model: Model) -> Floats:
+    """Refuses shares that aren't from 0 to 1."""
+    wrong = (values < 0) | (values > 1)
+    if wrong.any():
+        at = int(np.argmax(wrong))
+        raise PlanError(f"{what} is {values[at]:g}, and a share is from 0 to 1", table=model.name, row=row_at(model, at))
+    return values
+
+
+def cost(what: str, given: Amount, model: Model) -> Floats:
+    """What a tonne costs, at least 0."""
+    values = amount(what, given, model)
+    wrong = values < 0
+    if wrong.any():
+        at = int(np.argmax(wrong))
+        raise PlanError(f"{what} costs {values[at]:g} a tonne here, less than nothing, and so for {int(wrong.sum()):,} blocks", table=model.name,
+                        row=row_at(model, at), try_this=f"max(0, {given}), if the formula runs below 0" if isinstance(given, str) else None)
+    return values
+
+
+def row_at(model: Model, block: int) -> int | None:
+    row = int(model.blocks["row"].iloc[block])
+    return row if row >= 0 else None
+
+
+def in_whole(name: str, values: Floats, rounding: Decimal, model: Model) -> Whole:
+    """Amounts in whole multiples of `rounding`, half to even."""
+    most = float(MOST)
+    if np.abs(values).max(initial=0.0) > most:
+        at = int(np.argmax(np.abs(values)))
+        raise PlanError(f"a {name} of {values[at]:g} for one block: is a unit wrong?", table=model.name, row=row_at(model, at))
+    whole: Whole = np.rint(values / float(rounding)).astype(np.int64)
+    return whole
+
+
+def fence_price(priced: Priced, rounding: Decimal) -> int:
+    """What digging a forbidden block is made to cost: more than the whole mine brings at the largest factor, so that no best
+    pit has one. `Study.run` looks again whether a pit does.
+
+    Raises
+    ------
+    PlanError
+        Where that is more than the amounts that `pit` reads.
+    """
+    price = exact_sum(priced.revenue) * LARGEST_FACTOR // THOUSAND + 1
+    if price * rounding > MOST:
+        price = int(MOST / rounding)
+        if price <= 2 * exact_sum(priced.revenue):
+            raise PlanError("[economics] forbid: the mine brings too much for an amount that keeps blocks from being dug", try_this="prices and costs in thousands")
+    return price

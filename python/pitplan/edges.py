@@ -1,0 +1,66 @@
+"""Where a pit touches the side of the model: its slopes ask for places that the model doesn't have, so no wall is held there."""
+from __future__ import annotations
+
+from typing import TYPE_CHECKING
+
+import numpy as np
+import numpy.typing as npt
+
+from .gaps import enclosed
+
+if TYPE_CHECKING:
+    from .model import Model
+    from .shells import Shells
+
+Bools = npt.NDArray[np.bool_]
+Ints = npt.NDArray[np.int64]
+
+
+def ground(model: Model) -> tuple[Ints, Ints]:
+    """The highest and the lowest level of each column, of shape (nx, ny); of a column without blocks, those of the nearest
+    column that has some, as far as one can tell by going along the axes."""
+    there = model.index >= 0
+    has = there.any(axis=2)
+    top = np.where(has, there.shape[2] - 1 - there[:, :, ::-1].argmax(axis=2), -1)
+    low = np.where(has, there.argmax(axis=2), 0)
+    while not has.all() and has.any():
+        before = has.copy()
+        for axis in (0, 1):
+            for step in (1, -1):
+                near, up, down = (np.roll(v, step, axis) for v in (before, top, low))
+                edge = [slice(None), slice(None)]
+                edge[axis] = slice(0, 1) if step == 1 else slice(-1, None)
+                near[tuple(edge)] = False
+                new = near & ~has
+                top[new], low[new] = up[new], down[new]
+                has |= new
+    return top, low
+
+
+def touching(shells: Shells, i: int) -> Bools:
+    """Which blocks of pit i have a slope that asks for a place that isn't in the model and isn't air: beyond its sides, where
+    the ground goes on as high as in the nearest column; in a column that has no row; or below the lowest row of a column.
+
+    Returns
+    -------
+    bool array of shape (blocks,)
+    """
+    study = shells.study
+    m, b = study.model, study.model.blocks
+    place: Ints = np.column_stack([b.ix, b.iy, b.iz]).astype(np.int64)
+    top, low = ground(m)
+    columns = (m.index >= 0).any(axis=2)
+    shaft = enclosed(columns)                # a study with such columns was built only where the planner called them air
+    empty = ~columns & ~shaft
+    found = np.zeros(len(m), bool)
+    inside, size = shells.holds(i), np.array(m.grid.shape[:2])
+    for region, offsets in enumerate(study.manifest["offsets"].values()):
+        for dx, dy, dz in offsets:
+            at = np.flatnonzero(inside & ~found & (study.region == region))
+            to = place[at] + (dx, dy, dz)
+            near = np.clip(to[:, :2], 0, size - 1)
+            beyond = (to[:, :2] != near).any(axis=1) | empty[near[:, 0], near[:, 1]]
+            rock = to[:, 2] <= top[near[:, 0], near[:, 1]]
+            under = (to[:, 2] < low[near[:, 0], near[:, 1]]) & ~shaft[near[:, 0], near[:, 1]]
+            found[at[(beyond & rock) | (~beyond & under)]] = True
+    return found

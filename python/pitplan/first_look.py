@@ -1,0 +1,246 @@
+"""`pitplan init`: looks at a table, guesses what is what, and writes a study.toml with a comment at each key."""
+from __future__ import annotations
+
+import math
+from collections.abc import Sequence
+from dataclasses import dataclass, field
+from pathlib import Path
+
+import numpy as np
+import pandas as pd
+
+from .column_names import PLACES, SIZES, which_columns
+from .csv_text import Dialect, dialect_of, head_of, names_of, number_column, read_frame
+from .errors import PlanError
+from .grid import Floats
+
+MARKS = ("-99", "-999", "-9999", "-99.0", "-999.0", "-1", "-1.0", "-", "*", "N/A", "n/a", "NA", "absent", "null", "")
+# Columns that look like grades, and the units that such a metal usually comes in.
+METALS = {"cu": ("copper", "%", "t", 8500), "au": ("gold", "g/t", "oz", 1900), "ag": ("silver", "g/t", "oz", 23), "mo": ("molybdenum", "ppm", "lb", 15),
+          "zn": ("zinc", "%", "t", 2600), "pb": ("lead", "%", "t", 2100), "ni": ("nickel", "%", "t", 17000), "co": ("cobalt", "%", "t", 33000),
+          "fe": ("iron", "%", "t", 110), "u3o8": ("uranium", "ppm", "lb", 60), "li2o": ("lithia", "%", "t", 15000), "pt": ("platinum", "g/t", "oz", 950)}
+SAMPLE = 1500                                # blocks that the grid is looked for in
+
+
+@dataclass
+class Look:
+    """What a table looks like.
+
+    Attributes
+    ----------
+    names : dict
+        The table's own names of x, y, z and the others.
+    rows : int
+    size : tuple of 3 floats, or None
+        Of a block, where it could be told.
+    rotation : float
+        The bearing of the model's y axis, as far as one can tell.
+    grades : list of str
+        Columns of numbers that look like grades.
+    absent : list of str
+        Cells that seem to stand for "not estimated".
+    has_sub_blocks : bool
+    rocks, columns : list of str
+        The rocks, and all names of columns.
+    notes : list of str
+        What the planner should look at.
+    """
+
+    dialect: Dialect
+    names: dict[str, str]
+    rows: int
+    size: tuple[float, float, float] | None = None
+    rotation: float = 0.0
+    grades: list[str] = field(default_factory=list)
+    absent: list[str] = field(default_factory=list)
+    has_sub_blocks: bool = False
+    rocks: list[str] = field(default_factory=list)
+    columns: list[str] = field(default_factory=list)
+    notes: list[str] = field(default_factory=list)
+
+
+def look_at(table: Path) -> Look:
+    """Looks at a table of blocks.
+
+    Raises
+    ------
+    PlanError
+        Where it isn't a table, or has no columns that are known as x, y and z.
+    """
+    dialect = dialect_of(table)
+    names = which_columns(names_of(head_of(table, dialect.encoding, 1)[0], dialect.separator), {}, table.name)
+    frame = read_frame(table, dialect, [names[key] for key in ("id", "rock") if key in names])
+    look = Look(dialect, names, len(frame), columns=[str(name) for name in frame.columns])
+    look.absent = marks_in(frame, names)
+    x, y, z = (number_column(frame[names[key]], table.name) for key in PLACES)
+    find_grid(look, frame, x, y, z)
+    look.grades = [str(name) for name in frame.columns if is_grade(frame, str(name), look)]
+    if "rock" in names:
+        look.rocks = [str(rock) for rock in frame[names["rock"]].fillna("").value_counts().index[:12]]
+    if dialect.skip:
+        look.notes.append(f"{dialect.skip} lines below the header hold no blocks")
+    return look
+
+
+def marks_in(frame: pd.DataFrame, names: dict[str, str]) -> list[str]:
+    """The cells that seem to stand for "not estimated": as the usual marks, in columns that aren't places or names."""
+    kept = {names[key] for key in (*PLACES, *SIZES, "id", "rock") if key in names}
+    found: list[str] = []
+    for name in frame.columns:
+        values = frame[name]
+        if name in kept:
+            continue
+        if values.dtype.kind in "iuf":
+            if values.isna().any() and not values.isna().all():
+                found.append("")
+            least = float(values.min())
+            if least < 0 and f"{least:g}" in MARKS:
+                found.append(f"{least:g}")
+        elif pd.to_numeric(values, errors="coerce").notna().mean() > 0.5:
+            found += [mark for mark in MARKS if mark and values.astype(str).str.strip().eq(mark).any()]
+            found += [""] if values.isna().any() else []
+    return list(dict.fromkeys(found))
+
+
+def is_grade(frame: pd.DataFrame, name: str, look: Look) -> bool:
+    """Whether a column is one of numbers, and is none of those that are known as something else."""
+    if name in look.names.values():
+        return False
+    try:
+        values = number_column(frame[name].iloc[:20000], name, look.absent)
+    except PlanError:
+        return False
+    return bool(values.min() >= 0) and (metal_of(name) is not None or len(np.unique(values)) > 12)
+
+
+def metal_of(column: str) -> tuple[str, str, str, float] | None:
+    """The usual metal, units and price of a column's name, as CU_PCT or au_gpt."""
+    word = column.lower().replace("-", "_").split("_")[0].rstrip("%").strip()
+    return METALS.get(word)
+
+
+def find_grid(look: Look, frame: pd.DataFrame, x: Floats, y: Floats, z: Floats) -> None:
+    """The size of a block and how the model is turned: as the table's own columns say, else by the nearest neighbours."""
+    names = look.names
+    if all(key in names for key in SIZES):
+        lengths = [number_column(frame[names[key]], names[key]) for key in SIZES]
+        look.size = (float(lengths[0].max()), float(lengths[1].max()), float(lengths[2].max()))
+        look.has_sub_blocks = any(bool((v < v.max() * (1 - 1e-6)).any()) for v in lengths)
+    level = z == pd.Series(z).mode().iloc[0]
+    east, north = x[level], y[level]
+    near = np.argsort((east - np.median(east)) ** 2 + (north - np.median(north)) ** 2)[:SAMPLE]
+    across, along = steps(east[near], north[near])
+    height = least_step(z)
+    if across is None or along is None or height is None:
+        look.notes.append("the size of a block couldn't be told: one level, row or column alone")
+        return
+    look.rotation = turned(across)
+    if look.size is None:
+        first, second = math.hypot(*across), math.hypot(*along)
+        look.size = (first, second, height)
+    if look.rotation:
+        look.notes.append(f"the model seems to be turned by {look.rotation:g} degrees: compare with the package")
+
+
+def steps(east: Floats, north: Floats) -> tuple[tuple[float, float] | None, tuple[float, float] | None]:
+    """The shortest steps between blocks of a level along the model's x axis (from 45 degrees north to 45 south of east) and
+    along its y axis, as (east, north); None where no two blocks are neighbours so."""
+    de, dn = (v[:, None] - v[None, :] for v in (east, north))
+    far = np.hypot(de, dn)
+    eastward = (de > 0) & (np.abs(dn) <= de * (1 + 1e-9))
+    northward = (dn > 0) & (np.abs(de) < dn * (1 - 1e-9))
+    found: list[tuple[float, float] | None] = []
+    for way in (eastward, northward):
+        # of steps at most a tenth longer than the shortest, the one that most blocks take
+        if not way.any():
+            found.append(None)
+            continue
+        short = far[way].min()
+        pick = way & (far <= short * 1.001)
+        found.append((round(float(np.median(de[pick])), 4), round(float(np.median(dn[pick])), 4)))
+    return found[0], found[1]
+
+
+def turned(across: Sequence[float]) -> float:
+    """The bearing of the y axis, by a step along the x axis, to a hundredth of a degree."""
+    return round(-math.degrees(math.atan2(across[1], across[0])), 2) + 0.0
+
+
+def least_step(values: Floats) -> float | None:
+    """The least distance between two levels."""
+    levels = np.unique(np.round(values, 4))
+    return round(float(np.diff(levels).min()), 4) if len(levels) > 1 else None
+
+
+def written(look: Look, table: str) -> str:
+    """The text of a study.toml."""
+    size = ", ".join(f"{v:g}" for v in look.size) if look.size else "20, 20, 10"
+    columns = ", ".join(f'{key} = {quoted(name)}' for key, name in look.names.items())
+    told = "" if look.size else "     # couldn't be told: fill it in"
+    rocks = "; by rock: { " + ", ".join(f"{key(rock)} = 2.50" for rock in look.rocks[:3]) + (", other = 2.50 }" if len(look.rocks) > 3 else " }") if look.rocks else ""
+    return f"""# What pitplan works on. Every price, cost and angle is an example: put your own in its place.
+
+[model]
+table = {quoted(table)}
+# which column is what; further keys: dx, dy, dz (the size of a sub-block), tonnes or density, rock, id
+columns = {{ {columns} }}
+size = [{size}]{told}              # of a block along the model's x, y and z axes, in the unit of the coordinates
+rotation = {look.rotation:g}                      # the bearing of the model's y axis, in degrees clockwise from north
+z = "elevation"                   # or "depth", where z counts downward
+absent = [{', '.join(quoted(mark) for mark in look.absent)}]                      # cells that stand for "not estimated", as "-99"; "" is an empty cell; they count as 0
+missing = "refuse"                # a place within the model without a row: "refuse" it, or it is "air", or "rock" with the next key
+# fill = {{ tonnes = 10400, rock = "waste" }}
+regularise = {'true' if look.has_sub_blocks else 'false'}                # whether sub-blocks are added up into whole blocks
+widen = 0                         # columns of barren rock to add on each side, where a pit touches the model's side
+
+[economics]
+currency = "$"
+mining = 2.50                     # for a tonne of rock: a number, a column, a formula as "2.2 + 0.02 * (1500 - {look.names['z']}) / 10"{rocks}
+processing = 9.00                 # for a tonne of the mill's feed, likewise
+# mill = [{', '.join(quoted(rock) for rock in look.rocks[:2])}]     # the rocks that the mill takes; all unless told
+dilution = 0.0                    # tonnes of waste that come to the mill with each tonne of ore
+mining_recovery = 1.0             # the share of the ore that reaches the mill
+rounding = 1                      # amounts of a block in whole units of currency
+forbid = []                       # blocks that may not be dug, as [{quoted(look.names['x'] + ' > 12000')}]
+# grade_unit: % kg/t g/t ppm mg/kg ppb; price_unit: t kg g lb oz dmtu; recovery: a number, a column, a formula, or by rock;
+# payable: the share of the price that is paid; selling: what selling a unit of metal costs, whatever its price
+metals = [
+{metals(look)}
+]
+
+[slopes]
+angles = 45                       # degrees; or by bearing of the wall from the pit's middle: [[0, 38], [90, 45], [180, 50], [270, 45]]
+# by = "SECTOR"                   # a column that says the region of a block, with angles of its own for each
+# regions = {{ NORTH = 38, SOUTH = [[0, 44], [180, 50]] }}
+safe = false                      # true: no wall steeper than asked, at the cost of being flatter on the mean
+
+[shells]
+factors = {{ from = 0.30, to = 1.20, step = 0.05 }}     # of the price; or a list, as [0.5, 0.75, 1.0]
+mining_rate = 20e6                # tonnes of rock a year
+mill_rate = 8e6                   # tonnes of the mill's feed a year
+discount = 0.08                   # a year
+"""
+
+
+def metals(look: Look) -> str:
+    """The lines of the metals: those whose columns are known, else one to be filled in."""
+    lines = []
+    for column in look.grades:
+        usual = metal_of(column)
+        if usual:
+            name, grade_unit, price_unit, price = usual
+            lines.append(f'    {{ name = "{name}", grade = {quoted(column)}, grade_unit = "{grade_unit}", price = {price:g}, price_unit = "{price_unit}", recovery = 0.85, payable = 0.96, selling = 0 }},')
+    if not lines:
+        column = look.grades[0] if look.grades else "GRADE"
+        lines.append(f'    {{ name = "metal", grade = {quoted(column)}, grade_unit = "%", price = 8500, price_unit = "t", recovery = 0.85, payable = 0.96, selling = 0 }},')
+    return "\n".join(lines)
+
+
+def key(word: str) -> str:
+    """A word as a key of TOML."""
+    return word if word and all(c.isascii() and (c.isalnum() or c in "_-") for c in word) else quoted(word)
+
+
+def quoted(word: str) -> str:
+    """A word as a text of TOML."""
+    return '"' + word.replace("\\", "\\\\").replace('"', '\\"') + '"'

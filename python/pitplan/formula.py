@@ -1,0 +1,109 @@
+"""Formulas over columns, as "2.1 + 0.03 * (1420 - ZC) / 15" or "where(ROCK == 'OXI', 7.5, 9.5)".
+
+`DataFrame.eval` isn't used: a study.toml travels, and "@os.system('..')" in place of a formula runs as a command there
+(pandas 1.5.3). A formula here is numbers, words, columns, the operators and the functions below, and nothing else.
+"""
+from __future__ import annotations
+
+import ast
+import operator
+from collections.abc import Callable
+from typing import Any
+
+import numpy as np
+import numpy.typing as npt
+import pandas as pd
+
+from .errors import PlanError, meant
+
+Operator = Callable[..., Any]
+BINARY: dict[type[ast.operator], Operator] = {ast.Add: operator.add, ast.Sub: operator.sub, ast.Mult: operator.mul, ast.Div: operator.truediv, ast.Pow: operator.pow}
+UNARY: dict[type[ast.unaryop], Operator] = {ast.USub: operator.neg, ast.UAdd: operator.pos, ast.Not: np.logical_not}
+ORDER: dict[type[ast.cmpop], Operator] = {ast.Gt: operator.gt, ast.GtE: operator.ge, ast.Lt: operator.lt, ast.LtE: operator.le, ast.Eq: operator.eq, ast.NotEq: operator.ne}
+FUNCTIONS: dict[str, tuple[int, Operator]] = {"where": (3, np.where), "min": (2, np.minimum), "max": (2, np.maximum), "abs": (1, np.abs), "sqrt": (1, np.sqrt)}
+PARTS = f"numbers, 'words', columns, + - * / ** > >= < <= == != and or not, {', '.join(FUNCTIONS)}"
+LONGEST = 2000
+
+
+def worked_out(text: str, table: pd.DataFrame, what: str) -> npt.NDArray[Any]:
+    """What a formula gives for each row.
+
+    Parameters
+    ----------
+    text : str
+        The formula. A column whose name is no plain word is written ``column('AU g/t')``.
+    table : DataFrame
+        Its columns are the names that the formula may use. Numbers count as floats.
+    what : str
+        Where the formula stands, for errors: "mining".
+
+    Returns
+    -------
+    float or bool array of shape (len(table),)
+
+    Raises
+    ------
+    PlanError
+        Where it is no such formula, names no column, counts with words, or gives a row no finite number.
+    """
+    told = f"{what} = {text!r}"
+    try:
+        tree = ast.parse(text.strip(), mode="eval") if len(text) <= LONGEST else None
+        if tree is None:
+            raise PlanError(f"{what}: a formula of more than {LONGEST:,} letters")
+        with np.errstate(all="ignore"):
+            found = Reading(table, told).value(tree.body)
+    except (SyntaxError, RecursionError, MemoryError, ValueError):
+        raise PlanError(f"{told} is no formula", try_this=PARTS) from None
+    except (TypeError, OverflowError):
+        raise PlanError(f"{told} counts with words") from None
+    each: npt.NDArray[Any] = np.broadcast_to(np.asarray(found), (len(table),)).copy()
+    if each.dtype == bool:
+        return each
+    if each.dtype.kind not in "iuf":
+        raise PlanError(f"{told} gives words and no number")
+    if not np.isfinite(each).all():
+        row = int(np.argmax(~np.isfinite(each)))
+        raise PlanError(f"{told} gives no number here", row=int(table["row"].iloc[row]) if "row" in table else row)
+    return each.astype(float)
+
+
+class Reading:
+    """One reading of a formula over a table."""
+
+    def __init__(self, table: pd.DataFrame, told: str) -> None:
+        self.table, self.told = table, told
+
+    def value(self, node: ast.expr) -> Any:
+        """What a part of the formula is worth: an array, or one value for all rows."""
+        if isinstance(node, ast.Constant) and isinstance(node.value, (int, float, str)) and not isinstance(node.value, bool):
+            # whole numbers count as floats: 9**9**9**9 would never end otherwise
+            return node.value if isinstance(node.value, str) else np.float64(node.value)
+        if isinstance(node, ast.Name):
+            return self.column(node.id)
+        if isinstance(node, ast.BinOp) and type(node.op) in BINARY:
+            return BINARY[type(node.op)](self.value(node.left), self.value(node.right))
+        if isinstance(node, ast.UnaryOp) and type(node.op) in UNARY:
+            return UNARY[type(node.op)](self.value(node.operand))
+        if isinstance(node, ast.Compare) and all(type(op) in ORDER for op in node.ops):
+            sides = [self.value(side) for side in (node.left, *node.comparators)]
+            return np.logical_and.reduce([ORDER[type(op)](a, b) for op, a, b in zip(node.ops, sides, sides[1:])])
+        if isinstance(node, ast.BoolOp):
+            sides = np.broadcast_arrays(*[self.value(side) for side in node.values])
+            return np.logical_and.reduce(sides) if isinstance(node.op, ast.And) else np.logical_or.reduce(sides)
+        if isinstance(node, ast.Call) and isinstance(node.func, ast.Name) and not node.keywords:
+            return self.call(node.func.id, node.args, node)
+        raise PlanError(f"{self.told}: {ast.unparse(node)!r} isn't part of a formula", try_this=PARTS)
+
+    def call(self, name: str, words: list[ast.expr], node: ast.expr) -> Any:
+        if name == "column" and len(words) == 1 and isinstance(words[0], ast.Constant) and isinstance(words[0].value, str):
+            return self.column(words[0].value)
+        if name in FUNCTIONS and len(words) == FUNCTIONS[name][0]:
+            return FUNCTIONS[name][1](*map(self.value, words))
+        raise PlanError(f"{self.told}: {ast.unparse(node)!r} isn't part of a formula", try_this=PARTS)
+
+    def column(self, name: str) -> Any:
+        if name not in self.table.columns:
+            raise PlanError(f"{self.told}: there is no column {name!r}{meant(name, map(str, self.table.columns))}")
+        found = self.table[name].to_numpy()
+        return found.astype(float) if found.dtype.kind in "iu" else found

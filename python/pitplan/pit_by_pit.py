@@ -1,0 +1,161 @@
+"""The planner's tables of the shells: pit by pit, and bench by bench."""
+from __future__ import annotations
+
+from dataclasses import dataclass
+from decimal import Decimal
+from typing import TYPE_CHECKING, Any
+
+import numpy as np
+import numpy.typing as npt
+import pandas as pd
+
+from .amounts import THOUSAND
+from .errors import PlanError
+
+if TYPE_CHECKING:
+    from .shells import Shells
+
+Floats = npt.NDArray[np.float64]
+YEARS = 15                                   # that the largest pit takes, where no rate is given
+
+
+@dataclass(frozen=True)
+class Rates:
+    """How quickly a mine works, and what later money is worth.
+
+    Parameters
+    ----------
+    mining : float, optional
+        Tonnes of rock a year; the largest pit in `YEARS` years unless told.
+    mill : float, optional
+        Tonnes of the mill's feed a year; likewise.
+    discount : float
+        A year, as a share: 0.08 is 8 %.
+    """
+
+    mining: float | None = None
+    mill: float | None = None
+    discount: float = 0.10
+
+    def __post_init__(self) -> None:
+        for name, value in (("mining_rate", self.mining), ("mill_rate", self.mill)):
+            if value is not None and not value > 0:
+                raise PlanError(f"{name} is {value!r}, and has to be tonnes a year above 0")
+        if not 0 <= self.discount < 1:
+            raise PlanError(f"discount is {self.discount!r}, and has to be a share from 0 to below 1, as 0.08")
+
+    def over(self, rock: float, feed: float) -> Rates:
+        """The rates, with those that weren't told for this much rock and feed."""
+        return Rates(self.mining or max(rock / YEARS, 1.0), self.mill or max(feed / YEARS, 1.0), self.discount)
+
+
+@dataclass(frozen=True)
+class Cells:
+    """What lies in each shell on each bench from the top: arrays of shape (factors, benches)."""
+
+    rock: Floats
+    ore: Floats
+    worth: Floats
+    metal: dict[str, Floats]
+    graded: dict[str, Floats]                # ore tonnes times their grade
+    blocks: Floats
+
+    @classmethod
+    def of(cls, shells: Shells, base: int) -> Cells:
+        m, p, s = shells.study.model, shells.study.priced, len(shells.factors)
+        nz = m.grid.shape[2]
+        cell = shells.shell.astype(np.int64) * nz + (nz - 1 - m.blocks.iz.to_numpy())
+        tonnes, ore = m.blocks.tonnes.to_numpy(float), p.milled(base)
+
+        def summed(values: npt.NDArray[Any]) -> Floats:
+            found: Floats = np.bincount(cell, values, (s + 1) * nz).astype(float).reshape(s + 1, nz)[:s]
+            return found
+        return cls(summed(tonnes), summed(tonnes * ore), summed(p.worth(base)), {k: summed(v * ore) for k, v in p.metal.items()},
+                   {k: summed(v * tonnes * ore) for k, v in p.grade.items()}, summed(np.ones(len(m))))
+
+
+def table(shells: Shells, base: int, rates: Rates) -> pd.DataFrame:
+    """A row for each pit, with everything that lies in it.
+
+    Parameters
+    ----------
+    shells : Shells
+    base : int
+        The factor, in thousandths, at which ore, worths and discounted worths count.
+    rates : Rates
+
+    Returns
+    -------
+    DataFrame
+        ``factor`` (share of the price), ``blocks``; ``rock_t``, ``ore_t``, ``waste_t`` (tonnes in place; ore is what goes to
+        the mill at the base factor), ``strip`` (waste by ore), ``feed_t`` (what the mill gets), ``worth_at_factor`` (text:
+        what `pit check` accepted), ``worth_at_base`` (exact, rounded to a float at the end), ``npv_best`` (dug shell by
+        shell), ``npv_worst`` (the pit bench by bench), ``years``; and for each metal ``grade_<metal>`` (of the ore in
+        place, in its own unit) and ``metal_<metal>`` (recovered, in the unit of its price).
+    """
+    p, c = shells.study.priced, Cells.of(shells, base)
+    rates = rates.over(float(c.rock.sum()), float(c.ore.sum()) * p.feed)
+    rows = []
+    for i, factor in enumerate(shells.factors):
+        rock, ore = float(c.rock[:i + 1].sum()), float(c.ore[:i + 1].sum())
+        best, worst = (discounted(order(c.rock[:i + 1]), order(c.ore[:i + 1]) * p.feed, order(c.worth[:i + 1]), rates) for order in (by_shell, by_bench))
+        row: dict[str, Any] = {"factor": factor / THOUSAND, "blocks": int(c.blocks[:i + 1].sum()), "rock_t": rock, "ore_t": ore, "waste_t": rock - ore,
+                               "strip": (rock - ore) / ore if ore else np.nan, "feed_t": ore * p.feed, "worth_at_factor": shells.verdicts[i]["worth"],
+                               "worth_at_base": float(Decimal(p.worth_of(shells.holds(i), base))), "npv_best": best[0], "npv_worst": worst[0], "years": best[1]}
+        for name in p.metal:
+            row[f"grade_{name}"] = float(c.graded[name][:i + 1].sum()) / ore if ore else np.nan
+            row[f"metal_{name}"] = float(c.metal[name][:i + 1].sum())
+        rows.append(row)
+    return pd.DataFrame(rows)
+
+
+def by_shell(values: Floats) -> Floats:
+    """Pieces in the order of the best case: shell after shell, each from the top."""
+    return values.ravel()
+
+
+def by_bench(values: Floats) -> Floats:
+    """Pieces in the order of the worst case: the whole pit bench after bench."""
+    summed: Floats = values.sum(axis=0)
+    return summed
+
+
+def discounted(rock: Floats, feed: Floats, worth: Floats, rates: Rates) -> tuple[float, float]:
+    """The worth of pieces that are dug one after the other, each as quickly as digging and milling allow, discounted to the
+    middle of its time; and how many years all of them take.
+
+    Parameters
+    ----------
+    rock, feed, worth : arrays of one shape
+        Tonnes, tonnes, and units of currency of each piece.
+    """
+    assert rates.mining and rates.mill
+    takes = np.maximum(rock / rates.mining, feed / rates.mill)
+    ends = np.cumsum(takes)
+    return float(np.sum(worth / (1 + rates.discount) ** (ends - takes / 2))), float(ends[-1]) if len(ends) else 0.0
+
+
+def benches(shells: Shells, base: int) -> pd.DataFrame:
+    """A row for each bench and shell that has blocks there, from the top.
+
+    Returns
+    -------
+    DataFrame
+        ``bench`` (elevation of its blocks' centres), ``shell`` (share of the price), ``blocks``, ``rock_t``, ``ore_t``,
+        ``waste_t``, ``worth`` (at the base factor), and for each metal ``grade_<metal>`` and ``metal_<metal>``, as in `table`.
+    """
+    g, c = shells.study.model.grid, Cells.of(shells, base)
+    rows = []
+    for down in range(g.shape[2]):
+        level = g.shape[2] - 1 - down
+        for i, factor in enumerate(shells.factors):
+            if not c.blocks[i, down]:
+                continue
+            ore = float(c.ore[i, down])
+            row: dict[str, Any] = {"bench": g.origin[2] + level * g.size[2], "shell": factor / THOUSAND, "blocks": int(c.blocks[i, down]), "rock_t": float(c.rock[i, down]),
+                                   "ore_t": ore, "waste_t": float(c.rock[i, down]) - ore, "worth": float(c.worth[i, down])}
+            for name in c.metal:
+                row[f"grade_{name}"] = float(c.graded[name][i, down]) / ore if ore else np.nan
+                row[f"metal_{name}"] = float(c.metal[name][i, down])
+            rows.append(row)
+    return pd.DataFrame(rows)

@@ -1,0 +1,300 @@
+"""The one place that runs `pit`: what comes out is an `Accepted`, or an error in the planner's terms."""
+from __future__ import annotations
+
+import hashlib
+import os
+import re
+import shutil
+import signal
+import subprocess
+import threading
+from collections.abc import Callable, Sequence
+from dataclasses import InitVar, dataclass
+from pathlib import Path
+from typing import Union
+
+import numpy as np
+import numpy.typing as npt
+
+from .errors import MachineError, NotAccepted, PlanError
+
+Progress = Callable[[int, int], None]
+Word = Union[str, int, Path]
+BUILT = Path(__file__).resolve().parents[2] / "crates" / "pit" / "out" / "pit"
+PIECE = 1 << 22
+HINTS = {"UNSETTLED": "the run was cut off before its pit was proved: tell the maintainers of this mine",
+         "TooLarge": "the amounts are too large together: rounding = 1000 in [economics], or prices and costs in thousands",
+         "memory": "memory was refused: fewer --workers", "device": "a file couldn't be read or written: is the disk full?"}
+BEGUN = object()                             # what only Pit.check hands to an Accepted
+
+
+@dataclass(frozen=True)
+class Accepted:
+    """A pit that `pit check` has accepted. `Pit.check` alone makes one, of the very bytes that were checked.
+
+    Attributes
+    ----------
+    count : int
+        How many blocks the pit has.
+    worth : str
+        What it is worth at its factor, as `pit` spells it.
+    blocks : int array of shape (count,)
+        The numbers of its blocks, ascending.
+    factor : int
+        Of the revenue, in thousandths.
+    certificate : str
+        The sha256 of the certificate.
+    size : int
+        Of the model, in blocks.
+    """
+
+    count: int
+    worth: str
+    blocks: npt.NDArray[np.int64]
+    factor: int
+    certificate: str
+    size: int
+    begun: InitVar[object] = None
+
+    def __post_init__(self, begun: object) -> None:
+        if begun is not BEGUN:
+            raise TypeError("an Accepted is made by Pit.check alone")
+
+    @property
+    def mask(self) -> npt.NDArray[np.bool_]:
+        """Whether a block is in the pit, of shape (blocks of the model,)."""
+        found = np.zeros(self.size, bool)
+        found[self.blocks] = True
+        return found
+
+
+@dataclass(frozen=True)
+class Files:
+    """The three files of a model with a mill."""
+
+    prec: Path
+    blocks: Path
+    settings: Path
+
+    def words(self) -> list[Word]:
+        return ["--prec", self.prec, "--blocks", self.blocks, "--settings", self.settings]
+
+
+def found_program() -> str:
+    """Where `pit` is: as PIT in the environment says, on the path, or where this repository builds it.
+
+    Raises
+    ------
+    PlanError
+        Where it is nowhere.
+    """
+    named = os.environ.get("PIT")
+    if named:
+        where = shutil.which(named)
+        if not where:
+            raise PlanError(f"PIT in the environment is {named!r}, and there is no such program")
+        return str(Path(where).resolve())
+    where = shutil.which("pit") or (str(BUILT) if os.access(BUILT, os.X_OK) else None)
+    if not where:
+        raise PlanError("the program pit isn't there", try_this="./install in the repository, or PIT=/path/to/pit")
+    return where
+
+
+def sha256(path: Path) -> str:
+    """The SHA-256 of a file, in hexadecimal."""
+    digest = hashlib.sha256()
+    with open(path, "rb") as file:
+        while data := file.read(PIECE):
+            digest.update(data)
+    return digest.hexdigest()
+
+
+class Pit:
+    """The program `pit`.
+
+    Parameters
+    ----------
+    program : str or Path, optional
+        Where it is; found as `found_program` says unless told.
+    """
+
+    def __init__(self, program: str | Path | None = None) -> None:
+        self.program = str(program) if program else found_program()
+        self.running: set[subprocess.Popen[bytes]] = set()
+        self.is_stopped = False
+        self.lock = threading.Lock()
+
+    def version(self) -> list[str]:
+        """The lines of ``pit --version``."""
+        try:
+            return self.run(["--version"]).strip().splitlines()
+        except PlanError:
+            return ["unknown"]
+
+    def slopes(self, blocks: Path, settings: Path, out: Path) -> None:
+        """Writes the predecessors of each block, by the offsets that `settings` lists."""
+        self.run(["slopes", "--blocks", blocks, "--pattern", "settings", "--settings", settings, "--verbose"], out)
+
+    def best(self, files: Files, factor: int, certificate: Path, progress: Progress | None = None) -> Accepted:
+        """The best pit at a factor: its certificate is written, and then checked as the file that was written.
+
+        Parameters
+        ----------
+        factor : int
+            Of the revenue, in thousandths.
+        certificate : Path
+            The file to write.
+        progress : function, optional
+            Is told how many blocks of how many are settled.
+
+        Raises
+        ------
+        NotAccepted
+            Where there was no certificate, or the check refuses it.
+        """
+        more: list[Word] = ["--progress"] if progress else []
+        said = self.run(["solve", *files.words(), "--factor", factor, "--verbose", *more], certificate, progress)
+        if said:
+            raise NotAccepted(f"pit solve at factor {factor / 1000:g}: {said.strip()}", try_this=hint_of(said))
+        return self.check(files, certificate)
+
+    def check(self, files: Files, certificate: Path) -> Accepted:
+        """Lets `pit check` judge a certificate.
+
+        Raises
+        ------
+        NotAccepted
+            Where it doesn't answer ACCEPTED, or the file changed meanwhile.
+        """
+        before = sha256(certificate)
+        line = self.run(["check", *files.words(), "--verbose", certificate]).strip()
+        found = re.fullmatch(r"ACCEPTED (\d+) (-?[\d.]+)", line)
+        if not found:
+            raise NotAccepted(f"pit check: {line}", try_this=hint_of(line))
+        size, factor, blocks, digest = pit_lines(certificate)
+        if digest != before or len(blocks) != int(found[1]):
+            raise NotAccepted("the certificate changed while it was read")
+        return Accepted(int(found[1]), found[2], blocks, factor, digest, size, BEGUN)
+
+    def run(self, words: Sequence[Word], out: Path | None = None, progress: Progress | None = None) -> str:
+        """Runs `pit`.
+
+        Parameters
+        ----------
+        words : sequence
+            Of its command line.
+        out : Path, optional
+            The file that its standard output is written to.
+
+        Returns
+        -------
+        str
+            Its standard output; with `out`, nothing where it is done, and the answer where that is no.
+
+        Raises
+        ------
+        PlanError, MachineError
+            Where it ended with another status than 0 or 1, or by a signal: with its own words, and what to try.
+        """
+        told: list[str] = []
+        with open(out, "wb") if out else open(os.devnull, "wb") as target:
+            run = self.started(words, target.fileno() if out else subprocess.PIPE)
+            ear = threading.Thread(target=listen, args=(run, told, progress), daemon=True)
+            ear.start()
+            try:
+                text = run.stdout.read().decode(errors="replace") if run.stdout else ""
+                status = run.wait()
+            except BaseException:
+                run.kill()
+                run.wait()
+                raise
+            finally:
+                ear.join()
+                with self.lock:
+                    self.running.discard(run)
+        if status == 1 and out:
+            return out.read_text(errors="replace")[:1000]
+        if status in (0, 1):
+            return text
+        raise self.ended(str(words[0]), status, " ".join(told))
+
+    def started(self, words: Sequence[Word], output: int) -> subprocess.Popen[bytes]:
+        """Starts `pit`, so that it ends when this process does: setpriv is of util-linux, which Debian always has."""
+        setpriv = shutil.which("setpriv")
+        before = [setpriv, "--pdeathsig", "KILL", "--"] if setpriv else []
+        with self.lock:
+            if self.is_stopped:
+                raise KeyboardInterrupt
+            try:
+                run = subprocess.Popen([*before, self.program, *map(str, words)], stdin=subprocess.DEVNULL, stdout=output,
+                                       stderr=subprocess.PIPE, process_group=0)      # ctrl-C is for this process, which ends it
+            except OSError as error:
+                raise MachineError(f"{self.program} can't be started: {error.strerror}") from None
+            self.running.add(run)
+        return run
+
+    def stop(self) -> None:
+        """Ends all that runs, and starts nothing more."""
+        with self.lock:
+            self.is_stopped = True
+            for run in self.running:
+                run.kill()
+
+    def ended(self, command: str, status: int, fault: str) -> PlanError:
+        """The error of a run that ended with another status than 0 or 1."""
+        if self.is_stopped:
+            return MachineError("stopped")
+        how = f"was ended by {signal.Signals(-status).name}" if status < 0 else f"ended with status {status}"
+        hint = "fewer --workers: memory was short, or somebody ended it" if status == -signal.SIGKILL else hint_of(fault)
+        kind = MachineError if status < 0 or status == 4 else PlanError
+        return kind(f"pit {command} {how}" + (f": {fault}" if fault else ""), try_this=hint)
+
+
+def hint_of(said: str) -> str | None:
+    return next((hint for key, hint in HINTS.items() if key in said), None)
+
+
+def listen(run: subprocess.Popen[bytes], told: list[str], progress: Progress | None) -> None:
+    """Takes in what `pit` says on standard error: how far it is, and what is wrong."""
+    assert run.stderr is not None
+    for raw in run.stderr:
+        line = raw.decode(errors="replace").rstrip()
+        found = re.match(r"progress: (\d+) of (\d+) blocks settled", line)
+        if found and progress:
+            progress(int(found[1]), int(found[2]))
+        elif not line.startswith("progress:"):
+            told.append(line)
+
+
+def pit_lines(certificate: Path) -> tuple[int, int, npt.NDArray[np.int64], str]:
+    """How many blocks the model of a certificate has, its factor, the blocks of its PIT lines, and the sha256 of the whole
+    file, in one pass; the flow is only hashed."""
+    digest, rest, found, head, is_over = hashlib.sha256(), b"", [], [b""], False
+    with open(certificate, "rb") as file:
+        while data := file.read(PIECE):
+            digest.update(data)
+            if is_over:
+                continue
+            data = rest + data
+            cut = data.rfind(b"\n") + 1
+            piece, rest = data[:cut], data[cut:]
+            if len(head) < 4:
+                *head, piece = piece.split(b"\n", 4)
+            ends = [at for at in map(piece.find, (b"SOURCE ", b"REST ", b"SINK ", b"END")) if at >= 0]
+            if ends:
+                piece, is_over = piece[:min(ends)], True
+            found.append(numbers_in(piece))
+    size, factor = head[1].split()[-1], head[2].split()[-1]
+    if not factor.isdigit() or not size.isdigit():
+        raise NotAccepted(f"a certificate without a factor: {head[2].decode(errors='replace')}")
+    return int(size), int(factor), np.concatenate(found) if found else np.empty(0, np.int64), digest.hexdigest()
+
+
+def numbers_in(lines: bytes) -> npt.NDArray[np.int64]:
+    """The numbers of lines ``PIT b``."""
+    if not lines:
+        return np.empty(0, np.int64)
+    found: npt.NDArray[np.int64] = np.fromstring(lines.replace(b"PIT ", b"").decode(), dtype=np.int64, sep="\n")
+    if len(found) != lines.count(b"\n"):
+        raise NotAccepted("a certificate has other lines between its PIT lines")
+    return found

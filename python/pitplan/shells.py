@@ -1,0 +1,136 @@
+"""The pits of a series of factors, one within the next, and what is asked of them."""
+from __future__ import annotations
+
+from collections.abc import Iterable
+from typing import TYPE_CHECKING
+
+import numpy as np
+import numpy.typing as npt
+import pandas as pd
+
+from . import edges, pit_by_pit
+from .amounts import LARGEST_FACTOR, THOUSAND
+from .errors import Disagreement, PlanError
+
+if TYPE_CHECKING:
+    from .study import Study, Verdict
+
+Bools = npt.NDArray[np.bool_]
+
+
+def thousandths(share: float) -> int:
+    """A share of the price as `pit` takes it: whole thousandths, from 0 to 10,000.
+
+    Raises
+    ------
+    PlanError
+        Where it is none.
+
+    >>> thousandths(0.85)
+    850
+    """
+    if isinstance(share, bool) or not isinstance(share, (int, float, np.floating, np.integer)):
+        raise PlanError(f"a factor is {share!r}, and has to be a share of the price, as 0.85")
+    found = round(float(share) * THOUSAND)
+    if abs(found - share * THOUSAND) > 1e-6 or not 0 <= found <= LARGEST_FACTOR:
+        hint = f"{share / THOUSAND:g}" if LARGEST_FACTOR / THOUSAND < share <= LARGEST_FACTOR else None
+        raise PlanError(f"a factor is {share:g}, and has to be a share of the price in whole thousandths, from 0 to {LARGEST_FACTOR // THOUSAND}", try_this=hint)
+    return found
+
+
+def factors(low: float, high: float, step: float) -> list[int]:
+    """Factors in thousandths, as `pit` takes them, from shares of the price.
+
+    >>> factors(0.9, 1.1, 0.05)
+    [900, 950, 1000, 1050, 1100]
+    """
+    if not step > 0 or high < low:
+        raise PlanError(f"factors from {low:g} to {high:g} by {step:g}: there are none", try_this="from = 0.30, to = 1.20, step = 0.05")
+    count = int((high - low) / step + 1e-9)
+    return [thousandths(round(low + i * step, 9)) for i in range(count + 1)]
+
+
+def series_of(shares: Iterable[float]) -> list[int]:
+    """Shares of the price in ascending order, as factors in thousandths."""
+    found = [thousandths(share) for share in shares]
+    if not found or any(b <= a for a, b in zip(found, found[1:])):
+        raise PlanError(f"factors = {[f / THOUSAND for f in found]} aren't in ascending order", try_this="factors = { from = 0.30, to = 1.20, step = 0.05 } for a series")
+    return found
+
+
+class Shells:
+    """The accepted pits of a study at a series of factors. A shell is what a pit adds to the one before it.
+
+    Every pit is checked again as it is read: the digests of the model's files and of the pit, its count, its worth by the
+    planner's own table, and that it lies within the next.
+
+    Parameters
+    ----------
+    study : Study
+    series : iterable of int
+        Factors in thousandths, that have been run.
+
+    Attributes
+    ----------
+    factors : list of int
+        In thousandths, ascending.
+    shell : int array of shape (blocks,)
+        The first pit that has a block, as an index into `factors`; ``len(factors)`` where none has it.
+    verdicts : list of dict
+        What is kept of each pit: factor, count, worth, certificate and more, as `study.Verdict`.
+
+    Raises
+    ------
+    PlanError
+        Where a pit hasn't been run, or a file of the model isn't the one that was built.
+    Disagreement
+        Where a check contradicts what was accepted. Nothing is shown then.
+    """
+
+    def __init__(self, study: Study, series: Iterable[int]) -> None:
+        self.study = study
+        self.factors = sorted(series)
+        study.verify()
+        self.shell: npt.NDArray[np.int16] = np.full(study.manifest["blocks"], len(self.factors), np.int16)
+        self.verdicts: list[Verdict] = []
+        below: Bools | None = None
+        for i in reversed(range(len(self.factors))):
+            mask = study.mask(self.factors[i])
+            if below is not None and (mask & ~below).any():
+                raise Disagreement(f"the pit at {self.factors[i] / THOUSAND:g} isn't within that at {self.factors[i + 1] / THOUSAND:g}, and pit proves that it is",
+                                   try_this="were results of several models mixed in this folder?")
+            self.shell[mask] = i
+            below = mask
+            verdict = study.verdict(self.factors[i])
+            assert verdict is not None       # its mask has just been read
+            self.verdicts.insert(0, verdict)
+
+    def __len__(self) -> int:
+        return len(self.factors)
+
+    def holds(self, i: int) -> Bools:
+        """Whether a block is in pit i, of shape (blocks,)."""
+        if not 0 <= i < len(self.factors):
+            raise IndexError(f"there are pits 0 to {len(self.factors) - 1}")
+        held: Bools = self.shell <= i
+        return held
+
+    def of_blocks(self) -> pd.DataFrame:
+        """The first shell that has each block: ``id``, ``row`` (as a spreadsheet counts it; 0 for blocks that were added) and
+        ``shell``, the factor as a share of the price, empty where no pit has the block."""
+        b = self.study.model.blocks
+        shares = np.array([*(factor / THOUSAND for factor in self.factors), np.nan])
+        rows = b["row"].to_numpy()
+        return pd.DataFrame({"id": b["id"].to_numpy(), "row": np.where(rows >= 0, rows + 2, 0), "shell": shares[self.shell]})
+
+    def table(self, base: int = THOUSAND, mining_rate: float | None = None, mill_rate: float | None = None, discount: float = 0.10) -> pd.DataFrame:
+        """Pit by pit: a row for each factor. See `pit_by_pit.table`."""
+        return pit_by_pit.table(self, base, pit_by_pit.Rates(mining_rate, mill_rate, discount))
+
+    def benches(self, base: int = THOUSAND) -> pd.DataFrame:
+        """Bench by shell. See `pit_by_pit.benches`."""
+        return pit_by_pit.benches(self, base)
+
+    def touches_edge(self, i: int) -> int:
+        """How many blocks of pit i have a slope that asks for a place outside the model. See `edges.touching`."""
+        return int(np.count_nonzero(edges.touching(self, i)))

@@ -1,0 +1,76 @@
+"""A model as arrays in one file, without pickles: a file that a stranger sends can hold numbers and words, and no code."""
+from __future__ import annotations
+
+import json
+from pathlib import Path
+from typing import Any
+
+import numpy as np
+import numpy.typing as npt
+import pandas as pd
+
+from .amounts import Priced, rounding_of
+from .grid import Grid
+from .model import Model
+
+Array = npt.NDArray[Any]
+COLUMN, WORDS, METAL, GRADE = "column ", "words ", "metal ", "grade "
+
+
+def words_as_bytes(words: Any) -> Array:
+    """Words as one array of UTF-8 bytes, a line each: a fixed width for all would take the longest one's for each."""
+    return np.frombuffer("\n".join(str(word).replace("\n", " ") for word in words).encode(), np.uint8)
+
+
+def bytes_as_words(data: Array, count: int) -> Array:
+    return np.array(bytes(data).decode().split("\n") if count else [], dtype=object)
+
+
+def save(path: Path, model: Model, priced: Priced, region: npt.NDArray[np.int64]) -> None:
+    """Writes a model, what its blocks bring and cost, and the region of slopes of each block."""
+    arrays: dict[str, Array] = {"revenue": priced.revenue, "processing": priced.processing, "mining": priced.mining,
+                                "row_block": model.row_block, "region": region.astype(np.uint16)}
+    arrays |= {METAL + name: units for name, units in priced.metal.items()}
+    arrays |= {GRADE + name: grade for name, grade in priced.grade.items()}
+    for name in model.blocks.columns:
+        values = model.blocks[name]
+        arrays |= {WORDS + name: words_as_bytes(values)} if values.dtype.kind not in "iufb" else {COLUMN + name: values.to_numpy()}
+    g = model.grid
+    told = {"origin": g.origin, "size": g.size, "shape": g.shape, "rotation": g.rotation, "name": model.name, "notes": model.notes, "depth": model.depth,
+            "columns": model.columns, "order": list(map(str, model.blocks.columns)), "blocks": len(model), "rounding": str(priced.rounding), "feed": priced.feed}
+    np.savez(path, told=np.frombuffer(json.dumps(told).encode(), np.uint8), **arrays)
+
+
+def told_of(file: Any) -> dict[str, Any]:
+    told: dict[str, Any] = json.loads(bytes(file["told"]).decode())
+    return told
+
+
+def three(values: list[Any]) -> tuple[Any, Any, Any]:
+    x, y, z = values
+    return x, y, z
+
+
+def load_model(path: Path) -> Model:
+    """The model that `save` wrote."""
+    with np.load(path, allow_pickle=False) as file:
+        told = told_of(file)
+        columns = {name: file[COLUMN + name] if COLUMN + name in file.files else bytes_as_words(file[WORDS + name], told["blocks"]) for name in told["order"]}
+        grid = Grid(three(told["origin"]), three(told["size"]), three(told["shape"]), told["rotation"])
+        return Model(pd.DataFrame(columns), grid, told["name"], told["notes"], told["columns"], file["row_block"], told["depth"])
+
+
+def load_priced(path: Path) -> Priced:
+    """What the blocks bring and cost; the planner's own columns aren't read."""
+    with np.load(path, allow_pickle=False) as file:
+        told = told_of(file)
+        metal = {name[len(METAL):]: file[name] for name in file.files if name.startswith(METAL)}
+        grade = {name[len(GRADE):]: file[name] for name in file.files if name.startswith(GRADE)}
+        return Priced(file["revenue"], file["processing"], file["mining"], rounding_of(told["rounding"]), metal, grade, told["feed"])
+
+
+def load_region(path: Path) -> npt.NDArray[np.int64]:
+    """The region of slopes of each block: 0 is "default", the others in the order of ``study.toml``."""
+    with np.load(path, allow_pickle=False) as file:
+        region: npt.NDArray[np.int64] = file["region"].astype(np.int64)
+        return region

@@ -1,0 +1,365 @@
+"""A study: a folder that holds the model as `pit` reads it, and a proved pit for each factor.
+
+    study.toml                                     what the planner says
+    model/   mine.blocks mine.prec settings.toml slope-*.toml blocks.npz manifest.json
+    runs/base/f00800/   best.cert.gz pit.npz verdict.json
+    out/     tables and pictures
+
+Each of these is written in a folder of its own and renamed, so that it is there whole or not at all. A pit counts where its
+verdict names the digests of the model as it stands; what else is there is made again. So a run that was cut off goes on
+where it was, and a pit of an older model is never shown.
+"""
+from __future__ import annotations
+
+import errno
+import gzip
+import hashlib
+import json
+import os
+import shutil
+import tempfile
+import time
+from collections.abc import Callable, Iterator, Sequence
+from contextlib import contextmanager
+from functools import cached_property
+from pathlib import Path
+from typing import TYPE_CHECKING, Any, TypedDict
+
+import numpy as np
+import numpy.typing as npt
+import pandas as pd
+
+from . import store
+from .amounts import THOUSAND, Priced, as_text
+from .economics import Economics
+from .errors import Disagreement, MachineError, PlanError
+from .model import Model
+from .program import Accepted, Files, Pit, sha256
+
+if TYPE_CHECKING:
+    from .shells import Shells
+    from .slopes import Slopes
+
+Bools = npt.NDArray[np.bool_]
+Told = Callable[[int, str, float], None]     # a factor, what is done for it, and how far that is, from 0 to 1
+COLUMNS = ("revenue", "processing", "mining", "tonnes")
+READ = ("mine.blocks", "mine.prec", "settings.toml")
+
+
+class Verdict(TypedDict):
+    """What is kept of a pit that `pit check` accepted."""
+
+    factor: int
+    count: int
+    worth: str
+    certificate: str
+    certificate_bytes: int
+    bits: str
+    model: str
+    pit: list[str]
+    seconds: float
+    host: str
+
+
+class Study:
+    """A study that was built.
+
+    Parameters
+    ----------
+    folder : str or Path
+    program : Pit, optional
+        Found as `program.found_program` says unless given.
+
+    Attributes
+    ----------
+    manifest : dict
+        ``key`` (of the three files that `pit` reads), ``files`` (sha256 by name), ``blocks``, ``pairs``, ``offsets`` by region,
+        ``metals``, ``currency``, ``source`` (the table and its sha256), ``keys`` (the digest of study.toml), ``pit``.
+
+    Raises
+    ------
+    PlanError
+        Where the folder is no study, or its making was cut off.
+    """
+
+    def __init__(self, folder: str | Path, program: Pit | None = None) -> None:
+        self.folder = Path(folder)
+        self.where = self.folder / "model"
+        try:
+            self.manifest: dict[str, Any] = json.loads((self.where / "manifest.json").read_text())
+        except (FileNotFoundError, NotADirectoryError):
+            raise PlanError(f"{self.folder} is no study, or was never built", try_this="pitplan build") from None
+        except json.JSONDecodeError:
+            raise PlanError(f"{self.where / 'manifest.json'} is damaged", try_this="pitplan build") from None
+        self.key: str = self.manifest["key"]
+        self.given = program
+
+    @cached_property
+    def program(self) -> Pit:
+        return self.given or Pit()
+
+    @property
+    def blocks_file(self) -> Path:
+        return self.where / "mine.blocks"
+
+    @property
+    def prec_file(self) -> Path:
+        return self.where / "mine.prec"
+
+    @property
+    def settings_file(self) -> Path:
+        return self.where / "settings.toml"
+
+    @property
+    def files(self) -> Files:
+        return Files(self.prec_file, self.blocks_file, self.settings_file)
+
+    @cached_property
+    def model(self) -> Model:
+        return store.load_model(self.where / "blocks.npz")
+
+    @cached_property
+    def priced(self) -> Priced:
+        return store.load_priced(self.where / "blocks.npz")
+
+    @cached_property
+    def region(self) -> npt.NDArray[np.int64]:
+        """The region of slopes of each block, of shape (blocks,): an index into ``manifest["offsets"]``."""
+        return store.load_region(self.where / "blocks.npz")
+
+    @classmethod
+    def create(cls, folder: str | Path, model: Model, economics: Economics, slopes: Slopes, program: Pit | None = None, keys: str = "") -> Study:
+        """Makes the files that `pit` reads. A model that stands there already is replaced once the new one is whole.
+
+        Parameters
+        ----------
+        folder : str or Path
+        model : Model
+        economics : Economics
+        slopes : Slopes
+        program : Pit, optional
+        keys : str
+            The digest of the text that all this was read from.
+
+        Raises
+        ------
+        PlanError
+            Where the model, the economics or the slopes are wrong. The study that was there stays as it was.
+        """
+        from .slopes import count_pairs, write_prec
+        folder, pit = Path(folder), program or Pit()
+        priced = economics.priced(model)
+        region = slopes.region_of(model)
+        folder.mkdir(parents=True, exist_ok=True)
+        with made_whole(folder / "model") as work:
+            write_blocks(work / "mine.blocks", model, priced)
+            (work / "settings.toml").write_text("".join(f"{name} = {i}\n" for i, name in enumerate(COLUMNS)))
+            offsets = write_prec(slopes, model, pit, work / "mine.blocks", work / "mine.prec")
+            store.save(work / "blocks.npz", model, priced, region)
+            files = {path.name: sha256(path) for path in sorted(work.iterdir())}
+            manifest = {"key": key_of(files), "files": files, "blocks": len(model), "pairs": count_pairs(slopes, model), "pit": pit.version(), "keys": keys, "notes": model.notes,
+                        "source": {"table": str(model.source), "sha256": sha256(model.source)} if model.source else None,
+                        "offsets": {name: [list(map(int, o)) for o in found] for name, found in offsets.items()}, "currency": economics.currency,
+                        "metals": {m.name: {"grade": m.grade, "grade_unit": m.grade_unit, "price_unit": m.price_unit} for m in economics.metals}}
+            (work / "manifest.json").write_text(json.dumps(manifest, indent=1))
+        return cls(folder, pit)
+
+    def verify(self) -> None:
+        """Takes the digests of the model's files again.
+
+        Raises
+        ------
+        PlanError
+            Where a file isn't the one that the build made.
+        """
+        for name, digest in self.manifest["files"].items():
+            path = self.where / name
+            if not path.is_file() or sha256(path) != digest:
+                raise PlanError(f"{path} isn't the file that the build made" if path.is_file() else f"{path} is gone", try_this="pitplan build")
+
+    def place(self, factor: int) -> Path:
+        """The folder of a factor's result (in thousandths)."""
+        return self.folder / "runs" / "base" / f"f{factor:05d}"
+
+    def verdict(self, factor: int) -> Verdict | None:
+        """The verdict of a run that is done over this very model, else None."""
+        try:
+            found: Verdict = json.loads((self.place(factor) / "verdict.json").read_text())
+        except (FileNotFoundError, NotADirectoryError, json.JSONDecodeError):
+            return None
+        return found if found.get("model") == self.key and found.get("factor") == factor else None
+
+    def run(self, factor: int, told: Told | None = None) -> Verdict:
+        """One pit: found, checked, added up again, and put in its place whole. Where it is there already, nothing is done.
+
+        Parameters
+        ----------
+        factor : int
+            Of the revenue, in thousandths.
+        told : function, optional
+            Is told the factor, what is done for it, and how far that is.
+
+        Raises
+        ------
+        NotAccepted
+            Where `pit check` doesn't accept.
+        Disagreement
+            Where the planner's own table doesn't add up to what `pit` says. Nothing is kept then.
+        """
+        done = self.verdict(factor)
+        if done:
+            return done
+        began, place = time.time(), self.place(factor)
+        with made_whole(place) as work:
+            certificate = work / "best.cert"
+            found = self.program.best(self.files, factor, certificate, solving(told, factor))
+            self.agree(found, factor)
+            bits = np.packbits(found.mask)
+            np.savez_compressed(work / "pit.npz", bits=bits)
+            size = certificate.stat().st_size
+            packed(certificate, work / "best.cert.gz")
+            done = Verdict(factor=factor, count=found.count, worth=found.worth, certificate=found.certificate, certificate_bytes=size,
+                           bits=hashlib.sha256(bits.tobytes()).hexdigest(), model=self.key, pit=self.manifest["pit"],
+                           seconds=round(time.time() - began, 2), host=host())
+            (work / "verdict.json").write_text(json.dumps(done, indent=1))
+        return done
+
+    def agree(self, found: Accepted, factor: int) -> None:
+        """The first two checks: the pit's worth, added up again from the planner's table in whole numbers, is `pit`'s to the
+        last digit, and so is its count of blocks."""
+        if found.factor != factor or found.size != self.manifest["blocks"]:
+            raise Disagreement(f"the certificate is of factor {found.factor / THOUSAND:g} over {found.size:,} blocks, and {factor / THOUSAND:g} over {self.manifest['blocks']:,} was asked for")
+        self.adds_up(found.mask, found.count, found.worth, factor)
+
+    def adds_up(self, mask: Bools, count: int, worth: str, factor: int) -> None:
+        """Raises Disagreement where a pit's blocks aren't `count`, or the table doesn't add up to `worth` over them."""
+        ours = self.priced.worth_of(mask, factor)
+        if ours != worth or int(mask.sum()) != count:
+            raise Disagreement(f"at factor {factor / THOUSAND:g} pit says {count:,} blocks worth {worth}, and the table adds up to {int(mask.sum()):,} blocks worth {ours}",
+                               try_this="this is a mistake in pitplan or damage on the disk: keep the folder, and tell the maintainers")
+
+    def mask(self, factor: int) -> Bools:
+        """Whether a block is in the pit at a factor (in thousandths), of shape (blocks,), with all checks made again.
+
+        Raises
+        ------
+        PlanError
+            Where that pit hasn't been run over this model.
+        Disagreement
+            Where what is kept isn't what was accepted.
+        """
+        done = self.verdict(factor)
+        if not done:
+            raise PlanError(f"the pit at factor {factor / THOUSAND:g} hasn't been run over this model", try_this="pitplan shells")
+        with np.load(self.place(factor) / "pit.npz", allow_pickle=False) as file:
+            bits = file["bits"]
+        if hashlib.sha256(bits.tobytes()).hexdigest() != done["bits"]:
+            raise Disagreement(f"{self.place(factor) / 'pit.npz'} isn't what was accepted", try_this=f"take {self.place(factor)} away, and pitplan shells again")
+        mask: Bools = np.unpackbits(bits, count=self.manifest["blocks"]).astype(bool)
+        self.adds_up(mask, done["count"], done["worth"], factor)
+        return mask
+
+    def pit(self, share: float) -> Accepted:
+        """The pit at a share of the price, run where it hasn't been, and checked by `pit check` once more.
+
+        Parameters
+        ----------
+        share : float
+            1.0 is the price as it stands.
+        """
+        from .shells import thousandths
+        factor = thousandths(share)
+        self.verify()
+        self.run(factor)
+        with tempfile.TemporaryDirectory(prefix="pitplan-") as work:
+            plain = Path(work) / "best.cert"
+            with gzip.open(self.place(factor) / "best.cert.gz", "rb") as source, open(plain, "wb") as target:
+                shutil.copyfileobj(source, target, 1 << 20)
+            found = self.program.check(self.files, plain)
+        self.agree(found, factor)
+        return found
+
+    def shells(self, series: Sequence[int] | None = None, workers: int | None = None, told: Told | None = None) -> Shells:
+        """The proved pit at each factor; those that are there already aren't run again.
+
+        Parameters
+        ----------
+        series : sequence of int, optional
+            Factors in thousandths, as `shells.factors` makes them; 0.30 to 1.20 by 0.05 unless told.
+        workers : int, optional
+            How many pits are found at a time; as many as processors and free memory allow unless told.
+        """
+        from .shells import Shells, factors
+        from .workers import run_all
+        found = sorted(set(series)) if series is not None else factors(0.3, 1.2, 0.05)
+        self.verify()
+        sweep(self.folder / "runs" / "base")
+        run_all(self, found, workers, told)
+        return Shells(self, found)
+
+
+def solving(told: Told | None, factor: int) -> Callable[[int, int], None] | None:
+    """How far `pit solve` is, in the words of `Told`."""
+    if told is None:
+        return None
+    listener = told
+    listener(factor, "solving", 0.0)
+    return lambda settled, of: listener(factor, "solving", settled / of if of else 0.0)
+
+
+def key_of(files: dict[str, str]) -> str:
+    """What names a model: the digest of the digests of the three files that `pit` reads."""
+    return hashlib.sha256("".join(files[name] for name in READ).encode()).hexdigest()
+
+
+def write_blocks(path: Path, model: Model, priced: Priced) -> None:
+    """`.blocks`: number, place, and the four columns of `COLUMNS`, amounts as exact decimals."""
+    b = model.blocks
+    table = pd.DataFrame({"b": np.arange(len(b)), "x": b.ix.to_numpy(), "y": b.iy.to_numpy(), "z": b.iz.to_numpy(),
+                          **{name: as_text(getattr(priced, name), priced.rounding) for name in COLUMNS[:3]}, "tonnes": np.round(b.tonnes.to_numpy(), 3)})
+    table.to_csv(path, sep=" ", header=False, index=False)
+
+
+def packed(plain: Path, target: Path) -> None:
+    """Packs a certificate, and takes the plain one away."""
+    with open(plain, "rb") as source, open(target, "wb") as raw, gzip.GzipFile("", "wb", 1, raw, mtime=0) as out:
+        shutil.copyfileobj(source, out, 1 << 20)
+    plain.unlink()
+
+
+@contextmanager
+def made_whole(place: Path) -> Iterator[Path]:
+    """A folder to write in, that is renamed to `place` at the end; whatever goes wrong before, `place` stays as it was.
+
+    Its name says the host and the process, for `sweep`.
+    """
+    place.parent.mkdir(parents=True, exist_ok=True)
+    work = Path(tempfile.mkdtemp(prefix=f".{place.name}.{host()}.{os.getpid()}.", dir=place.parent))
+    work.chmod(place.parent.stat().st_mode & 0o777)       # mkdtemp makes it for one's own eyes
+    try:
+        yield work
+        older = work.with_name(work.name + ".old")
+        if place.exists():
+            os.rename(place, older)
+        os.rename(work, place)
+        shutil.rmtree(older, ignore_errors=True)
+    except OSError as error:
+        shutil.rmtree(work, ignore_errors=True)
+        hint = "make room on the disk, and start the same command again: what is done is kept" if error.errno in (errno.ENOSPC, errno.EDQUOT) else None
+        raise MachineError(f"{error.filename or place}: {error.strerror}", try_this=hint) from error
+    except BaseException:
+        shutil.rmtree(work, ignore_errors=True)
+        raise
+
+
+def host() -> str:
+    """This machine's name, without points, since those part the name of a folder."""
+    return os.uname().nodename.replace(".", "_")
+
+
+def sweep(folder: Path) -> None:
+    """Takes away what processes of this machine that are no more have left half done."""
+    for half in folder.glob(".f*"):
+        parts = half.name.removesuffix(".old").rsplit(".", 3)
+        if len(parts) == 4 and parts[1] == host() and not os.path.exists(f"/proc/{parts[2]}"):
+            shutil.rmtree(half, ignore_errors=True)

@@ -1,0 +1,168 @@
+"""``study.toml``: what the planner says, read and checked. Unknown keys are errors that name the nearest known one."""
+from __future__ import annotations
+
+import hashlib
+import json
+import tomllib
+from collections.abc import Mapping
+from dataclasses import dataclass, field, fields
+from pathlib import Path
+from typing import Any
+
+from .economics import Economics, Metal
+from .errors import PlanError, meant
+from .model import Model, TableKeys, read_with
+from .pit_by_pit import Rates
+from .shells import factors, series_of
+from .slopes import Slopes
+
+NAME = "study.toml"
+SECTIONS = ("model", "economics", "slopes", "shells", "pictures")
+RATES = ("mining_rate", "mill_rate", "discount")
+SERIES = ("from", "to", "step")
+
+
+@dataclass(frozen=True)
+class StudyFile:
+    """What a ``study.toml`` says.
+
+    Attributes
+    ----------
+    path : Path
+    table : Path
+        The table of blocks; a relative path counts from the folder of ``study.toml``.
+    keys : TableKeys
+    economics : Economics
+    slopes : Slopes
+    factors : list of int
+        In thousandths.
+    rates : dict
+        Of ``mining_rate``, ``mill_rate``, ``discount`` those that are given: words for `Shells.table`.
+    pictures : dict
+        The section [pictures].
+    digest : str
+        Of the sections [model], [economics] and [slopes]: what a built model rests on.
+    """
+
+    path: Path
+    table: Path
+    keys: TableKeys
+    economics: Economics
+    slopes: Slopes
+    factors: list[int]
+    rates: dict[str, float]
+    pictures: dict[str, Any] = field(default_factory=dict)
+    digest: str = ""
+
+    def read_model(self) -> Model:
+        """The model that the table holds."""
+        return read_with(self.table, self.keys)
+
+
+def path_of(study: Path) -> Path:
+    """The study.toml of a study, which is named by its folder or by that file."""
+    return study if study.suffix == ".toml" else study / NAME
+
+
+def read_study_file(study: Path) -> StudyFile:
+    """Reads ``study.toml``.
+
+    Parameters
+    ----------
+    study : Path
+        The folder of the study, or the file itself.
+
+    Raises
+    ------
+    PlanError
+        Where it isn't there, isn't TOML, or has a section, a key or a value that it may not have.
+    """
+    path = path_of(study)
+    try:
+        told = tomllib.loads(path.read_text("utf-8-sig"))
+    except FileNotFoundError:
+        raise PlanError(f"{path} isn't there", try_this="pitplan init TABLE.csv") from None
+    except (tomllib.TOMLDecodeError, UnicodeDecodeError) as error:
+        raise PlanError(f"isn't TOML: {error}", table=path) from None
+    try:
+        return checked(path, told)
+    except PlanError as error:
+        raise type(error)(error.what, table=error.table or path.name, row=error.row, column=error.column, try_this=error.try_this) from None
+
+
+def checked(path: Path, told: Mapping[str, Any]) -> StudyFile:
+    """The sections of a study.toml as what they say."""
+    known("the file", told, SECTIONS)
+    for name in SECTIONS[:3]:
+        if name not in told:
+            raise PlanError(f"there is no section [{name}]", try_this="pitplan init TABLE.csv writes all of them")
+    for name, section in told.items():
+        if not isinstance(section, dict):
+            raise PlanError(f"{name} has to be a section: [{name}] in a line of its own")
+    model = dict(told["model"])
+    if not isinstance(model.get("table"), str):
+        raise PlanError("[model] has no table", try_this='table = "mine.csv"')
+    table = path.parent / Path(model.pop("table")).expanduser()
+    keys = made("model", TableKeys, model)
+    shells = told.get("shells", {})
+    known("[shells]", shells, ("factors", *RATES))
+    rates = {name: shells[name] for name in RATES if name in shells}
+    Rates(rates.get("mining_rate"), rates.get("mill_rate"), rates.get("discount", 0.1))
+    digest = hashlib.sha256(json.dumps([told[name] for name in SECTIONS[:3]], sort_keys=True, default=str).encode()).hexdigest()
+    return StudyFile(path, table, keys, economics_of(told["economics"]), made("slopes", Slopes, told["slopes"]), series(shells.get("factors")),
+                     rates, dict(told.get("pictures", {})), digest)
+
+
+def known(where: str, found: Mapping[str, Any], names: tuple[str, ...]) -> None:
+    """Refuses keys that are none of `names`."""
+    for key in found:
+        if key not in names:
+            raise PlanError(f"{where} has no {'section' if where == 'the file' else 'key'} {key!r}{meant(key, names)}", try_this=", ".join(names))
+
+
+def made(section: str, kind: Any, found: Mapping[str, Any]) -> Any:
+    """A dataclass of the keys of a section."""
+    known(f"[{section}]", found, tuple(f.name for f in fields(kind) if f.init))
+    for f in fields(kind):
+        kept = found.get(f.name)
+        if str(f.type) == "bool" and not isinstance(kept, (bool, type(None))):
+            raise PlanError(f"[{section}] {f.name} is {kept!r}, and has to be true or false")
+        if str(f.type) in ("int", "float", "int | None") and (isinstance(kept, bool) or not isinstance(kept, (int, float, type(None)))):
+            raise PlanError(f"[{section}] {f.name} is {kept!r}, and has to be a number")
+    try:
+        return kind(**found)
+    except TypeError as error:
+        raise PlanError(f"[{section}]: {error}".replace("__init__() ", "")) from None
+
+
+def economics_of(found: Mapping[str, Any]) -> Economics:
+    """The section [economics]."""
+    metals = found.get("metals", [])
+    if not isinstance(metals, list) or not all(isinstance(m, dict) for m in metals):
+        raise PlanError("[economics] metals has to be a list of tables", try_this='metals = [ { name = "copper", grade = "CU", price = 8500 } ]')
+    needed = ("name", "grade", "price")
+    for m in metals:
+        known("[economics] metals", m, tuple(f.name for f in fields(Metal)))
+        for key in needed:
+            if key not in m:
+                raise PlanError(f"[economics] metal {m.get('name', '')} has no {key}", try_this=", ".join(needed))
+    for key in ("mining", "processing"):
+        if key not in found:
+            raise PlanError(f"[economics] has no {key}: what does {'digging' if key == 'mining' else 'treating'} a tonne cost?", try_this=f"{key} = 2.50")
+    economics: Economics = made("economics", Economics, {**found, "metals": tuple(Metal(**m) for m in metals)})
+    return economics
+
+
+def series(found: Any) -> list[int]:
+    """The factors: a series from, to, by; or a list of shares of the price."""
+    if found is None:
+        return factors(0.30, 1.20, 0.05)
+    if isinstance(found, dict):
+        known("[shells] factors", found, SERIES)
+        missing = [key for key in SERIES if key not in found]
+        if missing or not all(isinstance(found[key], (int, float)) for key in SERIES):
+            raise PlanError("[shells] factors needs three numbers: from, to, step", try_this="factors = { from = 0.30, to = 1.20, step = 0.05 }")
+        return factors(*(float(found[key]) for key in SERIES))
+    if isinstance(found, list):
+        return series_of(found)
+    raise PlanError(f"[shells] factors is {found!r}", try_this="factors = { from = 0.30, to = 1.20, step = 0.05 }, or [0.5, 0.75, 1.0]")

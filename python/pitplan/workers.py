@@ -1,0 +1,111 @@
+"""Several pits at a time on this machine: a thread for each, that waits for its `pit`."""
+from __future__ import annotations
+
+import os
+from collections.abc import Sequence
+from concurrent.futures import FIRST_COMPLETED, Future, ThreadPoolExecutor, wait
+from dataclasses import dataclass
+from pathlib import Path
+from typing import TYPE_CHECKING
+
+from .errors import MachineError
+
+if TYPE_CHECKING:
+    from .study import Study, Told, Verdict
+
+PER_BLOCK, PER_PAIR = 260, 24                # bytes of `pit solve`: a tenth more than was measured at 80,000 and 500,000 blocks
+OWN = 40                                     # bytes a block of this process, for each pit at a time
+SHARE = 0.8                                  # of the free memory, that may be taken
+SECONDS_A_BLOCK, SECONDS_A_PAIR = 1e-6, 2.5e-7
+
+
+@dataclass(frozen=True)
+class Guess:
+    """What finding one pit will take, about."""
+
+    pairs: int
+    memory: int
+    seconds: float
+
+
+def guess_of(study: Study) -> Guess:
+    """A first guess by the number of blocks and of pairs; how long a mine takes depends on the mine."""
+    blocks, pairs = study.manifest["blocks"], study.manifest["pairs"]
+    return Guess(pairs, memory_of(blocks, pairs), blocks * SECONDS_A_BLOCK + pairs * SECONDS_A_PAIR)
+
+
+def memory_of(blocks: int, pairs: int) -> int:
+    """Bytes that finding one pit takes, about."""
+    return blocks * (PER_BLOCK + OWN) + pairs * PER_PAIR
+
+
+def free_memory() -> int:
+    """Bytes of memory that are free on this machine, or in the container that this runs in."""
+    free = next((int(line.split()[1]) * 1024 for line in open("/proc/meminfo") if line.startswith("MemAvailable")), 1 << 30)
+    for most, used in (("/sys/fs/cgroup/memory.max", "/sys/fs/cgroup/memory.current"),
+                       ("/sys/fs/cgroup/memory/memory.limit_in_bytes", "/sys/fs/cgroup/memory/memory.usage_in_bytes")):
+        try:
+            limit, now = Path(most).read_text().strip(), Path(used).read_text().strip()
+            free = min(free, int(limit) - int(now)) if limit.isdigit() else free
+        except OSError:
+            pass
+    return max(free, 0)
+
+
+def workers_for(study: Study, wanted: int | None = None) -> int:
+    """How many pits are found at a time: as asked or as there are processors, and no more than free memory has room for."""
+    room = int(SHARE * free_memory() / guess_of(study).memory)
+    return max(1, min(wanted or len(os.sched_getaffinity(0)), room))
+
+
+def run_all(study: Study, factors: Sequence[int], workers: int | None = None, told: Told | None = None) -> None:
+    """Finds the pits that aren't there yet. A `pit` that somebody ends, as the system does where memory is short, is started
+    once more, alone, when the others are done.
+
+    Raises
+    ------
+    PlanError
+        As `Study.run`; what runs then is ended, and what is done is kept.
+    KeyboardInterrupt
+        The same.
+    """
+    study.program.is_stopped = False
+    left = [factor for factor in factors if not study.verdict(factor)]
+    for factor in factors:
+        if told and factor not in left:
+            told(factor, "done", 1.0)
+    again = at_once(study, sorted(left, reverse=True), workers_for(study, workers), told)
+    for factor in again:
+        one(study, factor, told)
+
+
+def one(study: Study, factor: int, told: Told | None) -> Verdict:
+    done = study.run(factor, told)
+    if told:
+        told(factor, "done", 1.0)
+    return done
+
+
+def at_once(study: Study, factors: Sequence[int], workers: int, told: Told | None) -> list[int]:
+    """Runs all factors, the dearest first, and returns those whose `pit` was killed."""
+    killed: list[int] = []
+    with ThreadPoolExecutor(workers) as pool:
+        running: dict[Future[Verdict], int] = {pool.submit(one, study, factor, told): factor for factor in factors}
+        try:
+            while running:
+                for future in wait(running, return_when=FIRST_COMPLETED).done:
+                    factor = running.pop(future)
+                    try:
+                        future.result()
+                    except MachineError as error:
+                        if "SIGKILL" not in error.what:
+                            raise
+                        killed.append(factor)
+                        if told:
+                            told(factor, "killed", 0.0)
+        except BaseException:
+            study.program.stop()
+            for future in running:
+                future.cancel()
+            raise
+    return killed
