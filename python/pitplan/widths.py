@@ -1,0 +1,84 @@
+"""How much room there is on a bench: the widest machine that comes to every place, by plan morphology."""
+from __future__ import annotations
+
+import math
+
+import numpy as np
+import numpy.typing as npt
+from scipy.ndimage import distance_transform_edt
+
+Bools = npt.NDArray[np.bool_]
+Floats = npt.NDArray[np.float64]
+STEPS = 4                                    # radii that are tried, in the shorter side of a block: widths are told to half a block
+SLACK = 1e-9
+
+
+def widths(plane: Bools, size: tuple[float, float], wanted: float = 0.0) -> Floats:
+    """The width of a set of cells at each of them.
+
+    A circle fits where all that it covers is in the set. A cell is as wide as the widest circle that fits and whose square, turned
+    in any way, comes to the cell's centre. So a strip of three blocks is three blocks wide along its whole length, its
+    ends and right-angled bends too; and a place behind a neck has its own width, the neck that of the neck.
+
+    Parameters
+    ----------
+    plane : bool array of shape (nx, ny)
+    size : 2 floats
+        Of a cell along the two axes.
+    wanted : float
+        A width that is tried too, so that `width >= wanted` is exact, in the unit of `size`.
+
+    Returns
+    -------
+    float array of shape (nx, ny)
+        In the unit of `size`: `wanted`, or rounded down to half of a cell's shorter side; 0 outside the set.
+
+    Notes
+    -----
+    The distance to the border is taken at the centres, sides and corners of cells (`scipy.ndimage.distance_transform_edt`), so
+    it is exact along the axes. Circles are tried from the widest down, until every cell has its width.
+    """
+    found = np.zeros(plane.shape)
+    cells = np.argwhere(plane)
+    if not len(cells):
+        return found
+    low, high = cells.min(axis=0), cells.max(axis=0) + 1
+    here = (slice(low[0], high[0]), slice(low[1], high[1]))
+    window, width = plane[here], found[here]
+    half = (size[0] / 2, size[1] / 2)
+    room = distance_transform_edt(lattice(window), sampling=half)
+    step = min(size) / STEPS
+    radii = {step * k for k in range(1, math.floor(room.max() / step + SLACK) + 1)} | ({wanted / 2} if wanted > 0 else set())
+    for radius in sorted(radii, reverse=True):
+        width[window & (width == 0) & reached(room, radius, half)] = 2 * radius
+        if (width[window] > 0).all():
+            break
+    return found
+
+
+def thinnest(width: Floats, size: tuple[float, float]) -> float:
+    """The least of some widths, rounded down to half of a cell's shorter side."""
+    unit = 2 * min(size) / STEPS
+    return math.floor(float(width[width > 0].min()) / unit + SLACK) * unit if (width > 0).any() else math.nan
+
+
+def lattice(plane: Bools) -> Bools:
+    """Which centres, sides and corners of cells lie within a set of cells and not on its border, of shape (2 nx + 1, 2 ny + 1):
+    odd places are centres."""
+    pad = np.pad(plane, 1)
+    inside = np.zeros((2 * plane.shape[0] + 1, 2 * plane.shape[1] + 1), bool)
+    inside[1::2, 1::2] = plane
+    inside[::2, 1::2] = pad[:-1, 1:-1] & pad[1:, 1:-1]
+    inside[1::2, ::2] = pad[1:-1, :-1] & pad[1:-1, 1:]
+    inside[::2, ::2] = pad[:-1, :-1] & pad[1:, :-1] & pad[:-1, 1:] & pad[1:, 1:]
+    return inside
+
+
+def reached(room: Floats, radius: float, half: tuple[float, float]) -> Bools:
+    """The cells to which the squares around circles of a radius come that fit."""
+    fits = room >= radius * (1 - SLACK)
+    if not fits.any():
+        return np.zeros((room.shape[0] // 2, room.shape[1] // 2), bool)
+    away = distance_transform_edt(~fits, sampling=half)[1::2, 1::2]
+    found: Bools = away <= math.sqrt(2) * radius * (1 + SLACK)
+    return found
