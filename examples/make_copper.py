@@ -5,7 +5,8 @@
 
 writes copper.blocks, copper.prec, copper.upit and copper.cert (a pit with a flow that proves it), and the same blocks
 with a revenue, a cost, tonnes and a mill's two charges each: priced.blocks, with settings.toml for the cost and mill.toml
-for the mill.
+for the mill. copper.csv is the same mine as a planner's table, for pitplan: study.toml beside it makes of it the dollars of
+priced.blocks.
 Standard library alone, no random numbers: the files are the same on every machine.
 The certificate's flow comes from a plain maximum-flow search made here, not from `pit`.
 """
@@ -64,6 +65,13 @@ def tonnes(x, y, z):
 
 def value(x, y, z):
     return revenue(x, y, z) - cost(x, y, z)
+
+
+def planners_row(x, y, z):
+    """A block of copper.csv: blocks of 10 metres, kilograms of copper in a tonne at 8.50 dollars each, and dollars a tonne."""
+    t = tonnes(x, y, z)
+    copper = revenue(x, y, z) / (8.5 * t)
+    return "C%03d,%d,%d,%d,%d,%.6f,%.6f,%.6f" % (number(x, y, z), 5005 + 10 * x, 2005 + 10 * y, 1285 + 10 * z, t, copper, mining(x, y, z) / t, processing(x, y, z) / t)
 
 
 def predecessors(x, y, z):
@@ -173,6 +181,7 @@ def main():
                         "processing = 3  # the fourth: what it costs to treat a block in the mill",
                         "mining = 4      # the fifth: what it costs to dig it, be it ore or waste", "tonnes = 2",
                         "factors = [500, 650, 800, 1000, 1200]"])
+    write("copper.csv", ["ID,X,Y,Z,TONNES,CU_KGT,MINING,MILL", *(planners_row(*place) for place in places)])
     write("copper.prec", ["%d %d%s" % (b, len(ps), "".join(" %d" % p for p in ps)) for b, ps in enumerate(above)])
     write("copper.upit", ["NAME: copper", "TYPE: UPIT", "NBLOCKS: %d" % len(values), "OBJECTIVE_FUNCTION:"]
           + ["%d %d" % pair for pair in enumerate(values)] + ["EOF"])

@@ -65,10 +65,11 @@ def build(folder: Path = STUDY) -> None:
 
 def print_tonnage(study: Study) -> None:
     """The grade-tonnage line of each rock."""
+    from rich.box import SIMPLE_HEAD
     from rich.table import Table
     from .tonnage import by_rock
     lines = by_rock(study.model, study.priced, study.manifest["metals"])
-    shown = Table(title="in place, at the full price", title_justify="left")
+    shown = Table(title="in place, at the full price", title_justify="left", box=SIMPLE_HEAD)
     shown.add_column("rock")
     for name in lines.columns[1:]:
         shown.add_column(str(name), justify="right")

@@ -90,10 +90,11 @@ def write_tables(found: Shells, rates: dict[str, float]) -> None:
 
 def print_table(found: Shells, rates: dict[str, float]) -> None:
     """The pit-by-pit table on the screen; all of its columns are in the file."""
+    from rich.box import SIMPLE_HEAD
     from rich.table import Table
     table, currency = found.table(1000, **rates), found.study.manifest["currency"]
     metals = found.study.manifest["metals"]
-    shown_table = Table(title=f"pit by pit, worths in million {escape(currency)} at the full price", title_justify="left")
+    shown_table = Table(title=f"pit by pit, worths in million {escape(currency)} at the full price", title_justify="left", box=SIMPLE_HEAD)
     for name in ("factor", "blocks", "ore Mt", "waste Mt", "strip", *(f"{name} {unit['grade_unit']}" for name, unit in metals.items()), "worth", "best case", "worst case", "years"):
         shown_table.add_column(escape(name), justify="right")
     for row in table.to_dict("records"):

@@ -2,7 +2,6 @@
 from __future__ import annotations
 
 import math
-from collections.abc import Sequence
 from dataclasses import dataclass, field
 from pathlib import Path
 
@@ -12,7 +11,8 @@ import pandas as pd
 from .column_names import PLACES, SIZES, which_columns
 from .csv_text import Dialect, dialect_of, head_of, names_of, number_column, read_frame
 from .errors import PlanError
-from .grid import Floats
+from .grid import Floats, Grid
+from .study_template import TEMPLATE
 
 MARKS = ("-99", "-999", "-9999", "-99.0", "-999.0", "-1", "-1.0", "-", "*", "N/A", "n/a", "NA", "absent", "null", "")
 # Columns that look like grades, and the units that such a metal usually comes in.
@@ -20,6 +20,7 @@ METALS = {"cu": ("copper", "%", "t", 8500), "au": ("gold", "g/t", "oz", 1900), "
           "zn": ("zinc", "%", "t", 2600), "pb": ("lead", "%", "t", 2100), "ni": ("nickel", "%", "t", 17000), "co": ("cobalt", "%", "t", 33000),
           "fe": ("iron", "%", "t", 110), "u3o8": ("uranium", "ppm", "lb", 60), "li2o": ("lithia", "%", "t", 15000), "pt": ("platinum", "g/t", "oz", 950)}
 SAMPLE = 1500                                # blocks that the grid is looked for in
+PLACES_OFF = 0.02                            # in the unit of the coordinates: how far their rounding may put two blocks off
 
 
 @dataclass
@@ -127,17 +128,16 @@ def find_grid(look: Look, frame: pd.DataFrame, x: Floats, y: Floats, z: Floats) 
         look.size = (float(lengths[0].max()), float(lengths[1].max()), float(lengths[2].max()))
         look.has_sub_blocks = any(bool((v < v.max() * (1 - 1e-6)).any()) for v in lengths)
     level = z == pd.Series(z).mode().iloc[0]
-    east, north = x[level], y[level]
-    near = np.argsort((east - np.median(east)) ** 2 + (north - np.median(north)) ** 2)[:SAMPLE]
-    across, along = steps(east[near], north[near])
+    near = np.argsort((x[level] - np.median(x[level])) ** 2 + (y[level] - np.median(y[level])) ** 2)[:SAMPLE]
+    across, along = steps(x[level][near], y[level][near])
     height = least_step(z)
     if across is None or along is None or height is None:
-        look.notes.append("the size of a block couldn't be told: one level, row or column alone")
+        look.notes.append("the grid couldn't be told: one level, row or column alone" if look.size else "the size of a block couldn't be told: one level, row or column alone")
         return
-    look.rotation = turned(across)
+    look.rotation = turned(x, y, across, along)
+    u, v = Grid((0, 0, 0), (1, 1, 1), rotation=look.rotation).local(x - x[0], y - y[0])
     if look.size is None:
-        first, second = math.hypot(*across), math.hypot(*along)
-        look.size = (first, second, height)
+        look.size = (length_of(u, math.hypot(*across)), length_of(v, math.hypot(*along)), length_of(z, height))
     if look.rotation:
         look.notes.append(f"the model seems to be turned by {look.rotation:g} degrees: compare with the package")
 
@@ -151,75 +151,54 @@ def steps(east: Floats, north: Floats) -> tuple[tuple[float, float] | None, tupl
     northward = (dn > 0) & (np.abs(de) < dn * (1 - 1e-9))
     found: list[tuple[float, float] | None] = []
     for way in (eastward, northward):
-        # of steps at most a tenth longer than the shortest, the one that most blocks take
         if not way.any():
             found.append(None)
             continue
-        short = far[way].min()
-        pick = way & (far <= short * 1.001)
-        found.append((round(float(np.median(de[pick])), 4), round(float(np.median(dn[pick])), 4)))
+        pick = way & (far <= far[way].min() * 1.01)
+        found.append((float(np.median(de[pick])), float(np.median(dn[pick]))))
     return found[0], found[1]
 
 
-def turned(across: Sequence[float]) -> float:
-    """The bearing of the y axis, by a step along the x axis, to a hundredth of a degree."""
-    return round(-math.degrees(math.atan2(across[1], across[0])), 2) + 0.0
+def turned(x: Floats, y: Floats, across: tuple[float, float], along: tuple[float, float]) -> float:
+    """The bearing of the y axis: by a step along the x axis, and then by the rows of the whole model, since a table's
+    coordinates are rounded."""
+    angle = -math.degrees(math.atan2(across[1], across[0]))
+    u, v = Grid((0, 0, 0), (1, 1, 1), rotation=angle).local(x - x[0], y - y[0])
+    row = np.rint(v / math.hypot(*along)).astype(np.int64)
+    row -= row.min()
+    count = np.maximum(np.bincount(row), 1)
+    du, dv = (w - (np.bincount(row, w) / count)[row] for w in (u, v))
+    angle -= math.degrees(float((du * dv).sum() / max((du * du).sum(), 1e-9)))
+    return shortest(angle, math.degrees(PLACES_OFF / max(float(np.ptp(u)), 1e-9))) + 0.0
+
+
+def length_of(values: Floats, step: float) -> float:
+    """The length of a block along an axis, by the whole model's extent."""
+    span = float(np.ptp(values))
+    count = max(round(span / step), 1)
+    return shortest(span / count, PLACES_OFF / count)
+
+
+def shortest(value: float, off: float) -> float:
+    """The number with the fewest decimals that is no further away than `off`."""
+    return next((found for decimals in range(6) if abs((found := round(value, decimals)) - value) <= off), value)
 
 
 def least_step(values: Floats) -> float | None:
     """The least distance between two levels."""
     levels = np.unique(np.round(values, 4))
-    return round(float(np.diff(levels).min()), 4) if len(levels) > 1 else None
+    return float(np.diff(levels).min()) if len(levels) > 1 else None
 
 
 def written(look: Look, table: str) -> str:
-    """The text of a study.toml."""
+    """The text of a study.toml for a table; `table` is its path as the text names it."""
     size = ", ".join(f"{v:g}" for v in look.size) if look.size else "20, 20, 10"
-    columns = ", ".join(f'{key} = {quoted(name)}' for key, name in look.names.items())
-    told = "" if look.size else "     # couldn't be told: fill it in"
-    rocks = "; by rock: { " + ", ".join(f"{key(rock)} = 2.50" for rock in look.rocks[:3]) + (", other = 2.50 }" if len(look.rocks) > 3 else " }") if look.rocks else ""
-    return f"""# What pitplan works on. Every price, cost and angle is an example: put your own in its place.
-
-[model]
-table = {quoted(table)}
-# which column is what; further keys: dx, dy, dz (the size of a sub-block), tonnes or density, rock, id
-columns = {{ {columns} }}
-size = [{size}]{told}              # of a block along the model's x, y and z axes, in the unit of the coordinates
-rotation = {look.rotation:g}                      # the bearing of the model's y axis, in degrees clockwise from north
-z = "elevation"                   # or "depth", where z counts downward
-absent = [{', '.join(quoted(mark) for mark in look.absent)}]                      # cells that stand for "not estimated", as "-99"; "" is an empty cell; they count as 0
-missing = "refuse"                # a place within the model without a row: "refuse" it, or it is "air", or "rock" with the next key
-# fill = {{ tonnes = 10400, rock = "waste" }}
-regularise = {'true' if look.has_sub_blocks else 'false'}                # whether sub-blocks are added up into whole blocks
-widen = 0                         # columns of barren rock to add on each side, where a pit touches the model's side
-
-[economics]
-currency = "$"
-mining = 2.50                     # for a tonne of rock: a number, a column, a formula as "2.2 + 0.02 * (1500 - {look.names['z']}) / 10"{rocks}
-processing = 9.00                 # for a tonne of the mill's feed, likewise
-# mill = [{', '.join(quoted(rock) for rock in look.rocks[:2])}]     # the rocks that the mill takes; all unless told
-dilution = 0.0                    # tonnes of waste that come to the mill with each tonne of ore
-mining_recovery = 1.0             # the share of the ore that reaches the mill
-rounding = 1                      # amounts of a block in whole units of currency
-forbid = []                       # blocks that may not be dug, as [{quoted(look.names['x'] + ' > 12000')}]
-# grade_unit: % kg/t g/t ppm mg/kg ppb; price_unit: t kg g lb oz dmtu; recovery: a number, a column, a formula, or by rock;
-# payable: the share of the price that is paid; selling: what selling a unit of metal costs, whatever its price
-metals = [
-{metals(look)}
-]
-
-[slopes]
-angles = 45                       # degrees; or by bearing of the wall from the pit's middle: [[0, 38], [90, 45], [180, 50], [270, 45]]
-# by = "SECTOR"                   # a column that says the region of a block, with angles of its own for each
-# regions = {{ NORTH = 38, SOUTH = [[0, 44], [180, 50]] }}
-safe = false                      # true: no wall steeper than asked, at the cost of being flatter on the mean
-
-[shells]
-factors = {{ from = 0.30, to = 1.20, step = 0.05 }}     # of the price; or a list, as [0.5, 0.75, 1.0]
-mining_rate = 20e6                # tonnes of rock a year
-mill_rate = 8e6                   # tonnes of the mill's feed a year
-discount = 0.08                   # a year
-"""
+    by_rock = ", ".join(f"{key(rock)} = 2.50" for rock in look.rocks[:3]) + (", other = 2.50" if len(look.rocks) > 3 else "")
+    return TEMPLATE.substitute(
+        table=quoted(table), columns=", ".join(f"{name} = {quoted(column)}" for name, column in look.names.items()), size=size,
+        size_told="" if look.size else "; it couldn't be told: fill it in", rotation=f"{look.rotation:g}", absent=", ".join(map(quoted, look.absent)),
+        regularise="true" if look.has_sub_blocks else "false", x=look.names["x"], z=look.names["z"], by_rock=f"; by rock: {{ {by_rock} }}" if by_rock else "",
+        mill=", ".join(map(quoted, look.rocks[:2])), metals=metals(look))
 
 
 def metals(look: Look) -> str:

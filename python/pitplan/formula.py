@@ -96,6 +96,7 @@ class Reading:
         raise PlanError(f"{self.told}: {ast.unparse(node)!r} isn't part of a formula", try_this=PARTS)
 
     def call(self, name: str, words: list[ast.expr], node: ast.expr) -> Any:
+        """What one of `FUNCTIONS` gives, or the column of a name that is no plain word."""
         if name == "column" and len(words) == 1 and isinstance(words[0], ast.Constant) and isinstance(words[0].value, str):
             return self.column(words[0].value)
         if name in FUNCTIONS and len(words) == FUNCTIONS[name][0]:
@@ -103,6 +104,7 @@ class Reading:
         raise PlanError(f"{self.told}: {ast.unparse(node)!r} isn't part of a formula", try_this=PARTS)
 
     def column(self, name: str) -> Any:
+        """A column of the table; whole numbers count as floats, so that nothing wraps round."""
         if name not in self.table.columns:
             raise PlanError(f"{self.told}: there is no column {name!r}{meant(name, map(str, self.table.columns))}")
         found = self.table[name].to_numpy()

@@ -62,6 +62,7 @@ class Cells:
 
     @classmethod
     def of(cls, shells: Shells, base: int) -> Cells:
+        """Adds up the blocks of each shell on each bench; ore is what goes to the mill at the factor `base` (in thousandths)."""
         m, p, s = shells.study.model, shells.study.priced, len(shells.factors)
         nz = m.grid.shape[2]
         cell = shells.shell.astype(np.int64) * nz + (nz - 1 - m.blocks.iz.to_numpy())

@@ -20,7 +20,8 @@ from .errors import MachineError, NotAccepted, PlanError
 
 Progress = Callable[[int, int], None]
 Word = Union[str, int, Path]
-BUILT = Path(__file__).resolve().parents[2] / "crates" / "pit" / "out" / "pit"
+TOP = Path(__file__).resolve().parents[2]
+BUILT = (TOP / "out" / "pit", TOP / "crates" / "pit" / "out" / "pit")      # where this repository's build puts it
 PIECE = 1 << 22
 HINTS = {"UNSETTLED": "the run was cut off before its pit was proved: tell the maintainers of this mine",
          "TooLarge": "the amounts are too large together: rounding = 1000 in [economics], or prices and costs in thousands",
@@ -94,7 +95,7 @@ def found_program() -> str:
         if not where:
             raise PlanError(f"PIT in the environment is {named!r}, and there is no such program")
         return str(Path(where).resolve())
-    where = shutil.which("pit") or (str(BUILT) if os.access(BUILT, os.X_OK) else None)
+    where = shutil.which("pit") or next((str(path) for path in BUILT if os.access(path, os.X_OK)), None)
     if not where:
         raise PlanError("the program pit isn't there", try_this="./install in the repository, or PIT=/path/to/pit")
     return where

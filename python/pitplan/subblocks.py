@@ -115,15 +115,15 @@ class Parents:
 
 
 def corner_of(centres: Floats, lengths: Floats, length: float) -> float:
-    """A side of the whole blocks along an axis: that which most sub-blocks keep to, by their lower sides.
-
-    A whole block's sides are sides of the grid; where no block is whole, the lower sides that are most common are.
-    """
-    whole = np.abs(lengths - length) <= 1e-6 * length
-    lower = (centres - lengths / 2)[whole] if whole.any() else centres - lengths / 2
-    share = np.round((lower / length) % 1.0, 6) % 1.0
-    values, counts = np.unique(share, return_counts=True)
-    return float(values[np.argmax(counts)] * length)
+    """A side of the whole blocks along an axis: one that most blocks of full length begin at. Where no block is of full
+    length, the lowest side of all."""
+    lower = centres - lengths / 2
+    whole = np.flatnonzero(np.abs(lengths - length) <= 1e-6 * length)
+    if not len(whole):
+        return float(lower.min())
+    share = np.round((lower[whole] / length) % 1.0, 6) % 1.0
+    values, first, counts = np.unique(share, return_index=True, return_counts=True)
+    return float(lower[whole[first[np.argmax(counts)]]])
 
 
 def added_up(frame: pd.DataFrame, names: Mapping[str, str], parents: Parents) -> Whole:

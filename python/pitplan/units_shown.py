@@ -1,0 +1,41 @@
+"""How amounts are shown to a reader: in thousands or millions where they are large, with separators."""
+from __future__ import annotations
+
+import math
+from dataclasses import dataclass
+from typing import Any
+
+import numpy as np
+
+PREFIXES = ((1e9, "G", "thousand million"), (1e6, "M", "million"), (1e3, "k", "thousand"))
+
+
+@dataclass(frozen=True)
+class Scale:
+    """What amounts are divided by, and the unit that they then have."""
+
+    divisor: float
+    unit: str
+
+
+def scale_of(amounts: Any, unit: str) -> Scale:
+    """The scale at which the greatest of some amounts has two to five digits before the point: t, kt, Mt; $, thousand $, .."""
+    values = np.abs(np.asarray(amounts, float))
+    values = values[np.isfinite(values)]
+    most = float(values.max()) if len(values) else 0.0
+    for divisor, letter, word in PREFIXES:
+        if most >= 10 * divisor:
+            return Scale(divisor, letter + unit if unit == "t" else f"{word} {unit}")
+    return Scale(1.0, unit)
+
+
+def amount_text(value: float, scale: Scale) -> str:
+    """An amount at a scale, with separators; a dash where there is none."""
+    if not math.isfinite(value):
+        return "-"
+    return f"{value:,.0f}" if scale.divisor == 1.0 else f"{value / scale.divisor:,.2f}"
+
+
+def factor_text(thousandths: int) -> str:
+    """A factor as a share of the price: 850 is 0.85, 875 is 0.875."""
+    return f"{thousandths / 1000:.3f}" if thousandths % 10 else f"{thousandths / 1000:.2f}"

@@ -1,0 +1,69 @@
+"""Small made-up mines for the tests."""
+import math
+from pathlib import Path
+
+import numpy as np
+import pandas as pd
+
+import pitplan as pp
+
+SIZE = (20, 20, 15)
+COPPER = pp.Metal("copper", "CU", price=8500, recovery=0.85)
+
+
+def table(nx, ny, nz, seed, rotation=0.0, size=SIZE):
+    """A model with a hill, in the names of Datamine, its rows shuffled."""
+    r = np.random.default_rng(seed)
+    i, j, k = (v.ravel() for v in np.meshgrid(np.arange(nx), np.arange(ny), np.arange(nz), indexing="ij"))
+    t = math.radians(rotation)
+    u, v = i * size[0], j * size[1]
+    f = pd.DataFrame({"IJK": [f"b{n:03d}" for n in range(len(i))], "XC": 5000 + u * math.cos(t) + v * math.sin(t), "YC": 9000 - u * math.sin(t) + v * math.cos(t),
+                      "ZC": 100.0 + k * size[2], "TONNES": np.round(r.uniform(12000, 18000, len(i)), 1),
+                      "CU": np.round(np.maximum(0, r.normal(0.1, 0.5, len(i))), 3), "AU": np.round(np.maximum(0, r.normal(0, 0.2, len(i))), 3),
+                      "ROCK": r.choice(["OXI", "SUL"], len(i)), "SECTOR": np.where(i < nx // 2, "WEST", "EAST")})
+    top = r.integers(max(1, nz - 2), nz + 1, (nx, ny))
+    return f[k < top[i, j]].sample(frac=1, random_state=seed).reset_index(drop=True)
+
+
+def costs(**more):
+    return pp.Economics(**{**dict(metals=(COPPER,), mining=2.0, processing={"OXI": 7.5, "SUL": 9.0}), **more})
+
+
+def study_of(folder, frame, slopes=None, economics=None, **keys):
+    """The study of a table, built in `folder`."""
+    path = Path(folder) / "t.csv"
+    frame.to_csv(path, index=False)
+    model = pp.read_table(path, **{**dict(size=SIZE), **keys})
+    return pp.Study.create(Path(folder) / "s", model, economics or costs(), slopes or pp.Slopes(45))
+
+
+def shells_of(folder, seed=5, series=(600, 800, 1000, 1200), **keys):
+    return study_of(folder, table(9, 8, 5, seed), **keys).shells(series)
+
+
+STUDY_TOML = """[model]
+table = "t.csv"
+size = [20, 20, 15]
+
+[economics]
+mining = 2.0
+processing = { OXI = 7.5, SUL = 9.0 }
+metals = [ { name = "copper", grade = "CU", price = 8500, recovery = 0.85 } ]
+
+[slopes]
+angles = 45
+
+[shells]
+factors = [0.6, 1.0, 1.2]
+mining_rate = 1e6
+mill_rate = 5e5
+discount = 0.08
+"""
+
+
+def written_study(folder, frame=None, text=STUDY_TOML):
+    """A folder with a study.toml and its table, not built."""
+    folder.mkdir(parents=True, exist_ok=True)
+    (table(7, 6, 4, 3) if frame is None else frame).to_csv(folder / "t.csv", index=False)
+    (folder / "study.toml").write_text(text)
+    return folder

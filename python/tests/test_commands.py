@@ -1,0 +1,114 @@
+"""The command line, as a planner uses it."""
+import json
+import os
+import subprocess
+from pathlib import Path
+
+import numpy as np
+import pandas as pd
+import pytest
+
+from mines import STUDY_TOML, table, written_study
+from pitplan import first_look
+from pitplan.study_file import read_study_file
+
+PITPLAN = Path(__file__).resolve().parents[2] / "bin" / "pitplan"
+
+
+def pitplan(*words, cwd=None, **env):
+    return subprocess.run([str(PITPLAN), *map(str, words)], capture_output=True, text=True, cwd=cwd, env={**os.environ, **env})
+
+
+def test_from_a_table_to_shells(tmp_path):
+    f = table(8, 7, 4, 3)
+    f.to_csv(tmp_path / "mine.csv", index=False)
+    assert pitplan("init", "mine.csv", cwd=tmp_path).returncode == 0
+    study = tmp_path / "mine"
+    told = read_study_file(study)
+    assert told.keys.size == [20, 20, 15] and [m.name for m in told.economics.metals] == ["copper", "gold"] and told.table.resolve() == tmp_path / "mine.csv"
+    text = (study / "study.toml").read_text().replace("factors = { from = 0.30, to = 1.20, step = 0.05 }", "factors = [0.5, 1.0, 1.5]")
+    (study / "study.toml").write_text(text)
+    built = pitplan("build", study)
+    assert built.returncode == 0 and "pairs" in built.stdout and "SUL" in built.stdout and "MB" in built.stdout
+    ran = pitplan("shells", study)
+    assert ran.returncode == 0 and "factor 1 done" in ran.stderr and "pit by pit" in ran.stdout, ran.stderr
+    pits = pd.read_csv(study / "out/pit_by_pit.csv")
+    back = pd.read_csv(study / "out/mine.csv")
+    assert pits.factor.tolist() == [0.5, 1.0, 1.5] and back.drop(columns="pit_shell").equals(f)
+    assert (back.pit_shell <= 1.0).sum() == pits.blocks[1] and pd.read_csv(study / "out/benches.csv").blocks.sum() == pits.blocks[2]
+    again = pitplan("shells", ".", cwd=study)
+    assert again.returncode == 0 and again.stdout.replace(str(study), "").count("pit by pit") == 1
+    # what was built counts only as long as study.toml says the same
+    (study / "study.toml").write_text(text.replace("mining = 2.50", "mining = 2.60"))
+    stale = pitplan("shells", study)
+    assert stale.returncode == 3 and "has changed since the study was built" in stale.stderr and "try: pitplan build" in stale.stderr
+    (study / "study.toml").write_text(text)
+    f.assign(CU=f.CU + 1).to_csv(tmp_path / "mine.csv", index=False)
+    assert "the table has changed" in pitplan("shells", study).stderr
+    assert pitplan("init", "mine.csv", cwd=tmp_path).returncode == 3
+
+
+@pytest.mark.parametrize("words, status, said", [
+    (("build", "nowhere"), 3, "isn't there"), (("shells", "nowhere"), 3, "isn't there"), (("init", "nowhere.csv"), 3, "no such file"),
+    (("biuld",), 2, "No such command"), (("shells", ".", "--workers", "0"), 2, "--workers")])
+def test_wrong_words_and_files_have_their_status(tmp_path, words, status, said):
+    ran = pitplan(*words, cwd=tmp_path)
+    assert ran.returncode == status and said in ran.stderr and "Traceback" not in ran.stderr
+
+
+def test_shells_before_build_says_so(tmp_path):
+    ran = pitplan("shells", written_study(tmp_path / "s"))
+    assert ran.returncode == 3 and "never built" in ran.stderr and "try: pitplan build" in ran.stderr
+
+
+def test_help_needs_no_study_and_no_pit(tmp_path):
+    ran = pitplan("--help", cwd=tmp_path, PIT="/nowhere")
+    assert ran.returncode == 0 and all(name in ran.stdout for name in ("init", "build", "shells"))
+
+
+def test_a_missing_pit_is_told(tmp_path):
+    ran = pitplan("build", written_study(tmp_path / "s"), PIT="/nowhere/pit")
+    assert ran.returncode == 3 and "PIT in the environment" in ran.stderr
+
+
+def test_markup_in_names_does_no_harm(tmp_path):
+    f = table(5, 4, 3, 1).rename(columns={"AU": "[red]AU[/x"})
+    f["ROCK"] = f.ROCK + "[/bold]"
+    text = STUDY_TOML.replace("{ OXI = 7.5, SUL = 9.0 }", "9.0")
+    ran = pitplan("build", written_study(tmp_path / "s", f, text))
+    assert ran.returncode == 0 and "SUL[/bold]" in ran.stdout, ran.stderr
+
+
+@pytest.mark.parametrize("angle", [0.0, 30.0, -17.5, 44.0])
+@pytest.mark.parametrize("size", [(20, 20, 15), (25, 10, 5), (10, 25, 12.5)])
+def test_init_finds_the_grid(tmp_path, angle, size):
+    table(9, 8, 4, 3, rotation=angle, size=size).to_csv(tmp_path / "t.csv", index=False)
+    look = first_look.look_at(tmp_path / "t.csv")
+    assert look.size == pytest.approx(size) and look.rotation == pytest.approx(angle, abs=0.01)
+
+
+def test_init_sees_marks_sub_blocks_and_descriptions(tmp_path):
+    f = table(6, 5, 3, 3).assign(XINC=20.0, YINC=20.0, ZINC=15.0)
+    f.loc[4, "CU"] = -99
+    f.loc[3, "XINC"] = 10.0
+    lines = f.to_csv(index=False).splitlines(keepends=True)
+    (tmp_path / "t.csv").write_text(lines[0] + "Variable types:,,,,,,,,,,,\n" + "".join(lines[1:]))
+    look = first_look.look_at(tmp_path / "t.csv")
+    assert look.absent == ["-99"] and look.has_sub_blocks and look.size == (20, 20, 15) and look.dialect.skip == 1
+    text = first_look.written(look, "t.csv")
+    (tmp_path / "study.toml").write_text(text)
+    told = read_study_file(tmp_path)
+    assert told.keys.absent == ["-99"] and told.keys.regularise
+
+
+def test_every_key_that_init_writes_is_known_and_explained(tmp_path):
+    table(6, 5, 3, 3).to_csv(tmp_path / "t.csv", index=False)
+    text = first_look.written(first_look.look_at(tmp_path / "t.csv"), "t.csv")
+    for line in text.splitlines():
+        if " = " in line and not line.startswith(("#", " ", "columns", "table", "currency", "metals")):
+            assert "#" in line, line
+    from dataclasses import fields
+    from pitplan.economics import Economics, Metal
+    from pitplan.model import TableKeys
+    for f in (*fields(TableKeys), *fields(Economics), *fields(Metal)):
+        assert f.name in text or f.name in ("decimal", "encoding", "skip"), f.name

@@ -1,0 +1,149 @@
+"""What blocks bring and cost, against sums made here; and formulas, which are arithmetic and nothing else."""
+import math
+from decimal import Decimal
+
+import numpy as np
+import pandas as pd
+import pytest
+from hypothesis import given, strategies as st
+
+import pitplan as pp
+from mines import COPPER, SIZE, costs, table
+from pitplan.amounts import Priced, exact_sum, rounding_of, spelled
+from pitplan.formula import worked_out
+from pitplan.units import GRADES, PRICES, metal_in_a_tonne
+
+
+def model_of(frame, **keys):
+    import tempfile
+    from pathlib import Path
+    with tempfile.TemporaryDirectory() as folder:
+        frame.to_csv(Path(folder) / "t.csv", index=False)
+        return pp.read_table(Path(folder) / "t.csv", **{**dict(size=SIZE), **keys})
+
+
+@pytest.fixture(scope="module")
+def frame():
+    return table(5, 4, 4, 6)
+
+
+@pytest.fixture(scope="module")
+def model(frame):
+    return model_of(frame)
+
+
+def refusal(call, *words, **keys):
+    with pytest.raises(pp.PlanError) as error:
+        call(*words, **keys)
+    return str(error.value)
+
+
+def test_two_metals_with_everything(frame, model):
+    metals = (pp.Metal("copper", "CU", price=4.0, grade_unit="%", price_unit="lb", recovery={"OXI": 0.6, "SUL": 0.9}, payable=0.965, selling=0.35),
+              pp.Metal("gold", "AU", price=1900, grade_unit="g/t", price_unit="oz", recovery="0.5 + 0.1 * (AU > 0.1)", payable=0.98, selling=6))
+    economics = costs(metals=metals, mining="2.2 + 0.01 * (145 - ZC) / 15", processing={"OXI": 7.5, "other": 9.0}, dilution=0.05, mining_recovery=0.95)
+    priced = economics.priced(model)
+    for b, row in enumerate(frame.itertuples()):
+        kept = row.TONNES * 0.95
+        pounds = kept * row.CU / 100 * {"OXI": 0.6, "SUL": 0.9}[row.ROCK] / 0.00045359237
+        ounces = kept * row.AU / 31.1034768 * (0.6 if row.AU > 0.1 else 0.5)
+        assert priced.metal["copper"][b] == pytest.approx(pounds) and priced.metal["gold"][b] == pytest.approx(ounces)
+        assert abs(priced.revenue[b] - (pounds * 4.0 * 0.965 + ounces * 1900 * 0.98)) <= 0.501
+        assert abs(priced.processing[b] - (kept * 1.05 * {"OXI": 7.5, "SUL": 9.0}[row.ROCK] + pounds * 0.35 + ounces * 6)) <= 0.501
+        assert abs(priced.mining[b] - row.TONNES * (2.2 + 0.01 * (145 - row.ZC) / 15)) <= 0.501
+
+
+# Figures of the trade: 1 % of a tonne is 22.0462 lb; 1 g/t is 0.0321507 oz.
+@pytest.mark.parametrize("grade, price, much", [("%", "lb", 22.0462262), ("%", "t", 0.01), ("g/t", "oz", 0.0321507466), ("ppm", "kg", 0.001), ("ppb", "g", 0.001),
+                                                ("kg/t", "kg", 1), ("%", "dmtu", 1), ("mg/kg", "g", 1), ("ppm", "lb", 0.00220462262)])
+def test_units(grade, price, much):
+    assert metal_in_a_tonne("m", grade, price) == pytest.approx(much, rel=1e-8)
+
+
+def test_unknown_units_are_refused():
+    assert "is 'g/t' meant?" in refusal(pp.Metal, "gold", "AU", price=1, grade_unit="g/ton", price_unit="oz")
+    assert "price_unit 'ounce' isn't known" in refusal(pp.Metal, "gold", "AU", price=1, grade_unit="g/t", price_unit="ounce")
+
+
+@pytest.mark.parametrize("keys, said", [
+    (dict(metals=(pp.Metal("m", "CUU", price=1),)), "no column 'CUU'; is 'CU' meant?"),
+    (dict(processing={"OXI": 7.5}), "nothing is said of rock SUL"),
+    (dict(processing={"OXI": 7.5, "SULF": 9}), "is 'SUL' meant?"),
+    (dict(mill=["SULF"]), "no block is of rock 'SULF'; is 'SUL' meant?"),
+    (dict(mining="2 - (ZC > 100)* 3"), "less than nothing"),
+    (dict(mining="2 + ZZ"), "there is no column 'ZZ'"),
+    (dict(metals=(pp.Metal("m", "CU", price=1, recovery=86),)), "a share is from 0 to 1"),
+    (dict(metals=(pp.Metal("m", "ZC", price=1),)), "more than the whole rock"),
+    (dict(metals=(pp.Metal("m", "CU", price=1e12),)), "is a unit wrong?"),
+    (dict(forbid=["ZC + 1"]), "neither yes nor no"),
+])
+def test_what_the_economics_may_not_say(model, keys, said):
+    assert said in refusal(costs(**keys).priced, model)
+
+
+@pytest.mark.parametrize("keys, said", [(dict(dilution=-0.1), "dilution"), (dict(mining_recovery=1.2), "mining_recovery"), (dict(rounding=0), "rounding"), (dict(rounding=1e-9), "six decimals"),
+                                        (dict(metals=()), "no metals"), (dict(metals=(COPPER, COPPER)), "two metals"), (dict(forbid="ZC > 1"), "a list")])
+def test_numbers_out_of_range(keys, said):
+    assert said in refusal(costs, **keys)
+
+
+def test_the_row_of_a_wrong_cost_is_told(frame, model):
+    row = int(np.argmax(frame.ZC.to_numpy() > 100))
+    assert f"row {row + 2}" in refusal(costs(mining="2 - (ZC > 100) * 3").priced, model)
+
+
+def test_the_mill_takes_some_rocks(frame, model):
+    priced = costs(mill=["SUL"]).priced(model)
+    assert (priced.revenue[frame.ROCK == "OXI"] == 0).all() and (priced.processing[frame.ROCK == "OXI"] == 0).all()
+    assert priced.revenue[frame.ROCK == "SUL"].sum() > 0
+
+
+@given(st.lists(st.integers(-2 ** 62, 2 ** 62), max_size=50))
+def test_sums_are_exact(values):
+    assert exact_sum(np.array(values, np.int64)) == sum(values)
+
+
+@given(st.lists(st.tuples(st.integers(0, 10 ** 9), st.integers(0, 10 ** 9), st.integers(-10 ** 9, 10 ** 9)), min_size=1, max_size=20), st.integers(0, 10_000),
+       st.sampled_from(["0.01", "1", "1000", "0.000001"]))
+def test_worths_are_exact(blocks, factor, rounding):
+    r, p, m = (np.array(v, np.int64) for v in zip(*blocks))
+    unit = Decimal(rounding)
+    found = Priced(r, p, m, unit).worth_of(np.ones(len(blocks), bool), factor)
+    assert Decimal(found) == sum((max(Decimal(a) * factor / 1000 - b, 0) - c) * unit for a, b, c in blocks)
+    assert "E" not in found and (("." not in found) or not found.endswith("0"))
+
+
+@pytest.mark.parametrize("text", ["@os.system('echo x')", "__import__('os')", "XC.__class__", "XC.to_csv('x')", "open('x')", "[1][0]", "(lambda: 1)()", "f'{XC}'", "1 if 2 else 3",
+                                  "XC @ XC", "9**9**9**9 and NO", "where(1, 2)", "'a' + 1", "XC / 0", "", "XC; XC", "XC = 1", "column(XC)", "column('__class__')", "(" * 500 + "1" + ")" * 500,
+                                  "1" * 5000, "True", "None", "XC.values", "where(XC > 1, 'a', 'b')", "min(*[1, 2])", "abs(x=1)", "x := 1", "ROCK > 3"])
+def test_a_formula_is_arithmetic_and_nothing_else(text, model, tmp_path):
+    refusal(worked_out, text, model.blocks, "mining")
+
+
+def test_formulas(frame, model):
+    b = model.blocks
+
+    def worth(text):
+        return worked_out(text, b, "mining")
+    assert np.allclose(worth("2.1 + 0.03 * (1420 - ZC) / 15"), 2.1 + 0.03 * (1420 - frame.ZC) / 15)
+    assert (worth("where(ROCK == 'OXI' and 100 < ZC <= 130, 7.5, -9.5)") == np.where((frame.ROCK == "OXI") & (frame.ZC > 100) & (frame.ZC <= 130), 7.5, -9.5)).all()
+    assert (worth("not (XC > 5040) or CU < 0.1") == (~(frame.XC > 5040) | (frame.CU < 0.1))).all()
+    assert np.allclose(worth("max(2, sqrt(abs(column('CU')))) ** 2 - +1"), np.maximum(2, np.sqrt(frame.CU)) ** 2 - 1)
+    assert (worth("3") == 3).all() and worth("iz").dtype == float
+
+
+def test_spelled():
+    assert [spelled(Decimal(v)) for v in ("12.500", "1E+3", "-0.0", "-12", "0.000000001")] == ["12.5", "1000", "0", "-12", "0.000000001"]
+    assert rounding_of(0.1) == Decimal("0.1")
+
+
+def test_the_grade_tonnage_of_each_rock(frame, model):
+    from pitplan.tonnage import by_rock
+    economics = costs()
+    lines = by_rock(model, economics.priced(model), {"copper": {"grade_unit": "%", "price_unit": "t"}}).set_index("rock")
+    revenue = frame.TONNES * frame.CU / 100 * 0.85 * 8500
+    ore = revenue > frame.TONNES * frame.ROCK.map({"OXI": 7.5, "SUL": 9.0})
+    for rock, here in (("OXI", frame.ROCK == "OXI"), ("SUL", frame.ROCK == "SUL"), ("all", frame.ROCK != "")):
+        t = frame.TONNES[here & ore]
+        assert lines.blocks[rock] == here.sum() and lines.Mt[rock] == pytest.approx(frame.TONNES[here].sum() / 1e6)
+        assert lines["ore Mt"][rock] == pytest.approx(t.sum() / 1e6) and lines["copper %"][rock] == pytest.approx((t * frame.CU[here & ore]).sum() / t.sum())

@@ -1,0 +1,314 @@
+"""Runs that are cut off, disks that fill up, models that change, and results that are wrong."""
+import json
+import os
+import shutil
+import signal
+import subprocess
+import sys
+import time
+from pathlib import Path
+
+import numpy as np
+import pandas as pd
+import pytest
+
+import pitplan as pp
+from mines import SIZE, costs, shells_of, study_of, table, written_study
+from pitplan import program as programs, store, workers
+from pitplan.program import Accepted, Pit, pit_lines
+
+TOP = Path(__file__).resolve().parents[2]
+
+
+def test_nobody_but_the_check_makes_an_accepted():
+    with pytest.raises(TypeError, match="by Pit.check alone"):
+        Accepted(1, "5", np.array([0]), 1000, "00", 4)
+    makers = [(path.name, line) for path in (TOP / "python/pitplan").glob("*.py") for line in path.read_text().splitlines() if "Accepted(" in line and "class" not in line]
+    assert len(makers) == 1 and makers[0][0] == "program.py"
+    assert sum("BEGUN" in path.read_text() for path in (TOP / "python/pitplan").glob("*.py")) == 1
+
+
+def test_a_pit_of_the_checked_bytes(tmp_path):
+    study = study_of(tmp_path, table(6, 5, 4, 3))
+    found = study.pit(1.0)
+    assert found.count == found.mask.sum() == len(found.blocks) > 0 and found.factor == 1000 and found.size == len(study.model)
+    size, factor, blocks, digest = pit_lines(unpacked(study, 1000, tmp_path))
+    assert (size, factor, digest) == (found.size, 1000, found.certificate) and (blocks == found.blocks).all()
+
+
+def unpacked(study, factor, folder):
+    import gzip
+    path = folder / "plain.cert"
+    path.write_bytes(gzip.decompress((study.place(factor) / "best.cert.gz").read_bytes()))
+    return path
+
+
+def test_a_refused_certificate_is_no_pit(tmp_path):
+    study = study_of(tmp_path, table(6, 5, 4, 3))
+    study.run(1000)
+    text = unpacked(study, 1000, tmp_path).read_text()
+    first = next(line for line in text.splitlines() if line.startswith("PIT "))
+    (tmp_path / "less.cert").write_text(text.replace(first + "\n", "", 1))
+    with pytest.raises(pp.NotAccepted, match="REFUSED"):
+        study.program.check(study.files, tmp_path / "less.cert")
+
+
+def test_lines_that_are_no_pit_lines_are_told(tmp_path):
+    (tmp_path / "c").write_bytes(b"PITCERT 2\nBLOCKS 4\nPRICE MILL 1000\nGROUP PAIR\nPIT 1\nPUT 2\nSOURCE 1 0 0\nEND\n")
+    with pytest.raises(pp.NotAccepted):
+        pit_lines(tmp_path / "c")
+
+
+@pytest.mark.parametrize("piece", [1, 7, 30, 1 << 22])
+def test_pit_lines_across_pieces(tmp_path, monkeypatch, piece):
+    if piece < 60:
+        monkeypatch.setattr(programs, "PIECE", max(piece, 60))
+    lines = "".join(f"PIT {b}\n" for b in range(0, 3000, 3))
+    (tmp_path / "c").write_text("PITCERT 2\nBLOCKS 4000\nPRICE MILL 850\nGROUP PAIR\n" + lines + "SOURCE 1 0 0\nREST 1 2 0 0\nEND\n")
+    size, factor, blocks, _ = pit_lines(tmp_path / "c")
+    assert (size, factor) == (4000, 850) and blocks.tolist() == list(range(0, 3000, 3))
+
+
+def test_a_wrong_sum_is_never_shown(tmp_path, monkeypatch):
+    study = study_of(tmp_path, table(6, 6, 4, 3))
+    right = study.priced.mining.copy()
+    inside = np.flatnonzero(study.pit(1.2).mask)
+    shutil.rmtree(study.place(1200))
+    study.priced.mining[inside[0]] += 1
+    with pytest.raises(pp.Disagreement, match="adds up to"):
+        study.run(1200)
+    assert not list((study.folder / "runs/base").iterdir())
+    study.priced.mining[:] = right
+    study.run(1200)
+
+
+def test_a_result_that_was_damaged_is_never_shown(tmp_path):
+    study = shells_of(tmp_path).study
+    place = study.place(800)
+    with np.load(place / "pit.npz") as file:
+        bits = file["bits"].copy()
+    bits[0] ^= 128
+    np.savez_compressed(place / "pit.npz", bits=bits)
+    with pytest.raises(pp.Disagreement, match="isn't what was accepted"):
+        pp.Shells(study, [600, 800])
+    verdict = json.loads((place / "verdict.json").read_text())
+    import hashlib
+    verdict["bits"] = hashlib.sha256(bits.tobytes()).hexdigest()
+    (place / "verdict.json").write_text(json.dumps(verdict))
+    with pytest.raises(pp.Disagreement, match="adds up to"):
+        pp.Shells(study, [600, 800])
+
+
+def test_pits_that_arent_nested_are_never_shown(tmp_path):
+    study = shells_of(tmp_path).study
+    a, b = study.place(600), study.place(1200)
+    verdicts = [json.loads((place / "verdict.json").read_text()) for place in (a, b)]
+    masks = [study.mask(factor) for factor in (600, 1200)]
+    import hashlib
+    for place, verdict, mask, factor in ((a, verdicts[0], masks[1], 600), (b, verdicts[1], masks[0], 1200)):
+        bits = np.packbits(mask)
+        np.savez_compressed(place / "pit.npz", bits=bits)
+        verdict |= {"bits": hashlib.sha256(bits.tobytes()).hexdigest(), "count": int(mask.sum()), "worth": study.priced.worth_of(mask, factor)}
+        (place / "verdict.json").write_text(json.dumps(verdict))
+    with pytest.raises(pp.Disagreement, match="isn't within"):
+        pp.Shells(study, [600, 1200])
+
+
+@pytest.mark.parametrize("name", ["mine.blocks", "mine.prec", "settings.toml", "blocks.npz"])
+def test_a_pit_over_other_files_is_never_shown(tmp_path, name):
+    study = shells_of(tmp_path).study
+    path = study.folder / "model" / name
+    path.write_bytes(path.read_bytes() + b"\n")
+    with pytest.raises(pp.PlanError, match="isn't the file that the build made"):
+        pp.Shells(pp.Study(study.folder), [600, 800])
+
+
+def test_a_changed_model_has_no_pits(tmp_path):
+    old = shells_of(tmp_path).study
+    assert old.verdict(800)
+    f = pd.read_csv(tmp_path / "t.csv")
+    f.loc[0, "CU"] += 1
+    new = study_of(tmp_path, f)
+    assert new.verdict(800) is None
+    with pytest.raises(pp.PlanError, match="hasn't been run over this model"):
+        pp.Shells(new, [800])
+    assert len(new.shells([600, 800]).verdicts) == 2
+
+
+def test_a_build_that_fails_leaves_the_study_as_it_was(tmp_path):
+    old = shells_of(tmp_path).study
+    with pytest.raises(pp.PlanError):
+        study_of(tmp_path, table(9, 8, 5, 5), economics=costs(mill=["NONE"]))
+    assert pp.Shells(pp.Study(old.folder), [600, 800]).verdicts == [old.verdict(600), old.verdict(800)]
+    (tmp_path / "empty").mkdir()
+    with pytest.raises(pp.PlanError, match="never built"):
+        pp.Study(tmp_path / "empty")
+
+
+def test_a_series_goes_on_where_it_was(tmp_path, monkeypatch):
+    study = study_of(tmp_path, table(9, 8, 5, 5))
+    ran = []
+    best = Pit.best
+    monkeypatch.setattr(Pit, "best", lambda self, files, factor, *rest: ran.append(factor) or best(self, files, factor, *rest))
+    study.shells([600, 1000])
+    half = study.folder / "runs/base/.f00800.elsewhere.1.xyz"
+    dead = study.folder / f"runs/base/.f00800.{os.uname().nodename.replace('.', '_')}.999999999.xyz"
+    for folder in (half, dead):
+        folder.mkdir()
+    study.shells([600, 800, 1000, 1200])
+    assert sorted(ran) == [600, 800, 1000, 1200]
+    assert half.exists() and not dead.exists()      # another machine may still be at work on the first
+
+
+SLOW = """#!/bin/sh
+# pit, but a solve waits for a while before it begins
+case "$1" in solve) echo $$ >> {marks}; sleep {wait};; esac
+exec {pit} "$@"
+"""
+
+
+def slow_pit(folder, wait, pit):
+    path, marks = folder / "slow-pit", folder / "marks"
+    path.write_text(SLOW.format(marks=marks, wait=wait, pit=pit))
+    path.chmod(0o755)
+    return path, marks
+
+
+def command(*words, **more):
+    return subprocess.Popen([str(TOP / "bin/pitplan"), *map(str, words)], stdout=subprocess.PIPE, stderr=subprocess.PIPE, text=True, **more)
+
+
+def waited_for(path, lines, seconds=60):
+    for _ in range(seconds * 20):
+        if path.exists() and len(path.read_text().split()) >= lines:
+            return path.read_text().split()
+        time.sleep(0.05)
+    raise AssertionError(f"{path} never had {lines} lines")
+
+
+def runs(pid):
+    try:
+        return Path(f"/proc/{pid}/stat").read_text().split(")")[1].split()[0] != "Z"
+    except OSError:
+        return False
+
+
+@pytest.mark.parametrize("how", [signal.SIGINT, signal.SIGKILL])
+def test_a_run_that_was_stopped_leaves_no_solver_and_goes_on(tmp_path, program, how):
+    folder = written_study(tmp_path / "s")
+    assert command("build", folder).wait() == 0
+    slow, marks = slow_pit(tmp_path, 30, program)
+    run = command("shells", folder, "--workers", 2, env={**os.environ, "PIT": str(slow)})
+    solvers = waited_for(marks, 2)
+    run.send_signal(how)
+    said = run.communicate(timeout=60)[1]
+    assert run.returncode == (130 if how == signal.SIGINT else -9)
+    assert how == signal.SIGKILL or "goes on from there" in said
+    for _ in range(100):
+        if not any(runs(pid) for pid in solvers):
+            break
+        time.sleep(0.05)
+    assert not any(runs(pid) for pid in solvers)
+    left = list((folder / "runs/base").iterdir())
+    assert how == signal.SIGKILL or not left
+    again = command("shells", folder, env={**os.environ, "PIT": program})
+    assert again.communicate(timeout=120) and again.returncode == 0
+    assert sorted(path.name for path in (folder / "runs/base").iterdir()) == ["f00600", "f01000", "f01200"]
+
+
+def test_a_killed_solver_is_started_once_more(tmp_path, program):
+    study = study_of(tmp_path, table(6, 5, 4, 3), )
+    text = "#!/bin/sh\ncase \"$*\" in *solve*1000*) if [ ! -e {0} ]; then touch {0}; kill -9 $$; fi;; esac\nexec {1} \"$@\"\n".format(tmp_path / "killed", program)
+    (tmp_path / "pit").write_text(text)
+    (tmp_path / "pit").chmod(0o755)
+    study = pp.Study(study.folder, Pit(tmp_path / "pit"))
+    told = []
+    assert len(study.shells([600, 1000], 2, lambda factor, what, share: told.append((factor, what))).verdicts) == 2
+    assert (1000, "killed") in told and (1000, "done") in told
+    (tmp_path / "pit").write_text("#!/bin/sh\nkill -9 $$\n")
+    with pytest.raises(pp.MachineError, match="SIGKILL"):
+        pp.Study(study.folder, Pit(tmp_path / "pit")).shells([700])
+
+
+@pytest.mark.skipif(os.geteuid() != 0, reason="only root mounts a small disk")
+def test_a_full_disk_is_told_and_the_run_goes_on(tmp_path):
+    study = study_of(tmp_path, table(9, 8, 5, 5))
+    study.run(600)
+    place = study.folder / "runs"
+    kept = tmp_path / "kept"
+    shutil.move(place, kept)
+    place.mkdir()
+    if subprocess.run(["mount", "-t", "tmpfs", "-o", "size=48k", "tmpfs", str(place)], capture_output=True).returncode:
+        pytest.skip("this container mounts nothing")
+    try:
+        shutil.copytree(kept, place, dirs_exist_ok=True)
+        (place / "ballast").write_bytes(b"x" * (1 << 14))
+        with pytest.raises(pp.MachineError, match="disk"):
+            study.shells([600, 1000], 1)
+        assert [p.name for p in (place / "base").iterdir()] == ["f00600"]
+        subprocess.run(["mount", "-o", "remount,size=4m", str(place)], check=True)
+        assert len(study.shells([600, 1000], 1).verdicts) == 2
+    finally:
+        subprocess.run(["umount", "-l", str(place)], check=True)
+
+
+def test_workers_go_by_free_memory(tmp_path, monkeypatch):
+    study = study_of(tmp_path, table(6, 5, 4, 3))
+    need = workers.guess_of(study).memory
+    assert need == workers.memory_of(len(study.model), study.manifest["pairs"])
+    for free, wanted, most in ((need * 10, 3, 3), (need * 10, 64, 8), (need, 3, 1), (0, 3, 1)):
+        monkeypatch.setattr(workers, "free_memory", lambda free=free: free)
+        assert workers.workers_for(study, wanted) == most
+    assert workers.guess_of(study).pairs == sum(int(line.split()[1]) for line in study.prec_file.read_text().splitlines())
+
+
+def test_forbidden_blocks_stay(tmp_path):
+    f = table(9, 8, 5, 5)
+    free = study_of(tmp_path, f).pit(1.35).mask
+    study = study_of(tmp_path, f, economics=costs(forbid=["XC > 5100", "ROCK == 'OXI' and ZC < 110"]))
+    fence = ((f.XC > 5100) | ((f.ROCK == "OXI") & (f.ZC < 110))).to_numpy()
+    for share in (1.35, 10.0):
+        assert not (study.pit(share).mask & fence).any()
+    assert (free & fence).any() and study.pit(1.35).count > 0
+
+
+def test_a_model_comes_back_from_its_file(tmp_path):
+    study = study_of(tmp_path, table(6, 5, 4, 3, rotation=30), rotation=30, widen=1)
+    path = tmp_path / "t.csv"
+    model = pp.read_table(path, size=SIZE, rotation=30, widen=1)
+    again = study.model
+    assert again.grid == model.grid and again.columns == model.columns and (again.row_block == model.row_block).all()
+    pd.testing.assert_frame_equal(again.blocks, model.blocks)
+
+
+def test_a_store_takes_no_pickles(tmp_path):
+    np.savez(tmp_path / "x.npz", told=np.array([{"a": 1}], dtype=object))
+    with pytest.raises(ValueError, match="pickle"):
+        store.load_model(tmp_path / "x.npz")
+
+
+def test_the_program_is_found_by_its_three_ways(tmp_path, monkeypatch):
+    pit = tmp_path / "pit"
+    pit.write_text("#!/bin/sh\n")
+    pit.chmod(0o755)
+    monkeypatch.setenv("PIT", str(pit))
+    assert programs.found_program() == str(pit.resolve())
+    monkeypatch.setenv("PIT", str(tmp_path / "none"))
+    with pytest.raises(pp.PlanError, match="PIT in the environment"):
+        programs.found_program()
+    monkeypatch.delenv("PIT")
+    monkeypatch.setenv("PATH", str(tmp_path))
+    assert programs.found_program() == str(pit)
+    monkeypatch.setenv("PATH", "/nowhere")
+    monkeypatch.setattr(programs, "BUILT", (tmp_path / "none", pit))
+    assert programs.found_program() == str(pit)
+    monkeypatch.setattr(programs, "BUILT", ())
+    with pytest.raises(pp.PlanError, match="isn't there"):
+        programs.found_program()
+
+
+def test_words_of_pit_reach_the_planner(tmp_path):
+    study = study_of(tmp_path, table(6, 5, 4, 3))
+    study.settings_file.write_text("revenue = 40\nprocessing = 1\nmining = 2\n")
+    with pytest.raises(pp.PlanError, match=r"pit solve ended with status 3: .*NoColumn"):
+        study.run(900)

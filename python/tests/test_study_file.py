@@ -1,0 +1,56 @@
+"""study.toml: what it may say, and what is said where it says something else."""
+import pytest
+
+import pitplan as pp
+from mines import STUDY_TOML, written_study
+from pitplan.shells import factors, series_of, thousandths
+from pitplan.study_file import read_study_file
+
+WRONG = [
+    ('size = [20, 20, 15]', 'size = [20, 20]', "three numbers above 0"),
+    ('size = [20, 20, 15]', 'sise = [20, 20, 15]', "[model] has no key 'sise'; is 'size' meant?"),
+    ('mining = 2.0', 'minning = 2.0', "[economics] has no mining"),
+    ('mining = 2.0', 'mining = 2.0\ndilutoin = 0.1', "[economics] has no key 'dilutoin'; is 'dilution' meant?"),
+    ('recovery = 0.85', 'recovry = 0.85', "[economics] metals has no key 'recovry'; is 'recovery' meant?"),
+    ('grade = "CU", ', '', "metal copper has no grade"),
+    ('[slopes]', '[slope]', "the file has no section 'slope'; is 'slopes' meant?"),
+    ('angles = 45', 'angle = 45', "[slopes] has no key 'angle'; is 'angles' meant?"),
+    ('discount = 0.08', 'discount = 8', "discount is 8"),
+    ('mill_rate = 5e5', 'mill_rate = 0', "mill_rate is 0"),
+    ('[0.6, 1.0, 1.2]', '[0.30, 1.20, 0.05]', "factors = { from = 0.30"),
+    ('[0.6, 1.0, 1.2]', '{ from = 0.3, to = 1.2 }', "needs three numbers"),
+    ('[0.6, 1.0, 1.2]', '[600, 1000]', "a share of the price in whole thousandths, from 0 to 10\n  try: 0.6"),
+    ('[0.6, 1.0, 1.2]', '[0.6, 0.60001]', "whole thousandths"),
+    ('[0.6, 1.0, 1.2]', '"all"', "[shells] factors is 'all'"),
+    ('table = "t.csv"', '', "[model] has no table"),
+    ('mining = 2.0', 'mining = ', "isn't TOML"),
+    ('size = [20, 20, 15]', 'size = [20, 20, 15]\nregularise = "yes"', "has to be true or false"),
+    ('size = [20, 20, 15]', 'size = [20, 20, 15]\nrotation = "north"', "has to be a number"),
+]
+
+
+@pytest.mark.parametrize("was, now, said", WRONG, ids=[now or was for was, now, _ in WRONG])
+def test_what_a_study_may_not_say(tmp_path, was, now, said):
+    assert was in STUDY_TOML
+    folder = written_study(tmp_path / "s", text=STUDY_TOML.replace(was, now, 1))
+    with pytest.raises(pp.PlanError) as error:
+        read_study_file(folder)
+    assert said in str(error.value) and "study.toml" in str(error.value)
+
+
+def test_what_a_study_says(tmp_path):
+    told = read_study_file(written_study(tmp_path / "s"))
+    assert told.factors == [600, 1000, 1200] and told.rates == {"mining_rate": 1e6, "mill_rate": 5e5, "discount": 0.08}
+    assert told.economics.metals[0].price == 8500 and told.keys.size == [20, 20, 15] and told.table == tmp_path / "s" / "t.csv"
+    again = read_study_file(written_study(tmp_path / "s", text=STUDY_TOML.replace("factors = [0.6, 1.0, 1.2]", "factors = { from = 0.3, to = 1.2, step = 0.3 }")))
+    assert again.factors == [300, 600, 900, 1200]
+    assert again.digest == told.digest       # the factors are no part of a built model
+    assert read_study_file(written_study(tmp_path / "s", text=STUDY_TOML.replace("mining = 2.0", "mining = 2.1"))).digest != told.digest
+
+
+def test_factors():
+    assert factors(0.3, 1.2, 0.3) == [300, 600, 900, 1200] and factors(0.9, 1.0, 0.02) == [900, 920, 940, 960, 980, 1000]
+    assert len(factors(0.3, 1.2, 0.01)) == 91 and series_of([0.001, 10]) == [1, 10000] and thousandths(0.85) == 850
+    for wrong in (lambda: factors(1, 0.5, 0.1), lambda: factors(0.5, 1, 0), lambda: thousandths(10.1), lambda: thousandths(-0.1), lambda: thousandths("1")):
+        with pytest.raises(pp.PlanError):
+            wrong()

@@ -1,0 +1,246 @@
+"""What a table may look like, and what is said where it is wrong."""
+import gzip
+
+import numpy as np
+import pandas as pd
+import pytest
+from hypothesis import given, strategies as st
+
+import pitplan as pp
+from mines import SIZE, costs, study_of, table
+
+
+def read(folder, frame, name="t.csv", text=None, **keys):
+    path = folder / name
+    path.write_bytes(text if text is not None else frame.to_csv(index=False).encode())
+    return pp.read_table(path, **{**dict(size=SIZE), **keys})
+
+
+def refusal(folder, frame, **keys):
+    with pytest.raises(pp.PlanError) as error:
+        model = read(folder, frame, **keys)
+        costs().priced(model)
+    return str(error.value)
+
+
+@given(st.integers(0, 10 ** 6), st.integers(0, 40), st.sampled_from(["CU", "TONNES", "XC", "ZC"]), st.sampled_from(["<0.01", "1,234", "", "n/a", "0.5%", "nan", "1e999"]))
+def test_a_bad_cell_is_told_by_row_and_column(tmp_path_factory, seed, row, column, cell):
+    f = table(4, 4, 3, seed)
+    row %= len(f)
+    f[column] = f[column].astype(object)
+    f.loc[row, column] = cell
+    said = refusal(tmp_path_factory.mktemp("s"), f)
+    assert f"row {row + 2}, column {column}" in said and (cell == "" or cell == "1e999" or repr(cell) in said)
+
+
+@pytest.mark.parametrize("separator, decimal", [(",", "."), (";", "."), (";", ","), ("\t", "."), ("\t", ",")])
+@pytest.mark.parametrize("mark", [b"", b"\xef\xbb\xbf"])
+@pytest.mark.parametrize("end", ["\n", "\r\n"])
+def test_every_way_to_write_a_table_is_read_alike(tmp_path, separator, decimal, mark, end):
+    f = table(4, 3, 3, 1)
+    text = mark + f.to_csv(index=False, sep=separator, decimal=decimal, lineterminator=end).encode()
+    plain = read(tmp_path, f)
+    found = read(tmp_path, f, "other.csv", text)
+    packed = read(tmp_path, f, "other.csv.gz", gzip.compress(text))
+    assert found.blocks.equals(plain.blocks) and packed.blocks.equals(plain.blocks) and packed.name == "other"
+
+
+PACKAGES = {"Datamine": dict(IJK="IJK", XC="XC", YC="YC", ZC="ZC", TONNES="TONNES", ROCK="ROCK"),
+            "Vulcan": dict(IJK="ijk", XC="centroid_x", YC="centroid_y", ZC="centroid_z", TONNES="tonnes", ROCK="rocktype"),
+            "Surpac": dict(IJK="id", XC="x", YC="y", ZC="z", TONNES="tonnes", ROCK="rock_type"),
+            "Micromine": dict(IJK="INDEX", XC="EAST", YC="NORTH", ZC="RL", TONNES="TONNES", ROCK="LITH"),
+            "MineSight": dict(IJK="BLOCK", XC="EASTING", YC="NORTHING", ZC="ELEV", TONNES="TONS", ROCK="ROCK")}
+
+
+@pytest.mark.parametrize("package", PACKAGES)
+def test_the_usual_names_of_columns_are_known(tmp_path, package):
+    f = table(4, 3, 3, 1)
+    plain, found = read(tmp_path, f), read(tmp_path, f.rename(columns=PACKAGES[package]), package + ".csv")
+    for column in ("id", "ix", "iy", "iz", "tonnes", "rock", "row"):
+        assert (plain.blocks[column] == found.blocks[column]).all()
+
+
+def test_names_of_ones_own(tmp_path):
+    f = table(4, 3, 3, 1).rename(columns={"XC": "Ostwert", "TONNES": "Masse", "IJK": "Nr"})
+    assert "no column is known as x" in refusal(tmp_path, f)
+    assert read(tmp_path, f, columns={"x": "Ostwert", "tonnes": "Masse", "id": "Nr"}).blocks["id"].str.startswith("b").all()
+    assert "is 'Ostwert' meant?" in refusal(tmp_path, f, columns={"x": "Ostwerte", "tonnes": "Masse"})
+    assert "is 'tonnes' meant?" in refusal(tmp_path, f, columns={"tons": "Masse"})
+
+
+def test_ids_and_rock_codes_are_words(tmp_path):
+    f = table(3, 3, 2, 1)
+    f["IJK"] = [f"{n:05d}" for n in range(len(f))]
+    f["ROCK"] = "007"
+    model = read(tmp_path, f)
+    assert model.blocks["id"].tolist() == f.IJK.tolist() and set(model.blocks.rock) == {"007"}
+
+
+def test_lines_between_header_and_blocks_and_blank_lines_keep_the_rows_right(tmp_path):
+    f = table(4, 3, 3, 1)
+    lines = f.to_csv(index=False).splitlines(keepends=True)
+    text = "".join([lines[0], "Variable descriptions:,,,,,,,,\n", "Variable types:,double,double,double,double,double,double,name,name\n", *lines[1:5], "\n", *lines[5:], "\n\n"])
+    model = read(tmp_path, f, text=text.encode())
+    assert len(model) == len(f) and model.blocks["row"].tolist()[:5] == [2, 3, 4, 5, 7]
+    bad = text.replace(lines[5], lines[5].replace(f"{f.TONNES[4]}", "many", 1))
+    assert "row 9, column TONNES: the cell is no number: it is 'many'" in refusal(tmp_path, f, text=bad.encode())
+    assert model.row_block[7] == 4 and model.row_block[6] == -1
+
+
+@pytest.mark.parametrize("row", [0, 7])
+def test_a_row_with_a_cell_too_many_is_told(tmp_path, row):
+    lines = table(4, 3, 3, 1).to_csv(index=False).splitlines()
+    lines[row + 1] += ",1"
+    assert f"row {row + 2}: has 10 cells, and the header line 9" in refusal(tmp_path, None, text="\n".join(lines).encode())
+
+
+def test_separators_at_the_ends_of_lines_do_no_harm(tmp_path):
+    f = table(4, 3, 3, 1)
+    text = f.to_csv(index=False).replace("\n", ",\n").encode()
+    assert read(tmp_path, f, text=text).blocks.equals(read(tmp_path, f).blocks)
+
+
+@pytest.mark.parametrize("text, said", [(b"", "no header line"), (b"XC,YC,ZC,TONNES\n", "no rows"), ("XC,YC,ZC,TONNES\n1,2,3,4\n".encode("utf-16"), "UTF-16"),
+                                        (b"PK\x03\x04rest", "spreadsheet"), (b"XC,YC,ZC,CU,CU\n1,2,3,4,5\n", "two columns are called CU"),
+                                        (b"XC,YC,ZC,Gr\xf6\xdfe\n1,2,3,4\n", 'encoding = "cp1252"')])
+def test_what_is_no_table(tmp_path, text, said):
+    assert said in refusal(tmp_path, None, text=text)
+
+
+def test_a_table_that_isnt_there(tmp_path):
+    with pytest.raises(pp.PlanError, match="no such file"):
+        pp.read_table(tmp_path / "none.csv", size=SIZE)
+    (tmp_path / "cut.csv.gz").write_bytes(gzip.compress(table(5, 5, 5, 1).to_csv(index=False).encode())[:-200])
+    with pytest.raises(pp.PlanError, match="can't be read"):
+        pp.read_table(tmp_path / "cut.csv.gz", size=SIZE)
+
+
+def test_cells_that_stand_for_not_estimated(tmp_path):
+    f = table(4, 4, 3, 2)
+    f["CU"] = f["CU"].astype(object)
+    f.loc[3, "CU"], f.loc[5, "CU"], f.loc[7, "CU"] = -99, "-", ""
+    said = refusal(tmp_path, f)
+    assert "row 7, column CU" in said and 'absent = ["-"]' in said
+    f.loc[5, "CU"] = 0.2
+    assert "row 9, column CU: the cell is empty" in refusal(tmp_path, f)
+    f.loc[7, "CU"] = 0.3
+    f["CU"] = f["CU"].astype(float)
+    assert "row 5, column CU: -99 is below 0" in refusal(tmp_path, f)
+    f["CU"] = f["CU"].astype(object)
+    f.loc[5, "CU"], f.loc[7, "CU"] = "-", ""
+    grade = costs().priced(read(tmp_path, f, absent=["-99", "-", ""])).grade["copper"]
+    assert grade[3] == grade[5] == grade[7] == 0 and grade[1] == f.CU[1]
+
+
+def test_depths_count_downward(tmp_path):
+    f = table(4, 4, 4, 3)
+    plain = read(tmp_path, f)
+    deep = read(tmp_path, f.assign(ZC=500 - f.ZC), z="depth")
+    assert (plain.blocks.iz == deep.blocks.iz).all()
+    x, y, z = deep.xyz()
+    assert np.allclose(z, f.ZC - 500)
+
+
+def split(frame, seed, part=0.5):
+    """Some of the blocks cut in two along x."""
+    whole = frame.assign(XINC=20.0, YINC=20.0, ZINC=15.0)
+    cut = whole.sample(frac=part, random_state=seed)
+    halves = [cut.assign(XC=cut.XC + side * 5, XINC=10.0, TONNES=cut.TONNES / 2) for side in (-1, 1)]
+    return pd.concat([whole.drop(cut.index), *halves], ignore_index=True)
+
+
+@given(st.integers(0, 10 ** 6), st.sampled_from([0.3, 1.0]))
+def test_sub_blocks_are_refused_or_add_up(tmp_path_factory, seed, part):
+    f = table(3, 3, 2, seed)
+    g = split(f, seed, part)
+    folder = tmp_path_factory.mktemp("s")
+    first = int(np.argmax(g.XINC.to_numpy() < 20))
+    if (g.XINC < 20).any():
+        assert f"row {first + 2}, column XINC: is a sub-block of 10 x 20 x 15" in refusal(folder, g)
+    a = read(folder, g, regularise=True)
+    b = read(folder, f)
+    order = ["ix", "iy", "iz"]
+    a_sorted, b_sorted = (m.blocks.sort_values(order).reset_index(drop=True) for m in (a, b))
+    for column in ("tonnes", "CU", "AU"):
+        assert np.allclose(a_sorted[column], b_sorted[column])
+    assert (a_sorted[order] == b_sorted[order]).all(axis=None) and (a_sorted.rock == b_sorted.rock).all() and a.grid == b.grid
+    # each sub-block's row knows its whole block
+    assert (a.blocks.ix.to_numpy()[a.row_block] == np.rint((g.XC - f.XC.min()) / 20 - 1e-9)).all()
+
+
+def test_sub_blocks_weigh_by_density_and_size(tmp_path):
+    f = pd.DataFrame({"XC": [10, 10, 30.], "YC": 10., "ZC": [2.5, 7.5, 5.], "XINC": 20., "YINC": 20., "ZINC": [5, 5, 10.], "DENSITY": [2.0, 3.0, 2.5], "CU": [1.0, 0.0, 0.5], "ROCK": ["A", "B", "A"]})
+    model = read(tmp_path, f, size=(20, 20, 10), regularise=True)
+    assert model.blocks.tonnes.tolist() == [10000, 10000] and model.blocks.CU.round(6).tolist() == [0.4, 0.5] and model.blocks.rock.tolist() == ["B", "A"]
+
+
+def test_a_bad_cell_among_sub_blocks_isnt_lost(tmp_path):
+    g = split(table(4, 3, 2, 1), 1)
+    g["AU"] = g["AU"].astype(object)
+    g.loc[len(g) - 1, "AU"] = "<0.01"
+    assert f"row {len(g) + 1}, column AU" in refusal(tmp_path, g, regularise=True)
+
+
+def test_two_blocks_at_one_place(tmp_path):
+    f = table(4, 3, 2, 1)
+    g = pd.concat([f, f.iloc[[4]]], ignore_index=True)
+    assert f"row {len(g) + 1}, column XC: is at the place of row 6" in refusal(tmp_path, g)
+
+
+def test_a_centre_off_the_grid_is_told_by_its_row(tmp_path):
+    f = table(5, 5, 3, 1)
+    lowest = int(f.XC.idxmin())
+    f.loc[lowest, "XC"] -= 4
+    said = refusal(tmp_path, f)
+    assert f"row {lowest + 2}, column XC" in said and "0.20 of a block of 20 off the grid" in said
+    assert "rotation" in refusal(tmp_path, table(5, 5, 3, 1, rotation=20))
+    assert "no two blocks are neighbours" in refusal(tmp_path, table(5, 5, 3, 1), size=(10, 20, 15))
+    far = table(5, 5, 3, 1)
+    far.loc[9, "XC"] += 20 * 10 ** 6
+    assert "row 11, column XC" in refusal(tmp_path, far)
+
+
+def hole_in(frame, height=115.0):
+    """The row of a block with others above and below it, in the middle of the model."""
+    for x, y in frame[["XC", "YC"]].drop_duplicates().itertuples(index=False):
+        column = frame[(frame.XC == x) & (frame.YC == y)]
+        if column.ZC.max() > height > column.ZC.min():
+            return column.index[column.ZC == height]
+    raise AssertionError("no such column")
+
+
+def test_missing_rows_are_told_apart(tmp_path):
+    f = table(5, 5, 4, 8)
+    assert any("above the highest block" in note for note in read(tmp_path, f).notes)
+    hole = hole_in(f)
+    at = f.loc[hole[0]]
+    said = refusal(tmp_path, f.drop(hole))
+    assert f"({at.XC:g}, {at.YC:g}, {at.ZC:g}) has no row, with blocks above and below it" in said
+    inside = f.index[(f.XC == 5040) & (f.YC == 9040)]
+    assert "the whole column at (5040, 9040) is missing" in refusal(tmp_path, f.drop(inside))
+    air = read(tmp_path, f.drop(hole), missing="air")
+    assert len(air) == len(f) and air.blocks.tonnes.iloc[-1] == 0 and air.blocks.rock.iloc[-1] == "air"
+    assert "fill" in refusal(tmp_path, f.drop(hole), missing="rock")
+    rock = read(tmp_path, f.drop(hole), missing="rock", fill={"tonnes": 15000.0, "rock": "SUL"})
+    last = rock.blocks.iloc[-1]
+    assert (last.tonnes, last.rock, last["row"], last.XC, last.YC, last.ZC) == (15000, "SUL", -1, at.XC, at.YC, at.ZC)
+    assert costs().priced(rock).revenue[-1] == 0      # what was filled in is never ore
+    assert len(read(tmp_path, f.drop(inside), missing="air")) == len(f) - len(inside)
+
+
+def test_widened(tmp_path):
+    f = table(6, 5, 4, 4, rotation=20)
+    model = read(tmp_path, f, rotation=20, widen=3)
+    assert model.grid.shape[:2] == (12, 11)
+    added = model.blocks[model.blocks["row"] < 0]
+    x, y, z = model.xyz()
+    assert np.allclose(x, model.blocks.XC) and np.allclose(y, model.blocks.YC)
+    assert np.allclose(x[:len(f)], f.XC) and len(added) == len(model) - len(f) > 0
+    assert (costs().priced(model).revenue[len(f):] == 0).all()
+    assert set(zip(added.ix, added.iy)) == {(i, j) for i in range(12) for j in range(11)} - {(i, j) for i in range(3, 9) for j in range(3, 8)}
+
+
+def test_unknown_keys_name_the_nearest(tmp_path):
+    assert "is 'rotation' meant?" in refusal(tmp_path, table(3, 3, 2, 1), rotatoin=3)
+    assert "none of elevation, depth" in refusal(tmp_path, table(3, 3, 2, 1), z="up")
+    assert "three numbers above 0" in refusal(tmp_path, table(3, 3, 2, 1), size=(1, 2))

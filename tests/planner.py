@@ -1,0 +1,54 @@
+"""The tests of pitplan, the planner's side in Python: python/tests, by Debian's own Python and packages."""
+import os
+import re
+import subprocess
+from pathlib import Path
+
+PYTHON = "/usr/bin/python3"
+
+
+def packages(top):
+    """Debian's packages that pitplan and its tests need, by python/packages."""
+    return [line.strip() for line in (top / "python" / "packages").read_text().splitlines() if line.strip() and not line.startswith("#")]
+
+
+def missing(names):
+    """Those of the packages that aren't installed."""
+    said = subprocess.run(["dpkg-query", "-W", "-f", "${Package} ${db:Status-Status}\n", *names], stdout=subprocess.PIPE, stderr=subprocess.DEVNULL, text=True).stdout
+    there = {line.split()[0] for line in said.splitlines() if line.endswith(" installed")}
+    return [name for name in names if name not in there]
+
+
+def installed(top):
+    """Installs what is missing where that may be done, else says by which command; whether all is there."""
+    lacking = missing(packages(top))
+    if not lacking:
+        return True
+    command = ["apt-get", "install", "-y", "--no-install-recommends", *lacking]
+    if os.geteuid() != 0:
+        print("the tests of pitplan need Debian's packages: sudo " + " ".join(command))
+        return False
+    quiet = {"stdout": subprocess.DEVNULL, "env": {**os.environ, "DEBIAN_FRONTEND": "noninteractive"}}
+    if subprocess.run(command, **quiet).returncode:
+        subprocess.run(["apt-get", "update"], **quiet)
+        subprocess.run(command, **quiet)
+    lacking = missing(lacking)
+    if lacking:
+        print("apt-get can't install " + " ".join(lacking))
+    return not lacking
+
+
+def try_all(top, pit):
+    """Runs the tests, and gives how many passed and failed."""
+    if not os.access(pit, os.X_OK):
+        print("no program at %s" % pit)
+        return 0, 1
+    if not installed(top):
+        return 0, 1
+    words = [PYTHON, "-m", "pytest", "-q", "-p", "no:cacheprovider", "tests"]
+    ran = subprocess.run(words, cwd=top / "python", env={**os.environ, "PIT": str(pit)}, stdin=subprocess.DEVNULL, stdout=subprocess.PIPE, stderr=subprocess.STDOUT, text=True)
+    counts = {word: int(number) for number, word in re.findall(r"(\d+) (passed|failed|error|errors)\b", ran.stdout.strip().rsplit("\n", 1)[-1])}
+    passed, failed = counts.get("passed", 0), counts.get("failed", 0) + counts.get("error", 0) + counts.get("errors", 0)
+    if ran.returncode:
+        print(ran.stdout)
+    return passed, max(failed, int(ran.returncode != 0))
