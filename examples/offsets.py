@@ -1,0 +1,101 @@
+#!/usr/bin/env python3
+"""Writes the offsets of walls that are as steep as asked, as settings for `pit slopes --pattern settings`.
+
+    python3 offsets.py XSIZE YSIZE ZSIZE SLOPE > slope.toml
+
+The sizes are those of a block in metres, along x, y and upward. SLOPE is the overall slope in degrees from the
+horizontal, as 45, or slopes by bearing, as 0:45,90:45,180:38,270:45: the north wall is at 0, the east wall at 90, and
+between two bearings the slope changes evenly.
+
+Offsets that the others imply are left out. Standard error says by how much the wall errs: on average over all bearings
+at most 0.5 degrees, and nowhere more than 1, or it says that this can't be held and what can. Python's standard library
+is enough; the search is in python/pitplan/offsets.py of this repository.
+"""
+from __future__ import annotations
+
+import argparse
+import importlib.util
+import math
+import sys
+from pathlib import Path
+
+SEARCH = Path(__file__).resolve().parent.parent / "python" / "pitplan" / "offsets.py"
+
+
+def search_module():
+    """The search, by its file alone: the package around it needs more than the standard library."""
+    found = importlib.util.spec_from_file_location("pitplan_offsets", SEARCH)
+    if not SEARCH.is_file() or found is None or found.loader is None:
+        sys.exit("offsets.py: there is no %s: run it where it lies in the repository" % SEARCH)
+    module = importlib.util.module_from_spec(found)
+    sys.modules[found.name] = module
+    found.loader.exec_module(module)
+    return module
+
+
+def number(word, what, example):
+    """A number of the command line."""
+    try:
+        value = float(word)
+    except ValueError:
+        value = math.nan
+    if not math.isfinite(value):
+        raise ValueError("%s is '%s', and has to be a number, as %s" % (what, word, example))
+    return value
+
+
+def slopes(word):
+    """SLOPE: one angle, or pairs of a bearing and an angle."""
+    if ":" not in word:
+        return number(word, "the slope", "45, or slopes by bearing, as 0:45,180:38")
+    pairs = []
+    for pair in word.split(","):
+        bearing, colon, angle = pair.partition(":")
+        if not colon:
+            raise ValueError("among the slopes by bearing is '%s', and has to be BEARING:SLOPE, as 180:38" % pair)
+        pairs.append((number(bearing, "a bearing", "180"), number(angle, "the slope at bearing %s" % bearing, "38")))
+    return pairs
+
+
+def words():
+    parser = argparse.ArgumentParser(description=__doc__.split("\n\n")[0], epilog="\n\n".join(__doc__.split("\n\n")[2:]),
+                                     usage="offsets.py XSIZE YSIZE ZSIZE SLOPE [OPTIONS]", formatter_class=argparse.RawDescriptionHelpFormatter)
+    for axis, way in ("XSIZE", "x"), ("YSIZE", "y"), ("ZSIZE", "z, upward"):
+        parser.add_argument(axis, help="metres of a block along " + way)
+    parser.add_argument("SLOPE", help="degrees, or BEARING:SLOPE,BEARING:SLOPE,..")
+    parser.add_argument("--rotation", metavar="DEGREES", default="0", help="bearing of the model's y axis, where the model is turned")
+    parser.add_argument("--safe", action="store_true", help="nowhere steeper than asked, and so flatter on average")
+    parser.add_argument("--levels", metavar="N", type=int, help="look at most so many levels up, from 1 to 200")
+    parser.add_argument("--blocks", metavar="N", type=int, default=0, help="how many blocks the model has: pit takes 134,217,728 pairs at most")
+    return parser
+
+
+def said(offsets, pattern, given):
+    """What standard error is told."""
+    if pattern.is_held:
+        return str(pattern)
+    why = "" if offsets.within(given.blocks)([(0, 0, 1)] * (len(pattern.offsets) + 1)) or not given.blocks else (
+        " with the %d offsets that %s blocks leave room for" % (offsets.PAIRS // given.blocks, f"{given.blocks:,}"))
+    return "warning: %g degrees on average and %g at the worst bearing can't be held%s. These err least:\n%s" % (
+        offsets.MEAN, offsets.WORST, why, pattern)
+
+
+def main():
+    offsets, parser = search_module(), words()
+    given = parser.parse_args()
+    try:
+        size = [number(word, "the size of a block along %s" % axis, "12.5") for word, axis in zip((given.XSIZE, given.YSIZE, given.ZSIZE), "xyz")]
+        wall = offsets.wall(size, slopes(given.SLOPE), number(given.rotation, "the rotation", "30"))
+        if given.blocks < 0:
+            raise ValueError("the model has %d blocks?" % given.blocks)
+        pattern = offsets.search(wall, safe=given.safe, levels=given.levels, fits=offsets.within(given.blocks))
+    except ValueError as error:
+        parser.error(str(error))
+    print("# %s degrees in blocks of %g x %g x %g metres" % (given.SLOPE, *size))
+    print("# " + str(pattern))
+    print(offsets.settings(pattern), end="")
+    print(said(offsets, pattern, given), file=sys.stderr)
+
+
+if __name__ == "__main__":
+    main()

@@ -1,0 +1,410 @@
+"""The fewest offsets of a wall that is as steep as asked.
+
+`pit` digs before a block those at its offsets, and before these those at theirs. So far up a pit has the blocks that sums
+of offsets come to, and its outline, divided by its height, is the convex hull of offset / level: that is the wall. Whole
+blocks don't come to every slope, so the wall errs, more at some bearings than at others. `search` tries cones of
+several levels, stretched a little, leaves out every offset that a sum of the others comes to, and takes the fewest that
+err by no more than is allowed.
+
+A cone whose slope changes with the bearing may have dents, where one bearing is steeper than those beside it. The wall
+that is built has none: there it is flatter than asked, and the error says by how much.
+
+Standard library alone: `examples/offsets.py` is a command line over this file.
+"""
+from __future__ import annotations
+
+import bisect
+import functools
+import math
+from collections.abc import Callable, Iterator, Sequence
+from dataclasses import dataclass
+from typing import Tuple, Union
+
+Offset = Tuple[int, int, int]
+Angles = Union[float, Sequence[Tuple[float, float]]]
+Fits = Callable[[Sequence[Offset]], bool]
+
+PAIRS = 1 << 27                 # the most pairs of a block and a predecessor that `pit` takes
+OFFSETS = 4096                  # the most offsets
+MEAN, WORST, SIGNED = 0.5, 1.0, 0.25    # degrees that a wall may err by: on average, anywhere, on average with its sign
+SIDE = 0.25                     # the least share that the lesser of the errors to both sides has of the greater
+FLATTEST, STEEPEST = 5.0, 89.0  # degrees that may be asked for
+SLACK = 1e-9                    # relative: numbers so near to each other are one number, spelled in two ways
+BLOCKS_OUT = 10, 24             # the search looks so many levels up that a wall comes this many blocks out, and then further
+MOST_LEVELS = 200
+CUTS = 400                      # how many stretches are tried
+NARROWEST, WIDEST = 0.9, 1.6    # the least and the greatest of them
+
+
+class SlopeError(ValueError):
+    """A slope, size or limit that can't be meant; the text says which and what to give instead."""
+
+
+@dataclass(frozen=True)
+class Wall:
+    """What is asked for.
+
+    Attributes
+    ----------
+    size
+        Metres of a block along the model's x, y and z.
+    slopes
+        Pairs (bearing, degrees from the horizontal), ascending. The bearing is that of the wall from the bottom of
+        the pit, clockwise from north: the north wall is at 0, the east wall at 90. Between two bearings the slope
+        changes evenly with the bearing.
+    rotation
+        Bearing of the model's y axis, in degrees.
+    """
+
+    size: tuple[float, float, float]
+    slopes: tuple[tuple[float, float], ...]
+    rotation: float = 0.0
+
+    def slope(self, bearing: float) -> float:
+        """Degrees that are asked for at a bearing."""
+        bearing %= 360
+        at = bisect.bisect_right(self.slopes, (bearing, math.inf))
+        low, high = self.slopes[at - 1], self.slopes[at % len(self.slopes)]
+        gap = (high[0] - low[0]) % 360
+        if gap == 0:
+            return low[1]
+        return low[1] + (high[1] - low[1]) * ((bearing - low[0]) % 360) / gap
+
+    def turned(self, x: float, y: float) -> tuple[float, float]:
+        """Metres east and north of metres along the model's axes."""
+        turn = math.radians(self.rotation)
+        return x * math.cos(turn) + y * math.sin(turn), y * math.cos(turn) - x * math.sin(turn)
+
+    def stretch(self, i: int, j: int) -> float:
+        """How many levels up the cone comes to the column of blocks i along x and j along y."""
+        east, north = self.turned(i * self.size[0], j * self.size[1])
+        if i == j == 0:
+            return 0.0
+        slope = self.slope(math.degrees(math.atan2(east, north)))
+        return math.hypot(east, north) * math.tan(math.radians(slope)) / self.size[2]
+
+
+def wall(size: Sequence[float], angles: Angles, rotation: float = 0.0) -> Wall:
+    """The wall that is meant, checked.
+
+    Parameters
+    ----------
+    size
+        Metres of a block along x, y and z.
+    angles
+        Degrees from the horizontal, or pairs (bearing, degrees), in any order.
+    rotation
+        Bearing of the model's y axis, in degrees clockwise from north.
+
+    Raises
+    ------
+    SlopeError
+        Where a number is out of range, or two slopes are given at one bearing.
+    """
+    if len(size) != 3 or not all(math.isfinite(s) and s > 0 for s in size):
+        raise SlopeError("a block has three sizes above 0, as 20 20 10; there is %s" % " ".join("%g" % s for s in size))
+    if not math.isfinite(rotation):
+        raise SlopeError("the rotation is a number of degrees")
+    pairs = [(0.0, float(angles))] if isinstance(angles, (int, float)) else [(float(b), float(a)) for b, a in angles]
+    if not pairs:
+        raise SlopeError("no slope is given; it is in degrees, as 45")
+    for bearing, angle in pairs:
+        if not FLATTEST <= angle <= STEEPEST:
+            raise SlopeError("a slope is from %g to %g degrees from the horizontal; there is %g" % (FLATTEST, STEEPEST, angle))
+        if not 0 <= bearing <= 360:
+            raise SlopeError("a bearing is from 0 to 360 degrees clockwise from north; there is %g" % bearing)
+    slopes = sorted({(bearing % 360, angle) for bearing, angle in pairs})
+    for (bearing, one), (other, two) in zip(slopes, slopes[1:]):
+        if bearing == other:
+            raise SlopeError("at bearing %g there are two slopes, %g and %g" % (bearing, one, two))
+    return Wall((float(size[0]), float(size[1]), float(size[2])), tuple(slopes), float(rotation))
+
+
+@dataclass(frozen=True)
+class Error:
+    """By how many degrees a deep wall errs; above 0 is steeper than asked.
+
+    Attributes
+    ----------
+    mean
+        Of the error without its sign, over 360 bearings.
+    signed
+        Mean of the error with its sign.
+    steepest, flattest
+        The greatest and the least error of all bearings.
+    """
+
+    mean: float
+    signed: float
+    steepest: float
+    flattest: float
+
+    @property
+    def worst(self) -> float:
+        """The greatest error without its sign."""
+        return max(self.steepest, -self.flattest)
+
+    def badness(self, is_safe: bool = False) -> float:
+        """At most 1 where all is held; otherwise the greatest share of what is allowed."""
+        if is_safe:
+            return max(self.mean / MEAN, self.bound(is_safe))
+        is_one_sided = min(self.steepest, -self.flattest) < SIDE * self.worst
+        return max(self.mean / MEAN, self.worst / WORST, abs(self.signed) / SIGNED, 1.5 if is_one_sided else 0)
+
+    def bound(self, is_safe: bool) -> float:
+        """What `badness` is at least, by the extremes alone."""
+        return self.worst / WORST + (1000 * self.steepest if is_safe and self.steepest > SLACK else 0)
+
+    def __str__(self) -> str:
+        lean = "%.2f %s" % (abs(self.signed), "steeper" if self.signed >= 0 else "flatter")
+        return "%.2f degrees off on average (%s, with its sign), at most %.2f steeper and %.2f flatter than asked" % (
+            self.mean, lean, max(self.steepest, 0), max(-self.flattest, 0))
+
+
+@dataclass(frozen=True)
+class Pattern:
+    """Offsets, and the wall that `pit` builds of them.
+
+    Attributes
+    ----------
+    wall
+        What was asked for.
+    offsets
+        The offsets (dx, dy, dz) in blocks, dz at least 1; none is a sum of others.
+    levels
+        The greatest dz.
+    error
+        By how much the wall errs.
+    is_held
+        Whether the error is within what is allowed.
+    """
+
+    wall: Wall
+    offsets: tuple[Offset, ...]
+    levels: int
+    error: Error
+    is_held: bool
+
+    def built(self, bearing: float) -> float:
+        """Degrees of the deep wall at a bearing."""
+        return Outline(self.wall, self.offsets).slope(bearing)
+
+    def __str__(self) -> str:
+        return "%d offsets, the highest %d up: a deep wall is %s" % (len(self.offsets), self.levels, self.error)
+
+
+class Outline:
+    """The plan of a deep pit, for each metre of its height.
+
+    Attributes
+    ----------
+    corners
+        Metres east and north, clockwise, from the least bearing on.
+    """
+
+    def __init__(self, asked: Wall, offsets: Sequence[Offset]) -> None:
+        """The hull is found in whole numbers: each offset over its level, times the common multiple of the levels."""
+        common = math.lcm(*(k for _, _, k in offsets))
+        points = sorted({(i * (common // k), j * (common // k)) for i, j, k in offsets})
+        x, y, z = asked.size
+        hull = reversed(_chain(points)[:-1] + _chain(points[::-1])[:-1])
+        corners = [asked.turned(i / common * x / z, j / common * y / z) for i, j in hull]
+        starts = [math.degrees(math.atan2(east, north)) % 360 for east, north in corners]
+        first = starts.index(min(starts)) if starts else 0
+        self.corners = tuple(corners[first:] + corners[:first])
+        self._starts = starts[first:] + starts[:first]
+        self._edges = list(zip(self.corners, self.corners[1:] + self.corners[:1]))
+        self._is_open = len(corners) > 2 and all(_cross(p, q) < 0 for p, q in self._edges)
+
+    def slope(self, bearing: float) -> float:
+        """Degrees of the wall at a bearing from the bottom of the pit; 90 where the pit doesn't open to all sides."""
+        if not self._is_open:
+            return 90.0
+        p, q = self._edges[bisect.bisect_right(self._starts, bearing % 360) - 1]
+        ahead = math.sin(math.radians(bearing)), math.cos(math.radians(bearing))
+        return math.degrees(math.atan2(_cross((q[0] - p[0], q[1] - p[1]), ahead), _cross(q, p)))
+
+    def bends(self) -> list[float]:
+        """The bearings of its corners, and those at which an edge is nearest: there the wall is flattest and steepest."""
+        across = [(p[1] - q[1], q[0] - p[0]) for p, q in self._edges]
+        return self._starts + [math.degrees(math.atan2(east, north)) for east, north in across]
+
+
+def _chain(points: Sequence[tuple[int, int]]) -> list[tuple[int, int]]:
+    chain: list[tuple[int, int]] = []
+    for x, y in points:
+        while len(chain) > 1:
+            (ax, ay), (bx, by) = chain[-2:]
+            if (bx - ax) * (y - ay) > (by - ay) * (x - ax):
+                break
+            chain.pop()
+        chain.append((x, y))
+    return chain
+
+
+def _cross(p: tuple[float, float], q: tuple[float, float]) -> float:
+    return p[0] * q[1] - p[1] * q[0]
+
+
+def error_of(asked: Wall, outline: Outline) -> Error:
+    """By how much a wall errs.
+
+    The means are those of 360 bearings. The extremes are looked for at these, at the outline's bends, and where the
+    slope that is asked for bends.
+    """
+    off = [outline.slope(bearing) - slope for bearing, slope in enumerate(_by_degree(asked))]
+    steepest, flattest = _extremes(asked, outline)
+    return Error(sum(map(abs, off)) / 360, sum(off) / 360, max(steepest, *off), min(flattest, *off))
+
+
+@functools.lru_cache(maxsize=16)
+def _by_degree(asked: Wall) -> list[float]:
+    return [asked.slope(bearing) for bearing in range(360)]
+
+
+def _extremes(asked: Wall, outline: Outline) -> tuple[float, float]:
+    off = [outline.slope(b) - asked.slope(b) for b in [*outline.bends(), *(bearing for bearing, _ in asked.slopes)]]
+    return max(off), min(off)
+
+
+class _Cones:
+    """The cones of one wall, stretched by different factors.
+
+    A level of a cone is a set of columns (i, j), held as the bits of a whole number, so that a set is shifted, joined
+    and compared in one operation.
+    """
+
+    def __init__(self, asked: Wall, levels: int) -> None:
+        flattest = min(slope for _, slope in asked.slopes)
+        reach = WIDEST * levels * asked.size[2] / math.tan(math.radians(flattest))
+        across, along = int(reach / asked.size[0]) + 1, int(reach / asked.size[1]) + 1
+        self.levels, self.across, self.wide = levels, across, 2 * across + 1
+        self.origin = 1 << (along * self.wide + across)
+        self.along = along
+        found = sorted((asked.stretch(i, j), i, j) for i in range(-across, across + 1) for j in range(-along, along + 1))
+        self.found = [f for f in found if f[0] <= WIDEST * levels * (1 + SLACK)]
+        self.far = [far for far, _, _ in self.found]
+        self.sets: dict[int, int] = {}
+
+    def level(self, k: int, stretch: float) -> int:
+        """The columns of level k of the cone; of columns as far away as each other all or none."""
+        count = bisect.bisect_right(self.far, stretch * k * (1 + SLACK))
+        while 0 < count < len(self.far) and self.far[count] <= self.far[count - 1] * (1 + SLACK):
+            count += 1
+        if count not in self.sets:
+            bits = bytearray(((2 * self.along + 1) * self.wide + 7) // 8)
+            for _, i, j in self.found[:count]:
+                at = (j + self.along) * self.wide + i + self.across
+                bits[at >> 3] |= 1 << (at & 7)
+            self.sets[count] = int.from_bytes(bits, "little")
+        return self.sets[count]
+
+    def cuts(self, narrowest: float) -> list[float]:
+        """The stretches at which a cone has one block more, those of the lower levels first, ascending."""
+        cuts: list[float] = [1.0]
+        for k in range(1, self.levels + 1):
+            more = [far / k for far in self.far if narrowest <= far / k <= WIDEST]
+            cuts = sorted(cuts + more)
+            cuts = [cut for cut, before in zip(cuts, [-1.0] + cuts) if cut > before * (1 + SLACK)]
+            if len(cuts) >= CUTS:
+                break
+        return cuts[::-(-len(cuts) // CUTS)]
+
+    def needed(self, stretch: float) -> Iterator[list[Offset]]:
+        """The offsets that no sum of others comes to, up to each level at which there are new ones, and 4,096 in all."""
+        chosen: list[Offset] = []
+        reached = [self.origin]
+        for k in range(1, self.levels + 1):
+            implied = 0
+            for i, j, up in chosen:
+                shift = j * self.wide + i
+                implied |= reached[k - up] << shift if shift >= 0 else reached[k - up] >> -shift
+            held = self.level(k, stretch)
+            reached.append(implied | held)
+            new = held & ~implied
+            if len(chosen) + bin(new).count("1") > OFFSETS:
+                return
+            while new:
+                at = (new & -new).bit_length() - 1
+                chosen.append((at % self.wide - self.across, at // self.wide - self.along, k))
+                new &= new - 1
+            if chosen and chosen[-1][2] == k:
+                yield chosen
+
+
+def within(blocks: int) -> Fits:
+    """Whether offsets can't make more pairs of so many blocks than `pit` takes."""
+    return lambda offsets: len(offsets) * blocks <= PAIRS
+
+
+def search(asked: Wall, *, safe: bool = False, levels: int | None = None, fits: Fits = within(0)) -> Pattern:
+    """The fewest offsets that hold a wall.
+
+    Parameters
+    ----------
+    asked
+        The wall.
+    safe
+        Whether it may be steeper than asked nowhere. Otherwise it errs to both sides, or not at all.
+    levels
+        How many levels up the offsets may lead; where None, as many as it takes, up to 200.
+    fits
+        Whether offsets are few enough for a model; more than 4,096 are never tried.
+
+    Returns
+    -------
+    Pattern
+        Of those that err by no more than 0.5 degrees on average and 1.0 at the worst bearing, and unless `safe` by
+        0.25 with their sign on average, one with the fewest offsets; where there is none, the one that errs least, and
+        `is_held` is False.
+
+    Raises
+    ------
+    SlopeError
+        Where not even the straight column of blocks fits, or `levels` isn't from 1 to 200.
+    """
+    if levels is not None and not 1 <= levels <= MOST_LEVELS:
+        raise SlopeError("levels are from 1 to %d; there is %d" % (MOST_LEVELS, levels))
+    steepest = max(slope for _, slope in asked.slopes)
+    out = asked.size[2] / math.tan(math.radians(steepest)) / max(asked.size[:2])
+    tried: list[Pattern] = []
+    for blocks_out in BLOCKS_OUT:
+        cones = _Cones(asked, min(MOST_LEVELS, levels or MOST_LEVELS, math.ceil(blocks_out / out)))
+        found = _best(cones, asked, safe, fits, NARROWEST) or _best(cones, asked, safe, fits, 0.0)
+        if found is None:
+            raise SlopeError("not even one offset fits into the %s pairs that pit takes" % f"{PAIRS:,}")
+        tried.append(found)
+        if found.is_held:
+            break
+    return min(tried, key=lambda pattern: _rank(pattern, safe))
+
+
+def _best(cones: _Cones, asked: Wall, safe: bool, fits: Fits, narrowest: float) -> Pattern | None:
+    best: Pattern | None = None
+    least = math.inf                                    # badness of the best; 1 where it holds
+    seen: dict[object, Error | None] = {}
+    for stretch in cones.cuts(narrowest):
+        for offsets in cones.needed(stretch):
+            if best and best.is_held and len(offsets) > len(best.offsets) or not fits(offsets):
+                break
+            outline = Outline(asked, offsets)
+            if outline.corners not in seen:             # None: the extremes alone are worse than the best
+                bound = Error(0, 0, *_extremes(asked, outline)).bound(safe)
+                seen[outline.corners] = error_of(asked, outline) if bound <= least else None
+            error = seen[outline.corners]
+            if error is None:
+                continue
+            found = Pattern(asked, tuple(offsets), offsets[-1][2], error, error.badness(safe) <= 1 + SLACK)
+            if best is None or _rank(found, safe) < _rank(best, safe):
+                best, least = found, max(1 + SLACK, error.badness(safe))
+    return best
+
+
+def _rank(pattern: Pattern, safe: bool) -> tuple[float, ...]:
+    badness = pattern.error.badness(safe)
+    return (0, len(pattern.offsets), badness) if pattern.is_held else (1, badness)
+
+
+def settings(pattern: Pattern) -> str:
+    """The offsets as settings of `pit slopes --pattern settings`."""
+    return "offsets = [\n%s]\n" % "".join("    [%d, %d, %d],\n" % offset for offset in pattern.offsets)
