@@ -100,9 +100,7 @@ def tell(study: Study, found: Comparison) -> None:
     """The comparison on the screen."""
     currency, held = study.manifest["currency"], found.design.held
     tonnes = study.model.blocks.tonnes.to_numpy(float)
-    for note in found.design.notes:
-        err.print("[yellow]look:[/yellow] " + escape(note), soft_wrap=True)
-    lines = [f"{found.design.name}: {int(held.sum()):,} blocks, {tonnes[held].sum() / 1e6:,.2f} Mt, worth {money(found.worth, currency)} at factor {found.factor / 1000:g}",
+    lines = [f"{found.design.name}: {int(held.sum()):,} blocks, {tonnes[held].sum() / 1e6:,.2f} Mt, worth {money(found.worth, currency)} at factor {found.factor / 1000:g}", *(f"  {note}" for note in found.design.notes),
              f"best pit: {int(found.optimum.sum()):,} blocks, {tonnes[found.optimum].sum() / 1e6:,.2f} Mt, worth {money(found.bound, currency)}: no pit that keeps the slopes is worth more",
              f"pit check says of the design: {found.said}"]
     lines += closed_lines(found, currency) if found.is_closed else broken_lines(found, currency)
@@ -126,10 +124,11 @@ def broken_lines(found: Comparison, currency: str) -> list[str]:
     lines = [f"the design breaks the slopes at {len(found.pairs):,} pairs of a block and a predecessor that it leaves, on {found.pairs['bench'].nunique():,} benches"]
     for wall in found.walls.head(3).to_dict("records"):
         way = "straight above" if wall["bearing"] != wall["bearing"] else f"towards {wall['bearing']:05.1f}"
-        lines.append(f"  wall {way}: {wall['steepest']:.1f} degrees at worst, {wall['height']:,.10g} m up over {wall['away']:,.1f} m, from block {wall['id']} at ({wall['x']:,.1f}, {wall['y']:,.1f}), "
-                     f"bench {wall['bench']:,.10g}; {wall['pairs']:,} pairs")
+        may = "" if wall["built"] != wall["built"] else f" where {wall['built']:.1f} may stand"
+        lines.append(f"  wall {way}: {wall['steepest']:.1f} degrees at worst{may}, {wall['height']:,.10g} m up over {wall['away']:,.1f} m, "
+                     f"from block {wall['id']} at ({wall['x']:,.1f}, {wall['y']:,.1f}), bench {wall['bench']:,.10g}; {wall['pairs']:,} pairs")
     more = len(found.walls) - 3
-    lines += [f"  and {more} bearings more, in walls.csv"] if more > 0 else []
+    lines += [f"  {more} more {'bearings' if more > 1 else 'bearing'} in walls.csv"] if more > 0 else []
     gap = found.repair.gap
     lines.append(f"to keep them it has to dig {found.repair.blocks:,} blocks more ({found.repair.tonnes / 1e6:,.2f} Mt); then it is worth {money(found.repair.worth, currency)}, "
                  f"{money(gap, currency)} ({found.share(gap):.2%}) below the proved bound")

@@ -37,9 +37,10 @@ def phases(factors: str = typer.Argument(..., help="Factors of the pits that end
 
 def show(found: Phases, table: pd.DataFrame) -> None:
     """The pushbacks on the screen, and all of them together."""
+    from rich.box import SIMPLE_HEAD
     from rich.table import Table
     manifest = found.shells.study.manifest
-    shown = Table(title=f"pushbacks, worths in million {escape(manifest['currency'])} at the full price", title_justify="left")
+    shown = Table(title=f"pushbacks, worths in million {escape(manifest['currency'])} at the full price", title_justify="left", box=SIMPLE_HEAD)
     metals = manifest["metals"]
     for name in ("pushback", "factor", "from m", "to m", "ore Mt", "waste Mt", "strip", *(f"{name} {unit['grade_unit']}" for name, unit in metals.items()),
                  *(f"{name} {unit['price_unit']}" for name, unit in metals.items()), "worth", "thinnest m", "at bench"):

@@ -37,7 +37,8 @@ def plan(model: Model, found: Comparison, elevation: float) -> Figure:
     cut = planes.bench(model, planes.bench_at(model, elevation))
     there = cut.number >= 0
     held, best = (there & mask[cut.number] for mask in (found.design.held, found.optimum))
-    wide, high = (float(np.ptp(corners)) for corners in (cut.across, cut.up))
+    (left, right), (low, top) = frame(held | best, cut)
+    wide, high = right - left, top - low
     scale = min(MOST_INCHES[0] / wide, MOST_INCHES[1] / high)
     width, height = max(wide * scale + 1.6, 8.0), high * scale + 2.3
     figure = Figure(figsize=(width, height))
@@ -48,6 +49,8 @@ def plan(model: Model, found: Comparison, elevation: float) -> Figure:
     axes.plot(*planes.borders(best, cut), color="black", linewidth=2.0, path_effects=CASING)
     axes.plot(*planes.borders(held, cut), color="#b2182b", linewidth=1.6, linestyle=(0, (4, 1.5)))
     axes.set_aspect("equal")
+    axes.set_xlim(left, right)
+    axes.set_ylim(low, top)
     axes.set_xlabel(cut.labels[0])
     axes.set_ylabel(cut.labels[1])
     for each in (axes.xaxis, axes.yaxis):
@@ -59,13 +62,27 @@ def plan(model: Model, found: Comparison, elevation: float) -> Figure:
     return figure
 
 
+def frame(cells: Cells, cut: planes.Plane) -> tuple[tuple[float, float], tuple[float, float]]:
+    """From where to where a picture of some cells goes, in x and in y, with a margin; of none, over the whole plan."""
+    at = np.argwhere(cells)
+    if not len(at):
+        return (float(cut.across.min()), float(cut.across.max())), (float(cut.up.min()), float(cut.up.max()))
+    corners = np.concatenate([at + step for step in ((0, 0), (0, 1), (1, 0), (1, 1))])
+    spans = []
+    for places in (cut.across, cut.up):
+        found = places[corners[:, 0], corners[:, 1]]
+        margin = 0.12 * float(np.ptp(found))
+        spans.append((float(found.min()) - margin, float(found.max()) + margin))
+    return spans[0], spans[1]
+
+
 def fill(axes: Any, cells: Cells, cut: planes.Plane, colour: str, hatch: str) -> None:
     """Colours some cells: one polygon for each run of cells in a row."""
     from matplotlib.collections import PolyCollection
     edge = np.diff(np.pad(cells, ((0, 0), (1, 1))).astype(np.int8), axis=1)
     (rows, first), (_, end) = np.nonzero(edge == 1), np.nonzero(edge == -1)
     corners = np.stack([np.stack([cut.across[j, i], cut.up[j, i]], axis=-1) for j, i in ((rows, first), (rows, end), (rows + 1, end), (rows + 1, first))], axis=1)
-    axes.add_collection(PolyCollection(list(corners), facecolor=colour, edgecolor="none" if not hatch else "#606060", hatch=hatch or None, linewidth=0))
+    axes.add_collection(PolyCollection(list(corners), facecolor=colour, edgecolor="#606060" if hatch else colour, hatch=hatch or None, linewidth=0 if hatch else 0.5))
 
 
 def key(held: Cells, best: Cells) -> list[Any]:

@@ -9,6 +9,7 @@ import numpy.typing as npt
 import pandas as pd
 
 from .grid import Grid
+from .offsets import Outline, wall
 
 if TYPE_CHECKING:
     from .model import Model
@@ -18,7 +19,7 @@ Bools = npt.NDArray[np.bool_]
 Ints = npt.NDArray[np.int64]
 SECTORS = 16                                 # of bearings: each 22.5 degrees wide, the first around north
 LEVELS = 6                                   # over which a wall is measured, where the slopes look at fewer
-COLUMNS = ("bearing", "pairs", "steepest", "height", "away", "id", "x", "y", "bench")
+COLUMNS = ("bearing", "pairs", "steepest", "built", "height", "away", "id", "x", "y", "bench")
 
 
 def sector_of(bearing: float) -> int:
@@ -52,25 +53,26 @@ def worst(model: Model, resting: Resting, held: Bools, broken: tuple[Ints, Ints,
     Returns
     -------
     DataFrame
-        Steepest first: ``bearing`` (of the sector's middle; not a number where the design leaves a block that stands straight
-        above one that it digs), ``pairs`` (how many are broken there), ``steepest`` (degrees), ``height`` and ``away`` (of
-        the wall's top from its foot), and of the foot ``id``, ``x``, ``y``, ``bench``.
+        Steepest first: ``bearing`` (of the sector's steepest wall; not a number where the design leaves a block that stands
+        straight above one that it digs), ``pairs`` (how many are broken in the sector), ``steepest`` (degrees), ``built``
+        (degrees of a deep wall at that bearing, by the slopes that were built), ``height`` and ``away`` (of the wall's top
+        from its foot), and of the foot ``id``, ``x``, ``y``, ``bench``.
     """
     blocks, _, offsets = broken
     if not len(blocks):
         return pd.DataFrame(columns=list(COLUMNS))
     lines = steepest(model, resting, held, np.unique(blocks))
     ways, counts = np.unique(offsets[:, :2], axis=0, return_counts=True)
-    rows: dict[float, dict[str, Any]] = {}
+    rows: dict[int, dict[str, Any]] = {}
     for (dx, dy), count in zip(ways.tolist(), counts.tolist()):
         if dx == dy == 0:
             at = np.flatnonzero((offsets[:, :2] == 0).all(axis=1))
-            rows[math.nan] = {"pairs": count, "steepest": 90.0, "height": int(offsets[at, 2].max()) * model.grid.size[2], "away": 0.0, "block": int(blocks[at[0]])}
+            rows[-1] = {"bearing": math.nan, "pairs": count, "steepest": 90.0, "built": math.nan, "height": int(offsets[at, 2].max()) * model.grid.size[2], "away": 0.0, "block": int(blocks[at[0]])}
             continue
         sector = sector_of(away_of(model.grid, dx, dy)[1])
-        row = rows.setdefault(sector * 360 / SECTORS, dict(lines[sector], pairs=0))
+        row = rows.setdefault(sector, dict(lines[sector], pairs=0))
         row["pairs"] += count
-    found = pd.DataFrame([{"bearing": key, **row} for key, row in rows.items()]).sort_values("steepest", ascending=False, kind="stable", ignore_index=True)
+    found = pd.DataFrame(list(rows.values())).sort_values("steepest", ascending=False, kind="stable", ignore_index=True)
     foot = found["block"].to_numpy()
     x, y, z = model.xyz()
     return found.assign(id=model.blocks["id"].to_numpy()[foot], x=x[foot], y=y[foot], bench=z[foot])[list(COLUMNS)]
@@ -82,7 +84,7 @@ def steepest(model: Model, resting: Resting, held: Bools, foot: Ints) -> dict[in
     Returns
     -------
     dict
-        By sector: ``steepest``, ``height``, ``away``, ``block``.
+        By sector: ``bearing``, ``steepest``, ``built``, ``height``, ``away``, ``block``.
     """
     grid, weight = model.grid, model.blocks.tonnes.to_numpy() > 0
     standing = np.full(grid.shape[:2], -1, np.int64)
@@ -102,8 +104,9 @@ def steepest(model: Model, resting: Resting, held: Bools, foot: Ints) -> dict[in
             angle = math.degrees(math.atan2(int(up[at]) * grid.size[2], away))
             sector = sector_of(bearing)
             if up[at] > 0 and (sector not in found or angle > found[sector]["steepest"]):
-                found[sector] = {"steepest": angle, "height": int(up[at]) * grid.size[2], "away": away, "block": int(foot[inside][at])}
-    return found
+                found[sector] = {"steepest": angle, "bearing": round(bearing, 6) % 360, "height": int(up[at]) * grid.size[2], "away": away, "block": int(foot[inside][at])}
+    outlines = [Outline(wall(grid.size, 45.0, grid.rotation), offsets) for offsets in resting.offsets]
+    return {sector: {**line, "built": outlines[int(resting.region[line["block"]])].slope(line["bearing"])} for sector, line in found.items()}
 
 
 def window(resting: Resting) -> tuple[int, int, int]:
