@@ -2,6 +2,8 @@
 from __future__ import annotations
 
 import os
+import re
+import warnings
 from collections.abc import Sequence
 from typing import TYPE_CHECKING, Any
 
@@ -14,6 +16,10 @@ from .whole_file import whole_file
 
 if TYPE_CHECKING:
     from .shells import Shells
+
+# What a GeoPackage calls coordinates of no known system. Without a word it would say degrees of latitude and longitude.
+UNKNOWN = 'LOCAL_CS["Undefined Cartesian SRS",UNIT["metre",1],AXIS["Easting",EAST],AXIS["Northing",NORTH]]'
+FIELDS = {"benches": ("factor", "toe", "crest", "blocks", "area", "volume", "rock_t", "ore_t"), "rims": ("factor", "blocks", "area", "worth")}
 
 
 def write(shells: Shells, path: str | os.PathLike[str], pits: Sequence[int] | None = None, crs: str | None = None) -> int:
@@ -31,7 +37,7 @@ def write(shells: Shells, path: str | os.PathLike[str], pits: Sequence[int] | No
     pits : sequence of int, optional
         Indices into ``shells.factors``; all unless told.
     crs : str, optional
-        The coordinate system, as ``"EPSG:32719"``; none unless told.
+        The coordinate system by its register and number, as ``"EPSG:32719"``; none unless told.
 
     Returns
     -------
@@ -41,7 +47,7 @@ def write(shells: Shells, path: str | os.PathLike[str], pits: Sequence[int] | No
     Raises
     ------
     PlanError
-        Where no coordinate system has that name.
+        Where no coordinate system has that name, or it is one of degrees.
     OSError
         Where the file can't be written. What was there stays then.
     """
@@ -51,27 +57,27 @@ def write(shells: Shells, path: str | os.PathLike[str], pits: Sequence[int] | No
     benches, rims = features(shells, chosen)
     with whole_file(path) as part:
         for layer, rows in (("benches", benches), ("rims", rims)):
-            frame = geopandas.GeoDataFrame(rows, geometry="geometry", crs=system) if rows else empty(layer, system)
-            frame.to_file(part, layer=layer, driver="GPKG", index=False)
+            frame = geopandas.GeoDataFrame({name: [row[name] for row in rows] for name in FIELDS[layer]}, geometry=[row["geometry"] for row in rows], crs=system)
+            with warnings.catch_warnings():
+                warnings.simplefilter("ignore")          # of layers without features: no pit has a block
+                frame.to_file(part, layer=layer, driver="GPKG", index=False)
     return len(benches) + len(rims)
 
 
 def system_of(crs: str | None) -> Any:
     """The coordinate system of a name."""
-    if crs is None:
-        return None
     import pyproj
+    if crs is None:
+        return pyproj.CRS.from_wkt(UNKNOWN)
     try:
-        return pyproj.CRS.from_user_input(crs)
+        if not re.fullmatch(r"[A-Za-z]+:\w+", crs):       # a name would be taken for the system whose name is most like it
+            raise pyproj.exceptions.CRSError
+        found = pyproj.CRS.from_user_input(crs)
     except pyproj.exceptions.CRSError:
         raise PlanError(f"--crs {crs!r} is no coordinate system that is known", try_this="a number of EPSG, as EPSG:32719") from None
-
-
-def empty(layer: str, system: Any) -> Any:
-    """A layer without features: no pit has a block."""
-    import geopandas
-    names = ["factor", "toe", "crest", "blocks", "area", "volume", "rock_t", "ore_t"] if layer == "benches" else ["factor", "blocks", "area", "worth"]
-    return geopandas.GeoDataFrame({name: [] for name in names}, geometry=[], crs=system)
+    if found.is_geographic:
+        raise PlanError(f"--crs {crs!r} is in degrees, and the model's coordinates are lengths", try_this="the grid of the mine's zone, as EPSG:32719")
+    return found
 
 
 def features(shells: Shells, chosen: Sequence[int]) -> tuple[list[dict[str, Any]], list[dict[str, Any]]]:
