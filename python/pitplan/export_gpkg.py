@@ -71,7 +71,7 @@ def system_of(crs: str | None) -> Any:
         return pyproj.CRS.from_wkt(UNKNOWN)
     try:
         if not re.fullmatch(r"[A-Za-z]+:\w+", crs):       # a name would be taken for the system whose name is most like it
-            raise pyproj.exceptions.CRSError
+            raise pyproj.exceptions.CRSError(crs)
         found = pyproj.CRS.from_user_input(crs)
     except pyproj.exceptions.CRSError:
         raise PlanError(f"--crs {crs!r} is no coordinate system that is known", try_this="a number of EPSG, as EPSG:32719") from None

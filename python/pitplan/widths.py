@@ -5,7 +5,7 @@ import math
 
 import numpy as np
 import numpy.typing as npt
-from scipy.ndimage import distance_transform_edt
+from scipy import ndimage
 
 Bools = npt.NDArray[np.bool_]
 Floats = npt.NDArray[np.float64]
@@ -16,9 +16,12 @@ SLACK = 1e-9
 def widths(plane: Bools, size: tuple[float, float], wanted: float = 0.0) -> Floats:
     """The width of a set of cells at each of them.
 
-    A circle fits where all that it covers is in the set. A cell is as wide as the widest circle that fits and whose square, turned
-    in any way, comes to the cell's centre. So a strip of three blocks is three blocks wide along its whole length, its
-    ends and right-angled bends too; and a place behind a neck has its own width, the neck that of the neck.
+    A cell is as wide as the widest circle or square that lies within the set and covers it. Squares are of whole cells, along the
+    model's axes: they come to right-angled corners. Circles come to walls at other bearings; whole cells make steps of
+    these, so a circle covers a cell whose centre is no more than a quarter of a cell beside it.
+
+    So a strip is as wide as it is along its whole length, its ends and bends too. A passage that is at most two cells long may be
+    told wider than it is.
 
     Parameters
     ----------
@@ -35,8 +38,8 @@ def widths(plane: Bools, size: tuple[float, float], wanted: float = 0.0) -> Floa
 
     Notes
     -----
-    The distance to the border is taken at the centres, sides and corners of cells (`scipy.ndimage.distance_transform_edt`), so
-    it is exact along the axes. Circles are tried from the widest down, until every cell has its width.
+    Openings by `scipy.ndimage`, from the widest down, until every cell has its width. The distance to the border is taken at the
+    centres, sides and corners of cells, so it is exact along the axes.
     """
     found = np.zeros(plane.shape)
     cells = np.argwhere(plane)
@@ -46,11 +49,12 @@ def widths(plane: Bools, size: tuple[float, float], wanted: float = 0.0) -> Floa
     here = (slice(low[0], high[0]), slice(low[1], high[1]))
     window, width = plane[here], found[here]
     half = (size[0] / 2, size[1] / 2)
-    room = distance_transform_edt(lattice(window), sampling=half)
+    room = ndimage.distance_transform_edt(lattice(window), sampling=half)
     step = min(size) / STEPS
-    radii = {step * k for k in range(1, math.floor(room.max() / step + SLACK) + 1)} | ({wanted / 2} if wanted > 0 else set())
+    most = min(window.shape[0] * size[0], window.shape[1] * size[1]) / 2
+    radii = {step * k for k in range(1, math.floor(most / step + SLACK) + 1)} | ({wanted / 2} if wanted > 0 else set())
     for radius in sorted(radii, reverse=True):
-        width[window & (width == 0) & reached(room, radius, half)] = 2 * radius
+        width[window & (width == 0) & (by_squares(window, 2 * radius, size) | by_circles(room, radius, half))] = 2 * radius
         if (width[window] > 0).all():
             break
     return found
@@ -60,6 +64,16 @@ def thinnest(width: Floats, size: tuple[float, float]) -> float:
     """The least of some widths, rounded down to half of a cell's shorter side."""
     unit = 2 * min(size) / STEPS
     return math.floor(float(width[width > 0].min()) / unit + SLACK) * unit if (width > 0).any() else math.nan
+
+
+def by_squares(plane: Bools, side: float, size: tuple[float, float]) -> Bools:
+    """The cells that a square of at least this side covers, of whole cells within the set."""
+    across = [math.ceil(side / length - SLACK) for length in size]
+    if across[0] > plane.shape[0] or across[1] > plane.shape[1]:
+        return np.zeros_like(plane)
+    pad = max(across)
+    found: Bools = ndimage.grey_opening(np.pad(plane, pad).astype(np.uint8), size=across)[pad:-pad, pad:-pad].astype(bool)
+    return found
 
 
 def lattice(plane: Bools) -> Bools:
@@ -74,11 +88,11 @@ def lattice(plane: Bools) -> Bools:
     return inside
 
 
-def reached(room: Floats, radius: float, half: tuple[float, float]) -> Bools:
-    """The cells to which the squares around circles of a radius come that fit."""
+def by_circles(room: Floats, radius: float, half: tuple[float, float]) -> Bools:
+    """The cells that circles of a radius cover, where they lie within the set; `room` is the distance to its border on `lattice`."""
     fits = room >= radius * (1 - SLACK)
     if not fits.any():
         return np.zeros((room.shape[0] // 2, room.shape[1] // 2), bool)
-    away = distance_transform_edt(~fits, sampling=half)[1::2, 1::2]
-    found: Bools = away <= math.sqrt(2) * radius * (1 + SLACK)
+    away = ndimage.distance_transform_edt(~fits, sampling=half)[1::2, 1::2]
+    found: Bools = away <= (radius + min(half) / 2) * (1 + SLACK)
     return found
