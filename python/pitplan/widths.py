@@ -10,6 +10,7 @@ from scipy import ndimage
 Bools = npt.NDArray[np.bool_]
 Floats = npt.NDArray[np.float64]
 STEPS = 4                                    # radii that are tried, in the shorter side of a block: widths are told to half a block
+FINE = 32                                    # steps up to which each is tried
 SLACK = 1e-9
 
 
@@ -34,7 +35,8 @@ def widths(plane: Bools, size: tuple[float, float], wanted: float = 0.0) -> Floa
     Returns
     -------
     float array of shape (nx, ny)
-        In the unit of `size`: `wanted`, or rounded down to half of a cell's shorter side; 0 outside the set.
+        In the unit of `size`: `wanted`, or rounded down to half of a cell's shorter side, above 16 such sides by at most a
+        tenth; 0 outside the set.
 
     Notes
     -----
@@ -51,12 +53,19 @@ def widths(plane: Bools, size: tuple[float, float], wanted: float = 0.0) -> Floa
     half = (size[0] / 2, size[1] / 2)
     room = ndimage.distance_transform_edt(lattice(window), sampling=half)
     step = min(size) / STEPS
-    most = min(window.shape[0] * size[0], window.shape[1] * size[1]) / 2
-    radii = {step * k for k in range(1, math.floor(most / step + SLACK) + 1)} | ({wanted / 2} if wanted > 0 else set())
+    radii = {step * k for k in rungs(math.floor(room.max() / step + SLACK))} | ({wanted / 2} if wanted > 0 else set())
     for radius in sorted(radii, reverse=True):
         width[window & (width == 0) & (by_squares(window, 2 * radius, size) | by_circles(room, radius, half))] = 2 * radius
         if (width[window] > 0).all():
             break
+    return found
+
+
+def rungs(most: int) -> list[int]:
+    """The radii that are tried, counted in steps: each up to 32, from there on a tenth further each time, and the last."""
+    found = list(range(1, min(most, FINE) + 1))
+    while found and found[-1] < most:
+        found.append(min(most, found[-1] + found[-1] // 10))
     return found
 
 

@@ -11,7 +11,7 @@ from hypothesis.extra.numpy import arrays
 import pitplan as pp
 from mines import costs, study_of, table, written_study
 from pitplan.phases import Phases
-from pitplan.widths import STEPS, thinnest, widths
+from pitplan.widths import STEPS, rungs, thinnest, widths
 from test_commands import pitplan
 
 GOLD = pp.Metal("gold", "AU", price=60, grade_unit="g/t", price_unit="g", recovery=0.7)
@@ -154,10 +154,15 @@ def test_a_neck_and_a_slanting_strip():
     neck[10:14, :] = False
     neck[10:14, 2:4] = True
     wide = widths(neck, (10, 10), wanted=30)
-    assert thinnest(wide, (10, 10)) == 20 and (wide[11:13, 2:4] == 20).all() and (wide[10:14, 2:4] <= 40).all() and (wide[:10] == 60).all() and (neck & (wide < 30)).sum() == 4
+    assert thinnest(wide, (10, 10)) == 20 and (wide[11:13, 2:4] == 20).all() and (wide[10:14, 2:4] <= 40).all() and (wide[:10] == 60).all() and (neck & (wide < 30)).sum() == 8
     slanting = np.array([[0 <= j - i <= 5 for j in range(30)] for i in range(24)])
-    found = thinnest(widths(slanting, (20, 20)), (20, 20))
+    found = thinnest(widths(slanting, (20, 20))[8:16], (20, 20))       # without its pointed ends
     assert 5 * 20 / math.sqrt(2) - 10 <= found <= 6 * 20 / math.sqrt(2)                   # between its inner and its outer corners
+
+
+def test_wide_sets_are_tried_in_larger_steps():
+    assert rungs(5) == [1, 2, 3, 4, 5] and rungs(0) == [] and rungs(34)[-3:] == [31, 32, 34] and rungs(200)[-1] == 200 and len(rungs(200)) < 55
+    assert (widths(strip(41, 41), (20, 20)) == 820).all() and widths(np.ones((90, 41), bool), (20, 20)).min() == 820
 
 
 def test_a_wanted_width_between_half_blocks():
