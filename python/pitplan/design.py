@@ -98,7 +98,7 @@ def by_ids_of(model: Model, path: Path) -> Design:
     names = names_of(head_of(path, dialect.encoding, 1)[0], dialect.separator)
     folded = {name.lower(): name for name in names}
     own = model.columns.get("id", "")
-    column = own if own in names else next((folded[name] for name in USUAL["id"] if name in folded), None)
+    column: str | None = own if own in names else next((folded[name] for name in USUAL["id"] if name in folded), None)
     if column is None and len(names) > 1:
         raise PlanError("which of its columns has the ids? None is known as one", table=path, try_this=f"call it {own or 'id'}")
     frame = read_frame(path, dialect, names)

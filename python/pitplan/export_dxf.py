@@ -2,6 +2,7 @@
 from __future__ import annotations
 
 import os
+from array import array
 from collections.abc import Sequence
 from pathlib import Path
 from typing import TYPE_CHECKING, Any
@@ -58,8 +59,8 @@ def write(shells: Shells, path: str | os.PathLike[str], pits: Sequence[int] | No
     OSError
         Where the file can't be written. What was there stays then.
     """
-    import ezdxf
-    doc = ezdxf.new("R2010")
+    from ezdxf.filemanagement import new
+    doc = new("R2010")
     doc.units = METRES
     doc.appids.new(APP)
     cube = outlines.cube_of(shells.study.model, shells.shell, len(shells.factors))
@@ -80,9 +81,13 @@ def draw(space: Any, shells: Shells, i: int, level: int, shape: Any) -> int:
     _, _, heights = grid.world(0, 0, [level - 0.5, level, level + 0.5])
     toe, centre, crest = heights.tolist()
     count = 0
-    for points, is_hole in outlines.rings(outlines.placed(shape, grid)):
+    for points, is_hole in outlines.rings(shape):
+        east, north, _ = grid.world(points[:, 0], points[:, 1], 0)
+        values = np.zeros((len(points), 5))          # as ezdxf keeps them: x, y, two widths, bulge
+        values[:, 0], values[:, 1] = np.round(east, 6), np.round(north, 6)
         for edge, height in (("TOE", toe), ("CREST", crest)):
-            line = space.add_lwpolyline(np.round(points, 6).tolist(), format="xy", close=True, dxfattribs={"layer": layer_of(factor, edge), "elevation": height})
+            line = space.add_lwpolyline([], close=True, dxfattribs={"layer": layer_of(factor, edge), "elevation": height})
+            line.lwpoints.values = array("d", values.tobytes())
             line.set_xdata(APP, [(1040, factor / THOUSAND), (1040, centre), (1000, "hole" if is_hole else "outline")])
             count += 1
     return count

@@ -11,7 +11,6 @@ from typing import TYPE_CHECKING, Any
 import numpy as np
 import numpy.typing as npt
 from shapely.geometry import MultiPolygon, Polygon, box
-from shapely.geometry.polygon import orient
 from shapely.ops import unary_union
 
 if TYPE_CHECKING:
@@ -52,7 +51,7 @@ def outline(plane: Bools) -> MultiPolygon:
     rows, first = np.nonzero(edges == 1)
     _, last = np.nonzero(edges == -1)
     joined = unary_union([box(a - 0.5, j - 0.5, z - 0.5, j + 0.5) for j, a, z in zip(rows.tolist(), first.tolist(), last.tolist())])
-    return MultiPolygon([orient(Polygon(corners(p.exterior), [corners(hole) for hole in p.interiors])) for p in parts(joined)])
+    return MultiPolygon([Polygon(turned(corners(p.exterior), True), [turned(corners(hole), False) for hole in p.interiors]) for p in parts(joined)])
 
 
 def parts(shape: Any) -> list[Polygon]:
@@ -62,10 +61,18 @@ def parts(shape: Any) -> list[Polygon]:
 
 def corners(ring: Any) -> Floats:
     """The points of a closed ring at which it turns, of shape (corners, 2), the first not repeated."""
-    points = np.asarray(ring.coords)[:-1]
-    before, after = points - np.roll(points, 1, axis=0), np.roll(points, -1, axis=0) - points
-    turns: Floats = points[before[:, 0] * after[:, 1] != before[:, 1] * after[:, 0]]
+    points = np.asarray(ring.coords)
+    way = points[1:] - points[:-1]                   # the ring is closed: from each point to the next
+    last = way[np.arange(-1, len(way) - 1)]
+    turns: Floats = points[:-1][last[:, 0] * way[:, 1] != last[:, 1] * way[:, 0]]
     return turns
+
+
+def turned(points: Floats, is_left: bool) -> Floats:
+    """The points of a ring in the order that goes counterclockwise (left), or clockwise."""
+    x, y = (points - points[0]).T
+    is_now = float(np.dot(x, np.roll(y, -1)) - np.dot(y, np.roll(x, -1))) > 0
+    return points if is_now == is_left else points[::-1]
 
 
 def cut(shape: MultiPolygon, reach: float = 0.5) -> MultiPolygon:
@@ -78,9 +85,9 @@ def cut(shape: MultiPolygon, reach: float = 0.5) -> MultiPolygon:
         at = np.asarray(points.coords)[:-1]
         ways = np.stack([np.roll(at, 1, axis=0) - at, np.roll(at, -1, axis=0) - at], axis=1)
         ways /= np.linalg.norm(ways, axis=2, keepdims=True)
-        found: Floats = (at[:, None] + reach * ways).reshape(-1, 2)
-        same = (found == np.roll(found, 1, axis=0)).all(axis=1)
-        return found[~same]
+        found = (at[:, None] + reach * ways).reshape(-1, 2)
+        once: Floats = found[(found != np.roll(found, 1, axis=0)).any(axis=1)]
+        return once
     return MultiPolygon([Polygon(ring(p.exterior), [ring(hole) for hole in p.interiors]) for p in shape.geoms])
 
 

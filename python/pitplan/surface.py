@@ -76,22 +76,23 @@ def of_dxf(path: Path, layers: Sequence[str] = ()) -> Surface:
 
 def document(path: Path) -> Any:
     """A DXF, mended where that is possible."""
-    import ezdxf
     from ezdxf import recover
+    from ezdxf.filemanagement import readfile
+    from ezdxf.lldxf.const import DXFError, DXFStructureError
     try:
         try:
-            return ezdxf.readfile(path)
-        except ezdxf.DXFStructureError:
+            return readfile(path)
+        except DXFStructureError:
             return recover.readfile(path)[0]
     except FileNotFoundError:
         raise PlanError("there is no such file", table=path) from None
-    except (OSError, ezdxf.DXFError, UnicodeDecodeError) as error:
+    except (OSError, DXFError, UnicodeDecodeError) as error:
         raise PlanError(f"can't be read as DXF: {error}", table=path) from None
 
 
-def faces_of(entity: Any) -> Iterator[list[tuple[float, float, float]]]:
+def faces_of(entity: Any) -> Iterator[list[Any]]:
     """The faces of an entity of a DXF, each as its corners."""
-    from ezdxf.render import MeshBuilder
+    from ezdxf.render.mesh import MeshBuilder
     kind = entity.dxftype()
     if kind == "3DFACE":
         yield [tuple(corner) for corner in entity.wcs_vertices()]
@@ -155,7 +156,8 @@ def columns_under(least: Ints, spans: Ints) -> tuple[Ints, Ints, Ints]:
 def weights(plan: Floats, twice: Floats, at: Ints) -> Floats:
     """Barycentric weights of places in triangles, of shape (places, 3)."""
     a, b, c = (plan[:, k] - at for k in range(3))
-    return np.column_stack([cross(b, c), cross(c, a), cross(a, b)]) / twice[:, None]
+    found: Floats = np.column_stack([cross(b, c), cross(c, a), cross(a, b)]) / twice[:, None]
+    return found
 
 
 def cross(p: Floats, q: Floats) -> Floats:
