@@ -6,6 +6,7 @@ level is the hull of the blocks that were dug there, and the wall at a bearing i
 outline, level by level.
 """
 import math
+import re
 
 HIGH = 1.5      # a wall may come out flatter than asked by so many degrees before the model is too narrow for it
 
@@ -51,6 +52,41 @@ class Deep:
 
     def touches_the_edge(self, pit):
         return any(abs(x) == self.half[0] or abs(y) == self.half[1] for x, y, _ in map(self.place, pit))
+
+
+def asked(slope, bearing):
+    """What a slope as offsets.py takes it asks for at a bearing: one angle, or pairs, between which it changes evenly."""
+    if ":" not in slope:
+        return float(slope)
+    pairs = sorted(tuple(map(float, pair.split(":"))) for pair in slope.split(","))
+    turns = [(b + turn, a) for turn in (-360, 0, 360) for b, a in pairs]
+    (low, first), (high, last) = max(p for p in turns if p[0] <= bearing), min(p for p in turns if p[0] > bearing)
+    return first + (last - first) * (bearing - low) / (high - low)
+
+
+def offsets_in(settings):
+    return [tuple(map(int, offset)) for offset in re.findall(r"\[(-?\d+), (-?\d+), (\d+)\]", settings)]
+
+
+def named(pattern):
+    """The offsets of a pattern, by docs/FORMATS.md."""
+    if pattern == "nine":
+        return [(x, y, 1) for x in (-1, 0, 1) for y in (-1, 0, 1)]
+    levels, run, rise = map(int, pattern.split(":")[1:]) if pattern != "five" else (1, 1, 1)
+    wide = range(-levels * run // rise - 1, levels * run // rise + 2)
+    return [(x, y, k) for k in range(1, levels + 1) for x in wide for y in wide if rise * rise * (x * x + y * y) <= k * k * run * run]
+
+
+def needed(offsets):
+    """The offsets that no sum of others comes to, by trying all sums."""
+    highest = max(k for _, _, k in offsets)
+    kept, reached = [], {0: {(0, 0)}}
+    for level in range(1, highest + 1):
+        sums = {(x + i, y + j) for i, j, k in kept for x, y in reached[level - k]}
+        own = {(i, j) for i, j, k in offsets if k == level}
+        kept += [(i, j, level) for i, j in own - sums]
+        reached[level] = sums | own
+    return kept
 
 
 def hull(points):

@@ -6,12 +6,13 @@ import pkgutil
 import sys
 from pathlib import Path
 
+import click
 from rich.markup import escape
 
 from .console import app, err
 from .errors import Disagreement, MachineError, NotAccepted, PlanError
 
-ORDER = ("init", "build", "slopes", "shells", "plot", "page")        # of a working day, for --help
+ORDER = ("init", "build", "slopes", "shells", "plot", "page", "phases", "export", "compare")        # of a working day, for --help
 NO, WRONG, MACHINE, STOPPED = 1, 3, 4, 130
 
 
@@ -34,11 +35,15 @@ def main() -> None:
     """Runs a command. Exit status: 0 done, 1 no, 2 wrong words, 3 a file is wrong, 4 the machine, 130 stopped."""
     load_commands()
     try:
-        app(prog_name="pitplan", standalone_mode=True)
+        status = app(prog_name="pitplan", standalone_mode=False)
+        sys.exit(status if isinstance(status, int) else 0)
+    except click.ClickException as error:
+        error.show()
+        sys.exit(error.exit_code)
     except PlanError as error:
         err.print("[red]error:[/red] " + escape(str(error)), soft_wrap=True)
         sys.exit(status_of(error))
-    except KeyboardInterrupt:
+    except (KeyboardInterrupt, click.Abort):
         err.print("stopped; what is done is kept, and the same command goes on from there")
         sys.exit(STOPPED)
     except MemoryError:

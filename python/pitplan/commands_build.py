@@ -59,7 +59,8 @@ def build(folder: Path = STUDY) -> None:
     with err.status("prices and slopes"):
         study = Study.create(told.path.parent, model, told.economics, told.slopes, keys=told.digest)
     print_tonnage(study)
-    print_slopes(study)
+    for name, pattern in told.slopes.patterns(study.model.grid).items():
+        out.print(escape(f"slopes {name}: {pattern}"), soft_wrap=True)
     print_size(study, told)
 
 
@@ -83,11 +84,6 @@ def cell(value: Any) -> str:
     if isinstance(value, float):
         return "" if value != value else f"{value:,.3f}" if abs(value) < 100 else f"{value:,.0f}"
     return f"{value:,}"
-
-
-def print_slopes(study: Study) -> None:
-    for name, offsets in study.manifest["offsets"].items():
-        out.print(f"slopes {escape(name)}: {len(offsets)} offsets")
 
 
 def print_size(study: Study, told: StudyFile) -> None:

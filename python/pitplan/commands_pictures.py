@@ -31,11 +31,13 @@ def plot(folder: Path = STUDY,
     shells, rates = shells_of(folder)
     style = pictures.Style(colour, pit, exaggerate)
     asked: list[tuple[str, Figure]] = [(f"plan-{at:.10g}", pictures.plan(shells, at, style)) for at in bench]
-    for word, places in (("north", north), ("east", east), ("row", row), ("column", column)):
-        asked += [(f"section-{word}-{at:.10g}", pictures.section(shells, **{word: at}, style=style)) for at in places]      # type: ignore[arg-type]
+    asked += [(f"section-north-{at:.10g}", pictures.section(shells, north=at, style=style)) for at in north]
+    asked += [(f"section-east-{at:.10g}", pictures.section(shells, east=at, style=style)) for at in east]
+    asked += [(f"section-row-{at}", pictures.section(shells, row=at, style=style)) for at in row]
+    asked += [(f"section-column-{at}", pictures.section(shells, column=at, style=style)) for at in column]
     if not asked:
         level, middle = pictures.middle_of(shells, style)
-        asked = [("pit-by-pit", pictures.pit_by_pit(shells.table(**rates), pictures.currency_of(shells), shells.study.model.name)),
+        asked = [("pit-by-pit", pictures.pit_by_pit(shells.table(1000, **rates), pictures.currency_of(shells), shells.study.model.name)),
                  (f"plan-{level:.10g}", pictures.plan(shells, level, style)), (f"section-row-{middle}", pictures.section(shells, row=middle, style=style))]
     ending = "" if colour == "shell" else "-" + re.sub(r"[^\w.-]+", "_", colour)
     for name, figure in asked:
@@ -49,5 +51,5 @@ def page(folder: Path = STUDY, title: Optional[str] = typer.Option(None, help="T
     """Write one HTML file with the pits in three dimensions, a slider over the factors and the table. It needs no network."""
     from . import page as pages
     shells, rates = shells_of(folder)
-    path = pages.write(shells, results(shells.study) / "pits.html", shells.table(**rates), title)      # type: ignore[arg-type]
+    path = pages.write(shells, results(shells.study) / "pits.html", shells.table(1000, **rates), title)
     out.print(f"{escape(str(path))}: {path.stat().st_size / 1e6:.1f} MB, opens in any browser", soft_wrap=True)

@@ -76,7 +76,7 @@ def write_tables(found: Shells, rates: dict[str, float]) -> None:
     """Pit by pit, bench by bench, and the planner's own table with a column more."""
     from . import table_back
     folder = results(found.study)
-    found.table(1000, **rates).to_csv(folder / "pit_by_pit.csv", index=False)
+    found.table(**rates).to_csv(folder / "pit_by_pit.csv", index=False)
     found.benches().to_csv(folder / "benches.csv", index=False)
     source = found.study.manifest["source"]
     name = Path(source["table"]).name if source else "blocks.csv"
@@ -92,7 +92,7 @@ def print_table(found: Shells, rates: dict[str, float]) -> None:
     """The pit-by-pit table on the screen; all of its columns are in the file."""
     from rich.box import SIMPLE_HEAD
     from rich.table import Table
-    table, currency = found.table(1000, **rates), found.study.manifest["currency"]
+    table, currency = found.table(**rates), found.study.manifest["currency"]
     metals = found.study.manifest["metals"]
     shown_table = Table(title=f"pit by pit, worths in million {escape(currency)} at the full price", title_justify="left", box=SIMPLE_HEAD)
     for name in ("factor", "blocks", "ore Mt", "waste Mt", "strip", *(f"{name} {unit['grade_unit']}" for name, unit in metals.items()), "worth", "best case", "worst case", "years"):

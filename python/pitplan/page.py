@@ -78,12 +78,10 @@ def facts(shells: Shells, table: pd.DataFrame) -> tuple[list[str], list[list[str
     for name, column, scale in ((f"Ore ({rock.unit})", "ore_t", rock), (f"Waste ({rock.unit})", "waste_t", rock)):
         columns.append((name, [amount_text(v, scale) for v in table[column]]))
     columns.append(("Strip ratio (t/t)", [f"{v:.2f}" if np.isfinite(v) else "-" for v in table["strip"]]))
-    for column in table.columns:
-        if column.startswith("grade_"):
-            columns.append((f"Grade of ore, {column[6:]}", [f"{v:.4g}" if np.isfinite(v) else "-" for v in table[column]]))
-        if column.startswith("metal_"):
-            metal = scale_of(table[column], "")
-            columns.append((f"Metal, {column[6:]}" + (f" ({metal.unit.strip()})" if metal.unit else ""), [amount_text(v, metal) for v in table[column]]))
+    for metal, units in shells.study.manifest["metals"].items():
+        got = scale_of(table[f"metal_{metal}"], units["price_unit"])
+        columns.append((f"Grade of ore, {metal} ({units['grade_unit']})", [f"{v:.4g}" if np.isfinite(v) else "-" for v in table[f"grade_{metal}"]]))
+        columns.append((f"Recovered {metal} ({got.unit})", [amount_text(v, got) for v in table[f"metal_{metal}"]]))
     for name, column in (("Worth at factor 1", "worth_at_base"), ("Discounted, best case", "npv_best"), ("Discounted, worst case", "npv_worst")):
         columns.append((f"{name} ({money.unit})", [amount_text(v, money) for v in table[column]]))
     columns.append(("Years", [f"{v:.1f}" for v in table["years"]]))
@@ -118,7 +116,13 @@ def data_of(shells: Shells, levels: NDArray[np.uint16], rows: list[list[str]], s
     corners = [place(i - 0.5, j - 0.5) for i, j in ((0, 0), (nx, 0), (nx, ny), (0, ny))]
     return {"shape": [nx, ny, nz], "size": list(grid.size), "rotation": grid.rotation, "corners": corners, "centre": place(nx / 2 - 0.5, ny / 2 - 0.5),
             "floor": grid.origin[2] - grid.size[2] / 2, "factors": ["0", *map(factor_text, shells.factors)],
-            "facts": [["-"] * len(rows[0]), *rows], "start": start, "heights": packed(levels)}
+            "facts": [["-"] * len(rows[0]), *rows], "start": start, "middle": middle(levels, start), "heights": packed(levels)}
+
+
+def middle(levels: NDArray[np.uint16], pit: int) -> list[int]:
+    """The row and the column of the model in which a pit has most blocks: where a section is first cut."""
+    dug = np.where(levels[0] == NO_COLUMN, 0, levels[0].astype(np.int64) - levels[pit])
+    return [int(dug.sum(axis=0).argmax()), int(dug.sum(axis=1).argmax())]
 
 
 def table_html(headings: list[str], factors: list[int], rows: list[list[str]]) -> str:

@@ -5,7 +5,6 @@ differ in their strokes, so that a picture says the same in black and white.
 """
 from __future__ import annotations
 
-import difflib
 import os
 from dataclasses import dataclass
 from pathlib import Path
@@ -25,7 +24,8 @@ from mpl_toolkits.axes_grid1.anchored_artists import AnchoredSizeBar
 from numpy.typing import NDArray
 
 from . import plane as planes
-from .errors import PlanError
+from .amounts import THOUSAND
+from .errors import PlanError, meant
 from .plane import Plane
 from .shells import Shells
 from .units_shown import Scale, factor_text, scale_of
@@ -69,7 +69,7 @@ class Paint:
 
 def pit_index(shells: Shells, factor: float | None) -> int:
     """Where a factor stands in the series. Raises PlanError where no pit was found at it."""
-    wanted = 1000 if factor is None else round(factor * 1000)
+    wanted = THOUSAND if factor is None else round(factor * THOUSAND)
     if wanted in shells.factors:
         return shells.factors.index(wanted)
     if factor is None:
@@ -83,13 +83,11 @@ def paint(shells: Shells, colour: str) -> Paint:
     if colour == "shell":
         return paint_shells(shells)
     if colour == "value":
-        worth = np.asarray(shells.study.priced.nanos(1000), float) / 1e9
-        return paint_numbers(worth, f"Worth of a block at factor 1 ({currency_of(shells)})")
+        return paint_numbers(shells.study.priced.worth(THOUSAND), f"Worth of a block at factor 1 ({currency_of(shells)})")
     blocks = shells.study.model.blocks
     if colour not in blocks.columns:
-        near = difflib.get_close_matches(colour, [*map(str, blocks.columns), "shell", "value"], 1)
-        raise PlanError(f"the model has no column {colour!r}" + (f"; is {near[0]!r} meant?" if near else ""), table=shells.study.model.name,
-                        try_this="shell, value, " + ", ".join(str(c) for c in blocks.columns if c not in ("ix", "iy", "iz", "row")))
+        known = ["shell", "value", *(str(c) for c in blocks.columns if c not in ("ix", "iy", "iz", "row"))]
+        raise PlanError(f"there is no column {colour!r} to colour by{meant(colour, known)}", table=shells.study.model.name, try_this=", ".join(known))
     column = blocks[colour]
     if pd.api.types.is_numeric_dtype(column):
         return paint_numbers(column.to_numpy(float), colour)
@@ -169,7 +167,7 @@ def draw(shells: Shells, cut: Plane, style: Style, exaggeration: float) -> tuple
     model, colours = shells.study.model, paint(shells, style.colour)
     figure, axes, beside = sheet(float(np.ptp(cut.across)), float(np.ptp(cut.up)) * exaggeration)
     shown = np.where(cut.number >= 0, colours.values[cut.number], np.nan)
-    image = axes.pcolormesh(cut.across, cut.up, np.ma.masked_invalid(shown), cmap=colours.colours, norm=colours.norm)
+    image = axes.pcolormesh(cut.across, cut.up, shown, cmap=colours.colours, norm=colours.norm)
     hatch(axes, (cut.number >= 0) & np.isnan(shown), cut)
     handles = add_outlines(axes, shells, cut, pit_index(shells, style.pit))
     if style.colour == "shell":
@@ -296,7 +294,7 @@ def add_worths(right: Any, left: Any, table: pd.DataFrame, at: NDArray[np.int64]
         worth = table[column].to_numpy(float) / money.divisor
         best = int(np.argmax(worth))
         right.plot(at, worth, linestyle=stroke, marker=mark, markersize=4, color=colour, linewidth=1.6, path_effects=CASING,
-                   label=f"{label}; greatest at {factor_text(round(float(table['factor'].iloc[best]) * 1000))}")
+                   label=f"{label}; greatest at {factor_text(round(float(table['factor'].iloc[best]) * THOUSAND))}")
         right.plot(at[best], worth[best], marker="o", markersize=11, markerfacecolor="none", markeredgecolor=colour, linestyle="none")
     all_worths = table[[c for c, *_ in LINES if c in table]].to_numpy(float) / money.divisor
     low, high = min(0.0, float(all_worths.min())), max(0.0, float(all_worths.max()))

@@ -105,7 +105,8 @@ def section(model: Model, axis: str, index: int) -> Plane:
 def ends(model: Model, axis: str, index: int) -> str:
     """From where to where a section runs, left to right in the picture, in the user's coordinates."""
     g = model.grid
-    places = [(index, -0.5), (index, g.shape[1] - 0.5)] if axis == "x" else [(-0.5, index), (g.shape[0] - 0.5, index)]
+    along = (-0.5, g.shape[1 if axis == "x" else 0] - 0.5)
+    places = [(float(index), at) if axis == "x" else (at, float(index)) for at in along]
     texts = ["{:,.0f} E, {:,.0f} N".format(*map(float, g.world(i, j, 0)[:2])) for i, j in places]
     return "from " + " to ".join(texts)
 

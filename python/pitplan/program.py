@@ -1,6 +1,7 @@
 """The one place that runs `pit`: what comes out is an `Accepted`, or an error in the planner's terms."""
 from __future__ import annotations
 
+import gzip
 import hashlib
 import os
 import re
@@ -8,7 +9,7 @@ import shutil
 import signal
 import subprocess
 import threading
-from collections.abc import Callable, Sequence
+from collections.abc import Callable, Iterable, Iterator, Sequence
 from dataclasses import InitVar, dataclass
 from pathlib import Path
 from typing import Union
@@ -22,7 +23,9 @@ Progress = Callable[[int, int], None]
 Word = Union[str, int, Path]
 TOP = Path(__file__).resolve().parents[2]
 BUILT = (TOP / "out" / "pit", TOP / "crates" / "pit" / "out" / "pit")      # where this repository's build puts it
-PIECE = 1 << 22
+PIECE = 1 << 20
+HEAD = 4                                     # lines before the PIT lines of a certificate
+BEHIND = (b"SOURCE ", b"REST ", b"SINK ", b"END")
 HINTS = {"UNSETTLED": "the run was cut off before its pit was proved: tell the maintainers of this mine",
          "TooLarge": "the amounts are too large together: rounding = 1000 in [economics], or prices and costs in thousands",
          "memory": "memory was refused: fewer --workers", "device": "a file couldn't be read or written: is the disk full?"}
@@ -137,14 +140,14 @@ class Pit:
         self.run(["slopes", "--blocks", blocks, "--pattern", "settings", "--settings", settings, "--verbose"], out)
 
     def best(self, files: Files, factor: int, certificate: Path, progress: Progress | None = None) -> Accepted:
-        """The best pit at a factor: its certificate is written, and then checked as the file that was written.
+        """The best pit at a factor: its certificate is written, then checked as the file that was written, and kept packed.
 
         Parameters
         ----------
         factor : int
             Of the revenue, in thousandths.
         certificate : Path
-            The file to write.
+            The file to write; when it is done, it lies packed at the same name with ``.gz`` behind.
         progress : function, optional
             Is told how many blocks of how many are settled.
 
@@ -157,27 +160,46 @@ class Pit:
         said = self.run(["solve", *files.words(), "--factor", factor, "--verbose", *more], certificate, progress)
         if said:
             raise NotAccepted(f"pit solve at factor {factor / 1000:g}: {said.strip()}", try_this=hint_of(said))
-        return self.check(files, certificate)
+        with open(certificate.with_name(certificate.name + ".gz"), "wb") as target, gzip.GzipFile("", "wb", 1, target, mtime=0) as kept:
+            found = self.check(files, certificate, kept)
+        certificate.unlink()
+        return found
 
-    def check(self, files: Files, certificate: Path) -> Accepted:
-        """Lets `pit check` judge a certificate.
+    def check(self, files: Files, certificate: Path, kept: gzip.GzipFile | None = None) -> Accepted:
+        """Lets `pit check` judge a certificate. The bytes of the file are read once: handed to `pit check`, digested, and
+        their PIT lines read, so that what is accepted is what is returned.
+
+        Parameters
+        ----------
+        certificate : Path
+            Packed where its name ends in ``.gz``.
+        kept : GzipFile, optional
+            The same bytes are written to it.
 
         Raises
         ------
         NotAccepted
-            Where it doesn't answer ACCEPTED, or the file changed meanwhile.
+            Where it doesn't answer ACCEPTED.
         """
-        before = sha256(certificate)
-        line = self.run(["check", *files.words(), "--verbose", certificate]).strip()
+        lines = PitLines()
+
+        def pieces() -> Iterator[bytes]:
+            with gzip.open(certificate, "rb") if certificate.suffix == ".gz" else open(certificate, "rb") as file:
+                while data := file.read(PIECE):
+                    lines.take(data)
+                    if kept:
+                        kept.write(data)
+                    yield data
+        line = self.run(["check", *files.words(), "--verbose", "/dev/stdin"], fed=pieces()).strip()
         found = re.fullmatch(r"ACCEPTED (\d+) (-?[\d.]+)", line)
         if not found:
             raise NotAccepted(f"pit check: {line}", try_this=hint_of(line))
-        size, factor, blocks, digest = pit_lines(certificate)
-        if digest != before or len(blocks) != int(found[1]):
-            raise NotAccepted("the certificate changed while it was read")
-        return Accepted(int(found[1]), found[2], blocks, factor, digest, size, BEGUN)
+        size, factor, blocks = lines.found()
+        if len(blocks) != int(found[1]):
+            raise NotAccepted(f"pit check counts {found[1]} blocks, and the certificate has {len(blocks)} PIT lines")
+        return Accepted(int(found[1]), found[2], blocks, factor, lines.digest.hexdigest(), size, BEGUN)
 
-    def run(self, words: Sequence[Word], out: Path | None = None, progress: Progress | None = None) -> str:
+    def run(self, words: Sequence[Word], out: Path | None = None, progress: Progress | None = None, fed: Iterable[bytes] | None = None) -> str:
         """Runs `pit`.
 
         Parameters
@@ -186,6 +208,8 @@ class Pit:
             Of its command line.
         out : Path, optional
             The file that its standard output is written to.
+        fed : iterable of bytes, optional
+            What it gets on its standard input; all of it is gone through, also where `pit` reads no more.
 
         Returns
         -------
@@ -199,14 +223,15 @@ class Pit:
         """
         told: list[str] = []
         with open(out, "wb") if out else open(os.devnull, "wb") as target:
-            run = self.started(words, target.fileno() if out else subprocess.PIPE)
+            run = self.started(words, target.fileno() if out else subprocess.PIPE, subprocess.PIPE if fed is not None else subprocess.DEVNULL)
             ear = threading.Thread(target=listen, args=(run, told, progress), daemon=True)
             ear.start()
             try:
+                feed(run, fed or ())
                 text = run.stdout.read().decode(errors="replace") if run.stdout else ""
                 status = run.wait()
             except BaseException:
-                run.kill()
+                ended_now(run)
                 run.wait()
                 raise
             finally:
@@ -219,7 +244,7 @@ class Pit:
             return text
         raise self.ended(str(words[0]), status, " ".join(told))
 
-    def started(self, words: Sequence[Word], output: int) -> subprocess.Popen[bytes]:
+    def started(self, words: Sequence[Word], output: int, given: int) -> subprocess.Popen[bytes]:
         """Starts `pit`, so that it ends when this process does: setpriv is of util-linux, which Debian always has."""
         setpriv = shutil.which("setpriv")
         before = [setpriv, "--pdeathsig", "KILL", "--"] if setpriv else []
@@ -227,7 +252,7 @@ class Pit:
             if self.is_stopped:
                 raise KeyboardInterrupt
             try:
-                run = subprocess.Popen([*before, self.program, *map(str, words)], stdin=subprocess.DEVNULL, stdout=output,
+                run = subprocess.Popen([*before, self.program, *map(str, words)], stdin=given, stdout=output,
                                        stderr=subprocess.PIPE, process_group=0)      # ctrl-C is for this process, which ends it
             except OSError as error:
                 raise MachineError(f"{self.program} can't be started: {error.strerror}") from None
@@ -239,7 +264,7 @@ class Pit:
         with self.lock:
             self.is_stopped = True
             for run in self.running:
-                run.kill()
+                ended_now(run)
 
     def ended(self, command: str, status: int, fault: str) -> PlanError:
         """The error of a run that ended with another status than 0 or 1."""
@@ -249,6 +274,12 @@ class Pit:
         hint = "fewer --workers: memory was short, or somebody ended it" if status == -signal.SIGKILL else hint_of(fault)
         kind = MachineError if status < 0 or status == 4 else PlanError
         return kind(f"pit {command} {how}" + (f": {fault}" if fault else ""), try_this=hint)
+
+
+def ended_now(run: subprocess.Popen[bytes]) -> None:
+    """Ends a run and all that it started: it is the first of a process group of its own."""
+    if run.poll() is None:
+        os.killpg(run.pid, signal.SIGKILL)
 
 
 def hint_of(said: str) -> str | None:
@@ -267,32 +298,71 @@ def listen(run: subprocess.Popen[bytes], told: list[str], progress: Progress | N
             told.append(line)
 
 
-def pit_lines(certificate: Path) -> tuple[int, int, npt.NDArray[np.int64], str]:
-    """How many blocks the model of a certificate has, its factor, the blocks of its PIT lines, and the sha256 of the whole
-    file, in one pass; the flow is only hashed."""
-    digest, rest, found, head, is_over = hashlib.sha256(), b"", [], [b""], False
-    with open(certificate, "rb") as file:
-        while data := file.read(PIECE):
-            digest.update(data)
-            if is_over:
-                continue
-            data = rest + data
-            cut = data.rfind(b"\n") + 1
-            piece, rest = data[:cut], data[cut:]
-            if len(head) < 4:
-                *head, piece = piece.split(b"\n", 4)
-            ends = [at for at in map(piece.find, (b"SOURCE ", b"REST ", b"SINK ", b"END")) if at >= 0]
-            if ends:
-                piece, is_over = piece[:min(ends)], True
-            found.append(numbers_in(piece))
-    size, factor = head[1].split()[-1], head[2].split()[-1]
-    if not factor.isdigit() or not size.isdigit():
-        raise NotAccepted(f"a certificate without a factor: {head[2].decode(errors='replace')}")
-    return int(size), int(factor), np.concatenate(found) if found else np.empty(0, np.int64), digest.hexdigest()
+def feed(run: subprocess.Popen[bytes], pieces: Iterable[bytes]) -> None:
+    """Hands bytes to a run, as long as it takes them."""
+    takes = run.stdin is not None
+    for piece in pieces:
+        try:
+            if takes and run.stdin:
+                run.stdin.write(piece)
+        except BrokenPipeError:
+            takes = False
+    try:
+        if run.stdin:
+            run.stdin.close()
+    except BrokenPipeError:
+        pass
+
+
+class PitLines:
+    """The PIT lines of a certificate that goes by in pieces, and the sha256 of all of it; the flow is only digested.
+
+    Attributes
+    ----------
+    digest : hash object
+    """
+
+    def __init__(self) -> None:
+        self.digest = hashlib.sha256()
+        self.rest, self.head, self.is_over = b"", list[bytes](), False
+        self.blocks: list[npt.NDArray[np.int64]] = []
+
+    def take(self, data: bytes) -> None:
+        """Takes in the next piece."""
+        self.digest.update(data)
+        if self.is_over:
+            return
+        data = self.rest + data
+        if not self.head:
+            if data.count(b"\n") < HEAD:
+                self.rest = data
+                return
+            *self.head, data = data.split(b"\n", HEAD)
+        cut = data.rfind(b"\n") + 1
+        piece, self.rest = data[:cut], data[cut:]
+        ends = [at for at in map(piece.find, BEHIND) if at >= 0]
+        if ends:
+            piece, self.is_over = piece[:min(ends)], True
+        self.blocks.append(numbers_in(piece))
+
+    def found(self) -> tuple[int, int, npt.NDArray[np.int64]]:
+        """How many blocks the certificate's model has, its factor in thousandths, and the blocks of its PIT lines.
+
+        Raises
+        ------
+        NotAccepted
+            Where its first lines say neither.
+        """
+        size, factor = (self.head[i].split()[-1] if len(self.head) == HEAD and self.head[i] else b"" for i in (1, 2))
+        if not factor.isdigit() or not size.isdigit():
+            raise NotAccepted("a certificate without a factor: is it of another kind of model?")
+        return int(size), int(factor), np.concatenate(self.blocks) if self.blocks else np.empty(0, np.int64)
 
 
 def numbers_in(lines: bytes) -> npt.NDArray[np.int64]:
     """The numbers of lines ``PIT b``."""
+    if lines.translate(None, b"0123456789PIT \n"):
+        raise NotAccepted("a certificate has other lines between its PIT lines")
     if not lines:
         return np.empty(0, np.int64)
     found: npt.NDArray[np.int64] = np.fromstring(lines.replace(b"PIT ", b"").decode(), dtype=np.int64, sep="\n")

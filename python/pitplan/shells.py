@@ -123,9 +123,9 @@ class Shells:
         rows = b["row"].to_numpy()
         return pd.DataFrame({"id": b["id"].to_numpy(), "row": np.where(rows >= 0, rows + 2, 0), "shell": shares[self.shell]})
 
-    def table(self, base: int = THOUSAND, mining_rate: float | None = None, mill_rate: float | None = None, discount: float = 0.10) -> pd.DataFrame:
+    def table(self, base: float = THOUSAND, mining_rate: float | None = None, mill_rate: float | None = None, discount: float = 0.10) -> pd.DataFrame:
         """Pit by pit: a row for each factor. See `pit_by_pit.table`."""
-        return pit_by_pit.table(self, base, pit_by_pit.Rates(mining_rate, mill_rate, discount))
+        return pit_by_pit.table(self, int(base), pit_by_pit.Rates(mining_rate, mill_rate, discount))
 
     def benches(self, base: int = THOUSAND) -> pd.DataFrame:
         """Bench by shell. See `pit_by_pit.benches`."""

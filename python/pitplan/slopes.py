@@ -1,109 +1,270 @@
-"""Slopes by bearing and by region: a stand-in until the search for few offsets of both sides is here."""
+"""Slopes by bearing and by region: from angles to offsets, and the `.prec` file that `pit slopes` writes of them.
+
+A block's predecessors follow from the region of that block, wherever they lie themselves: for each region `pit slopes`
+is run over the whole model, and each block's line is taken from the run of its own region.
+"""
 from __future__ import annotations
 
-import math
 from collections.abc import Mapping, Sequence
-from dataclasses import dataclass
+from contextlib import ExitStack
+from dataclasses import dataclass, field
 from pathlib import Path
-from typing import Union
+from typing import Any, cast
 
 import numpy as np
 import numpy.typing as npt
+import pandas as pd
 
+from . import offsets as search
 from .errors import PlanError, meant
 from .grid import Grid
 from .model import Model
+from .offsets import Angles, Offset, Pattern
 from .program import Pit
 
-Offset = tuple[int, int, int]
-Angles = Union[float, Sequence[tuple[float, float]]]
-PAIRS = 1 << 27
+DEFAULT = "default"
+STEP = 15                               # degrees of bearing between two rows of the table of asked and built angles
+Ints = npt.NDArray[np.int64]
 
 
 @dataclass
 class Slopes:
+    """The overall slopes of the walls.
+
+    Parameters
+    ----------
+    angles : float or list of pairs
+        Degrees from the horizontal, or pairs (bearing, degrees). The bearing is that of the wall from the bottom of the
+        pit, clockwise from north: the north wall is at 0, the east wall at 90. Between two bearings the angle changes
+        evenly.
+    by : str, optional
+        A column of the table that names the region of each block.
+    regions : mapping, optional
+        Angles of their own for regions, by what stands in that column. All other blocks have `angles`.
+    safe : bool
+        Whether no wall may be steeper than asked; it is flatter on average then.
+    levels : int, optional
+        How many levels up the offsets may lead; as many as it takes, unless told.
+
+    Raises
+    ------
+    PlanError
+        Where an angle or a bearing is out of range, or `by` and `regions` don't come together.
+    """
+
     angles: Angles = 45.0
     by: str | None = None
     regions: Mapping[str, Angles] | None = None
     safe: bool = False
     levels: int | None = None
+    _found: dict[tuple[Any, ...], dict[str, Pattern]] = field(default_factory=dict, init=False, repr=False, compare=False)
 
-    def at(self, region: str, bearing: npt.NDArray[np.float64]) -> npt.NDArray[np.float64]:
-        angles = self.angles if region == "default" else (self.regions or {})[region]
-        if isinstance(angles, (int, float)):
-            return np.full(np.shape(bearing), float(angles))
-        b, a = zip(*sorted((b % 360, a) for b, a in angles))
-        found: npt.NDArray[np.float64] = np.interp(np.asarray(bearing) % 360, (b[-1] - 360, *b, b[0] + 360), (a[-1], *a, a[0]))
-        return found
+    def __post_init__(self) -> None:
+        if self.regions is not None and not isinstance(self.regions, Mapping):
+            raise PlanError(f"[slopes] regions is {self.regions!r}", try_this="regions = { NORTH = 38, SOUTH = [[0, 44], [180, 50]] }")
+        if self.regions and not self.by:
+            raise PlanError("[slopes] has regions, and doesn't say which column names them", try_this='by = "SECTOR"')
+        if self.by and not self.regions:
+            raise PlanError(f"[slopes] by is {self.by!r}, and no region has angles of its own", try_this="regions = { NORTH = 38 }")
+        if self.levels is not None and not (isinstance(self.levels, int) and 1 <= self.levels <= search.MOST_LEVELS):
+            raise PlanError(f"[slopes] levels is {self.levels}, and has to be a whole number from 1 to {search.MOST_LEVELS}")
+        for name in self.names:
+            self.wall(name, (1.0, 1.0, 1.0), 0.0)
+
+    @property
+    def names(self) -> list[str]:
+        """The regions: "default", and those with angles of their own."""
+        return [DEFAULT, *(self.regions or {})]
+
+    def wall(self, region: str, size: tuple[float, float, float], rotation: float) -> search.Wall:
+        """What is asked for in a region."""
+        angles = self.angles if region == DEFAULT else (self.regions or {})[region]
+        where = "angles" if region == DEFAULT else f"regions, {region}"
+        if not _are_angles(angles):
+            raise PlanError(f"[slopes] {where}: {angles!r} are no angles", try_this="45, or by bearing [[0, 38], [90, 45], [180, 50], [270, 45]]")
+        try:
+            return search.wall(size, angles, rotation)
+        except search.SlopeError as error:
+            raise PlanError(f"[slopes] {where}: {error}") from None
+
+    def patterns(self, grid: Grid) -> dict[str, Pattern]:
+        """The offsets of each region and the wall that they make, "default" first; searched once for a size and rotation."""
+        key = (grid.size, grid.rotation, self.levels)
+        if key not in self._found:
+            walls = {name: self.wall(name, grid.size, grid.rotation) for name in self.names}
+            self._found[key] = {name: search.search(wall, safe=self.safe, levels=self.levels) for name, wall in walls.items()}
+        return self._found[key]
 
     def offsets_by_region(self, grid: Grid) -> dict[str, list[Offset]]:
-        return {name: self.offsets(name, grid) for name in ["default", *(self.regions or {})]}
+        """The offsets (dx, dy, dz) of each region, "default" first."""
+        return {name: list(pattern.offsets) for name, pattern in self.patterns(grid).items()}
 
-    def offsets(self, region: str, grid: Grid) -> list[Offset]:
-        levels, (sx, sy, sz) = self.levels or 6, grid.size
-        flat = float(np.min(self.at(region, np.arange(360.0))))
-        reach = levels * sz / math.tan(math.radians(flat))
-        rx, ry = int(reach / sx) + 1, int(reach / sy) + 1
-        dx, dy = np.meshgrid(np.arange(-rx, rx + 1), np.arange(-ry, ry + 1), indexing="ij")
-        east, north, _ = Grid((0, 0, 0), grid.size, rotation=grid.rotation).world(dx, dy, 0)
-        steep = np.tan(np.radians(self.at(region, np.degrees(np.arctan2(east, north)))))
-        held = [np.hypot(east, north) * steep <= k * sz * (1 + 1e-9) for k in range(levels + 1)]
-        chosen: list[Offset] = []
-        reached = [np.zeros_like(held[0]) for _ in range(levels + 1)]
-        reached[0][rx, ry] = True
-        for k in range(1, levels + 1):
-            for ox, oy, oz in chosen:
-                reached[k] |= shifted(reached[k - oz], ox, oy)
-            for i, j in zip(*np.nonzero(held[k] & ~reached[k])):
-                chosen.append((int(i) - rx, int(j) - ry, k))
-                reached[k][i, j] = True
-        return chosen
+    def built(self, grid: Grid) -> pd.DataFrame:
+        """The angles that are asked for and those of the walls that are built.
 
-    def region_of(self, model: Model) -> npt.NDArray[np.int64]:
+        Returns
+        -------
+        DataFrame
+            With columns region, bearing, asked, built and error, in degrees; an error above 0 is steeper than asked.
+        """
+        rows = []
+        for name, pattern in self.patterns(grid).items():
+            outline = search.Outline(pattern.wall, pattern.offsets)
+            for bearing in range(0, 360, STEP):
+                asked, is_now = pattern.wall.slope(bearing), outline.slope(bearing)
+                rows.append((name, bearing, asked, is_now, is_now - asked))
+        return pd.DataFrame(rows, columns=["region", "bearing", "asked", "built", "error"])
+
+    def region_of(self, model: Model) -> Ints:
+        """The region of each block, as an index into `names`.
+
+        Raises
+        ------
+        PlanError
+            Where the table has no such column, or no block is in a region.
+        """
         if not self.regions:
             return np.zeros(len(model), np.int64)
         if self.by not in model.blocks.columns:
             raise PlanError(f"[slopes] by: the table has no column {self.by!r}{meant(str(self.by), map(str, model.blocks.columns))}")
-        known = model.blocks[self.by].astype(str)
+        codes, there = pd.factorize(model.blocks[self.by])
+        texts = [_text(value) for value in there]
         for name in self.regions:
-            if name not in set(known):
-                raise PlanError(f"[slopes] no block has {self.by} = {name}{meant(name, sorted(set(known)))}")
-        found: npt.NDArray[np.int64] = known.map({n: i + 1 for i, n in enumerate(self.regions)}).fillna(0).astype(np.int64).to_numpy()
-        return found
+            if name not in texts:
+                raise PlanError(f"[slopes] no block has {self.by} = {name}{meant(name, sorted(texts))}")
+        index = {name: i for i, name in enumerate(self.names) if i}
+        of_code = np.array([*(index.get(text, 0) for text in texts), 0], np.int64)       # the last is that of an empty cell, whose code is -1
+        return cast(Ints, of_code[codes])
 
 
-def shifted(plane: npt.NDArray[np.bool_], ox: int, oy: int) -> npt.NDArray[np.bool_]:
-    out = np.zeros_like(plane)
-    n, m = plane.shape
-    out[max(ox, 0):n + min(ox, 0), max(oy, 0):m + min(oy, 0)] = plane[max(-ox, 0):n + min(-ox, 0), max(-oy, 0):m + min(-oy, 0)]
-    return out
+def _are_angles(angles: Any) -> bool:
+    """Whether these are a number, or pairs of numbers."""
+    def is_number(value: Any) -> bool:
+        return isinstance(value, (int, float)) and not isinstance(value, bool)
+    if is_number(angles):
+        return True
+    return isinstance(angles, Sequence) and not isinstance(angles, str) and len(angles) > 0 and all(
+        isinstance(pair, Sequence) and len(pair) == 2 and all(map(is_number, pair)) for pair in angles)
+
+
+def _text(value: Any) -> str:
+    """What stands in a cell; a column of whole numbers with empty cells is read as 1.0, 2.0."""
+    return str(int(value)) if isinstance(value, float) and value.is_integer() else str(value).strip()
+
+
+def _pairs(there: npt.NDArray[np.bool_], of: npt.NDArray[np.bool_], offset: Offset) -> int:
+    """How many blocks of a set have a block at an offset; both sets over the places of the grid."""
+    low, high = [], []
+    for step, count in zip(offset, there.shape):
+        if abs(step) >= count:
+            return 0
+        low.append(slice(max(-step, 0), count - max(step, 0)))
+        high.append(slice(max(step, 0), count - max(-step, 0)))
+    return int(np.count_nonzero(of[tuple(low)] & there[tuple(high)]))
 
 
 def count_pairs(slopes: Slopes, model: Model) -> int:
-    there, region, total = model.index, slopes.region_of(model), 0
-    b = model.blocks
-    for r, offsets in enumerate(slopes.offsets_by_region(model.grid).values()):
-        at = np.column_stack([b.ix, b.iy, b.iz])[region == r]
-        for o in offsets:
-            to = at + np.array(o)
-            inside = ((to >= 0) & (to < np.array(there.shape))).all(axis=1)
-            total += int(np.count_nonzero(there[tuple(to[inside].T)] >= 0))
-    return total
+    """How many pairs of a block and a predecessor the `.prec` file lists."""
+    there, b = model.index >= 0, model.blocks
+    region = np.full(there.shape, -1, np.int16)
+    region[b.ix, b.iy, b.iz] = slopes.region_of(model)
+    found = 0
+    for i, offsets in enumerate(slopes.offsets_by_region(model.grid).values()):
+        of = region == i
+        found += sum(_pairs(there, of, offset) for offset in offsets)
+    return found
+
+
+def check_limits(slopes: Slopes, model: Model) -> None:
+    """Counts the pairs of each run of `pit slopes` before it is made.
+
+    Raises
+    ------
+    PlanError
+        Where a region's offsets make more than 134,217,728 pairs over the model. It says with how many levels they
+        don't, and how steep the walls are then.
+    """
+    for name, pattern in slopes.patterns(model.grid).items():
+        count = _over(model, pattern)
+        if not count:
+            continue
+        fewer = [search.search(pattern.wall, safe=slopes.safe, levels=levels) for levels in range(pattern.levels - 1, 0, -1)]
+        fitting = [(levels, tried) for levels, tried in zip(range(pattern.levels - 1, 0, -1), fewer) if not _over(model, tried)]
+        told = f"[slopes] {name}: {len(pattern.offsets)} offsets make {count:,} pairs over {len(model):,} blocks, and pit takes {search.PAIRS:,}"
+        if not fitting:
+            raise PlanError(told, try_this="larger blocks: even one level up is too much")
+        levels, tried = min(fitting, key=lambda found: (found[1].error.badness(slopes.safe), -found[0]))
+        raise PlanError(told, try_this=f"levels = {levels} in [slopes]: {tried}; or larger blocks")
+
+
+def _over(model: Model, pattern: Pattern) -> int:
+    """The pairs of a pattern over a model, where they are more than `pit` takes; else 0."""
+    if len(pattern.offsets) * len(model) <= search.PAIRS:
+        return 0
+    there = model.index >= 0
+    count = sum(_pairs(there, there, offset) for offset in pattern.offsets)
+    return count if count > search.PAIRS else 0
 
 
 def write_prec(slopes: Slopes, model: Model, pit: Pit, blocks_file: Path, out: Path) -> dict[str, list[Offset]]:
-    found, parts = slopes.offsets_by_region(model.grid), []
-    for i, (name, offsets) in enumerate(found.items()):
+    """Writes the predecessors of each block, by the slopes of the region that the block is in.
+
+    Parameters
+    ----------
+    slopes : Slopes
+    model : Model
+    pit : Pit
+    blocks_file : Path
+        The `.blocks` file of the model.
+    out : Path
+        The `.prec` file. Beside it the settings of each region are left, slope-0.toml and so on.
+
+    Returns
+    -------
+    dict
+        The offsets of each region, "default" first.
+
+    Raises
+    ------
+    PlanError
+        Where there are too many pairs, before anything is run; or what `pit slopes` says.
+    """
+    check_limits(slopes, model)
+    choice = slopes.region_of(model)
+    parts = []
+    for i, (name, pattern) in enumerate(slopes.patterns(model.grid).items()):
         settings = out.parent / f"slope-{i}.toml"
-        settings.write_text(f"# {name}\noffsets = [" + ", ".join(f"[{x}, {y}, {z}]" for x, y, z in offsets) + "]\n")
-        parts.append(out if len(found) == 1 else out.with_suffix(f".{i}.part"))
+        settings.write_text("".join(f"# {line}\n" for line in f"{name}: {pattern}".splitlines()) + search.settings(pattern))
+        parts.append(out.with_name(f"{out.name}.{i}.part"))
         pit.slopes(blocks_file, settings, parts[-1])
-    if len(found) > 1:
-        choice = slopes.region_of(model).tolist()
-        files = [open(part, "rb") for part in parts]
-        with open(out, "wb") as target:
-            target.writelines(lines[c] for c, lines in zip(choice, zip(*files)))
-        for file, part in zip(files, parts):
-            file.close()
-            part.unlink()
-    return found
+    if len(parts) == 1:
+        parts[0].replace(out)
+    else:
+        merge(parts, choice, out)
+    return slopes.offsets_by_region(model.grid)
+
+
+def merge(parts: Sequence[Path], choice: Ints, out: Path) -> None:
+    """Takes the line of each block from one of several `.prec` files, which are removed.
+
+    Parameters
+    ----------
+    parts : sequence of Path
+        Each as `pit slopes` writes it: a line for each block, ascending.
+    choice : int array of shape (blocks,)
+        The part of each block.
+    out : Path
+
+    Raises
+    ------
+    PlanError
+        Where a part hasn't as many lines as there are blocks.
+    """
+    with ExitStack() as opened, open(out, "wb") as target:
+        files = [opened.enter_context(open(part, "rb")) for part in parts]
+        try:
+            target.writelines(lines[i] for i, lines in zip(choice.tolist(), zip(*files, strict=True), strict=True))
+        except ValueError:
+            raise PlanError(f"pit slopes wrote a file that hasn't a line for each of the {len(choice):,} blocks", table=out.name) from None
+    for part in parts:
+        part.unlink()

@@ -12,7 +12,6 @@ where it was, and a pit of an older model is never shown.
 from __future__ import annotations
 
 import errno
-import gzip
 import hashlib
 import json
 import os
@@ -53,7 +52,6 @@ class Verdict(TypedDict):
     count: int
     worth: str
     certificate: str
-    certificate_bytes: int
     bits: str
     model: str
     pit: list[str]
@@ -211,15 +209,11 @@ class Study:
             return done
         began, place = time.time(), self.place(factor)
         with made_whole(place) as work:
-            certificate = work / "best.cert"
-            found = self.program.best(self.files, factor, certificate, solving(told, factor))
+            found = self.program.best(self.files, factor, work / "best.cert", solving(told, factor))
             self.agree(found, factor)
             bits = np.packbits(found.mask)
             np.savez_compressed(work / "pit.npz", bits=bits)
-            size = certificate.stat().st_size
-            packed(certificate, work / "best.cert.gz")
-            done = Verdict(factor=factor, count=found.count, worth=found.worth, certificate=found.certificate, certificate_bytes=size,
-                           bits=hashlib.sha256(bits.tobytes()).hexdigest(), model=self.key, pit=self.manifest["pit"],
+            done = Verdict(factor=factor, count=found.count, worth=found.worth, certificate=found.certificate, bits=hashlib.sha256(bits.tobytes()).hexdigest(), model=self.key, pit=self.manifest["pit"],
                            seconds=round(time.time() - began, 2), host=host())
             (work / "verdict.json").write_text(json.dumps(done, indent=1))
         return done
@@ -271,11 +265,7 @@ class Study:
         factor = thousandths(share)
         self.verify()
         self.run(factor)
-        with tempfile.TemporaryDirectory(prefix="pitplan-") as work:
-            plain = Path(work) / "best.cert"
-            with gzip.open(self.place(factor) / "best.cert.gz", "rb") as source, open(plain, "wb") as target:
-                shutil.copyfileobj(source, target, 1 << 20)
-            found = self.program.check(self.files, plain)
+        found = self.program.check(self.files, self.place(factor) / "best.cert.gz")
         self.agree(found, factor)
         return found
 
@@ -318,13 +308,6 @@ def write_blocks(path: Path, model: Model, priced: Priced) -> None:
     table = pd.DataFrame({"b": np.arange(len(b)), "x": b.ix.to_numpy(), "y": b.iy.to_numpy(), "z": b.iz.to_numpy(),
                           **{name: as_text(getattr(priced, name), priced.rounding) for name in COLUMNS[:3]}, "tonnes": np.round(b.tonnes.to_numpy(), 3)})
     table.to_csv(path, sep=" ", header=False, index=False)
-
-
-def packed(plain: Path, target: Path) -> None:
-    """Packs a certificate, and takes the plain one away."""
-    with open(plain, "rb") as source, open(target, "wb") as raw, gzip.GzipFile("", "wb", 1, raw, mtime=0) as out:
-        shutil.copyfileobj(source, out, 1 << 20)
-    plain.unlink()
 
 
 @contextmanager

@@ -1,5 +1,7 @@
 """Runs that are cut off, disks that fill up, models that change, and results that are wrong."""
+import hashlib
 import json
+import re
 import os
 import shutil
 import signal
@@ -15,7 +17,7 @@ import pytest
 import pitplan as pp
 from mines import SIZE, costs, shells_of, study_of, table, written_study
 from pitplan import program as programs, store, workers
-from pitplan.program import Accepted, Pit, pit_lines
+from pitplan.program import Accepted, Pit, PitLines
 
 TOP = Path(__file__).resolve().parents[2]
 
@@ -23,7 +25,7 @@ TOP = Path(__file__).resolve().parents[2]
 def test_nobody_but_the_check_makes_an_accepted():
     with pytest.raises(TypeError, match="by Pit.check alone"):
         Accepted(1, "5", np.array([0]), 1000, "00", 4)
-    makers = [(path.name, line) for path in (TOP / "python/pitplan").glob("*.py") for line in path.read_text().splitlines() if "Accepted(" in line and "class" not in line]
+    makers = [(path.name, line) for path in (TOP / "python/pitplan").glob("*.py") for line in path.read_text().splitlines() if re.search(r"(?<!\w)Accepted\(", line) and "class" not in line]
     assert len(makers) == 1 and makers[0][0] == "program.py"
     assert sum("BEGUN" in path.read_text() for path in (TOP / "python/pitplan").glob("*.py")) == 1
 
@@ -32,7 +34,7 @@ def test_a_pit_of_the_checked_bytes(tmp_path):
     study = study_of(tmp_path, table(6, 5, 4, 3))
     found = study.pit(1.0)
     assert found.count == found.mask.sum() == len(found.blocks) > 0 and found.factor == 1000 and found.size == len(study.model)
-    size, factor, blocks, digest = pit_lines(unpacked(study, 1000, tmp_path))
+    size, factor, blocks, digest = pit_lines(unpacked(study, 1000, tmp_path).read_bytes())
     assert (size, factor, digest) == (found.size, 1000, found.certificate) and (blocks == found.blocks).all()
 
 
@@ -53,20 +55,28 @@ def test_a_refused_certificate_is_no_pit(tmp_path):
         study.program.check(study.files, tmp_path / "less.cert")
 
 
-def test_lines_that_are_no_pit_lines_are_told(tmp_path):
-    (tmp_path / "c").write_bytes(b"PITCERT 2\nBLOCKS 4\nPRICE MILL 1000\nGROUP PAIR\nPIT 1\nPUT 2\nSOURCE 1 0 0\nEND\n")
-    with pytest.raises(pp.NotAccepted):
-        pit_lines(tmp_path / "c")
+HEAD = b"PITCERT 2\nBLOCKS 4000\nPRICE MILL 850\nGROUP PAIR\n"
 
 
-@pytest.mark.parametrize("piece", [1, 7, 30, 1 << 22])
-def test_pit_lines_across_pieces(tmp_path, monkeypatch, piece):
-    if piece < 60:
-        monkeypatch.setattr(programs, "PIECE", max(piece, 60))
-    lines = "".join(f"PIT {b}\n" for b in range(0, 3000, 3))
-    (tmp_path / "c").write_text("PITCERT 2\nBLOCKS 4000\nPRICE MILL 850\nGROUP PAIR\n" + lines + "SOURCE 1 0 0\nREST 1 2 0 0\nEND\n")
-    size, factor, blocks, _ = pit_lines(tmp_path / "c")
-    assert (size, factor) == (4000, 850) and blocks.tolist() == list(range(0, 3000, 3))
+def pit_lines(text, piece=1 << 20):
+    lines = PitLines()
+    for at in range(0, len(text), piece):
+        lines.take(text[at:at + piece])
+    return (*lines.found(), lines.digest.hexdigest())
+
+
+def test_lines_that_are_no_pit_lines_are_told():
+    for text in (HEAD + b"PIT 1\nPUT 2\nSOURCE 1 0 0\nEND\n", b"PITCERT 1\nBLOCKS 4\nPRICE OBJECTIVE\nGROUP PAIR\nEND\n", b"", b"PITCERT"):
+        with pytest.raises(pp.NotAccepted):
+            pit_lines(text)
+
+
+@pytest.mark.parametrize("piece", [1, 7, 60, 1 << 20])
+def test_pit_lines_across_pieces(piece):
+    text = HEAD + "".join(f"PIT {b}\n" for b in range(0, 3000, 3)).encode() + b"SOURCE 1 0 0\nREST 1 2 0 0\nEND\n"
+    size, factor, blocks, digest = pit_lines(text, piece)
+    assert (size, factor, digest) == (4000, 850, hashlib.sha256(text).hexdigest()) and blocks.tolist() == list(range(0, 3000, 3))
+    assert pit_lines(HEAD + b"END\n")[2].tolist() == []
 
 
 def test_a_wrong_sum_is_never_shown(tmp_path, monkeypatch):
@@ -92,7 +102,6 @@ def test_a_result_that_was_damaged_is_never_shown(tmp_path):
     with pytest.raises(pp.Disagreement, match="isn't what was accepted"):
         pp.Shells(study, [600, 800])
     verdict = json.loads((place / "verdict.json").read_text())
-    import hashlib
     verdict["bits"] = hashlib.sha256(bits.tobytes()).hexdigest()
     (place / "verdict.json").write_text(json.dumps(verdict))
     with pytest.raises(pp.Disagreement, match="adds up to"):
@@ -104,7 +113,6 @@ def test_pits_that_arent_nested_are_never_shown(tmp_path):
     a, b = study.place(600), study.place(1200)
     verdicts = [json.loads((place / "verdict.json").read_text()) for place in (a, b)]
     masks = [study.mask(factor) for factor in (600, 1200)]
-    import hashlib
     for place, verdict, mask, factor in ((a, verdicts[0], masks[1], 600), (b, verdicts[1], masks[0], 1200)):
         bits = np.packbits(mask)
         np.savez_compressed(place / "pit.npz", bits=bits)
@@ -242,7 +250,9 @@ def test_a_full_disk_is_told_and_the_run_goes_on(tmp_path):
         pytest.skip("this container mounts nothing")
     try:
         shutil.copytree(kept, place, dirs_exist_ok=True)
-        (place / "ballast").write_bytes(b"x" * (1 << 14))
+        with open(place / "ballast", "wb", 0) as ballast, pytest.raises(OSError):
+            while True:
+                ballast.write(b"x" * 4096)
         with pytest.raises(pp.MachineError, match="disk"):
             study.shells([600, 1000], 1)
         assert [p.name for p in (place / "base").iterdir()] == ["f00600"]

@@ -47,7 +47,7 @@ def test_discounting_by_hand(two_metals):
     shells, folder = two_metals
     f = pd.read_csv(folder / "t.csv").assign(shell=shells.shell, level=shells.study.model.blocks.iz, worth=shells.study.priced.worth(1000), ore=shells.study.priced.milled(1000))
     found = shells.table(mining_rate=1e5, mill_rate=5e4, discount=0.1).iloc[2]
-    for order, said in ((["shell", "level"], found.npv_best), (["level"], found.npv_worst)):
+    for order, said in ((["shell", "level"], found.npv_best), ("level", found.npv_worst)):
         years, total = 0.0, 0.0
         inside = f[f["shell"] <= 2].assign(level=-f.level)
         for _, piece in inside.groupby(order):
@@ -174,17 +174,17 @@ def flat(nx, ny, nz, rich):
 
 
 def test_where_a_pit_touches_the_side_of_the_model(tmp_path):
-    for name, rich, touches in (("middle", (6, 6, 2), False), ("side", (1, 6, 2), True), ("corner", (0, 0, 3), True)):
+    for name, rich, touches in (("middle", (6, 6, 2), False), ("side", (1, 6, 0), True), ("corner", (0, 0, 1), True)):
         shells = study_of(tmp_path, flat(13, 13, 5, rich)).shells([1000])
         assert shells.holds(0).sum() > 1
         assert shells.touches_edge(0) == touched_by_hand(shells, 0) and (shells.touches_edge(0) > 0) == touches, name
 
 
 def test_a_notch_in_the_side_and_low_ground_beside_a_pit(tmp_path):
-    f = flat(13, 13, 5, (6, 6, 2))
+    f = flat(13, 13, 5, (6, 6, 0))
     notch = f[~((f.XC <= 80) & (f.YC.between(100, 140)))]       # columns that are missing from the west side up to the pit
     assert study_of(tmp_path, notch).shells([1000]).touches_edge(0) > 0
     valley = f[~((f.XC <= 100) & (f.ZC > 30))]       # the ground is low there: a place above it is air, and no wall is missing
     assert study_of(tmp_path, valley).shells([1000]).touches_edge(0) == 0
-    bottom = f[~((f.XC <= 80) & (f.ZC < 50))]        # no rows below: a wall would need them
+    bottom = f[~((f.XC <= 100) & (f.ZC < 50))]        # no rows below: a wall would need them
     assert study_of(tmp_path, bottom).shells([1000]).touches_edge(0) > 0

@@ -1,0 +1,102 @@
+"""`pitplan slopes`: how steep the walls are that the offsets make."""
+from __future__ import annotations
+
+from pathlib import Path
+from typing import TYPE_CHECKING, Any
+
+import typer
+from rich.markup import escape
+
+from .console import STUDY, app, described, err, out
+from .errors import PlanError
+
+if TYPE_CHECKING:
+    import pandas as pd
+
+    from .grid import Grid
+    from .slopes import Slopes
+    from .study_file import StudyFile
+
+EVERY: Any = typer.Option(45, "--every", min=15, max=90, help="Degrees of bearing between two lines of the table.")
+
+
+@app.command()
+def slopes(folder: Path = STUDY, every: int = EVERY) -> None:
+    """Show the angles that are asked for and those that are built, by bearing and region, and draw them."""
+    told = described(folder)
+    grid = grid_of(told)
+    with err.status("looking for offsets"):
+        table = told.slopes.built(grid)
+    print_patterns(told.slopes, grid)
+    print_angles(table, every)
+    folder = told.path.parent / "out"
+    folder.mkdir(exist_ok=True)
+    table.round(3).to_csv(folder / "slopes.csv", index=False)
+    draw_rose(told.slopes, grid, folder / "slopes.png")
+    out.print(f"{folder / 'slopes.png'}, {folder / 'slopes.csv'}")
+
+
+def grid_of(told: StudyFile) -> Grid:
+    """The size and rotation of the blocks, by study.toml alone where it gives the size, so that slopes can be tried before a build."""
+    from .grid import Grid
+    if told.keys.size is None:
+        return told.read_model().grid
+    size = tuple(float(side) for side in told.keys.size)
+    if len(size) != 3:
+        raise PlanError(f"[model] size is {list(size)}, and has to be three numbers", try_this="size = [20, 20, 10]")
+    return Grid((0.0, 0.0, 0.0), (size[0], size[1], size[2]), (0, 0, 0), float(told.keys.rotation))
+
+
+def print_patterns(slopes: Slopes, grid: Grid) -> None:
+    """A line for each region, and a warning where the angles can't be held."""
+    from .offsets import MEAN, WORST
+    for name, pattern in slopes.patterns(grid).items():
+        out.print(escape(f"{name}: {pattern}"))
+        if not pattern.is_held:
+            err.print(f"  [yellow]look:[/yellow] {MEAN:g} degrees on average and {WORST:g} at the worst bearing can't be held with blocks of "
+                      f"{' x '.join(f'{side:g}' for side in grid.size)}" + (f" and levels = {slopes.levels}" if slopes.levels else ""))
+
+
+def print_angles(table: pd.DataFrame, every: int) -> None:
+    """The table of asked and built angles."""
+    from rich.box import SIMPLE_HEAD
+    from rich.table import Table
+    shown = Table(title="degrees of the wall at a bearing", title_justify="left", box=SIMPLE_HEAD)
+    shown.add_column("bearing", justify="right")
+    regions = list(dict.fromkeys(table.region))
+    for name in regions:
+        for column in ("asked", "built", "error"):
+            shown.add_column(escape(column if len(regions) == 1 else f"{name} {column}"), justify="right")
+    for bearing, rows in table.groupby("bearing"):
+        if bearing % every == 0:
+            by_region = rows.set_index("region")
+            shown.add_row(str(bearing), *(f"{by_region.at[name, column]:{'+' if column == 'error' else ''}.1f}" for name in regions for column in ("asked", "built", "error")))
+    out.print(shown)
+
+
+def draw_rose(slopes: Slopes, grid: Grid, path: Path) -> None:
+    """The angles over the bearings: asked dashed, built drawn through."""
+    import math
+
+    import matplotlib
+    matplotlib.use("Agg")
+    from matplotlib import pyplot
+
+    from .offsets import Outline
+    figure, axes = pyplot.subplots(figsize=(7, 7), subplot_kw={"projection": "polar"})
+    axes.set_theta_zero_location("N")
+    axes.set_theta_direction(-1)
+    bearings = [math.radians(b) for b in range(361)]
+    lowest = 90.0
+    for i, (name, pattern) in enumerate(slopes.patterns(grid).items()):
+        outline = Outline(pattern.wall, pattern.offsets)
+        asked, built = ([slope(b) for b in range(361)] for slope in (pattern.wall.slope, outline.slope))
+        lowest = min(lowest, *asked, *built)
+        axes.plot(bearings, built, color=f"C{i}", linewidth=1.8, label=f"{name}: built, {len(pattern.offsets)} offsets")
+        axes.plot(bearings, asked, color=f"C{i}", linewidth=1.2, linestyle=(0, (4, 3)), label=f"{name}: asked")
+    axes.set_rlim(max(0.0, 5 * math.floor(lowest / 5) - 5), None)
+    axes.set_xticks([math.radians(b) for b in range(0, 360, 45)], ["N", "45", "E", "135", "S", "225", "W", "315"])
+    axes.set_title("Overall slope of the walls by bearing, in degrees")
+    axes.legend(loc="upper center", bbox_to_anchor=(0.5, -0.06), ncol=2, frameon=False)
+    figure.savefig(path, dpi=110, bbox_inches="tight")
+    pyplot.close(figure)
