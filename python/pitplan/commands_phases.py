@@ -64,6 +64,11 @@ def amounts(row: dict[str, Any], metals: dict[str, Any]) -> list[str]:
             *(told(row[f"metal_{name}"], 0) for name in metals), told(row["worth"] / 1e6, 2)]
 
 
+def counted(blocks: Any) -> str:
+    """A number of blocks in words."""
+    return f"{int(blocks):,} {'block' if blocks == 1 else 'blocks'}"
+
+
 def tell_narrow(found: Phases, benches: pd.DataFrame) -> None:
     """Names the benches of each pushback that are thinner than the mining width."""
     if found.mining_width is None:
@@ -73,5 +78,5 @@ def tell_narrow(found: Phases, benches: pd.DataFrame) -> None:
         out.print(f"every pushback is at least {found.mining_width:g} m wide on every bench")
     for (pushback, factor), part in thin.groupby(["pushback", "factor"]):
         err.print(f"[yellow]look:[/yellow] pushback {pushback} (factor {factor:g}) is thinner than {found.mining_width:g} m on {len(part)} "
-                  f"{'bench' if len(part) == 1 else 'benches'}, {int(part.narrow_blocks.sum()):,} blocks, {part.narrow_t.sum() / 1e6:,.2f} Mt:", soft_wrap=True)
-        err.print("  " + ", ".join(f"{row.bench:,.10g} ({row.width:g} m, {int(row.narrow_blocks):,} blocks)" for row in part.itertuples()), soft_wrap=True)
+                  f"{'bench' if len(part) == 1 else 'benches'}, {counted(part.narrow_blocks.sum())}, {part.narrow_t.sum() / 1e6:,.2f} Mt:", soft_wrap=True)
+        err.print("  " + ", ".join(f"{row.bench:,.10g} ({row.width:g} m, {counted(row.narrow_blocks)})" for row in part.itertuples()), soft_wrap=True)

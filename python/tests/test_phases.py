@@ -182,7 +182,7 @@ def test_the_command(tmp_path):
     assert phases.factor.tolist() == [0.6, 1.0] and phases.worth.sum() == pits.worth_at_base[1] and benches.blocks.sum() == pits.blocks[1]
     thin = benches[benches.narrow_blocks > 0]
     for row in thin.itertuples():
-        assert f"{row.bench:g} ({row.width:g} m, {row.narrow_blocks:,} blocks)" in ran.stderr
+        assert f"{row.bench:g} ({row.width:g} m, {row.narrow_blocks:,} block{'s' if row.narrow_blocks > 1 else ''})" in ran.stderr
     assert len(thin) and ran.stderr.count(" m, ") == len(thin)
     assert pd.read_csv(study / "out/phase_blocks.csv").pushback.value_counts().sort_index().tolist() == phases.blocks.tolist()
     wide = pitplan("phases", "0.6,1.0", study, "--mining-width", "1")
