@@ -56,11 +56,13 @@ def kinds_of(text: str) -> list[str]:
 
 
 def to_dxf(shells: Shells, path: Path, cuts_corners: bool) -> str:
+    """Writes DXF, and says what it has."""
     from . import export_dxf
     return f"{export_dxf.write(shells, path, cuts_corners=cuts_corners):,} closed polylines, toe and crest of each bench in layers SHELL_<factor>_TOE and _CREST"
 
 
 def to_vtu(shells: Shells, path: Path, columns: list[str] | None, is_whole: bool) -> str:
+    """Writes VTU, and says what it has."""
     from . import export_vtu
     words = export_vtu.write(shells, path, columns, is_whole)
     what = "blocks of the model" if is_whole else "blocks of the largest pit"
@@ -68,11 +70,13 @@ def to_vtu(shells: Shells, path: Path, columns: list[str] | None, is_whole: bool
 
 
 def to_csv(shells: Shells, path: Path, columns: list[str] | None, is_whole: bool) -> str:
+    """Writes CSV, and says what it has."""
     from . import export_csv
     return f"{export_csv.write(shells, path, columns, is_whole):,} blocks with place, shell, worth and where they go"
 
 
 def to_gpkg(shells: Shells, path: Path, crs: str | None) -> str:
+    """Writes a GeoPackage, and says what it has."""
     from . import export_gpkg
     count = export_gpkg.write(shells, path, crs=crs)
     return f"{count:,} polygons in layers benches and rims" + ("" if crs else ", without a coordinate system (--crs EPSG:..)")
