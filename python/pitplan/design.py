@@ -98,11 +98,13 @@ def by_ids_of(model: Model, path: Path) -> Design:
     names = names_of(head_of(path, dialect.encoding, 1)[0], dialect.separator)
     folded = {name.lower(): name for name in names}
     own = model.columns.get("id", "")
-    column: str | None = own if own in names else next((folded[name] for name in USUAL["id"] if name in folded), None)
+    usual = [folded[name] for name in USUAL["id"] if name in folded]
+    column = own if own in names else usual[0] if usual else None
     if column is None and len(names) > 1:
         raise PlanError("which of its columns has the ids? None is known as one", table=path, try_this=f"call it {own or 'id'}")
     frame = read_frame(path, dialect, names)
-    ids = frame[column or names[0]].dropna()
+    ids = frame[column or names[0]].fillna("").astype(str)
+    ids = ids[ids.str.strip() != ""]
     if column is None and as_written(names[0]) in set(model.blocks["id"].astype(str)):
         ids = pd.concat([pd.Series([names[0]], index=[-1]), ids])          # no header line: the first is an id too
     return by_ids(model, ids, path.stem, path.name)
