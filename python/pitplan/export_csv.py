@@ -7,6 +7,7 @@ from collections.abc import Sequence
 from typing import TYPE_CHECKING, Any
 
 import numpy as np
+import numpy.typing as npt
 import pandas as pd
 
 from .amounts import THOUSAND
@@ -80,6 +81,15 @@ def table_of(shells: Shells, columns: Sequence[str] | None = None, is_whole: boo
     return found
 
 
+def spelled_once(values: npt.NDArray[np.float64]) -> npt.NDArray[Any]:
+    """Numbers as CSV has them, where few of them differ, as places on a grid: each is spelled once. Other numbers stay."""
+    few, which = np.unique(values, return_inverse=True)
+    if 4 * len(few) > len(values):
+        return values
+    found: npt.NDArray[Any] = np.array(["" if value != value else repr(value) for value in few.tolist()], dtype=object)[which]
+    return found
+
+
 def write(shells: Shells, path: str | os.PathLike[str], columns: Sequence[str] | None = None, is_whole: bool = False) -> int:
     """Writes `table_of` as CSV; words that a spreadsheet would run as formulas are `harmless`.
 
@@ -96,6 +106,9 @@ def write(shells: Shells, path: str | os.PathLike[str], columns: Sequence[str] |
         Where the file can't be written. What was there stays then.
     """
     found = safe(table_of(shells, columns, is_whole))
+    for name in found.columns:
+        if found[name].dtype.kind == "f":
+            found[name] = spelled_once(found[name].to_numpy())
     with whole_file(path) as part:
         found.to_csv(part, index=False)
     return len(found)

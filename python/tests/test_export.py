@@ -210,6 +210,8 @@ def test_csv_of_blocks(tmp_path, turned):
     assert (found["shell"].notna() == (shells.shell < 4)).all() and (found["to"] == "mill").sum() == shells.study.priced.milled(1000).sum()
     assert found.worth[shells.holds(2)].sum() == float(shells.study.mask(1000).dot(shells.study.priced.worth(1000))) == float(shells.verdicts[2]["worth"])
     assert export_csv.write(shells, tmp_path / "y.csv") == shells.holds(3).sum()
+    plain = export_csv.safe(export_csv.table_of(shells, ["CU"], is_whole=True)).to_csv(index=False)
+    assert (tmp_path / "x.csv").read_text() == plain                      # numbers that are spelled once are spelled as pandas does
 
 
 def test_words_that_a_spreadsheet_would_run_arent_written_as_formulas(tmp_path):
