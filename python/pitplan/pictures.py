@@ -95,6 +95,7 @@ def paint(shells: Shells, colour: str) -> Paint:
 
 
 def paint_shells(shells: Shells) -> Paint:
+    """A colour for the first pit of each block, the darker the lower its factor."""
     count = len(shells.factors)
     # the lightest yellow is left out: on paper it can't be told from rock that no pit has
     table = ListedColormap(colormaps["viridis"](np.linspace(0.0, 0.9, max(count, 2)))[:count])
