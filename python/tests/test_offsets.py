@@ -7,7 +7,7 @@ from fractions import Fraction
 from pathlib import Path
 
 import pytest
-from hypothesis import assume, given, settings, strategies as st
+from hypothesis import assume, example, given, settings, strategies as st
 from shapely.geometry import LineString, MultiPoint
 
 from pitplan import offsets as search
@@ -38,6 +38,8 @@ def slope_of(asked, offsets, bearing):
     return math.degrees(math.atan2(1, ray.intersection(hull).length))
 
 
+@example((10, 10, 10), 7, 1)                # offsets of several levels, whose sums matter
+@example((25, 25, 15), 7, 1)
 @given(SIZES, st.integers(1, 6), st.integers(0, 10))
 def test_few_offsets_reach_the_whole_cone_and_nothing_beyond(size, levels, tenths):
     # 45 degrees, so that the cone is known in whole numbers: also where blocks lie on its very edge
