@@ -372,9 +372,10 @@ def search(asked: Wall, *, safe: bool = False, levels: int | None = None, fits: 
     steepest = max(slope for _, slope in asked.slopes)
     out = asked.size[2] / math.tan(math.radians(steepest)) / max(asked.size[:2])
     tried: list[Pattern] = []
+    cones: _Cones | None = None
     for blocks_out, most in TRIES:
         high = min(MOST_LEVELS, levels or MOST_LEVELS, math.ceil(blocks_out / out))
-        if tried and high == cones.levels:
+        if cones is not None and high == cones.levels:
             break
         cones = _Cones(asked, high)
         judged = functools.partial(_best, cones, asked, safe, fits)
