@@ -5,7 +5,7 @@ import math
 import numpy as np
 import pandas as pd
 import pytest
-from hypothesis import given, strategies as st
+from hypothesis import example, given, strategies as st
 from hypothesis.extra.numpy import arrays
 
 import pitplan as pp
@@ -127,6 +127,7 @@ def plain(plane, size):
     return found
 
 
+@example(np.array([[0 <= j - i <= 5 for j in range(13)] for i in range(11)]), (20, 20))
 @given(arrays(bool, st.tuples(st.integers(1, 8), st.integers(1, 8)), elements=st.sampled_from([True, True, True, False])), st.sampled_from([(20, 20), (25, 10), (10, 15)]))
 def test_widths_are_those_of_a_plain_search(plane, size):
     wide = widths(plane, size)
@@ -156,8 +157,8 @@ def test_a_neck_and_a_slanting_strip():
     wide = widths(neck, (10, 10), wanted=30)
     assert thinnest(wide, (10, 10)) == 20 and (wide[11:13, 2:4] == 20).all() and (wide[10:14, 2:4] <= 40).all() and (wide[:10] == 60).all() and (neck & (wide < 30)).sum() == 8
     slanting = np.array([[0 <= j - i <= 5 for j in range(30)] for i in range(24)])
-    found = thinnest(widths(slanting, (20, 20))[8:16], (20, 20))       # without its pointed ends
-    assert 5 * 20 / math.sqrt(2) - 10 <= found <= 6 * 20 / math.sqrt(2)                   # between its inner and its outer corners
+    found = widths(slanting, (20, 20))[8:16]                           # without its pointed ends
+    assert (found[slanting[8:16]] == math.floor(5 * 20 / math.sqrt(2) / 10) * 10).all()      # between its inner corners, down to half a block
 
 
 def test_wide_sets_are_tried_in_larger_steps():
