@@ -39,7 +39,8 @@ def names_in(folder, pattern="*"):
 
 def documents():
     """The texts that the README leads to, and the example that they type commands on."""
-    return ["README.md", "CHANGELOG.md", "LICENSE", *names_in("docs", "*.md"), *names_in("examples"), *names_in("examples/copper")]
+    return ["README.md", "CHANGELOG.md", "LICENSE", *names_in("docs", "*.md"), *names_in("docs/pictures"), *names_in("examples"), *names_in("examples/copper"),
+            "python/pitplan/offsets.py"]  # which examples/offsets.py runs
 
 
 def toolchain(tool, *words):
