@@ -130,14 +130,18 @@ def series(study, rounds, workers):
     pairs = []
     for _ in range(rounds):
         shutil.rmtree(study.folder / "runs", ignore_errors=True)
+        used = [seconds_of(resource.RUSAGE_CHILDREN)]
         bare = alone(study, workers)
+        used.append(seconds_of(resource.RUSAGE_CHILDREN))
         began = time.time()
         subprocess.run([str(TOP / "bin" / "pitplan"), "shells", str(study.folder), "--workers", str(workers)], check=True, stdout=subprocess.DEVNULL, stderr=subprocess.DEVNULL,
                        env={**os.environ, "PIT": study.program.program})
-        pairs.append((time.time() - began, bare))
-    ours, bare = min(pairs, key=lambda pair: pair[0] / pair[1])
-    print(f"## {len(FACTORS)} shells of {study.manifest['blocks']:,} blocks, {workers} at a time\n\n| `pitplan shells`, s | the same runs of `pit` alone, s | times |\n|---|---|---|")
-    print(f"| {ours:.1f} | {bare:.1f} | {ours / bare:.2f} |\n")
+        took = time.time() - began
+        used.append(seconds_of(resource.RUSAGE_CHILDREN))
+        pairs.append((took, bare, used[2] - used[1], used[1] - used[0]))
+    ours, bare, ours_cpu, bare_cpu = min(pairs, key=lambda pair: pair[0] / pair[1])
+    print(f"## {len(FACTORS)} shells of {study.manifest['blocks']:,} blocks, {workers} at a time\n\n| | `pitplan shells` | the same runs of `pit` alone | times |\n|---|---|---|---|")
+    print(f"| seconds that passed | {ours:.1f} | {bare:.1f} | {ours / bare:.2f} |\n| CPU s | {ours_cpu:.1f} | {bare_cpu:.1f} | {ours_cpu / bare_cpu:.2f} |\n")
 
 
 STUDY = """[model]
