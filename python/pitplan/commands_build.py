@@ -7,7 +7,7 @@ from typing import TYPE_CHECKING, Any, Optional
 import typer
 from rich.markup import escape
 
-from .console import STUDY, app, described, err, out
+from .console import STUDY, app, described, err, out, print_columns
 from .errors import PlanError
 
 if TYPE_CHECKING:
@@ -75,17 +75,10 @@ def build(folder: Path = STUDY) -> None:
 
 def print_tonnage(study: Study) -> None:
     """The grade-tonnage line of each rock."""
-    from rich.box import SIMPLE_HEAD
-    from rich.table import Table
     from .tonnage import by_rock
     lines = by_rock(study.model, study.priced, study.manifest["metals"])
-    shown = Table(title="in place, at the full price", title_justify="left", box=SIMPLE_HEAD)
-    shown.add_column("rock")
-    for name in lines.columns[1:]:
-        shown.add_column(str(name), justify="right")
-    for line in lines.itertuples(index=False):
-        shown.add_row(escape(str(line[0])), *(cell(value) for value in line[1:]))
-    out.print(shown)
+    print_columns("in place, at the full price; metals as recovered", list(map(str, lines.columns)),
+                  [(str(line[0]), *(cell(value) for value in line[1:])) for line in lines.itertuples(index=False)], words=1)
 
 
 def cell(value: Any) -> str:

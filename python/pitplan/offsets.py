@@ -376,7 +376,7 @@ def search(asked: Wall, *, safe: bool = False, levels: int | None = None, fits: 
         high = min(MOST_LEVELS, levels or MOST_LEVELS, math.ceil(blocks_out / out))
         if tried and high == cones.levels:
             break
-        cones = _Cones(asked, high)
+        cones: _Cones = _Cones(asked, high)
         judged = functools.partial(_best, cones, asked, safe, fits)
         found = judged(cones.cuts(NARROWEST, most)) or judged(cones.cuts(0.0, most))
         if found is None:
