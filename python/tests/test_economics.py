@@ -151,6 +151,7 @@ def test_the_grade_tonnage_of_each_rock(frame, model):
 
 def test_a_rock_that_no_block_has_is_told(tmp_path):
     from pitplan.economics import amount
+    from pitplan.errors import PlanError
     with pytest.raises(PlanError, match="no block is of rock 'OXY'; is 'OXI' meant"):
         amount("processing", {"OXY": 7.5, "other": 9.0}, _model(tmp_path))
 
