@@ -1,6 +1,7 @@
 """The command line: the commands of all `commands_*.py`, and what an error looks like."""
 from __future__ import annotations
 
+import errno
 import importlib
 import pkgutil
 import sys
@@ -31,6 +32,13 @@ def status_of(error: PlanError) -> int:
     return MACHINE if isinstance(error, MachineError) else WRONG
 
 
+def remedy(error: OSError) -> str:
+    """What to try where the system refuses a file."""
+    if error.errno in (errno.EACCES, errno.EPERM, errno.EROFS):
+        return f"\n  try: a folder that you may write in: {escape(str(Path(error.filename or '.').parent))} is none"
+    return "\n  try: make room on that disk; what is done is kept" if error.errno in (errno.ENOSPC, errno.EDQUOT) else ""
+
+
 def main() -> None:
     """Runs a command. Exit status: 0 done, 1 no, 2 wrong words, 3 a file is wrong, 4 the machine, 130 stopped."""
     load_commands()
@@ -50,5 +58,5 @@ def main() -> None:
         err.print("[red]error:[/red] memory was refused\n  try: fewer --workers, or a machine with more memory")
         sys.exit(MACHINE)
     except OSError as error:
-        err.print(f"[red]error:[/red] {escape(str(error.filename or ''))}: {escape(str(error.strerror))}", soft_wrap=True)
+        err.print(f"[red]error:[/red] {escape(str(error.filename or ''))}: {escape(str(error.strerror))}{remedy(error)}", soft_wrap=True)
         sys.exit(MACHINE)

@@ -7,7 +7,7 @@ from typing import TYPE_CHECKING, Any, Optional
 import typer
 from rich.markup import escape
 
-from .console import STUDY, app, described, err, out
+from .console import STUDY, app, described, err, out, print_columns
 from .errors import PlanError
 
 if TYPE_CHECKING:
@@ -18,10 +18,11 @@ if TYPE_CHECKING:
 @app.command()
 def init(table: Path = typer.Argument(..., help="A table of blocks: CSV or CSV.gz."),
          folder: Optional[Path] = typer.Option(None, "--study", help="The folder of the new study; the table's name without its ending unless told."),
+         column: list[str] = typer.Option([], "--column", "-c", metavar="KEY=NAME", help="What a column is, as x=este, where its name isn't a usual one. May be given several times."),
          is_forced: bool = typer.Option(False, "--force", help="Write over a study.toml that is there.")) -> None:
     """Look at a table of blocks, and write a study.toml for it."""
     from .first_look import look_at, written
-    look = look_at(table)
+    look = look_at(table, dict(map(named, column)))
     folder = folder or Path(table.name.removesuffix(".gz").removesuffix(".csv"))
     path = folder / "study.toml"
     if path.exists() and not is_forced:
@@ -37,6 +38,14 @@ def init(table: Path = typer.Argument(..., help="A table of blocks: CSV or CSV.g
     for note in look.notes:
         err.print("  [yellow]look:[/yellow] " + escape(note))
     out.print(f"{path} is written: put your own prices, costs and slopes there, then: pitplan build{'' if folder == Path('.') else ' ' + str(folder)}")
+
+
+def named(said: str) -> tuple[str, str]:
+    """A key and the name of its column, from KEY=NAME."""
+    key, sign, name = said.partition("=")
+    if not sign:
+        raise PlanError(f"--column {said} is no KEY=NAME", try_this="--column x=este")
+    return key.strip(), name.strip()
 
 
 def relative(table: Path, folder: Path) -> str:
@@ -66,17 +75,10 @@ def build(folder: Path = STUDY) -> None:
 
 def print_tonnage(study: Study) -> None:
     """The grade-tonnage line of each rock."""
-    from rich.box import SIMPLE_HEAD
-    from rich.table import Table
     from .tonnage import by_rock
     lines = by_rock(study.model, study.priced, study.manifest["metals"])
-    shown = Table(title="in place, at the full price", title_justify="left", box=SIMPLE_HEAD)
-    shown.add_column("rock")
-    for name in lines.columns[1:]:
-        shown.add_column(str(name), justify="right")
-    for line in lines.itertuples(index=False):
-        shown.add_row(escape(str(line[0])), *(cell(value) for value in line[1:]))
-    out.print(shown)
+    print_columns("in place, at the full price; metals as recovered", list(map(str, lines.columns)),
+                  [(str(line[0]), *(cell(value) for value in line[1:])) for line in lines.itertuples(index=False)], words=1)
 
 
 def cell(value: Any) -> str:
@@ -93,7 +95,7 @@ def print_size(study: Study, told: StudyFile) -> None:
     count = len(told.factors)
     workers = workers_for(study)
     out.print(f"{guess.pairs:,} pairs of a block and a predecessor. A pit will take about {guess.memory / 1e6:,.0f} MB and {duration(guess.seconds)}; "
-              f"all {count}, {workers} at a time, about {duration(guess.seconds * count / workers)}")
+              f"all {count}, {workers} at a time, {duration(guess.seconds * count / workers)}")
     out.print(f"built in {study.folder}; then: pitplan shells{'' if study.folder == Path('.') else ' ' + str(study.folder)}")
 
 

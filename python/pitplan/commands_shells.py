@@ -11,7 +11,7 @@ from typing import TYPE_CHECKING, Optional
 import typer
 from rich.markup import escape
 
-from .console import STUDY, app, described, err, opened, out, results
+from .console import STUDY, app, described, err, opened, out, print_columns, results
 from .errors import PlanError
 
 if TYPE_CHECKING:
@@ -93,19 +93,15 @@ def write_tables(found: Shells, table: pd.DataFrame) -> None:
 
 def print_table(found: Shells, table: pd.DataFrame) -> None:
     """The pit-by-pit table on the screen; all of its columns are in the file."""
-    from rich.box import SIMPLE_HEAD
-    from rich.table import Table as Shown
-    currency = found.study.manifest["currency"]
-    metals = found.study.manifest["metals"]
-    shown_table = Shown(title=f"pit by pit, worths in million {escape(currency)} at the full price", title_justify="left", box=SIMPLE_HEAD)
-    for name in ("factor", "blocks", "ore Mt", "waste Mt", "strip", *(f"{name} {unit['grade_unit']}" for name, unit in metals.items()), "worth", "best case", "worst case", "years"):
-        shown_table.add_column(escape(name), justify="right")
+    currency, metals = found.study.manifest["currency"], found.study.manifest["metals"]
+    names = ("factor", "blocks", "ore Mt", "waste Mt", "strip", *(f"{name} {unit['grade_unit']}" for name, unit in metals.items()), "worth", "best case", "worst case", "years")
+    lines = []
     for row in table.to_dict("records"):
         grades = ["" if row[f"grade_{name}"] != row[f"grade_{name}"] else f"{row[f'grade_{name}']:.3f}" for name in metals]
         strip = "" if row["strip"] != row["strip"] else f"{row['strip']:.2f}"
-        shown_table.add_row(f"{row['factor']:.3f}", f"{row['blocks']:,}", f"{row['ore_t'] / 1e6:,.2f}", f"{row['waste_t'] / 1e6:,.2f}", strip, *grades,
-                            f"{row['worth_at_base'] / 1e6:,.2f}", f"{row['npv_best'] / 1e6:,.2f}", f"{row['npv_worst'] / 1e6:,.2f}", f"{row['years']:.1f}")
-    out.print(shown_table)
+        lines.append((f"{row['factor']:.3f}", f"{row['blocks']:,}", f"{row['ore_t'] / 1e6:,.2f}", f"{row['waste_t'] / 1e6:,.2f}", strip, *grades,
+                      f"{row['worth_at_base'] / 1e6:,.2f}", f"{row['npv_best'] / 1e6:,.2f}", f"{row['npv_worst'] / 1e6:,.2f}", f"{row['years']:.1f}"))
+    print_columns(f"pit by pit, worths in million {currency} at the full price", names, lines)
     out.print(f"{found.study.folder / 'out'}: pit_by_pit.csv, benches.csv. Each pit is proved; the discounted cases are bounds and no schedule")
 
 

@@ -7,7 +7,7 @@ from typing import TYPE_CHECKING, Any
 import typer
 from rich.markup import escape
 
-from .console import STUDY, app, described, err, out
+from .console import STUDY, app, described, err, out, print_columns
 from .errors import PlanError
 
 if TYPE_CHECKING:
@@ -59,19 +59,14 @@ def print_patterns(slopes: Slopes, grid: Grid) -> None:
 
 def print_angles(table: pd.DataFrame, every: int) -> None:
     """The table of asked and built angles."""
-    from rich.box import SIMPLE_HEAD
-    from rich.table import Table
-    shown = Table(title="degrees of the wall at a bearing", title_justify="left", box=SIMPLE_HEAD)
-    shown.add_column("bearing", justify="right")
     regions = list(dict.fromkeys(table.region))
-    for name in regions:
-        for column in ("asked", "built", "error"):
-            shown.add_column(escape(column if len(regions) == 1 else f"{name} {column}"), justify="right")
+    names = ["bearing", *(column if len(regions) == 1 else f"{name} {column}" for name in regions for column in ("asked", "built", "error"))]
+    lines = []
     for bearing, rows in table.groupby("bearing"):
         if bearing % every == 0:
             by_region = rows.set_index("region")
-            shown.add_row(str(bearing), *(f"{by_region.at[name, column]:{'+' if column == 'error' else ''}.1f}" for name in regions for column in ("asked", "built", "error")))
-    out.print(shown)
+            lines.append((str(bearing), *(f"{by_region.at[name, column]:{'+' if column == 'error' else ''}.1f}" for name in regions for column in ("asked", "built", "error"))))
+    print_columns("degrees of the wall at a bearing", names, lines)
 
 
 def draw_rose(slopes: Slopes, grid: Grid, path: Path) -> None:

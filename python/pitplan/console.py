@@ -2,11 +2,13 @@
 from __future__ import annotations
 
 import sys
+from collections.abc import Sequence
 from pathlib import Path
 from typing import TYPE_CHECKING, Any
 
 import typer
 from rich.console import Console
+from rich.markup import escape
 
 from .errors import PlanError
 
@@ -20,6 +22,21 @@ app = typer.Typer(add_completion=True, no_args_is_help=True, pretty_exceptions_e
 out = Console(width=None if sys.stdout.isatty() else 160, soft_wrap=not sys.stdout.isatty(), highlight=False)
 err = Console(stderr=True, highlight=False)
 STUDY: Any = typer.Argument(Path("."), help="The folder of the study, with its study.toml.", show_default="this folder")
+
+
+def print_columns(title: str, names: Sequence[str], rows: Sequence[Sequence[str]], words: int = 0) -> None:
+    """Prints a table of texts; the first `words` columns stand left. Where the screen is narrow the headings go over several
+    lines and the gaps shrink, and no figure is cut off."""
+    from rich.box import SIMPLE_HEAD
+    from rich.table import Table
+    widths = [max((len(row[i]) for row in rows), default=0) for i in range(len(names))]
+    is_narrow = sum(max(len(name), width) + 3 for name, width in zip(names, widths)) + 1 > out.width
+    shown = Table(title=escape(title), title_justify="left", box=SIMPLE_HEAD, padding=(0, 0) if is_narrow else (0, 1), show_edge=not is_narrow)
+    for i, (name, width) in enumerate(zip(names, widths)):
+        shown.add_column(escape(name), justify="left" if i < words else "right", min_width=width)
+    for row in rows:
+        shown.add_row(*map(escape, row))
+    out.print(shown, crop=False)
 
 
 def described(folder: Path) -> StudyFile:

@@ -17,8 +17,8 @@ import pandas as pd
 from .errors import PlanError
 
 SEPARATORS = ",;\t"
-THOUSANDS = re.compile(r"[+-]?\d{1,3}([, ]\d{3})+(\.\d+)?")
-COMMA_DECIMAL = re.compile(r"[+-]?\d+,\d+")
+THOUSANDS = re.compile(r"[+-]?\d{1,3}(([, ]\d{3})+(\.\d+)?|([. ]\d{3})+,\d+)")
+COMMA_DECIMAL = re.compile(r"([+-]?\d*),(\d+(?:[eE][+-]?\d+)?)")
 PLAIN = re.compile(r"[+-]?(\d+\.?\d*|\.\d+)([eE][+-]?\d+)?")
 
 
@@ -134,6 +134,8 @@ def read_frame(path: Path, dialect: Dialect, words: Collection[str] = ()) -> pd.
     if doubled:
         raise PlanError(f"two columns are called {doubled[0]}", table=path, try_this="another name for one of them")
     frame = parsed(path, dialect, names, words)
+    if dialect.decimal == ",":
+        points_for_commas(frame, words)
     frame.index = pd.RangeIndex(dialect.skip, dialect.skip + len(frame))
     blank = frame[next((name for name in names if name not in words), names[0])].isna().to_numpy()
     if blank.any():
@@ -143,6 +145,17 @@ def read_frame(path: Path, dialect: Dialect, words: Collection[str] = ()) -> pd.
     if not len(frame):
         raise PlanError("has no rows below its header line", table=path)
     return frame
+
+
+def points_for_commas(frame: pd.DataFrame, words: Collection[str]) -> None:
+    """Makes 2.438 of the cell 2,438 in columns that pandas left as words, since a mark as "-" or "<0,01" stands among the
+    numbers. The marks stay as they are."""
+    for name in frame.columns:
+        if name in words or frame[name].dtype.kind in "iufb":
+            continue
+        values = frame[name]
+        swapped = values.astype(object).where(values.map(type) == str).str.replace(f"^{COMMA_DECIMAL.pattern}$", r"\1.\2", regex=True)
+        frame[name] = swapped.where(swapped.notna(), values)
 
 
 def parsed(path: Path, dialect: Dialect, names: Sequence[str], words: Collection[str]) -> pd.DataFrame:

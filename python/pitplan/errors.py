@@ -51,6 +51,8 @@ def meant(word: str, known: Iterable[str]) -> str:
     folded = {name.lower(): name for name in names}
     if not near and word.lower() in folded:
         near = [folded[word.lower()]]
+    if not near:
+        near = [name for name in names if len(word) > 1 and word.lower() in name.lower()][:1]
     if near:
         return f"; is {near[0]!r} meant?"
     return f"; there are {', '.join(names[:40])}" if names else "; there are none"

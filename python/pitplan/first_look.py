@@ -2,6 +2,8 @@
 from __future__ import annotations
 
 import math
+import re
+from collections.abc import Mapping
 from dataclasses import dataclass, field
 from pathlib import Path
 
@@ -15,6 +17,8 @@ from .grid import Floats, Grid
 from .study_template import TEMPLATE
 
 MARKS = ("-99", "-999", "-9999", "-99.0", "-999.0", "-1", "-1.0", "-", "*", "N/A", "n/a", "NA", "absent", "null", "")
+LIMIT = re.compile(r"<\s*\d*[.,]?\d+")      # below the limit of an assay
+MOST_LIMITS = 20
 # Columns that look like grades, and the units that such a metal usually comes in.
 METALS = {"cu": ("copper", "%", "t", 8500), "au": ("gold", "g/t", "oz", 1900), "ag": ("silver", "g/t", "oz", 23), "mo": ("molybdenum", "ppm", "lb", 15),
           "zn": ("zinc", "%", "t", 2600), "pb": ("lead", "%", "t", 2100), "ni": ("nickel", "%", "t", 17000), "co": ("cobalt", "%", "t", 33000),
@@ -60,8 +64,15 @@ class Look:
     notes: list[str] = field(default_factory=list)
 
 
-def look_at(table: Path) -> Look:
+def look_at(table: Path, given: Mapping[str, str] | None = None) -> Look:
     """Looks at a table of blocks.
+
+    Parameters
+    ----------
+    table : Path
+        CSV, or CSV.gz.
+    given : mapping, optional
+        The names of columns that aren't the usual ones, under the keys of `column_names.USUAL`.
 
     Raises
     ------
@@ -69,7 +80,8 @@ def look_at(table: Path) -> Look:
         Where it isn't a table, or has no columns that are known as x, y and z.
     """
     dialect = dialect_of(table)
-    names = which_columns(names_of(head_of(table, dialect.encoding, 1)[0], dialect.separator), {}, table.name)
+    names = which_columns(names_of(head_of(table, dialect.encoding, 1)[0], dialect.separator), given or {}, table.name,
+                          f"pitplan init {table} --column x=... --column y=... --column z=...")
     frame = read_frame(table, dialect, [names[key] for key in ("id", "rock") if key in names])
     look = Look(dialect, names, len(frame), columns=[str(name) for name in frame.columns])
     look.absent = marks_in(frame, names)
@@ -78,6 +90,10 @@ def look_at(table: Path) -> Look:
     look.grades = [str(name) for name in frame.columns if is_grade(frame, str(name), look)]
     if "rock" in names:
         look.rocks = [str(rock) for rock in frame[names["rock"]].fillna("").value_counts().index[:12]]
+    if not {"tonnes", "density"} & set(names):
+        look.notes.append("no column of tonnes or density was found: name it in columns")
+    if "rock" not in names:
+        look.notes.append("no column of rocks was found: name it in columns, where costs or recoveries go by rock")
     if dialect.skip:
         look.notes.append(f"{dialect.skip} lines below the header hold no blocks")
     return look
@@ -98,7 +114,8 @@ def marks_in(frame: pd.DataFrame, names: dict[str, str]) -> list[str]:
             if least < 0 and f"{least:g}" in MARKS:
                 found.append(f"{least:g}")
         elif pd.to_numeric(values, errors="coerce").notna().mean() > 0.5:
-            found += [mark for mark in MARKS if mark and values.astype(str).str.strip().eq(mark).any()]
+            words = [str(word).strip() for word in values[pd.to_numeric(values, errors="coerce").isna() & values.notna()].unique()]
+            found += [mark for mark in MARKS if mark in words] + sorted(word for word in words if LIMIT.fullmatch(word))[:MOST_LIMITS]
             found += [""] if values.isna().any() else []
     return list(dict.fromkeys(found))
 
@@ -115,9 +132,9 @@ def is_grade(frame: pd.DataFrame, name: str, look: Look) -> bool:
 
 
 def metal_of(column: str) -> tuple[str, str, str, float] | None:
-    """The usual metal, units and price of a column's name, as CU_PCT or au_gpt."""
-    word = column.lower().replace("-", "_").split("_")[0].rstrip("%").strip()
-    return METALS.get(word)
+    """The usual metal, units and price of a column's name, as CU_PCT, au_gpt, "Ag (g/t)" or ley_zn."""
+    words = re.split(r"[^a-z0-9]+", column.lower())
+    return next((METALS[word] for word in words if word in METALS), None)
 
 
 def find_grid(look: Look, frame: pd.DataFrame, x: Floats, y: Floats, z: Floats) -> None:

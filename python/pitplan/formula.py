@@ -7,6 +7,7 @@ from __future__ import annotations
 
 import ast
 import operator
+import re
 from collections.abc import Callable
 from typing import Any
 
@@ -54,7 +55,7 @@ def worked_out(text: str, table: pd.DataFrame, what: str) -> npt.NDArray[Any]:
         with np.errstate(all="ignore"):
             found = Reading(table, told).value(tree.body)
     except (SyntaxError, RecursionError, MemoryError, ValueError):
-        raise PlanError(f"{told} is no formula", try_this=PARTS) from None
+        raise PlanError(f"{told} is no formula{single_sign(text)}", try_this=PARTS) from None
     except (TypeError, OverflowError):
         raise PlanError(f"{told} counts with words") from None
     each: npt.NDArray[Any] = np.broadcast_to(np.asarray(found), (len(table),)).copy()
@@ -66,6 +67,11 @@ def worked_out(text: str, table: pd.DataFrame, what: str) -> npt.NDArray[Any]:
         row = int(np.argmax(~np.isfinite(each)))
         raise PlanError(f"{told} gives no number here", row=int(table["row"].iloc[row]) if "row" in table else row)
     return each.astype(float)
+
+
+def single_sign(text: str) -> str:
+    """What to add where = stands in place of ==."""
+    return "; is '==' meant?" if re.search(r"(?<![=<>!])=(?!=)", text) else ""
 
 
 class Reading:

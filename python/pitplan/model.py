@@ -45,6 +45,8 @@ class Model:
         Whether the table's z is a depth.
     source : Path or None
         The table.
+    absent : sequence of str
+        Cells that stand for "not estimated", for columns that still hold such cells.
     """
 
     blocks: pd.DataFrame
@@ -55,6 +57,7 @@ class Model:
     row_block: npt.NDArray[np.int32] = field(default_factory=lambda: np.empty(0, np.int32))
     depth: bool = False
     source: Path | None = None
+    absent: Sequence[str] = ()
 
     def __len__(self) -> int:
         return len(self.blocks)
@@ -80,7 +83,7 @@ class Model:
         """A column of the table as numbers, of shape (len(self),); `what` says in an error what it was wanted for."""
         if column not in self.blocks.columns:
             raise PlanError(f"{what}: the table has no column {column!r}{meant(column, map(str, self.blocks.columns))}")
-        return number_column(pd.Series(self.blocks[column].to_numpy(), index=self.blocks["row"], name=column), self.table)
+        return number_column(pd.Series(self.blocks[column].to_numpy(), index=self.blocks["row"], name=column), self.table, self.absent)
 
 
 @dataclass(frozen=True)
@@ -180,7 +183,7 @@ def read_with(path: Path, keys: TableKeys) -> Model:
     blocks = columns_of(whole.frame, names, grid, index, table)
     row_block = np.full(rows, -1, np.int32)
     row_block[frame.index.to_numpy()] = whole.parent
-    model = Model(blocks, grid, path.name.removesuffix(".gz").removesuffix(".csv"), notes, names, row_block, keys.z == "depth", path)
+    model = Model(blocks, grid, path.name.removesuffix(".gz").removesuffix(".csv"), notes, names, row_block, keys.z == "depth", path, keys.absent)
     gaps.close(model, keys.missing, keys.fill, table)
     if keys.widen:
         gaps.widen(model, keys.widen)
@@ -294,7 +297,7 @@ def twins(flat: Ints, rows: pd.Index, column: str, table: str) -> None:
     if len(same):
         first, second = sorted((int(rows[order[same[0]]]), int(rows[order[same[0] + 1]])))
         raise PlanError(f"is at the place of row {first + 2}: two blocks at one place" + (f" ({len(same):,} such)" if len(same) > 1 else ""),
-                        table=table, row=second, column=column, try_this="regularise = true in [model], with the columns dx, dy and dz, if these are sub-blocks")
+                        table=table, row=second, column=column, try_this="take one of the rows out; or regularise = true in [model], with the columns dx, dy and dz, if these are sub-blocks")
 
 
 def columns_of(frame: pd.DataFrame, names: Mapping[str, str], grid: Grid, index: tuple[Ints, Ints, Ints], table: str) -> pd.DataFrame:

@@ -3,6 +3,7 @@ from __future__ import annotations
 
 import hashlib
 import json
+import re
 import tomllib
 from collections.abc import Mapping
 from dataclasses import dataclass, field, fields
@@ -79,15 +80,28 @@ def read_study_file(study: Path) -> StudyFile:
     """
     path = path_of(study)
     try:
-        told = tomllib.loads(path.read_text("utf-8-sig"))
+        text = path.read_text("utf-8-sig")
+        told = tomllib.loads(text)
+    except NotADirectoryError:
+        raise PlanError(f"{study} is a file, and a study is a folder", try_this=f"pitplan init {study}, if it is a table") from None
     except FileNotFoundError:
-        raise PlanError(f"{path} isn't there", try_this="pitplan init TABLE.csv") from None
-    except (tomllib.TOMLDecodeError, UnicodeDecodeError) as error:
+        raise PlanError(f"{path} isn't there", try_this="the folder of a study, or pitplan init TABLE.csv to begin one") from None
+    except UnicodeDecodeError as error:
         raise PlanError(f"isn't TOML: {error}", table=path) from None
+    except tomllib.TOMLDecodeError as error:
+        raise PlanError(f"isn't TOML: {error}{line_of(text, str(error))}", table=path,
+                        try_this="numbers with a point as 2.4, words in quotes, every bracket closed") from None
     try:
         return checked(path, told)
     except PlanError as error:
         raise type(error)(error.what, table=error.table or path.name, row=error.row, column=error.column, try_this=error.try_this) from None
+
+
+def line_of(text: str, said: str) -> str:
+    """The line of a text that an error names, as "line 10"; nothing where it names none."""
+    found = re.search(r"line (\d+)", said)
+    lines = text.splitlines()
+    return f": {lines[int(found[1]) - 1].strip()}" if found and int(found[1]) <= len(lines) else ""
 
 
 def checked(path: Path, told: Mapping[str, Any]) -> StudyFile:

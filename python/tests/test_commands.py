@@ -113,3 +113,27 @@ def test_every_key_that_init_writes_is_known_and_explained(tmp_path):
     from pitplan.model import TableKeys
     for f in (*fields(TableKeys), *fields(Economics), *fields(Metal)):
         assert f.name in text or f.name in ("decimal", "encoding", "skip"), f.name
+
+
+def test_commas_beside_marks_and_column_names_of_ones_own(tmp_path):
+    f = table(6, 5, 4, 3).rename(columns={"XC": "xx", "YC": "yy"})
+    f["CU"] = f.CU.astype(object)
+    f.loc[3, "CU"], f.loc[20, "CU"] = "-", "<0,01"
+    f.to_csv(tmp_path / "t.csv", index=False, sep=";", decimal=",")
+    lost = pitplan("init", "t.csv", cwd=tmp_path)
+    assert lost.returncode == 3 and "no column is known as x, y" in lost.stderr and "--column x=" in lost.stderr
+    found = pitplan("init", "t.csv", "--column", "x=xx", "-c", "y=yy", cwd=tmp_path)
+    assert found.returncode == 0, found.stderr
+    told = read_study_file(tmp_path / "t")
+    assert list(told.keys.absent) == ["-", "<0,01"] and "CU" in [m.grade for m in told.economics.metals]
+    ran = pitplan("build", "t", cwd=tmp_path)
+    assert ran.returncode == 0, ran.stderr
+
+
+def test_a_mark_that_is_told_is_not_asked_for_again(tmp_path):
+    f = table(5, 4, 3, 1)
+    f["CU"] = f.CU.astype(object)
+    f.loc[1, "CU"], f.loc[7, "CU"] = "-", "<0.01"
+    text = STUDY_TOML.replace("[model]\n", '[model]\nabsent = ["-"]\n') if "absent" not in STUDY_TOML else STUDY_TOML.replace("absent = [", 'absent = ["-", ')
+    ran = pitplan("build", written_study(tmp_path / "s", f, text))
+    assert ran.returncode == 3 and "row 9, column CU" in ran.stderr and 'absent = ["<0.01"]' in ran.stderr

@@ -147,3 +147,16 @@ def test_the_grade_tonnage_of_each_rock(frame, model):
         t = frame.TONNES[here & ore]
         assert lines.blocks[rock] == here.sum() and lines.Mt[rock] == pytest.approx(frame.TONNES[here].sum() / 1e6)
         assert lines["ore Mt"][rock] == pytest.approx(t.sum() / 1e6) and lines["copper %"][rock] == pytest.approx((t * frame.CU[here & ore]).sum() / t.sum())
+
+
+def test_a_rock_that_no_block_has_is_told(tmp_path):
+    from pitplan.economics import amount
+    from pitplan.errors import PlanError
+    with pytest.raises(PlanError, match="no block is of rock 'OXY'; is 'OXI' meant"):
+        amount("processing", {"OXY": 7.5, "other": 9.0}, _model(tmp_path))
+
+
+def _model(tmp_path):
+    table(4, 4, 3, 1).to_csv(tmp_path / "t.csv", index=False)
+    import pitplan
+    return pitplan.read_table(tmp_path / "t.csv", size=(20, 20, 15))

@@ -12,8 +12,8 @@ TOP = Path(__file__).resolve().parents[2]
 def guide_shells():
     """The shells with the mill that the guide shows: factor, blocks, worth."""
     text = (TOP / "docs" / "GUIDE.md").read_text()
-    rows = re.findall(r"\| `SHELL \d+ \d+ \d+` \| `SHELL (\d+) (\d+) (\d+)` \|", text)
-    return [tuple(map(int, row)) for row in rows]
+    answer = re.search(r"pit shells .* --settings mill\.toml\n((?: *SHELL .*\n)+)", text)
+    return [tuple(map(int, row)) for row in re.findall(r"SHELL (\d+) (\d+) (\d+)", answer[1] if answer else "")]
 
 
 def test_copper_has_the_shells_of_the_guide(tmp_path):
