@@ -10,6 +10,8 @@ import typer
 
 from .console import app, out
 
+STOPPED = 130
+
 WORDS: Any = typer.Argument(..., help="run SCENARIO FACTOR, or realisation NUMBER FACTORS; factors in thousandths. - reads such lines from the standard input.")
 
 
@@ -21,7 +23,10 @@ def task(folder: Path = typer.Argument(..., help="The folder of the study."), wo
     signal.signal(signal.SIGTERM, stopped)
     tasks = Tasks(folder)
     if words == ["-"]:
-        serve(tasks.do, iter(sys.stdin.readline, ""), lambda said: print(said, flush=True), task_of)
+        try:
+            serve(tasks.do, iter(sys.stdin.readline, ""), lambda said: print(said, flush=True), task_of)
+        except KeyboardInterrupt:
+            sys.exit(STOPPED)                # who started this one says so
         return
     found = task_of(words)
     count = tasks.do(found)

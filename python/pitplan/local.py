@@ -106,7 +106,7 @@ class Worker:
                     return
             else:
                 raise MachineError(f"{task}: its process was ended {TRIES} times", try_this="fewer --workers: memory was short, or somebody ended it")
-        self.end()
+        self.let_go()
 
     def does(self, task: Task) -> bool:
         """Hands a task to the process; whether it is done, or the process died. Raises what the task failed with."""
@@ -139,6 +139,13 @@ class Worker:
                 self.process = subprocess.Popen([*before, sys.executable, "-I", "-c", start, "task", str(self.study.folder), "-"], stdin=subprocess.PIPE, stdout=subprocess.PIPE, text=True,
                                                 env=environment, process_group=0)          # ctrl-C is for this process, which ends it
             return self.process
+
+    def let_go(self) -> None:
+        """Ends the process when it has nothing in hand."""
+        with self.lock:
+            if self.process and self.process.stdin:
+                self.process.stdin.close()
+                self.process.wait(PATIENCE)
 
     def end(self) -> None:
         """Ends the process: it takes away what it has half done, and its `pit` ends with it."""

@@ -3,7 +3,6 @@ import gzip
 import json
 import os
 import re
-import shutil
 import signal
 import subprocess
 import time
@@ -16,7 +15,6 @@ import pytest
 import pitplan as pp
 from mines import SIZE, costs, study_of, table, written_study
 from pitplan import local, risk
-from pitplan.amounts import Priced
 from pitplan.task import Task, Tasks, task_of, wanted
 from test_runs import command, runs, slow_pit, waited_for
 
@@ -225,3 +223,33 @@ def test_a_killed_task_leaves_no_pit_and_goes_on(tmp_path, program, how):
         assert run.returncode == 130 and not list((study.folder / "runs/r0001").iterdir()) and not list(scratch.iterdir())
     assert Tasks(study.folder).do(task_of(["realisation", "1", "1000"])) == 1
     assert [p.name for p in (study.folder / "runs/r0001").iterdir()] == ["f01000"]
+
+
+def test_the_command_goes_on_and_its_tables(tmp_path, program):
+    folder = written_study(tmp_path / "s", table(7, 6, 4, 3))
+    assert command("build", folder).wait() == 0
+    np.save(tmp_path / "sims.npy", grades_of(table(7, 6, 4, 3), 4))
+    run = command("risk", folder, "--realisations", tmp_path / "sims.npy", "--factors", "0.8,1", "--later")
+    assert "4 realisations at 2 factors" in run.communicate(timeout=60)[0]
+    assert command("task", folder, "realisation", 2, "800,1000").wait() == 0
+    stamp = (folder / "runs/r0002/f00800/verdict.json").stat().st_mtime_ns
+    run = command("risk", folder, "--workers", 2)
+    said, faults = run.communicate(timeout=120)
+    assert run.returncode == 0, faults
+    assert "3 of 3" in faults and "realisation 2 " not in faults and (folder / "runs/r0002/f00800/verdict.json").stat().st_mtime_ns == stamp
+    found = risk.Risk(pp.Study(folder))
+    for name, frame in (("risk", found.table()), ("risk_runs", found.runs), ("likelihood_pits", found.pits(1000)), ("likelihood", found.of_blocks())):
+        pd.testing.assert_frame_equal(pd.read_csv(folder / f"out/{name}.csv"), frame, check_dtype=False)
+    assert f"{found.table().worth_p50.iloc[1] / 1e6:,.2f}" in said
+    assert (folder / "out/likelihood.png").read_bytes().startswith(b"\x89PNG")
+
+
+def test_a_section_has_the_likelihood_of_its_blocks(tmp_path):
+    from pitplan.risk_pictures import section
+    found = done(prepared(tmp_path, 5))
+    row = 3
+    figure = section(found, 1000, row)
+    shown = figure.axes[0].collections[0].get_array()
+    shown = np.ma.filled(shown, np.nan).ravel()
+    here = found.likelihood(1000)[found.study.model.blocks.iy.to_numpy() == row]
+    assert sorted(shown[~np.isnan(shown)]) == pytest.approx(sorted(here[here > 0]))
