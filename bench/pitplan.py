@@ -18,14 +18,19 @@ import time
 from concurrent.futures import ThreadPoolExecutor
 from pathlib import Path
 
-import numpy as np
-import pandas as pd
+PYTHON = "/usr/bin/python3"
+try:
+    import numpy as np
+    import pandas as pd
+except ModuleNotFoundError:
+    if sys.executable == PYTHON:
+        raise
+    os.execv(PYTHON, [PYTHON, *sys.argv])    # another Python on the path, without Debian's packages
 
 HERE = Path(__file__).resolve().parent
 TOP = HERE.parent
 sys.path.insert(0, str(TOP / "python"))
 OUT = HERE / "out"
-PYTHON = "/usr/bin/python3"
 FACTORS = [300 + 50 * i for i in range(19)]
 
 # In a process of its own: the processor seconds of the call alone, without the imports before it, and the whole process's peak.
@@ -79,7 +84,8 @@ def reading(rounds):
     path = mine("table1m", 128, 120, 74)
     rows = sum(1 for _ in open(path)) - 1
     print(f"## A table of {rows:,} rows and 8 columns, {path.stat().st_size / 1e6:.0f} MB\n\n| | CPU s | peak MB | times pandas |\n|---|---|---|---|")
-    best = [min((timed(before, call.format(str(path))) for _ in range(rounds)), key=lambda t: t[0]) for _, before, call in READ]
+    taken = [[timed(before, call.format(str(path))) for _, before, call in READ] for _ in range(rounds)]      # in turns
+    best = [min(column, key=lambda t: t[0]) for column in zip(*taken)]
     for (name, _, _), (seconds, peak) in zip(READ, best):
         print(f"| `{name}` | {seconds:.2f} | {peak:.0f} | {seconds / best[0][0]:.2f} |")
     print()

@@ -15,6 +15,8 @@ from .console import STUDY, app, described, err, opened, out, results
 from .errors import PlanError
 
 if TYPE_CHECKING:
+    import pandas as pd
+
     from .shells import Shells
     from .study import Told
 
@@ -29,8 +31,9 @@ def shells(folder: Path = STUDY, workers: Optional[int] = typer.Option(None, min
         err.print(f"[yellow]{count} of {workers} workers:[/yellow] free memory has no room for more")
     with shown(told.factors, count) as listener:
         found = study.shells(told.factors, count, listener)
-    write_tables(found, told.rates)
-    print_table(found, told.rates)
+    table = found.table(**told.rates)
+    write_tables(found, table)
+    print_table(found, table)
     warn_of_edges(found)
 
 
@@ -72,11 +75,11 @@ def lines(total: int) -> Told:
     return listener
 
 
-def write_tables(found: Shells, rates: dict[str, float]) -> None:
+def write_tables(found: Shells, table: pd.DataFrame) -> None:
     """Pit by pit, bench by bench, and the planner's own table with a column more."""
     from . import table_back
     folder = results(found.study)
-    found.table(**rates).to_csv(folder / "pit_by_pit.csv", index=False)
+    table.to_csv(folder / "pit_by_pit.csv", index=False)
     found.benches().to_csv(folder / "benches.csv", index=False)
     source = found.study.manifest["source"]
     name = Path(source["table"]).name if source else "blocks.csv"
@@ -88,13 +91,13 @@ def write_tables(found: Shells, rates: dict[str, float]) -> None:
         err.print(f"[yellow]{escape(str(error))}[/yellow]\n{folder / 'blocks.csv'} has the shell of each block by its id instead")
 
 
-def print_table(found: Shells, rates: dict[str, float]) -> None:
+def print_table(found: Shells, table: pd.DataFrame) -> None:
     """The pit-by-pit table on the screen; all of its columns are in the file."""
     from rich.box import SIMPLE_HEAD
-    from rich.table import Table
-    table, currency = found.table(**rates), found.study.manifest["currency"]
+    from rich.table import Table as Shown
+    currency = found.study.manifest["currency"]
     metals = found.study.manifest["metals"]
-    shown_table = Table(title=f"pit by pit, worths in million {escape(currency)} at the full price", title_justify="left", box=SIMPLE_HEAD)
+    shown_table = Shown(title=f"pit by pit, worths in million {escape(currency)} at the full price", title_justify="left", box=SIMPLE_HEAD)
     for name in ("factor", "blocks", "ore Mt", "waste Mt", "strip", *(f"{name} {unit['grade_unit']}" for name, unit in metals.items()), "worth", "best case", "worst case", "years"):
         shown_table.add_column(escape(name), justify="right")
     for row in table.to_dict("records"):

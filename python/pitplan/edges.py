@@ -37,8 +37,8 @@ def ground(model: Model) -> tuple[Ints, Ints]:
     return top, low
 
 
-def touching(shells: Shells, i: int) -> Bools:
-    """Which blocks of pit i have a slope that asks for a place that isn't in the model and isn't air: beyond its sides, where
+def touching(shells: Shells) -> Bools:
+    """Which blocks of the largest pit have a slope that asks for a place that isn't in the model and isn't air: beyond its sides, where
     the ground goes on as high as in the nearest column; in a column that has no row; or below the lowest row of a column.
 
     Returns
@@ -53,7 +53,7 @@ def touching(shells: Shells, i: int) -> Bools:
     shaft = enclosed(columns)                # a study with such columns was built only where the planner called them air
     empty = ~columns & ~shaft
     found = np.zeros(len(m), bool)
-    inside, size = shells.holds(i), np.array(m.grid.shape[:2])
+    inside, size = shells.shell < len(shells.factors), np.array(m.grid.shape[:2])
     for region, offsets in enumerate(study.manifest["offsets"].values()):
         for dx, dy, dz in offsets:
             at = np.flatnonzero(inside & ~found & (study.region == region))

@@ -2,6 +2,7 @@
 from __future__ import annotations
 
 from collections.abc import Iterable
+from functools import cached_property
 from typing import TYPE_CHECKING
 
 import numpy as np
@@ -133,4 +134,9 @@ class Shells:
 
     def touches_edge(self, i: int) -> int:
         """How many blocks of pit i have a slope that asks for a place outside the model. See `edges.touching`."""
-        return int(np.count_nonzero(edges.touching(self, i)))
+        return int(np.count_nonzero(self.touching & self.holds(i)))
+
+    @cached_property
+    def touching(self) -> Bools:
+        """Whether a block of the largest pit has such a slope, of shape (blocks,); those of a smaller pit are among them."""
+        return edges.touching(self)
