@@ -19,6 +19,7 @@ __version__ = "0.1"
 WHERE = {"Economics": "economics", "Metal": "economics", "PlanError": "errors", "NotAccepted": "errors", "Disagreement": "errors", "MachineError": "errors",
          "Grid": "grid", "Model": "model", "read_table": "model", "Accepted": "program", "Pit": "program", "Shells": "shells", "factors": "shells",
          "Slopes": "slopes", "Study": "study"}
+WHERE |= {"Risk": "risk", "Task": "task", "Tasks": "task", "run_dask": "engines", "run_local": "local"}
 MODULES = {"plot": "pictures"}
 __all__ = [*WHERE, *MODULES, "page"]
 

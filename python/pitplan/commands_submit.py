@@ -7,8 +7,8 @@ from typing import TYPE_CHECKING, Optional
 import typer
 from rich.markup import escape
 
-from .console import STUDY, app, described, opened, out
-from .errors import PlanError
+from .console import STUDY, app, described, err, opened, out
+from .errors import MachineError, PlanError
 
 if TYPE_CHECKING:
     from .study import Study
@@ -72,10 +72,16 @@ def show(study: Study, tasks: list[Task], engine: str, limits: object) -> None:
 def status(folder: Path = STUDY) -> None:
     """Show what is done, running, waiting and failed, and how long the rest will take."""
     from .commands_build import duration
+    from .engines import in_slurm
     from .status import FAILED, RUNNING, STATES, seconds_left, states
     from .task import wanted
     study = opened(folder)
-    found = states(study, wanted(study, described(folder).factors))
+    in_hand: dict[Task, str] = {}
+    try:
+        in_hand = in_slurm(study)
+    except MachineError as error:
+        err.print(f"[yellow]look:[/yellow] {escape(error.what)}: what waits or runs there isn't shown", soft_wrap=True)
+    found = states(study, wanted(study, described(folder).factors), in_hand)
     out.print(", ".join(f"{count} {name}" for name in STATES if (count := sum(state.state == name for state in found))) + f", of {len(found)} tasks")
     failed = [state for state in found if state.state == FAILED]
     for state in failed[:SHOWN]:

@@ -3,7 +3,7 @@ from __future__ import annotations
 
 import json
 import os
-from collections.abc import Sequence
+from collections.abc import Mapping, Sequence
 from dataclasses import dataclass
 from pathlib import Path
 
@@ -39,9 +39,20 @@ class State:
     missing: int = 0
 
 
-def states(study: Study, tasks: Sequence[Task]) -> list[State]:
-    """Where each task is."""
-    of, slurm = Tasks(study.folder, study.given), in_slurm(study)
+def states(study: Study, tasks: Sequence[Task], in_hand: Mapping[Task, str] | None = None) -> list[State]:
+    """Where each task is.
+
+    Parameters
+    ----------
+    in_hand : mapping, optional
+        What the scheduler has, as `engines.in_slurm` says, which is asked unless told.
+
+    Raises
+    ------
+    MachineError
+        Where tasks were handed in to Slurm, and Slurm can't be asked.
+    """
+    of, slurm = Tasks(study.folder, study.given), in_slurm(study) if in_hand is None else in_hand
     return [state_of(of, task, slurm.get(task)) for task in dict.fromkeys(tasks)]
 
 

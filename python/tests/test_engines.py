@@ -230,6 +230,19 @@ def test_a_pit_without_memory_is_told_in_its_own_words(tmp_path, program):
     assert {state.state for state in status.states(study, risk.tasks(study))} == {status.DONE} and not list((study.folder / "log").iterdir())
 
 
+def test_a_slurm_that_cant_be_asked(tmp_path, program):
+    folder = written_study(tmp_path / "s", table(6, 5, 4, 3))
+    assert command("build", folder).wait() == 0
+    (folder / "submit/1").mkdir(parents=True)
+    (folder / "submit/1/tasks.txt").write_text("run base 600\n")
+    (folder / "submit/1/submitted.json").write_text('{"engine": "slurm", "job": "7", "host": "head"}')
+    env = {**os.environ, "PIT": program, "PATH": "/nowhere"}
+    said = command("status", folder, env=env).communicate(timeout=120)
+    assert "squeue isn't there" in said[1] and "3 to do, of 3 tasks" in said[0]
+    run = command("submit", folder, env=env)
+    assert "squeue isn't there" in run.communicate(timeout=120)[1] and run.returncode == 4
+
+
 def test_memory_is_asked_by_the_size_of_the_model(tmp_path):
     study = prepared(tmp_path, 2, table(6, 5, 4, 3))
     small = engines.megabytes(study)
