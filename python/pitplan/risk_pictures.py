@@ -49,5 +49,5 @@ def section(found: Risk, factor: int = THOUSAND, row: int | None = None) -> Figu
     axes.set_title(f"{model.name}: {cut.title}, likelihood at factor {factor / THOUSAND:g}", fontsize=12)
     axes.set_xlabel(cut.labels[0])
     axes.set_ylabel(cut.labels[1])
-    axes.legend(handles=handles, loc="upper center", bbox_to_anchor=(0.5, -0.14), ncol=3, frameon=False)
+    figure.legend(handles=handles, loc="lower center", ncol=3, frameon=False)
     return figure

@@ -173,7 +173,8 @@ def test_ctrl_c_in_the_middle_leaves_nothing_and_goes_on(tmp_path, program, how)
     pit, marks, hold = held_pit(tmp_path, program)
     scratch = tmp_path / "scratch"
     scratch.mkdir()
-    run = command("submit", study.folder, "--workers", 2, env={**os.environ, "PIT": str(pit), "TMPDIR": str(scratch)})
+    heard = lambda: signal.signal(signal.SIGINT, signal.SIG_DFL)      # a shell lets what it starts behind its back ignore ctrl-C  # noqa: E731
+    run = command("submit", study.folder, "--workers", 2, env={**os.environ, "PIT": str(pit), "TMPDIR": str(scratch)}, preexec_fn=heard)
     solvers = waited_for(marks, 2, 120)
     helpers = [parent(int(pid)) for pid in solvers]
     run.send_signal(how)
