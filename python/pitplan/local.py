@@ -145,7 +145,10 @@ class Worker:
         with self.lock:
             if self.process and self.process.stdin:
                 self.process.stdin.close()
-                self.process.wait(PATIENCE)
+                try:
+                    self.process.wait(PATIENCE)
+                except subprocess.TimeoutExpired:
+                    pass                     # `end` sees to it
 
     def end(self) -> None:
         """Ends the process: it takes away what it has half done, and its `pit` ends with it."""

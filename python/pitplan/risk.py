@@ -213,6 +213,7 @@ class Realisation(Study):
 
     @cached_property
     def model(self) -> Model:
+        """The study's model, without the words that pricing doesn't ask for; read once for all realisations of a process."""
         if self.shared is None:
             shared = self.base.__dict__.setdefault("lean_models", {})
             key = json.dumps(self.setup.economics, sort_keys=True)
@@ -223,6 +224,7 @@ class Realisation(Study):
 
     @cached_property
     def priced(self) -> Priced:
+        """What the blocks bring and cost with the grades of this realisation."""
         rows = self.model.blocks["row"].to_numpy()
         grades = np.where(rows >= 0, self.grades()[np.maximum(rows, 0)], 0).astype(float)
         blocks = self.model.blocks.assign(**{self.setup.column: grades})
