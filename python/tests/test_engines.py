@@ -218,13 +218,13 @@ def test_a_full_disk_is_told_and_what_is_done_is_kept(tmp_path, program):
 
 
 def test_a_pit_without_memory_is_told_in_its_own_words(tmp_path, program):
-    study = prepared(tmp_path, 3, table(7, 6, 4, 3), factors=(1000,))
+    study = prepared(tmp_path, 3, table(24, 21, 12, 3), factors=(1000,))
     poor = tmp_path / "pit"
-    poor.write_text(f"#!/bin/sh\nulimit -v 3000\nexec {program} \"$@\"\n")
+    poor.write_text(f"#!/bin/sh\nulimit -v 5000\nexec {program} \"$@\"\n")      # enough for it to start
     poor.chmod(0o755)
     with pytest.raises(pp.MachineError) as error:
         local.run_local(pp.Study(study.folder, pp.Pit(poor)), risk.tasks(study), 2)
-    assert "realisation" in str(error.value) and "pit solve" in str(error.value)
+    assert "realisation" in str(error.value) and "pit solve ended with status 4: fault: memory" in str(error.value)
     assert len(Tasks(study.folder).left(risk.tasks(study))) == 3 and not list(study.folder.glob("runs/*/.*"))
     assert status.states(study, risk.tasks(study))[0].state == status.FAILED
     local.run_local(study, risk.tasks(study), 2)
