@@ -1,0 +1,100 @@
+"""`pitplan risk`: realisations of the grades."""
+from __future__ import annotations
+
+import sys
+import time
+from pathlib import Path
+from typing import TYPE_CHECKING, Optional
+
+import typer
+
+from .console import STUDY, app, described, err, opened, out, results
+from .errors import PlanError
+
+if TYPE_CHECKING:
+    from .local import Heard
+    from .risk import Risk
+    from .study import Study
+    from .task import Task
+
+
+@app.command()
+def risk(folder: Path = STUDY,
+         realisations: Optional[Path] = typer.Option(None, help="An .npy (realisations x rows of the table), or a CSV with a column for each. Not needed to go on."),
+         factors: str = typer.Option("1", help="Shares of the price, as 0.8,1,1.2."),
+         metal: Optional[str] = typer.Option(None, help="Whose grades these are; the first metal unless told."),
+         later: bool = typer.Option(False, "--later", help="Look through the realisations and find no pit yet: pitplan submit does."),
+         workers: Optional[int] = typer.Option(None, min=1, help="Realisations at a time; as many as processors and free memory allow unless told.")) -> None:
+    """Find the proved pit of each realisation of the grades, and how likely each block is. Goes on where it was stopped."""
+    from .risk import Risk, prepare, setup_of, tasks
+    from .shells import series_of
+    study = opened(folder)
+    if realisations is not None:
+        try:
+            series = series_of(float(part) for part in factors.split(","))
+        except ValueError:
+            raise PlanError(f"--factors {factors}: these are no numbers", try_this="--factors 0.8,1,1.2") from None
+        prepare(study, described(folder).economics, realisations, series, metal)
+    setup = setup_of(study)
+    if setup is None:
+        raise PlanError("no realisations were asked for over the model that stands there", try_this="pitplan risk --realisations FILE")
+    if later:
+        out.print(f"{len(setup.digests)} realisations at {len(setup.factors)} factors; then: pitplan submit, and pitplan risk again for the tables", soft_wrap=True)
+        return
+    do_all(study, tasks(study), workers)
+    write_risk(Risk(study))
+
+
+def do_all(study: Study, tasks: list[Task], workers: Optional[int]) -> None:
+    """Does what isn't done yet of some tasks, on this machine, and shows how far that is."""
+    from .local import run_local, workers_for
+    from .task import Tasks
+    left = Tasks(study.folder, study.program).left(tasks)
+    if not left:
+        return
+    count = workers_for(study, workers)
+    if workers and count < workers:
+        err.print(f"[yellow]{count} of {workers} workers:[/yellow] free memory has no room for more")
+    if not err.is_terminal:
+        deaths = run_local(study, left, count, lines())
+    else:
+        from rich.progress import BarColumn, MofNCompleteColumn, Progress, TextColumn, TimeRemainingColumn
+        with Progress(TextColumn("{task.description}"), BarColumn(), MofNCompleteColumn(), TimeRemainingColumn(), console=err, transient=True) as bars:
+            bar = bars.add_task(f"tasks, {count} at a time", total=len(left))
+            deaths = run_local(study, left, count, lambda task, done, of: bars.update(bar, completed=done))
+    if deaths:
+        err.print(f"[yellow]look:[/yellow] a process was ended {deaths} times, and started again: was memory short?")
+
+
+def lines() -> Heard:
+    """A line for each task that is done, for logs."""
+    began = time.time()
+    return lambda task, done, of: print(f"{task} done: {done} of {of} after {time.time() - began:.0f} s", file=sys.stderr, flush=True)
+
+
+def write_risk(found: Risk) -> None:
+    """The tables, a section by likelihood, and the table on the screen."""
+    from rich.box import SIMPLE_HEAD
+    from rich.table import Table
+    from .pictures import save
+    from .risk import spelled_factor
+    from .risk_pictures import section
+    folder = results(found.study)
+    factor = 1000 if 1000 in found.factors else found.factors[-1]
+    found.runs.to_csv(folder / "risk_runs.csv", index=False)
+    found.table().to_csv(folder / "risk.csv", index=False)
+    found.of_blocks().to_csv(folder / "likelihood.csv", index=False)
+    pits = found.pits(factor)
+    pits.to_csv(folder / "likelihood_pits.csv", index=False)
+    save(section(found, factor), folder / "likelihood.png")
+    currency = found.study.manifest["currency"]
+    shown = Table(title=f"{found.count} realisations, million {currency} and Mt; a tenth of them lies below p10", title_justify="left", box=SIMPLE_HEAD)
+    for name in ("factor", "worth p10", "p50", "p90", "mean", "rock p10", "p50", "p90"):
+        shown.add_column(name, justify="right")
+    for row in found.table().itertuples():
+        shown.add_row(f"{row.factor:.3f}", *(f"{v / 1e6:,.2f}" for v in (row.worth_p10, row.worth_p50, row.worth_p90, row.worth_mean, row.rock_t_p10, row.rock_t_p50, row.rock_t_p90)))
+    out.print(shown)
+    most = pits.worth_mean.idxmax()
+    out.print(f"at factor {spelled_factor(factor)}: the blocks of at least {pits.likelihood[most]:.0%} likelihood, {pits.blocks[most]:,}, are the fixed pit worth most on the mean, "
+              f"{pits.worth_mean[most] / 1e6:,.2f} million; each realisation's own best pit, {pits.best_mean[most] / 1e6:,.2f}", soft_wrap=True)
+    out.print(f"{folder}: risk.csv, risk_runs.csv, likelihood.csv, likelihood_pits.csv, likelihood.png", soft_wrap=True)

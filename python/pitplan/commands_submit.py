@@ -1,0 +1,95 @@
+"""`pitplan submit` and `pitplan status`."""
+from __future__ import annotations
+
+from pathlib import Path
+from typing import TYPE_CHECKING, Optional
+
+import typer
+from rich.markup import escape
+
+from .console import STUDY, app, described, err, opened, out
+from .errors import MachineError, PlanError
+
+if TYPE_CHECKING:
+    from .study import Study
+    from .task import Task
+
+ENGINES = ("local", "slurm", "snakemake")
+SHOWN = 5                                    # failures that are told
+
+
+@app.command()
+def submit(folder: Path = STUDY,
+           engine: str = typer.Option("local", help="local: processes of this machine; slurm: a job array; snakemake: a Snakefile for other schedulers."),
+           dry: bool = typer.Option(False, "--dry", help="Show what would be handed in, and hand in nothing."),
+           workers: Optional[int] = typer.Option(None, min=1, help="Of engine local: tasks at a time."),
+           minutes: int = typer.Option(240, min=1, help="That a task may take, for the scheduler."),
+           at_once: int = typer.Option(200, min=1, help="Tasks of an array that may run at a time.")) -> None:
+    """Hand in what isn't done yet of shells, realisations and what-ifs. What failed is handed in again, and nothing else."""
+    from .engines import Limits
+    if engine not in ENGINES:
+        raise PlanError(f"--engine {engine}: there is none of that name", try_this=", ".join(ENGINES))
+    study = opened(folder)
+    tasks = to_hand_in(study, described(folder).factors)
+    if not tasks:
+        out.print("nothing to hand in: every task is done or in hand")
+    elif dry:
+        show(study, tasks, engine, Limits(minutes, at_once))
+    elif engine == "local":
+        from .commands_risk import do_all
+        do_all(study, tasks, workers)
+        out.print(f"{len(tasks)} tasks done")
+    elif engine == "slurm":
+        from .engines import submit_slurm
+        out.print(f"{len(tasks)} tasks handed in as job {', '.join(submit_slurm(study, tasks, Limits(minutes, at_once)))}; then: pitplan status")
+    else:
+        from .engines import snakemake_lines, write_snakefile
+        written = write_snakefile(study, tasks)
+        out.print(escape(f"{len(tasks)} tasks in {written / 'Snakefile'}; in the folder {study.folder}, on"), soft_wrap=True)
+        for where, line in snakemake_lines(written).items():
+            out.print(escape(f"  {where}: {line}"), soft_wrap=True)
+
+
+def to_hand_in(study: Study, factors: list[int]) -> list[Task]:
+    """The tasks that are neither done nor running nor waiting."""
+    from .status import FAILED, TO_DO, states
+    from .task import wanted
+    return [state.task for state in states(study, wanted(study, factors)) if state.state in (FAILED, TO_DO)]
+
+
+def show(study: Study, tasks: list[Task], engine: str, limits: object) -> None:
+    """What would be handed in."""
+    from .engines import Limits, megabytes, slurm_script
+    out.print(f"{len(tasks)} tasks of {megabytes(study):,} MB each would be handed in:")
+    for task in tasks:
+        out.print(f"  pitplan task {escape(str(study.folder))} {task}", soft_wrap=True)
+    if engine == "slurm":
+        assert isinstance(limits, Limits)
+        out.print(escape(slurm_script(study, min(len(tasks), 1000), "submit/N", limits)), soft_wrap=True)
+
+
+@app.command()
+def status(folder: Path = STUDY) -> None:
+    """Show what is done, running, waiting and failed, and how long the rest will take."""
+    from .commands_build import duration
+    from .engines import in_slurm
+    from .status import FAILED, RUNNING, STATES, seconds_left, states
+    from .task import wanted
+    study = opened(folder)
+    in_hand: dict[Task, str] = {}
+    try:
+        in_hand = in_slurm(study)
+    except MachineError as error:
+        err.print(f"[yellow]look:[/yellow] {escape(error.what)}: what waits or runs there isn't shown", soft_wrap=True)
+    found = states(study, wanted(study, described(folder).factors), in_hand)
+    out.print(", ".join(f"{count} {name}" for name in STATES if (count := sum(state.state == name for state in found))) + f", of {len(found)} tasks")
+    failed = [state for state in found if state.state == FAILED]
+    for state in failed[:SHOWN]:
+        out.print(escape(f"  failed: {state.task}: {state.words}"), soft_wrap=True)
+    if len(failed) > SHOWN:
+        out.print(f"  and {len(failed) - SHOWN} more")
+    for state in [state for state in found if state.state == RUNNING][:SHOWN]:
+        out.print(escape(f"  running: {state.task}, {state.words}"), soft_wrap=True)
+    left = seconds_left(study, found)
+    if left:
+        out.print(f"the rest will take about {duration(left)}, by what is done")

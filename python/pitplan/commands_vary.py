@@ -1,0 +1,63 @@
+"""`pitplan vary`: what-ifs."""
+from __future__ import annotations
+
+from pathlib import Path
+from typing import Any, List, Optional, Tuple
+
+import typer
+
+from .console import app, described, opened, out, results
+from .errors import PlanError
+
+WORDS: Any = typer.Argument(None, metavar="[STUDY] [CHANGES]...", help="The folder of the study, this one unless told; and changes, as price=-20..20 recovery=-5..5 mining=-10..10 processing=-10..10 (percent of themselves) slope=-3..3 (degrees). Without changes those of before.")
+
+
+@app.command()
+def vary(words: List[str] = WORDS,
+         factor: float = typer.Option(1.0, help="Share of the price."),
+         later: bool = typer.Option(False, "--later", help="Build what is needed and find no pit yet: pitplan submit does."),
+         workers: Optional[int] = typer.Option(None, min=1, help="Pits at a time; as many as processors and free memory allow unless told.")) -> None:
+    """Find the proved pit with one thing changed at a time, and which of them moves the worth most."""
+    from .commands_risk import do_all
+    from .shells import thousandths
+    from .vary import asked_of, changes_of, prepare, tasks
+    folder, changes = folder_and_changes(words or [])
+    study = opened(folder)
+    if changes:
+        told = described(folder)
+        prepare(study, told.economics, told.slopes, changes_of(changes), thousandths(factor))
+    if asked_of(study) is None:
+        raise PlanError("no what-ifs were asked for over the model that stands there", try_this="pitplan vary price=-20..20 recovery=-5..5 slope=-3..3")
+    if later:
+        out.print(f"{len(tasks(study))} pits; then: pitplan submit, and pitplan vary again for the table", soft_wrap=True)
+        return
+    do_all(study, list(dict.fromkeys(tasks(study))), workers)
+    write_what_ifs(study)
+
+
+def folder_and_changes(words: List[str]) -> Tuple[Path, List[str]]:
+    """The folder of the study, which is the word without =, and the changes."""
+    folders = [word for word in words if "=" not in word]
+    if len(folders) > 1:
+        raise PlanError(f"{folders[1]!r} is no change", try_this="price=-20..20 recovery=-5..5 slope=-3..3")
+    return Path(folders[0] if folders else "."), [word for word in words if "=" in word]
+
+
+def write_what_ifs(study: Any) -> None:
+    """The table, the chart, and the table on the screen."""
+    from rich.box import SIMPLE_HEAD
+    from rich.table import Table
+    from .pictures import save
+    from .vary import UNITS, table, tornado
+    found, folder = table(study), results(study)
+    currency = study.manifest["currency"]
+    found.to_csv(folder / "vary.csv", index=False)
+    save(tornado(found, currency), folder / "tornado.png")
+    shown = Table(title=f"a proved pit for each, worths in million {currency}", title_justify="left", box=SIMPLE_HEAD)
+    for name in ("what", "by", "blocks", "rock Mt", "worth", "difference"):
+        shown.add_column(name, justify="left" if name == "what" else "right")
+    for row in found.itertuples():
+        by = f"{row.by:+g}{UNITS[row.what]}" if row.what in UNITS else ""
+        shown.add_row(row.what if by else "as planned", by, f"{row.blocks:,}", f"{row.rock_t / 1e6:,.2f}", f"{row.worth / 1e6:,.2f}", f"{row.difference / 1e6:+,.2f}" if by else "")
+    out.print(shown)
+    out.print(f"{folder}: vary.csv, tornado.png", soft_wrap=True)

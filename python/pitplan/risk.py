@@ -1,0 +1,402 @@
+"""Many realisations of the grades, at each of some factors: how likely is a block to be dug, and what may the mine be worth?
+
+With a block each realisation's pit has its predecessors, so a predecessor is at least as likely as the block. So for every
+likelihood the blocks of at least that are a closed pit, and of two likelihoods the higher one's pit lies within the other's.
+
+The grades stand in ``risk/``: ``realisations.npy`` or the planner's own file, and ``risk.json``, which names the digest of each
+realisation. The pits stand in ``runs/r0017/f00800/``, as those of the study itself, but without their certificates.
+"""
+from __future__ import annotations
+
+import hashlib
+import json
+import tempfile
+from collections.abc import Iterator, Sequence
+from contextlib import contextmanager
+from dataclasses import asdict, dataclass
+from functools import cached_property
+from pathlib import Path
+from typing import TYPE_CHECKING, Any
+
+import numpy as np
+import numpy.typing as npt
+import pandas as pd
+
+from . import store
+from .amounts import THOUSAND, Priced, spelled
+from .economics import Economics
+from .errors import PlanError
+from .grid import Grid
+from .model import Model
+from .study import Study, Told, Verdict, made_whole, write_blocks
+from .study_file import economics_of
+from .task import Task
+
+if TYPE_CHECKING:
+    from .program import Files
+
+Bools = npt.NDArray[np.bool_]
+Floats = npt.NDArray[np.float32]
+TENTHS = tuple(tenth / 10 for tenth in range(1, 10))
+SPREAD = (0.1, 0.5, 0.9)
+
+
+@dataclass(frozen=True)
+class Setup:
+    """What ``risk.json`` says.
+
+    Attributes
+    ----------
+    study : str
+        The key of the model that it was made for.
+    file : str
+        The realisations, of shape (realisations, rows of the table); a relative path counts from ``risk/``.
+    column : str
+        The column of grades that a realisation takes the place of.
+    digests : list of str
+        The sha256 of each realisation.
+    factors : list of int
+        In thousandths, ascending.
+    economics : dict
+        As [economics] of study.toml.
+    """
+
+    study: str
+    file: str
+    column: str
+    digests: list[str]
+    factors: list[int]
+    economics: dict[str, Any]
+
+
+def folder_of(study: Study) -> Path:
+    return study.folder / "risk"
+
+
+def setup_of(study: Study) -> Setup | None:
+    """What was asked for by `prepare` over this very model, None where nothing was."""
+    try:
+        found = Setup(**json.loads((folder_of(study) / "risk.json").read_text()))
+    except FileNotFoundError:
+        return None
+    except (TypeError, json.JSONDecodeError):
+        raise PlanError(f"{folder_of(study) / 'risk.json'} is damaged", try_this="pitplan risk --realisations FILE") from None
+    return found if found.study == study.key else None
+
+
+def prepare(study: Study, economics: Economics, realisations: Path, factors: Sequence[int], metal: str | None = None) -> Setup:
+    """Looks through the realisations, and writes down what is to be run. No pit is found yet.
+
+    Parameters
+    ----------
+    economics : Economics
+        What the study was built with.
+    realisations : Path
+        ``.npy`` of shape (realisations, rows of the table), which stays where it is; or CSV with a column for each
+        realisation and a row for each row of the table.
+    factors : sequence of int
+        In thousandths.
+    metal : str, optional
+        Whose grades these are; the first metal unless told.
+
+    Raises
+    ------
+    PlanError
+        Where a cell is no grade, the rows aren't those of the table, or there is no such metal.
+    """
+    column = column_of(economics, metal)
+    rows = rows_of(study)
+    with made_whole(folder_of(study)) as work:
+        grades, file = opened(realisations, work)
+        if grades.ndim != 2 or grades.shape[1] != rows:
+            shape = " x ".join(map(str, grades.shape))
+            raise PlanError(f"the realisations are {shape}, and the table has {rows:,} rows", table=realisations, try_this="a realisation for each row of the .npy, or a column for each of a CSV")
+        if len(grades) >= 1 << 16 or not len(grades):
+            raise PlanError(f"{len(grades):,} realisations: from 1 to {(1 << 16) - 1:,} can be counted", table=realisations)
+        digests = [digest_of(checked(grades[r], r, realisations)) for r in range(len(grades))]
+        found = Setup(study.key, file, column, digests, sorted(set(factors)), asdict(economics))
+        (work / "risk.json").write_text(json.dumps(asdict(found), indent=1))
+    return found
+
+
+def column_of(economics: Economics, metal: str | None) -> str:
+    """The column of a metal's grades."""
+    names = {m.name: m.grade for m in economics.metals}
+    if metal is not None and metal not in names:
+        raise PlanError(f"[economics] has no metal {metal!r}", try_this=", ".join(names))
+    return names[metal or economics.metals[0].name]
+
+
+def rows_of(study: Study) -> int:
+    """How many rows the table has. Raises PlanError where several of them are one block."""
+    row_block = study.model.row_block
+    held = row_block[row_block >= 0]
+    if len(np.unique(held)) < len(held):
+        raise PlanError("realisations over a table with sub-blocks: whose grade would count?", try_this="a table of whole blocks, and realisations over it")
+    return len(row_block)
+
+
+def opened(path: Path, work: Path) -> tuple[Any, str]:
+    """The realisations as an array that is read where it is asked, and the file that has them."""
+    try:
+        if path.suffix == ".npy":
+            return np.load(path, mmap_mode="r", allow_pickle=False), str(path.resolve())
+        frame = pd.read_csv(path, sep=None, engine="python") if path.stat().st_size < 1 << 20 else pd.read_csv(path)
+        wrong = next((name for name in frame.columns if frame[name].dtype.kind not in "iuf"), None)
+        if wrong is not None:
+            bad = int(np.argmax(pd.to_numeric(frame[wrong], errors="coerce").isna().to_numpy()))
+            raise PlanError(f"is no number: {frame[wrong].iloc[bad]!r}", table=path, row=bad, column=wrong)
+        grades = np.ascontiguousarray(frame.to_numpy(np.float32).T)
+        np.save(work / "realisations.npy", grades)
+        return grades, "realisations.npy"
+    except FileNotFoundError:
+        raise PlanError(f"{path} isn't there") from None
+    except (ValueError, UnicodeDecodeError) as error:
+        raise PlanError(f"can't be read as realisations: {error}", table=path) from None
+
+
+def checked(grades: npt.NDArray[Any], number: int, path: Path) -> npt.NDArray[Any]:
+    """A realisation, refused where a cell is no grade."""
+    if grades.dtype.kind not in "iuf":
+        raise PlanError(f"the realisations are of type {grades.dtype}, and have to be numbers", table=path)
+    wrong = ~(np.isfinite(grades) & (grades >= 0))
+    if wrong.any():
+        at = int(np.argmax(wrong))
+        raise PlanError(f"{grades[at]} is no grade; {int(wrong.sum()):,} cells are so", table=path, row=at, column=f"of realisation {number}",
+                        try_this="0 where a block isn't estimated")
+    return grades
+
+
+def digest_of(grades: npt.NDArray[Any]) -> str:
+    """The sha256 of a realisation as 32-bit numbers, which is how it is used."""
+    return hashlib.sha256(np.ascontiguousarray(grades, np.float32).tobytes()).hexdigest()
+
+
+def lean_model(study: Study, economics: dict[str, Any]) -> Model:
+    """The study's model without the words that pricing doesn't ask for: the planner's names of 10,000,000 blocks take a gigabyte."""
+    said = json.dumps(economics)
+    with np.load(study.where / "blocks.npz", allow_pickle=False) as file:
+        told = store.told_of(file)
+        columns: dict[str, Any] = {}
+        for name in told["order"]:
+            if store.COLUMN + name in file.files:
+                columns[name] = file[store.COLUMN + name]
+            elif name == "rock" or name in said:
+                columns[name] = store.bytes_as_words(file[store.WORDS + name], told["blocks"])
+        grid = Grid(store.three(told["origin"]), store.three(told["size"]), store.three(told["shape"]), told["rotation"])
+        return Model(pd.DataFrame(columns), grid, told["name"], told["notes"], told["columns"], file["row_block"], told["depth"])
+
+
+class Realisation(Study):
+    """A study with the grades of one realisation. Its `.blocks` is made in a folder for the time of a run; `.prec` is the study's.
+
+    Parameters
+    ----------
+    base : Study
+    setup : Setup
+    number : int
+        From 0.
+    model : Model
+        That all realisations of a process share.
+    """
+
+    def __init__(self, base: Study, setup: Setup, number: int, model: Model | None = None) -> None:
+        super().__init__(base.folder, base.given)
+        self.base, self.setup, self.number, self.shared = base, setup, number, model
+        named = [base.key, base.manifest["files"]["blocks.npz"], json.dumps(setup.economics, sort_keys=True), setup.column, setup.digests[number]]
+        self.key = hashlib.sha256("\n".join(named).encode()).hexdigest()
+        self.made: Path | None = None
+
+    @property
+    def blocks_file(self) -> Path:
+        return self.made or super().blocks_file
+
+    @cached_property
+    def model(self) -> Model:
+        """The study's model, without the words that pricing doesn't ask for; read once for all realisations of a process."""
+        if self.shared is None:
+            shared = self.base.__dict__.setdefault("lean_models", {})
+            key = json.dumps(self.setup.economics, sort_keys=True)
+            if key not in shared:
+                shared[key] = lean_model(self.base, self.setup.economics)
+            self.shared = shared[key]
+        return self.shared
+
+    @cached_property
+    def priced(self) -> Priced:
+        """What the blocks bring and cost with the grades of this realisation."""
+        rows = self.model.blocks["row"].to_numpy()
+        grades = np.where(rows >= 0, self.grades()[np.maximum(rows, 0)], 0).astype(float)
+        blocks = self.model.blocks.assign(**{self.setup.column: grades})
+        model = Model(blocks, self.model.grid, self.model.name, columns=self.model.columns, row_block=self.model.row_block, depth=self.model.depth)
+        return economics_of(self.setup.economics).priced(model)
+
+    def grades(self) -> Floats:
+        """The grades of this realisation, of shape (rows of the table,).
+
+        Raises
+        ------
+        PlanError
+            Where they aren't those that `prepare` looked through.
+        """
+        path = folder_of(self.base) / self.setup.file
+        try:
+            found: Floats = np.ascontiguousarray(np.load(path, mmap_mode="r", allow_pickle=False)[self.number], np.float32)
+        except (FileNotFoundError, IndexError, ValueError) as error:
+            raise PlanError(f"realisation {self.number} can't be read: {error}", table=path, try_this="pitplan risk --realisations FILE") from None
+        if digest_of(found) != self.setup.digests[self.number]:
+            raise PlanError(f"realisation {self.number} has changed since pitplan risk looked through it", table=path, try_this="pitplan risk --realisations FILE")
+        return found
+
+    def place(self, factor: int) -> Path:
+        """The folder of a factor's result (in thousandths)."""
+        return self.folder / "runs" / f"r{self.number:04d}" / f"f{factor:05d}"
+
+    def run(self, factor: int, told: Told | None = None) -> Verdict:
+        """One pit of this realisation, as `Study.run`; the certificate isn't kept, its digest is."""
+        done = self.verdict(factor)
+        if done:
+            return done
+        with self.written():
+            done = super().run(factor, told)
+        (self.place(factor) / "best.cert.gz").unlink(missing_ok=True)
+        return done
+
+    @contextmanager
+    def written(self) -> Iterator[Files]:
+        """The files of this realisation, for the time of a run or a series of runs."""
+        if self.made:
+            yield self.files
+            return
+        with tempfile.TemporaryDirectory(prefix="pitplan.", ignore_cleanup_errors=True) as scratch:
+            self.made = Path(scratch) / "mine.blocks"
+            try:
+                write_blocks(self.made, self.model, self.priced)
+                yield self.files
+            finally:
+                self.made = None
+
+
+def realisation(base: Study, number: int) -> Realisation:
+    """A realisation of a study, as `prepare` wrote it down.
+
+    Raises
+    ------
+    PlanError
+        Where nothing was asked for over this model, or there is no such number.
+    """
+    setup = setup_of(base)
+    if setup is None:
+        raise PlanError("no realisations were asked for over the model that stands there", try_this="pitplan risk --realisations FILE")
+    if not 0 <= number < len(setup.digests):
+        raise PlanError(f"there is no realisation {number}: they are 0 to {len(setup.digests) - 1}")
+    return Realisation(base, setup, number)
+
+
+def tasks(study: Study) -> list[Task]:
+    """The tasks of the realisations that were asked for: one for each, with all of its factors."""
+    setup = setup_of(study)
+    return [Task("realisation", str(r), tuple(setup.factors)) for r in range(len(setup.digests))] if setup else []
+
+
+class Risk:
+    """The pits of all realisations of a study. Each is checked again as it is read, as those of `Shells` are.
+
+    Parameters
+    ----------
+    study : Study
+
+    Attributes
+    ----------
+    factors : list of int
+        In thousandths, ascending.
+    runs : DataFrame
+        A row for each realisation and factor: realisation, factor (a share of the price), blocks, rock_t, worth.
+    hits : uint16 array of shape (factors, blocks)
+        In how many realisations' pits a block is.
+
+    Raises
+    ------
+    PlanError
+        Where a pit hasn't been run, or something has changed since.
+    Disagreement
+        Where a check contradicts what was accepted.
+    """
+
+    def __init__(self, study: Study) -> None:
+        setup = setup_of(study)
+        if setup is None:
+            raise PlanError("no realisations were asked for over the model that stands there", try_this="pitplan risk --realisations FILE")
+        study.verify()
+        self.study, self.setup, self.factors, self.count = study, setup, setup.factors, len(setup.digests)
+        self.hits: npt.NDArray[np.uint16] = np.zeros((len(self.factors), study.manifest["blocks"]), np.uint16)
+        tonnes = lean_model(study, setup.economics).blocks.tonnes.to_numpy(float)
+        rows = []
+        for r in range(self.count):
+            one = Realisation(study, setup, r)
+            for i, factor in enumerate(self.factors):
+                mask, verdict = one.mask(factor), one.verdict(factor)
+                assert verdict is not None       # its mask has just been read
+                self.hits[i] += mask
+                rows.append({"realisation": r, "factor": factor / THOUSAND, "blocks": verdict["count"], "rock_t": float(tonnes[mask].sum()), "worth": float(verdict["worth"])})
+        self.runs = pd.DataFrame(rows)
+
+    def likelihood(self, factor: int = THOUSAND) -> npt.NDArray[np.float64]:
+        """The share of the realisations whose pit has a block, of shape (blocks,)."""
+        found: npt.NDArray[np.float64] = self.hits[self.at(factor)] / self.count
+        return found
+
+    def pit(self, likelihood: float, factor: int = THOUSAND) -> Bools:
+        """The blocks of at least a likelihood above 0: a closed pit, within that of every lower likelihood."""
+        if not 0 < likelihood <= 1:
+            raise PlanError(f"a likelihood of {likelihood:g}: it has to be above 0 and at most 1")
+        least = int(np.ceil(likelihood * self.count - 1e-9))
+        found: Bools = self.hits[self.at(factor)] >= max(least, 1)
+        return found
+
+    def at(self, factor: int) -> int:
+        """Where a factor stands in the series."""
+        if factor not in self.factors:
+            raise PlanError(f"no realisation was run at factor {factor / THOUSAND:g}", try_this=", ".join(f"{f / THOUSAND:g}" for f in self.factors))
+        return self.factors.index(factor)
+
+    def table(self) -> pd.DataFrame:
+        """The spread of blocks, tonnes and worth over the realisations: a row for each factor; worth_p10 is what a tenth of the
+        realisations doesn't reach."""
+        rows = []
+        for factor, of in self.runs.groupby("factor"):
+            row: dict[str, Any] = {"factor": factor, "realisations": len(of)}
+            for name in ("blocks", "rock_t", "worth"):
+                row |= {f"{name}_least": of[name].min(), f"{name}_mean": of[name].mean(), f"{name}_most": of[name].max()}
+                row |= {f"{name}_p{int(100 * share)}": of[name].quantile(share) for share in SPREAD}
+            rows.append(row)
+        return pd.DataFrame(rows)
+
+    def pits(self, factor: int = THOUSAND) -> pd.DataFrame:
+        """The pits of likelihood 0.1 to 0.9: blocks, tonnes, and what each is worth on the mean and at least over all realisations,
+        beside what the realisations' own best pits are worth on the mean."""
+        masks = [self.pit(share, factor) for share in TENTHS]
+        worths = np.zeros((len(TENTHS), self.count))
+        best = np.zeros(self.count)
+        for r in range(self.count):
+            one = Realisation(self.study, self.setup, r)
+            worths[:, r] = [float(one.priced.worth_of(mask, factor)) for mask in masks]
+            verdict = one.verdict(factor)
+            assert verdict is not None
+            best[r] = float(verdict["worth"])
+        tonnes = lean_model(self.study, self.setup.economics).blocks.tonnes.to_numpy(float)
+        return pd.DataFrame({"likelihood": TENTHS, "blocks": [int(m.sum()) for m in masks], "rock_t": [float(tonnes[m].sum()) for m in masks],
+                             "worth_least": worths.min(axis=1), "worth_mean": worths.mean(axis=1), "worth_most": worths.max(axis=1), "best_mean": best.mean()})
+
+    def of_blocks(self) -> pd.DataFrame:
+        """The likelihood of each block at each factor, beside its id and row as a spreadsheet counts it (0: a block that was added)."""
+        b = self.study.model.blocks
+        rows = b["row"].to_numpy()
+        found = {f"likelihood_{spelled_factor(f)}": self.likelihood(f) for f in self.factors}
+        return pd.DataFrame({"id": b["id"].to_numpy(), "row": np.where(rows >= 0, rows + 2, 0), **found})
+
+
+def spelled_factor(factor: int) -> str:
+    """A factor as a share of the price, for names of columns."""
+    from decimal import Decimal
+    return spelled(Decimal(factor) / THOUSAND)

@@ -1,0 +1,53 @@
+"""A section by likelihood: how many of the realisations dig a block."""
+from __future__ import annotations
+
+from typing import TYPE_CHECKING
+
+import numpy as np
+
+from .amounts import THOUSAND
+from .plane import borders
+from .plane import section as cut_of
+
+if TYPE_CHECKING:
+    from matplotlib.figure import Figure
+
+    from .risk import Risk
+
+LINES = ((0.1, ":"), (0.5, "-"), (0.9, "--"))
+
+
+def section(found: Risk, factor: int = THOUSAND, row: int | None = None) -> Figure:
+    """A section across the model's y axis, each block coloured by its likelihood, with the outlines of the pits of at least 10,
+    50 and 90 %.
+
+    Parameters
+    ----------
+    factor : int
+        In thousandths.
+    row : int, optional
+        Of the grid along its y axis; the one with the most likely rock unless told.
+    """
+    from matplotlib import colormaps
+    from matplotlib.lines import Line2D
+    from .pictures import sheet
+    likelihood, model = found.likelihood(factor), found.study.model
+    if row is None:
+        row = int(np.argmax(np.bincount(model.blocks.iy.to_numpy(), weights=likelihood, minlength=model.grid.shape[1])))
+    cut = cut_of(model, "y", row)
+    there = cut.number >= 0
+    values = np.where(there, likelihood[cut.number], np.nan)
+    figure, axes, beside = sheet(float(np.ptp(cut.across)), float(np.ptp(cut.up)))
+    image = axes.pcolormesh(cut.across, cut.up, np.where(values > 0, values, np.nan), cmap=colormaps["cividis_r"], vmin=0, vmax=1)
+    axes.plot(*borders(there, cut), color="#555555", linewidth=0.6)
+    handles = []
+    for share, stroke in LINES:
+        axes.plot(*borders(there & found.pit(share, factor)[cut.number], cut), color="black", linewidth=1.4, linestyle=stroke)
+        handles.append(Line2D([], [], color="black", linestyle=stroke, label=f"Blocks of at least {share:.0%}"))
+    figure.colorbar(image, cax=beside, label=f"Likelihood over {found.count} realisations")
+    axes.set_aspect("equal")
+    axes.set_title(f"{model.name}: {cut.title}, likelihood at factor {factor / THOUSAND:g}", fontsize=12)
+    axes.set_xlabel(cut.labels[0])
+    axes.set_ylabel(cut.labels[1])
+    figure.legend(handles=handles, loc="lower center", ncol=3, frameon=False)
+    return figure

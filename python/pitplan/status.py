@@ -1,0 +1,98 @@
+"""How far a study's tasks are: done, running, waiting, failed with what they said, and how long the rest will take."""
+from __future__ import annotations
+
+import json
+import os
+from collections.abc import Mapping, Sequence
+from dataclasses import dataclass
+from pathlib import Path
+
+import numpy as np
+
+from .engines import in_slurm
+from .study import Study, host
+from .task import Task, Tasks
+
+DONE, RUNNING, WAITING, FAILED, TO_DO = "done", "running", "waiting", "failed", "to do"
+STATES = (DONE, RUNNING, WAITING, FAILED, TO_DO)
+ENDED = "was ended from outside: killed, out of memory, or out of time"
+
+
+@dataclass(frozen=True)
+class State:
+    """Where a task is.
+
+    Attributes
+    ----------
+    task : Task
+    state : str
+        One of `STATES`.
+    words : str
+        Where it runs, or what it failed with.
+    missing : int
+        How many of its pits aren't found yet.
+    """
+
+    task: Task
+    state: str
+    words: str = ""
+    missing: int = 0
+
+
+def states(study: Study, tasks: Sequence[Task], in_hand: Mapping[Task, str] | None = None) -> list[State]:
+    """Where each task is.
+
+    Parameters
+    ----------
+    in_hand : mapping, optional
+        What the scheduler has, as `engines.in_slurm` says, which is asked unless told.
+
+    Raises
+    ------
+    MachineError
+        Where tasks were handed in to Slurm, and Slurm can't be asked.
+    """
+    of, slurm = Tasks(study.folder, study.given), in_slurm(study) if in_hand is None else in_hand
+    return [state_of(of, task, slurm.get(task)) for task in dict.fromkeys(tasks)]
+
+
+def state_of(of: Tasks, task: Task, in_hand: str | None) -> State:
+    """Where a task is: by its verdicts, by the scheduler, by what is half done, and by the words that it left."""
+    missing = of.missing(task)
+    if not missing:
+        return State(task, DONE)
+    if in_hand == "PENDING":
+        return State(task, WAITING, "in Slurm's queue", len(missing))
+    where, dead = half_done(of.study(task).place(missing[0]).parent, missing)
+    if in_hand or where:
+        return State(task, RUNNING, where or f"Slurm says {in_hand}", len(missing))
+    try:
+        return State(task, FAILED, str(json.loads(of.note(task).read_text())["words"]), len(missing))
+    except (FileNotFoundError, json.JSONDecodeError, KeyError):
+        return State(task, FAILED, ENDED, len(missing)) if dead else State(task, TO_DO, "", len(missing))
+
+
+def half_done(folder: Path, missing: Sequence[int]) -> tuple[str, bool]:
+    """On which machines somebody works at one of these factors, "" where nobody; and whether a process of this machine that is no
+    more has left something half done. What a process of another machine has left can't be told from what it is at."""
+    at, dead = set(), False
+    names = {f".f{factor:05d}" for factor in missing}
+    for path in folder.glob(".f*"):
+        parts = path.name.removesuffix(".old").rsplit(".", 3)
+        if len(parts) != 4 or parts[0] not in names:
+            continue
+        if parts[1] != host() or os.path.exists(f"/proc/{parts[2]}"):
+            at.add(parts[1])
+        else:
+            dead = True
+    return ", ".join(sorted(at)), dead
+
+
+def seconds_left(study: Study, found: Sequence[State]) -> float | None:
+    """How long the rest will take, from the pits that are found and as many at a time as run now; None where none is found yet."""
+    of = Tasks(study.folder, study.given)
+    took = [verdict["seconds"] for state in found for factor in state.task.factors if (verdict := of.study(state.task).verdict(factor))]
+    left = sum(state.missing for state in found)
+    if not took:
+        return None if left else 0.0
+    return float(np.mean(took)) * left / max(1, sum(state.state == RUNNING for state in found))

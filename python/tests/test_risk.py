@@ -1,0 +1,255 @@
+"""The unit of work, and risk over realisations: pits of a likelihood are closed by pit's own word, and nested."""
+import gzip
+import json
+import os
+import re
+import signal
+import subprocess
+import time
+from pathlib import Path
+
+import numpy as np
+import pandas as pd
+import pytest
+
+import pitplan as pp
+from mines import SIZE, costs, study_of, table, written_study
+from pitplan import local, risk
+from pitplan.task import Task, Tasks, task_of, wanted
+from test_runs import command, runs, slow_pit, waited_for
+
+FACTORS = (800, 1000)
+
+
+def grades_of(frame, count, seed=1):
+    r = np.random.default_rng(seed)
+    return np.maximum(0, frame.CU.to_numpy() * r.lognormal(0, 0.6, (count, len(frame))) + r.normal(0, 0.05, (count, len(frame)))).astype(np.float32)
+
+
+def prepared(folder, count=6, frame=None, economics=None, factors=FACTORS, **keys):
+    frame = table(8, 7, 5, 5) if frame is None else frame
+    study = study_of(folder, frame, economics=economics, **keys)
+    np.save(Path(folder) / "sims.npy", grades_of(frame, count))
+    risk.prepare(study, economics or costs(), Path(folder) / "sims.npy", factors)
+    return study
+
+
+def done(study):
+    tasks = Tasks(study.folder, study.program)
+    for task in risk.tasks(study):
+        tasks.do(task)
+    return risk.Risk(study)
+
+
+def judged(study, mask, folder):
+    """pit's own word on a set of blocks: the set in place of the PIT lines of the best certificate."""
+    study.run(1000)
+    lines = gzip.decompress((study.place(1000) / "best.cert.gz").read_bytes()).decode().splitlines()
+    first = next(i for i, line in enumerate(lines) if line.startswith("GROUP")) + 1
+    kept = [line for line in lines[first:] if not line.startswith("PIT ")]
+    path = Path(folder) / "judged.cert"
+    path.write_text("\n".join([*lines[:first], *(f"PIT {b}" for b in np.flatnonzero(mask)), *kept]) + "\n")
+    ran = subprocess.run([study.program.program, "check", *map(str, study.files.words()), "--verbose", path], capture_output=True, text=True)
+    return ran.stdout.strip()
+
+
+def test_blocks_of_a_likelihood_are_a_closed_pit_and_nested(tmp_path):
+    study = prepared(tmp_path, 8)
+    found = done(study)
+    for factor in FACTORS:
+        below = None
+        for share in (1.0, *reversed(risk.TENTHS)):
+            mask = found.pit(share, factor)
+            said = judged(study, mask, tmp_path)
+            assert said.startswith("ACCEPTED") or "NotTight" in said, said
+            assert below is None or not (below & ~mask).any()
+            below = mask
+        assert 0 < found.pit(0.9, factor).sum() < found.pit(0.1, factor).sum()
+    with pytest.raises(pp.PlanError, match="likelihood of 0"):
+        found.pit(0)
+
+
+def test_the_word_on_a_set_that_isnt_closed(tmp_path):
+    study = prepared(tmp_path, 4)
+    mask = done(study).pit(0.5).copy()
+    pairs = [list(map(int, line.split())) for line in study.prec_file.read_text().splitlines()]
+    block, before = next((p[0], p[2]) for p in pairs if p[1] and mask[p[0]] and mask[p[2]])
+    mask[before] = False
+    said = judged(study, mask, tmp_path)
+    assert "NotClosed" in said and str(before) in said, (said, block)
+
+
+def test_each_realisation_is_the_study_with_its_grades(tmp_path):
+    """A study over a table with a realisation's grades, built by itself, has that realisation's pits."""
+    frame = table(8, 7, 5, 5)
+    study = prepared(tmp_path, 3, frame)
+    found = done(study)
+    for r in range(3):
+        own = frame.assign(CU=np.load(tmp_path / "sims.npy")[r].astype(float))
+        (tmp_path / str(r)).mkdir()
+        alone = study_of(tmp_path / str(r), own)
+        for factor in FACTORS:
+            pit, verdict = alone.pit(factor / 1000), risk.realisation(study, r).verdict(factor)
+            assert (verdict["count"], verdict["worth"]) == (pit.count, pit.worth)
+            assert (risk.realisation(study, r).mask(factor) == pit.mask).all()
+    likely = sum(risk.realisation(study, r).mask(1000).astype(int) for r in range(3)) / 3
+    assert (found.likelihood(1000) == likely).all()
+
+
+def test_what_risk_says_is_added_up_by_pandas(tmp_path):
+    study = prepared(tmp_path, 5)
+    found = done(study)
+    for row in found.table().itertuples():
+        worths = found.runs[found.runs.factor == row.factor].worth
+        assert (row.worth_least, row.worth_most) == (worths.min(), worths.max()) and row.worth_p50 == worths.median()
+    pits = found.pits(1000)
+    assert (pits.worth_mean <= pits.best_mean).all() and pits.blocks.is_monotonic_decreasing
+    assert pits.rock_t.iloc[0] == pytest.approx(study.model.blocks.tonnes[found.pit(0.1)].sum())
+    best = found.runs[found.runs.factor == 1.0].worth
+    assert pits.best_mean.iloc[0] == pytest.approx(best.mean())
+    blocks = found.of_blocks()
+    assert (blocks.likelihood_1.to_numpy() == found.likelihood(1000)).all() and list(blocks.columns) == ["id", "row", "likelihood_0.8", "likelihood_1"]
+
+
+@pytest.mark.parametrize("keys", [{"widen": 1}, {"rotation": 30}])
+def test_realisations_go_by_row(tmp_path, keys):
+    frame = table(6, 5, 4, 3, rotation=keys.get("rotation", 0.0))
+    study = study_of(tmp_path, frame, **keys)
+    np.save(tmp_path / "sims.npy", frame.CU.to_numpy(np.float32)[None, :])
+    risk.prepare(study, costs(), tmp_path / "sims.npy", [1000])
+    one = risk.realisation(study, 0)
+    assert np.abs(one.priced.revenue - study.priced.revenue).max() <= 1        # 32-bit grades: a dollar for a block at most
+    assert (one.priced.mining == study.priced.mining).all()
+
+
+def test_a_csv_is_the_same_as_an_npy(tmp_path):
+    frame = table(6, 5, 4, 3)
+    study = prepared(tmp_path, 3, frame)
+    digests = risk.setup_of(study).digests
+    pd.DataFrame(np.load(tmp_path / "sims.npy").T, columns=["s1", "s2", "s3"]).to_csv(tmp_path / "sims.csv", index=False)
+    assert risk.prepare(study, costs(), tmp_path / "sims.csv", [1000]).digests == digests
+
+
+def test_cells_that_are_no_grades_are_told(tmp_path):
+    frame = table(6, 5, 4, 3)
+    study, good = prepared(tmp_path, 3, frame), grades_of(frame, 3)
+    kept = risk.setup_of(study)
+    for value, words in ((np.nan, "nan is no grade"), (-1, "-1.0 is no grade")):
+        bad = good.copy()
+        bad[1, 7] = value
+        np.save(tmp_path / "bad.npy", bad)
+        with pytest.raises(pp.PlanError, match=rf"row 9, column of realisation 1: {words}"):
+            risk.prepare(study, costs(), tmp_path / "bad.npy", [1000])
+    np.save(tmp_path / "bad.npy", good[:, 1:])
+    with pytest.raises(pp.PlanError, match=f"3 x {len(frame) - 1}, and the table has {len(frame)} rows"):
+        risk.prepare(study, costs(), tmp_path / "bad.npy", [1000])
+    (tmp_path / "bad.csv").write_text("a,b\n1,2\n1,x\n")
+    with pytest.raises(pp.PlanError, match="row 3, column b"):
+        risk.prepare(study, costs(), tmp_path / "bad.csv", [1000])
+    with pytest.raises(pp.PlanError, match="no metal 'gold'"):
+        risk.prepare(study, costs(), tmp_path / "sims.npy", [1000], "gold")
+    np.save(tmp_path / "bad.npy", np.array([[{}]], dtype=object), allow_pickle=True)
+    with pytest.raises(pp.PlanError, match="can't be read"):
+        risk.prepare(study, costs(), tmp_path / "bad.npy", [1000])
+    assert risk.setup_of(study) == kept          # what was asked for before stands
+
+
+def test_a_realisation_that_has_changed_is_never_shown(tmp_path):
+    study = prepared(tmp_path, 2)
+    done(study)
+    grades = np.load(tmp_path / "sims.npy")
+    grades[1, 3] += 1
+    np.save(tmp_path / "sims.npy", grades)
+    with pytest.raises(pp.PlanError, match="realisation 1 has changed"):
+        risk.Risk(study)
+    risk.prepare(study, costs(), tmp_path / "sims.npy", FACTORS)
+    left = Tasks(study.folder).left(risk.tasks(study))
+    assert [task.name for task in left] == ["1"]
+
+
+def test_a_study_built_anew_has_no_realisations(tmp_path):
+    frame = table(6, 5, 4, 3)
+    study = prepared(tmp_path, 2, frame)
+    other = study_of(tmp_path, frame, economics=costs(mining=2.5))
+    assert risk.tasks(other) == [] and len(risk.tasks(study)) == 2
+    with pytest.raises(pp.PlanError, match="no realisations were asked for"):
+        risk.realisation(other, 0)
+
+
+def test_words_of_a_task():
+    assert task_of(["run", "base", "1000,800"]) == Task("run", "base", (800, 1000))
+    assert str(task_of(["realisation", "017", "800"])) == "realisation 17 800"
+    for words in ("run base", "run base x", "walk base 800", "realisation x 800", "run base 20000", "run base 0.8"):
+        with pytest.raises(pp.PlanError):
+            task_of(words.split())
+
+
+def test_a_task_does_nothing_where_a_verdict_stands(tmp_path, program):
+    study = prepared(tmp_path, 2)
+    tasks = Tasks(study.folder)
+    words = ["run base 1000", "realisation 1 800,1000"]
+    assert [tasks.do(task_of(line.split())) for line in words] == [1, 2]
+    none = tmp_path / "no-pit"
+    none.write_text("#!/bin/sh\nexit 4\n")
+    none.chmod(0o755)
+    for line in words:
+        ran = command("task", study.folder, *line.split(), env={**os.environ, "PIT": str(none)})
+        said = ran.communicate(timeout=60)
+        assert ran.returncode == 0 and "done before" in said[0]
+    ran = command("task", study.folder, "realisation", 0, 800, env={**os.environ, "PIT": str(none)})
+    assert ran.communicate(timeout=60) and ran.returncode == 4
+    note = json.loads((study.folder / "log" / "realisation_0_800.failed.json").read_text())
+    assert note["task"] == "realisation 0 800" and "pit solve ended with status 4" in note["words"]
+    assert tasks.do(task_of(["realisation", "0", "800"])) == 1 and not list((study.folder / "log").iterdir())
+    assert not list((study.folder / "runs/r0000/f00800").glob("*.cert*"))
+
+
+@pytest.mark.parametrize("how", [signal.SIGTERM, signal.SIGKILL])
+def test_a_killed_task_leaves_no_pit_and_goes_on(tmp_path, program, how):
+    study = prepared(tmp_path, 2)
+    slow, marks = slow_pit(tmp_path, 60, program)
+    scratch = tmp_path / "scratch"
+    scratch.mkdir()
+    run = command("task", study.folder, "realisation", 1, 1000, env={**os.environ, "PIT": str(slow), "TMPDIR": str(scratch)})
+    solver = waited_for(marks, 1)[0]
+    run.send_signal(how)
+    run.communicate(timeout=60)
+    for _ in range(200):
+        if not runs(solver):
+            break
+        time.sleep(0.05)
+    assert not runs(solver)
+    if how == signal.SIGTERM:
+        assert run.returncode == 130 and not list((study.folder / "runs/r0001").iterdir()) and not list(scratch.iterdir())
+    assert Tasks(study.folder).do(task_of(["realisation", "1", "1000"])) == 1
+    assert [p.name for p in (study.folder / "runs/r0001").iterdir()] == ["f01000"]
+
+
+def test_the_command_goes_on_and_its_tables(tmp_path, program):
+    folder = written_study(tmp_path / "s", table(7, 6, 4, 3))
+    assert command("build", folder).wait() == 0
+    np.save(tmp_path / "sims.npy", grades_of(table(7, 6, 4, 3), 4))
+    run = command("risk", folder, "--realisations", tmp_path / "sims.npy", "--factors", "0.8,1", "--later")
+    assert "4 realisations at 2 factors" in run.communicate(timeout=60)[0]
+    assert command("task", folder, "realisation", 2, "800,1000").wait() == 0
+    stamp = (folder / "runs/r0002/f00800/verdict.json").stat().st_mtime_ns
+    run = command("risk", folder, "--workers", 2)
+    said, faults = run.communicate(timeout=120)
+    assert run.returncode == 0, faults
+    assert "3 of 3" in faults and "realisation 2 " not in faults and (folder / "runs/r0002/f00800/verdict.json").stat().st_mtime_ns == stamp
+    found = risk.Risk(pp.Study(folder))
+    for name, frame in (("risk", found.table()), ("risk_runs", found.runs), ("likelihood_pits", found.pits(1000)), ("likelihood", found.of_blocks())):
+        pd.testing.assert_frame_equal(pd.read_csv(folder / f"out/{name}.csv"), frame, check_dtype=False)
+    assert f"{found.table().worth_p50.iloc[1] / 1e6:,.2f}" in said
+    assert (folder / "out/likelihood.png").read_bytes().startswith(b"\x89PNG")
+
+
+def test_a_section_has_the_likelihood_of_its_blocks(tmp_path):
+    from pitplan.risk_pictures import section
+    found = done(prepared(tmp_path, 5))
+    row = 3
+    figure = section(found, 1000, row)
+    shown = figure.axes[0].collections[0].get_array()
+    shown = np.ma.filled(shown, np.nan).ravel()
+    here = found.likelihood(1000)[found.study.model.blocks.iy.to_numpy() == row]
+    assert sorted(shown[~np.isnan(shown)]) == pytest.approx(sorted(here[here > 0]))
