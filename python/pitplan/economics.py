@@ -180,7 +180,7 @@ def grades_of(metal: Metal, model: Model) -> Floats:
                                f"in {metal.grade_unit} is more than the whole rock", "another grade_unit")):
         if wrong.any():
             at = int(np.argmax(wrong))
-            raise PlanError(f"{found[at]:g} {what}" + (f"; {int(wrong.sum()):,} cells are so" if wrong.sum() > 1 else ""), table=model.name,
+            raise PlanError(f"{found[at]:g} {what}" + (f"; {int(wrong.sum()):,} cells are so" if wrong.sum() > 1 else ""), table=model.table,
                             row=int(model.blocks["row"].iloc[at]), column=metal.grade, try_this=hint.format(found[at]))
     return found
 
@@ -217,7 +217,7 @@ def share(what: str, values: Floats, model: Model) -> Floats:
     wrong = (values < 0) | (values > 1)
     if wrong.any():
         at = int(np.argmax(wrong))
-        raise PlanError(f"{what} is {values[at]:g}, and a share is from 0 to 1", table=model.name, row=row_at(model, at))
+        raise PlanError(f"{what} is {values[at]:g}, and a share is from 0 to 1", table=model.table, row=row_at(model, at))
     return values
 
 
@@ -227,7 +227,7 @@ def cost(what: str, given: Amount, model: Model) -> Floats:
     wrong = values < 0
     if wrong.any():
         at = int(np.argmax(wrong))
-        raise PlanError(f"{what} costs {values[at]:g} a tonne here, less than nothing, and so for {int(wrong.sum()):,} blocks", table=model.name,
+        raise PlanError(f"{what} costs {values[at]:g} a tonne here, less than nothing, and so for {int(wrong.sum()):,} blocks", table=model.table,
                         row=row_at(model, at), try_this=f"max(0, {given}), if the formula runs below 0" if isinstance(given, str) else None)
     return values
 
@@ -242,7 +242,7 @@ def in_whole(name: str, values: Floats, rounding: Decimal, model: Model) -> Whol
     most = float(MOST)
     if np.abs(values).max(initial=0.0) > most:
         at = int(np.argmax(np.abs(values)))
-        raise PlanError(f"a {name} of {values[at]:g} for one block: is a unit wrong?", table=model.name, row=row_at(model, at))
+        raise PlanError(f"a {name} of {values[at]:g} for one block: is a unit wrong?", table=model.table, row=row_at(model, at))
     whole: Whole = np.rint(values / float(rounding)).astype(np.int64)
     return whole
 

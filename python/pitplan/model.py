@@ -59,6 +59,11 @@ class Model:
         return len(self.blocks)
 
     @property
+    def table(self) -> str:
+        """The table's file name, for errors."""
+        return self.source.name if self.source else self.name
+
+    @property
     def index(self) -> npt.NDArray[np.int32]:
         """The number of the block at each place of the grid, of its shape; -1 where there is none."""
         cube = np.full(self.grid.shape, -1, dtype=np.int32)
@@ -74,7 +79,7 @@ class Model:
         """A column of the table as numbers, of shape (len(self),); `what` says in an error what it was wanted for."""
         if column not in self.blocks.columns:
             raise PlanError(f"{what}: the table has no column {column!r}{meant(column, map(str, self.blocks.columns))}")
-        return number_column(pd.Series(self.blocks[column].to_numpy(), index=self.blocks["row"], name=column), self.name)
+        return number_column(pd.Series(self.blocks[column].to_numpy(), index=self.blocks["row"], name=column), self.table)
 
 
 @dataclass(frozen=True)

@@ -30,10 +30,9 @@ MEAN, WORST, SIGNED = 0.5, 1.0, 0.25    # degrees that a wall may err by: on ave
 SIDE = 0.25                     # the least share that the lesser of the errors to both sides has of the greater
 FLATTEST, STEEPEST = 5.0, 89.0  # degrees that may be asked for
 SLACK = 1e-9                    # relative: numbers so near to each other are one number, spelled in two ways
-BLOCKS_OUT = 10, 24             # the search looks so many levels up that a wall comes this many blocks out, and then further
+TRIES = (10, 400), (24, 150)    # the search looks so many levels up that a wall comes 10 blocks out, at 400 stretches; then further
 MOST_LEVELS = 200
-CUTS = 400                      # how many stretches are tried
-NARROWEST, WIDEST = 0.9, 1.6    # the least and the greatest of them
+NARROWEST, WIDEST = 0.9, 1.6    # the least and the greatest stretch
 
 
 class SlopeError(ValueError):
@@ -200,6 +199,8 @@ class Outline:
     ----------
     corners
         Metres east and north, clockwise, from the least bearing on.
+    at
+        The corners as offsets, each of one and the same level.
     """
 
     def __init__(self, asked: Wall, offsets: Sequence[Offset]) -> None:
@@ -207,7 +208,8 @@ class Outline:
         common = math.lcm(*(k for _, _, k in offsets))
         points = sorted({(i * (common // k), j * (common // k)) for i, j, k in offsets})
         x, y, z = asked.size
-        hull = reversed(_chain(points)[:-1] + _chain(points[::-1])[:-1])
+        hull = (_chain(points)[:-1] + _chain(points[::-1])[:-1])[::-1]
+        self.at = [(i, j, common) for i, j in hull]
         corners = [asked.turned(i / common * x / z, j / common * y / z) for i, j in hull]
         starts = [math.degrees(math.atan2(east, north)) % 360 for east, north in corners]
         first = starts.index(min(starts)) if starts else 0
@@ -299,16 +301,16 @@ class _Cones:
             self.sets[count] = int.from_bytes(bits, "little")
         return self.sets[count]
 
-    def cuts(self, narrowest: float) -> list[float]:
-        """The stretches at which a cone has one block more, those of the lower levels first, ascending."""
+    def cuts(self, narrowest: float, most: int) -> list[float]:
+        """Stretches at which a cone has one block more, ascending; where there are too many, those of the lower levels."""
         cuts: list[float] = [1.0]
         for k in range(1, self.levels + 1):
             more = [far / k for far in self.far if narrowest <= far / k <= WIDEST]
             cuts = sorted(cuts + more)
             cuts = [cut for cut, before in zip(cuts, [-1.0] + cuts) if cut > before * (1 + SLACK)]
-            if len(cuts) >= CUTS:
+            if len(cuts) >= most:
                 break
-        return cuts[::-(-len(cuts) // CUTS)]
+        return cuts[::-(-len(cuts) // most)]
 
     def needed(self, stretch: float) -> Iterator[list[Offset]]:
         """The offsets that no sum of others comes to, up to each level at which there are new ones, and 4,096 in all."""
@@ -368,9 +370,10 @@ def search(asked: Wall, *, safe: bool = False, levels: int | None = None, fits: 
     steepest = max(slope for _, slope in asked.slopes)
     out = asked.size[2] / math.tan(math.radians(steepest)) / max(asked.size[:2])
     tried: list[Pattern] = []
-    for blocks_out in BLOCKS_OUT:
+    for blocks_out, most in TRIES:
         cones = _Cones(asked, min(MOST_LEVELS, levels or MOST_LEVELS, math.ceil(blocks_out / out)))
-        found = _best(cones, asked, safe, fits, NARROWEST) or _best(cones, asked, safe, fits, 0.0)
+        judged = functools.partial(_best, cones, asked, safe, fits)
+        found = judged(cones.cuts(NARROWEST, most)) or judged(cones.cuts(0.0, most))
         if found is None:
             raise SlopeError("not even one offset fits into the %s pairs that pit takes" % f"{PAIRS:,}")
         tried.append(found)
@@ -379,15 +382,18 @@ def search(asked: Wall, *, safe: bool = False, levels: int | None = None, fits: 
     return min(tried, key=lambda pattern: _rank(pattern, safe))
 
 
-def _best(cones: _Cones, asked: Wall, safe: bool, fits: Fits, narrowest: float) -> Pattern | None:
+def _best(cones: _Cones, asked: Wall, safe: bool, fits: Fits, stretches: Sequence[float]) -> Pattern | None:
     best: Pattern | None = None
     least = math.inf                                    # badness of the best; 1 where it holds
     seen: dict[object, Error | None] = {}
-    for stretch in cones.cuts(narrowest):
+    for stretch in stretches:
+        corners: list[Offset] = []
+        count = 0                                       # of the offsets that the corners are of
         for offsets in cones.needed(stretch):
             if best and best.is_held and len(offsets) > len(best.offsets) or not fits(offsets):
                 break
-            outline = Outline(asked, offsets)
+            outline = Outline(asked, corners + offsets[count:])
+            corners, count = outline.at or list(offsets), len(offsets)
             if outline.corners not in seen:             # None: the extremes alone are worse than the best
                 bound = Error(0, 0, *_extremes(asked, outline)).bound(safe)
                 seen[outline.corners] = error_of(asked, outline) if bound <= least else None

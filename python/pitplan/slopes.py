@@ -166,10 +166,13 @@ def _pairs(there: npt.NDArray[np.bool_], of: npt.NDArray[np.bool_], offset: Offs
 def count_pairs(slopes: Slopes, model: Model) -> int:
     """How many pairs of a block and a predecessor the `.prec` file lists."""
     there, b = model.index >= 0, model.blocks
-    region = np.full(there.shape, -1, np.int64)
+    region = np.full(there.shape, -1, np.int16)
     region[b.ix, b.iy, b.iz] = slopes.region_of(model)
-    found = slopes.offsets_by_region(model.grid).values()
-    return sum(_pairs(there, region == i, offset) for i, offsets in enumerate(found) for offset in offsets)
+    found = 0
+    for i, offsets in enumerate(slopes.offsets_by_region(model.grid).values()):
+        of = region == i
+        found += sum(_pairs(there, of, offset) for offset in offsets)
+    return found
 
 
 def check_limits(slopes: Slopes, model: Model) -> None:

@@ -93,6 +93,7 @@ class Parents:
     @classmethod
     def of(cls, frame: pd.DataFrame, names: Mapping[str, str], places: Places, lengths: list[Floats],
            size: tuple[float, float, float], wanted: Wanted) -> Parents:
+        """Finds the whole block of each sub-block, along the model's own axes; a sub-block over a side is told with its row."""
         turned = Grid((float(places.x[0]), float(places.y[0]), 0.0), (1.0, 1.0, 1.0), rotation=wanted.rotation)
         u, v = turned.local(places.x - places.x[0], places.y - places.y[0])
         indices, centres = [], []

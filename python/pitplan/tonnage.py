@@ -35,6 +35,7 @@ def by_rock(model: Model, priced: Priced, metals: Mapping[str, Mapping[str, str]
 
 
 def row_of(rock: str, here: Any, tonnes: Any, ore: Any, priced: Priced, metals: Mapping[str, Mapping[str, str]]) -> dict[str, Any]:
+    """The line of some blocks, which `here` says: their tonnes, and of their ore the grades and the metal."""
     milled = here & ore
     weight = float(tonnes[milled].sum())
     row: dict[str, Any] = {"rock": rock, "blocks": int(np.count_nonzero(here)), "Mt": float(tonnes[here].sum()) / 1e6, "ore Mt": weight / 1e6}

@@ -80,6 +80,7 @@ def run_all(study: Study, factors: Sequence[int], workers: int | None = None, to
 
 
 def one(study: Study, factor: int, told: Told | None) -> Verdict:
+    """Runs one factor, and tells that it is done."""
     done = study.run(factor, told)
     if told:
         told(factor, "done", 1.0)

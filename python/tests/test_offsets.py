@@ -69,9 +69,9 @@ def test_a_wall_that_is_held_errs_by_no_more_than_is_allowed(size, slope, safe):
 
 
 def test_usual_walls_are_held():
-    for size in ((10, 10, 10), (20, 20, 10), (25, 25, 15), (20, 20, 15), (20, 10, 10)):
-        for slope in (38, 45, 52, [(0, 45), (90, 45), (180, 38), (270, 45)], BY_BEARING):
-            assert search.search(search.wall(size, slope)).is_held, (size, slope)
+    for size, slope in (((10, 10, 10), 45), ((20, 20, 10), 45), ((25, 25, 15), 45), ((10, 10, 10), 38), ((25, 25, 15), 52), ((20, 10, 10), 45),
+                        ((20, 20, 15), [(0, 45), (90, 45), (180, 38), (270, 45)]), ((20, 20, 10), BY_BEARING)):
+        assert search.search(search.wall(size, slope)).is_held, (size, slope)
 
 
 def test_known_patterns_err_as_trigonometry_says():
@@ -111,7 +111,7 @@ def pit_of(program, folder, deep, settings):
     return [int(line[4:]) for line in (folder / "deep.cert").read_text().splitlines() if line.startswith("PIT ")]
 
 
-@given(st.floats(-180, 180), st.sampled_from([(10, 10, 10), (20, 10, 10)]))
+@pytest.mark.parametrize("rotation, size", [(30, (10, 10, 10)), (-75.5, (20, 10, 10)), (180, (20, 10, 10)), (90, (10, 10, 10))])
 def test_a_turned_model_has_the_same_slopes_by_the_compass(rotation, size):
     asked = search.wall(size, BY_BEARING, rotation)
     found = search.search(asked)
@@ -125,15 +125,16 @@ def test_a_dent_is_filled_and_told():
     assert found.built(90) - 55 == pytest.approx(slope_of(asked, found.offsets, 90) - 55) and found.built(90) - 55 < -0.5
 
 
-def test_what_a_large_model_has_room_for():
+def test_what_a_large_model_has_room_for(monkeypatch):
     asked = search.wall((10, 10, 10), 45)
     ten_million = search.search(asked, fits=search.within(10_000_000))
     assert len(ten_million.offsets) * 10_000_000 <= 2 ** 27 and not ten_million.is_held and ten_million.error.worst < 4
     assert search.search(asked, fits=search.within(5_000_000)).is_held
     with pytest.raises(search.SlopeError, match="not even one offset"):
         search.search(asked, fits=search.within(2 ** 27 + 1))
-    wide = search.search(search.wall((5, 5, 20), 5))
-    assert len(wide.offsets) <= 4096 and not wide.is_held
+    monkeypatch.setattr(search, "OFFSETS", 24)                    # of 25 that hold it
+    few = search.search(asked)
+    assert len(few.offsets) <= 24 and not few.is_held
 
 
 @pytest.mark.parametrize("size, angles, said", [

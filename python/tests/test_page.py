@@ -158,9 +158,12 @@ def test_a_section_shows_the_first_pit_of_each_block(browser, shells):
     assert len(seen) > 2 and at == model.grid.shape[0] - 1
 
 
-CELLS = """const [places, across, levels, wide, high] = arguments, c = document.getElementById("profile"), b = c.getContext("2d"), d = devicePixelRatio;
-const scale = Math.min((c.width / d - 80) / (across * wide), 320 / (levels * high));
-return places.map(([k, down]) => [...b.getImageData(Math.round((70 + (k + 0.5) * wide * scale) * d), Math.round((8 + (down + 0.5) * high * scale) * d), 1, 1).data])"""
+CELLS = """const [places, across, levels, wide, high] = arguments, c = document.getElementById("profile"), d = devicePixelRatio;
+const scale = Math.min((c.width / d - 80) / (across * wide), 320 / (levels * high)), all = c.getContext("2d").getImageData(0, 0, c.width, c.height).data;
+return places.map(([k, down]) => {
+  const at = 4 * (Math.round((8 + (down + 0.5) * high * scale) * d) * c.width + Math.round((70 + (k + 0.5) * wide * scale) * d));
+  return [all[at], all[at + 1], all[at + 2], all[at + 3]];
+})"""
 
 
 def test_the_picture_turns_by_keys_and_leaves_the_slider_alone(browser):
