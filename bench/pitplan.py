@@ -79,7 +79,8 @@ def reading(rounds):
     path = mine("table1m", 128, 120, 74)
     rows = sum(1 for _ in open(path)) - 1
     print(f"## A table of {rows:,} rows and 8 columns, {path.stat().st_size / 1e6:.0f} MB\n\n| | CPU s | peak MB | times pandas |\n|---|---|---|---|")
-    best = [min((timed(before, call.format(str(path))) for _ in range(rounds)), key=lambda t: t[0]) for _, before, call in READ]
+    taken = [[timed(before, call.format(str(path))) for _, before, call in READ] for _ in range(rounds)]      # in turns
+    best = [min(column, key=lambda t: t[0]) for column in zip(*taken)]
     for (name, _, _), (seconds, peak) in zip(READ, best):
         print(f"| `{name}` | {seconds:.2f} | {peak:.0f} | {seconds / best[0][0]:.2f} |")
     print()

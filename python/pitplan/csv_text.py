@@ -135,9 +135,10 @@ def read_frame(path: Path, dialect: Dialect, words: Collection[str] = ()) -> pd.
         raise PlanError(f"two columns are called {doubled[0]}", table=path, try_this="another name for one of them")
     frame = parsed(path, dialect, names, words)
     frame.index = pd.RangeIndex(dialect.skip, dialect.skip + len(frame))
-    blank = frame[names[0]].isna().to_numpy()
+    blank = frame[next((name for name in names if name not in words), names[0])].isna().to_numpy()
     if blank.any():
-        blank = frame.isna().all(axis=1).to_numpy()
+        some = frame[blank]
+        blank[blank] = (some.isna() | some.eq("")).all(axis=1).to_numpy()
         frame = frame[~blank]
     if not len(frame):
         raise PlanError("has no rows below its header line", table=path)
@@ -147,7 +148,7 @@ def read_frame(path: Path, dialect: Dialect, words: Collection[str] = ()) -> pd.
 def parsed(path: Path, dialect: Dialect, names: Sequence[str], words: Collection[str]) -> pd.DataFrame:
     """The cells of a table by pandas; a row with more cells than the header line is told, never cut off."""
     given: dict[str, Any] = dict(sep=dialect.separator, decimal=dialect.decimal, encoding=dialect.encoding, header=None,
-                                 skiprows=1 + dialect.skip, skipinitialspace=True, keep_default_na=False, na_values=[""],
+                                 skiprows=1 + dialect.skip, skipinitialspace=True, keep_default_na=False, na_values={name: [""] for name in ("", *names) if name not in words},
                                  skip_blank_lines=False, index_col=False, dtype={name: str for name in words if name in names},
                                  compression="gzip" if path.suffix.lower() == ".gz" else None)
     try:

@@ -18,6 +18,7 @@ from .grid import Floats, Grid
 
 Ints = npt.NDArray[np.int64]
 OFF = 0.05                                   # of a block: how far a centre may be off the grid
+SAMPLE = 50_000                              # centres, by which the grid that most are on is found
 OURS = ("id", "ix", "iy", "iz", "tonnes", "rock", "row")
 
 
@@ -263,11 +264,12 @@ class Axis:
 
 def along(values: Floats, length: float, axis: Axis) -> tuple[Ints, float]:
     """Whole indices along an axis, and the coordinate of index 0. The grid is where most centres are."""
-    share = (values / length) % 1.0
+    steps = values / length
+    share = steps[::max(1, len(steps) // SAMPLE)] % 1.0
     counts = np.bincount(np.minimum((share * 200).astype(np.int64), 199), minlength=200)
-    about = (int(np.argmax(counts + np.roll(counts, 1))) - 0.0) / 200
-    base = about + float(np.median(((share - about + 0.5) % 1.0 - 0.5)[np.abs((share - about + 0.5) % 1.0 - 0.5) < OFF]))
-    steps = values / length - base
+    about = int(np.argmax(counts + np.roll(counts, 1))) / 200
+    near = (share - about + 0.5) % 1.0 - 0.5
+    steps -= about + float(np.median(near[np.abs(near) < OFF]))
     index = np.rint(steps).astype(np.int64)
     off = np.abs(steps - index)
     if off.max() > OFF:
@@ -297,7 +299,7 @@ def twins(flat: Ints, rows: pd.Index, column: str, table: str) -> None:
 
 def columns_of(frame: pd.DataFrame, names: Mapping[str, str], grid: Grid, index: tuple[Ints, Ints, Ints], table: str) -> pd.DataFrame:
     """The table with this package's own columns beside the planner's."""
-    own: dict[str, Any] = {"id": frame[names["id"]].fillna("").to_numpy() if "id" in names else (frame.index.to_numpy() + 2).astype(str)}
+    own: dict[str, Any] = {"id": frame[names["id"]].to_numpy() if "id" in names else (frame.index.to_numpy() + 2).astype(str)}
     own |= {key: values.astype(np.int32) for key, values in zip(("ix", "iy", "iz"), index)}
     if "tonnes" in names:
         weighed, tonnes = names["tonnes"], number_column(frame[names["tonnes"]], table)
@@ -312,7 +314,7 @@ def columns_of(frame: pd.DataFrame, names: Mapping[str, str], grid: Grid, index:
         raise PlanError(f"{cell:g} is less than nothing", table=table, row=int(frame.index[row]), column=weighed,
                         try_this=f'absent = ["{cell:g}"] in [model], if that stands for "not estimated"')
     own["tonnes"] = tonnes
-    own["rock"] = frame[names["rock"]].fillna("").to_numpy() if "rock" in names else np.full(len(frame), "rock", object)
+    own["rock"] = frame[names["rock"]].to_numpy() if "rock" in names else np.full(len(frame), "rock", object)
     own["row"] = frame.index.to_numpy().astype(np.int32)
     rest = {str(name): frame[name].to_numpy() for name in frame.columns if name not in OURS}
     return pd.DataFrame({**own, **rest}, copy=False)        # a copy into common blocks would take as long as all checks
