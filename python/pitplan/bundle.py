@@ -102,8 +102,10 @@ def copy_files(study: Study, work: Path, more: dict[Path, str]) -> None:
     for part in ("model", "table", "tables", "certificates"):
         (work / part).mkdir()
     names: list[str] = [name for name in study.manifest["files"] if name in READ or name.endswith(".toml")]
-    parts: dict[Path, str] = {study.where / name: f"model/{name}" for name in [*names, "manifest.json"]}
-    for source, name in {**more, **parts}.items():
+    copies = dict(more)
+    for part in [*names, "manifest.json"]:
+        copies[study.where / part] = f"model/{part}"
+    for source, name in copies.items():
         shutil.copyfile(source, work / name)
     for name in SCRIPTS:
         (work / name).write_text(resources.files(__package__).joinpath(name).read_text("utf-8"), "utf-8")
