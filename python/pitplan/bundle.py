@@ -117,7 +117,9 @@ def write_certificates(shells: Shells, work: Path) -> None:
     for verdict in shells.verdicts:
         name = f"certificates/f{verdict['factor']:05d}.cert.gz"
         shutil.copyfile(shells.study.place(verdict["factor"]) / "best.cert.gz", work / name)
-        verdicts.append({**{key: value for key, value in verdict.items() if key in KEPT}, "file": name})
+        entry: dict[str, object] = {key: value for key, value in verdict.items() if key in KEPT}
+        entry["file"] = name
+        verdicts.append(entry)
     (work / "verdicts.json").write_text(json.dumps(verdicts, indent=1))
 
 

@@ -4,8 +4,8 @@
     python3 python/tests/fuzz_studies.py [SAMPLES [SECONDS [SEED]]]
 
 A sample is a study.toml and a table that were sound, with one to four changes: keys, values and sections that are others,
-cells and lines that are gone, doubled or others, bytes that are no text. Each is read, priced, and its slopes are counted, in
-this process; `pit` isn't run. Prints how many were read and how many of each message came, and the first that is neither.
+cells and lines that are gone, doubled or others, bytes that are no text. Each is read and priced, and the pairs of one of 100 are
+counted, in this process; `pit` isn't run. Prints how many were read and how many of each message came, and the first that is neither.
 """
 import itertools
 import multiprocessing
@@ -50,7 +50,7 @@ metals = [ { name = "copper", grade = "CU", grade_unit = "%", price = 8500, pric
            { name = "gold", grade = "AU", grade_unit = "g/t", price = 1900, price_unit = "oz", recovery = "min(1, AU)" } ]
 
 [slopes]
-angles = [[0, 40], [90, 45]]
+angles = 42
 by = "SECTOR"
 regions = { WEST = 38 }
 safe = false
@@ -61,12 +61,12 @@ mining_rate = 1e6
 mill_rate = 5e5
 discount = 0.08
 """
-VALUES = ["0", "-1", "1e400", "-1e400", "nan", "inf", "-inf", "1e-320", "true", "false", '""', '"x"', '"-"', "[]", "[1]", "[[]]", "[[0, 45]]", "[[0, 45], [0, 50]]", "[[0, nan]]", "{}", "{ a = 1 }",
+VALUES = ["0", "-1", "1e400", "-1e400", "nan", "inf", "-inf", "1e-320", "true", "false", '""', '"x"', '"-"', "[]", "[1]", "[[]]", "[[0, 45]]", "[[0, 45], [0, 50]]", "[[0, 40], [90, 45]]", "[[0, nan]]", "{}", "{ a = 1 }",
           "9223372036854775807", "-9223372036854775808", "1979-05-27", "07:32:00", '"1+"', '"CU"', '"ROCK"', '"CU > 1"', '"sqrt(-1)"', '"1/0"', '"ZC.x"', "0.5", "100", "1e12", "[0.5, 1.0]", "[1, 1]",
           '["a", 1]', "{ from = 1 }", "{ from = 0, to = 1e9, step = 1e-9 }", '"\\u0000"', '"[red]"', "[1e5, 1e5, 1e5]", "[1e-5, 1, 1]", "[nan, 1, 1]", "[true, 1, 1]", '["a", "b", "c"]', "89.999", "1e-9", "90"]
 CELLS = ["", "-99", "-", "x", "nan", "inf", "-inf", "1e400", "1,5", '"', '"a\nb"', "1e5", "-5", "0", "1_000", "0x10", " 5 ", "=1+1", "5%", "\u0663", "1e-320", "99999999999999999999", "true", "\x00", "\x1b[2J", "None"]
 BYTES = [b"\xff", b"\x00", b"\xef\xbb\xbf", b"\r", b"\n", b'"', b",", b";", b"\t", b"\xc3\x28"]
-SECTIONS = re.compile(r"^\[(\w+)\]$", re.M)
+SEARCHED = 100                                # one sample of so many has its slopes searched for, which takes seconds where angles are strange
 
 
 def changed_study(text, r):
@@ -147,7 +147,7 @@ TABLE = mines.table(5, 4, 3, 3).to_csv(index=False).encode()
 MESSAGE = re.compile(r"[^\n]+(\n  try: [^\n]+)?")
 
 
-def answer(folder, text, table):
+def answer(folder, text, table, is_searched=True):
     """What pitplan says of a study: "read", or the beginning of its message. Raises whatever is neither."""
     (folder / "study.toml").write_text(text, "utf-8", "surrogatepass")
     (folder / "t.csv").write_bytes(table)
@@ -156,7 +156,8 @@ def answer(folder, text, table):
         model = told.read_model()
         told.economics.priced(model)
         told.slopes.region_of(model)
-        count_pairs(told.slopes, model)
+        if is_searched:
+            count_pairs(told.slopes, model)
     except PlanError as error:
         if not MESSAGE.fullmatch(str(error)):
             raise AssertionError(f"a message of another form: {str(error)!r}") from error
@@ -174,7 +175,7 @@ def fuzzed(words):
                 return found, None
             text, table = sample(number, seed)
             try:
-                found[answer(Path(room), text, table)] += 1
+                found[answer(Path(room), text, table, number % SEARCHED == 0)] += 1
             except Exception:
                 return found, f"sample {number} of seed {seed}:\n{text}\n----\n{table!r}\n----\n{traceback.format_exc()}"
     return found, None
