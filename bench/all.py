@@ -33,6 +33,8 @@ RUNS = [
     ("`pit shells` at twenty factors", ["shells.py"]),
     ("The worths at a factor, by several threads", ["worths.py"]),
     ("The bench table: `rows` and `write_report` alone", ["report.py"]),
+    ("pitplan beside pandas, and beside `pit` alone", ["pitplan.py"]),
+    ("Files, pushbacks and designs of pitplan", ["pitplan_export.py"]),
 ]
 
 

@@ -18,14 +18,19 @@ import time
 from concurrent.futures import ThreadPoolExecutor
 from pathlib import Path
 
-import numpy as np
-import pandas as pd
+PYTHON = "/usr/bin/python3"
+try:
+    import numpy as np
+    import pandas as pd
+except ModuleNotFoundError:
+    if sys.executable == PYTHON:
+        raise
+    os.execv(PYTHON, [PYTHON, *sys.argv])    # another Python on the path, without Debian's packages
 
 HERE = Path(__file__).resolve().parent
 TOP = HERE.parent
 sys.path.insert(0, str(TOP / "python"))
 OUT = HERE / "out"
-PYTHON = "/usr/bin/python3"
 FACTORS = [300 + 50 * i for i in range(19)]
 
 # In a process of its own: the processor seconds of the call alone, without the imports before it, and the whole process's peak.

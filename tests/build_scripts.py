@@ -248,7 +248,7 @@ def the_page_of_the_example_is_made(tree):
     failed = tree.ran("run-example")
     answer = "ACCEPTED 90 71040\n"
     well = steps == ["%s examples/copper %s/out/pit" % (step, tree.top) for step in ("build", "shells", "page")] and quick == (0, answer)
-    well = well and made == (0, answer + "The page of the example: examples/copper/out/pits.html\n")
+    well = well and made == (0, answer + "The same mine planned from its table, with a mill and five prices, is on this page: examples/copper/out/pits.html\n")
     well = well and lacking == (0, answer + "No page of the example: pitplan needs the Python package pandas: apt-get\n")
     return well and failed == (1, answer + "No page of the example; what pitplan said is in out/pitplan.log\n"), repr([made, lacking, failed])
 

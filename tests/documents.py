@@ -26,7 +26,7 @@ COMMANDS = "slopes", "solve", "check", "shells", "report", "replay"
 STATUSES = (("REFUSED", 1), ("UNSETTLED", 1), ("HISTORYFULL", 1), ("error:", 2), ("fault: device", 4), ("fault: memory", 4), ("fault:", 3))
 LOOKS_TYPED = re.compile(r"(pit|python3|pitplan|\./\S+|cd|grep|sed|cut|cat) ")
 UNTYPED = {"README.md": ("./run-example", "./install", "python3 tests/run"),
-           "docs/GUIDE.md": ("python3 examples/csv_to_minelib.py mine.csv", "pit slopes --blocks mine.blocks",
+           "docs/GUIDE.md": ("python3 examples/csv_to_minelib.py mine.csv 20 20 10 mine revenue cost tonnes", "pit slopes --blocks mine.blocks",
                              "pit shells --prec mine.prec", "pit report --prec mine.prec")}    # the mine of tests/day, which types them
 NUMBER = re.compile(r"(?<![\w.,-])\d[\d,]*(?:\.\d+)?")
 OTHERS = {

@@ -18,7 +18,7 @@ __version__ = "0.1"
 # Where each name is: they are imported when they are asked for, so that `pitplan --help` needs no pandas.
 WHERE = {"Economics": "economics", "Metal": "economics", "PlanError": "errors", "NotAccepted": "errors", "Disagreement": "errors", "MachineError": "errors",
          "Grid": "grid", "Model": "model", "read_table": "model", "Accepted": "program", "Pit": "program", "Shells": "shells", "factors": "shells",
-         "Slopes": "slopes", "Study": "study"}
+         "Slopes": "slopes", "Study": "study", "Phases": "phases", "Design": "design", "Comparison": "compare"}
 MODULES = {"plot": "pictures"}
 __all__ = [*WHERE, *MODULES, "page"]
 

@@ -49,6 +49,7 @@ def relative(table: Path, folder: Path) -> str:
 @app.command()
 def build(folder: Path = STUDY) -> None:
     """Read the table, work out what each block brings and costs, and make the slopes."""
+    from .commands_slopes import print_patterns
     from .study import Study
     told = described(folder)
     with err.status("reading the table"):
@@ -59,8 +60,7 @@ def build(folder: Path = STUDY) -> None:
     with err.status("prices and slopes"):
         study = Study.create(told.path.parent, model, told.economics, told.slopes, keys=told.digest)
     print_tonnage(study)
-    for name, pattern in told.slopes.patterns(study.model.grid).items():
-        out.print(escape(f"slopes {name}: {pattern}"), soft_wrap=True)
+    print_patterns(told.slopes, study.model.grid)
     print_size(study, told)
 
 

@@ -24,9 +24,9 @@ def plot(folder: Path = STUDY,
          row: List[int] = typer.Option([], help="Section along this row of the model (its x axis), counted from 0."),
          column: List[int] = typer.Option([], help="Section along this column of the model (its y axis), counted from 0."),
          colour: str = typer.Option("shell", help="What colours the blocks: shell, value (worth at factor 1), or a column of the table."),
-         pit: Optional[float] = typer.Option(None, help="The factor of the pit that is outlined: 1 unless told, or the largest."),
+         pit: Optional[float] = typer.Option(None, show_default=False, help="The factor of the pit that is outlined: 1 unless told, or the largest."),
          exaggerate: float = typer.Option(1.0, min=0.1, max=20.0, help="Draw heights so many times longer, in sections.")) -> None:
-    """Draw the pit-by-pit graph, a plan and a section; or the plans and sections that are asked for. Each option may be given several times."""
+    """Draw the pit-by-pit graph, a plan and a section; or the plans and sections that are asked for: bench, north, east, row and column may be given several times."""
     from . import pictures
     shells, rates = shells_of(folder)
     style = pictures.Style(colour, pit, exaggerate)

@@ -30,7 +30,7 @@ MEAN, WORST, SIGNED = 0.5, 1.0, 0.25    # degrees that a wall may err by: on ave
 SIDE = 0.25                     # the least share that the lesser of the errors to both sides has of the greater
 FLATTEST, STEEPEST = 5.0, 89.0  # degrees that may be asked for
 SLACK = 1e-9                    # relative: numbers so near to each other are one number, spelled in two ways
-TRIES = (10, 400), (24, 150)    # the search looks so many levels up that a wall comes 10 blocks out, at 400 stretches; then further
+TRIES = (10, 400), (24, 300)    # the search looks so many levels up that a wall comes 10 blocks out, at 400 stretches; then further
 MOST_LEVELS = 200
 NARROWEST, WIDEST = 0.9, 1.6    # the least and the greatest stretch
 
@@ -155,6 +155,7 @@ class Error:
         return self.worst / WORST + (1000 * self.steepest if is_safe and self.steepest > SLACK else 0)
 
     def __str__(self) -> str:
+        """In words, with two decimals."""
         lean = "%.2f %s" % (abs(self.signed), "steeper" if self.signed >= 0 else "flatter")
         return "%.2f degrees off on average (%s, with its sign), at most %.2f steeper and %.2f flatter than asked" % (
             self.mean, lean, max(self.steepest, 0), max(-self.flattest, 0))
@@ -233,6 +234,7 @@ class Outline:
 
 
 def _chain(points: Sequence[tuple[int, int]]) -> list[tuple[int, int]]:
+    """Half of the corners of a convex hull, of points in ascending or descending order (Andrew 1979)."""
     chain: list[tuple[int, int]] = []
     for x, y in points:
         while len(chain) > 1:
@@ -370,8 +372,13 @@ def search(asked: Wall, *, safe: bool = False, levels: int | None = None, fits: 
     steepest = max(slope for _, slope in asked.slopes)
     out = asked.size[2] / math.tan(math.radians(steepest)) / max(asked.size[:2])
     tried: list[Pattern] = []
+    before = 0
     for blocks_out, most in TRIES:
-        cones = _Cones(asked, min(MOST_LEVELS, levels or MOST_LEVELS, math.ceil(blocks_out / out)))
+        high = min(MOST_LEVELS, levels or MOST_LEVELS, math.ceil(blocks_out / out))
+        if high == before:
+            break
+        before = high
+        cones = _Cones(asked, high)
         judged = functools.partial(_best, cones, asked, safe, fits)
         found = judged(cones.cuts(NARROWEST, most)) or judged(cones.cuts(0.0, most))
         if found is None:
@@ -383,6 +390,7 @@ def search(asked: Wall, *, safe: bool = False, levels: int | None = None, fits: 
 
 
 def _best(cones: _Cones, asked: Wall, safe: bool, fits: Fits, stretches: Sequence[float]) -> Pattern | None:
+    """The best pattern of cones that are stretched, of any number of levels; None where none fits."""
     best: Pattern | None = None
     least = math.inf                                    # badness of the best; 1 where it holds
     seen: dict[object, Error | None] = {}

@@ -87,7 +87,7 @@ def paint(shells: Shells, colour: str) -> Paint:
     blocks = shells.study.model.blocks
     if colour not in blocks.columns:
         known = ["shell", "value", *(str(c) for c in blocks.columns if c not in ("ix", "iy", "iz", "row"))]
-        raise PlanError(f"there is no column {colour!r} to colour by{meant(colour, known)}", table=shells.study.model.name, try_this=", ".join(known))
+        raise PlanError(f"there is no column {colour!r} to colour by{meant(colour, known)}", table=shells.study.model.name)
     column = blocks[colour]
     if pd.api.types.is_numeric_dtype(column):
         return paint_numbers(column.to_numpy(float), colour)

@@ -11,7 +11,7 @@ from selenium import webdriver
 from selenium.webdriver.chrome.service import Service
 
 SOFTWARE = ("--use-gl=angle", "--use-angle=swiftshader", "--enable-unsafe-swiftshader", "--ignore-gpu-blocklist")
-PATIENCE = 60            # seconds, on a busy machine
+PATIENCE = 180           # seconds, on a busy machine
 
 
 def chromium(*words, size="1300,900"):

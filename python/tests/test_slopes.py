@@ -4,7 +4,7 @@ import math
 import numpy as np
 import pandas as pd
 import pytest
-from hypothesis import given, strategies as st
+from hypothesis import given, settings, strategies as st
 
 import pitplan as pp
 from mines import STUDY_TOML, table, written_study
@@ -33,6 +33,7 @@ def written(folder, slopes, model):
     return [set(line[2:]) for line in lines]
 
 
+@settings(max_examples=8)
 @given(st.integers(2, 6), st.integers(2, 6), st.integers(2, 6), st.integers(0, 10 ** 6), ANGLES, ANGLES)
 def test_each_block_has_the_slopes_of_its_own_region(tmp_path_factory, nx, ny, nz, seed, angles, east):
     folder = tmp_path_factory.mktemp("s")
@@ -47,12 +48,12 @@ def test_each_block_has_the_slopes_of_its_own_region(tmp_path_factory, nx, ny, n
     assert got == wanted and module.count_pairs(slopes, model) == sum(map(len, wanted))
 
 
-def test_offsets_lead_the_way_that_bearings_say(tmp_path):
-    # the north wall is flat, and the model's y axis points east: so the wall is flat along -x
-    for rotation, flat in ((0, (0, 1)), (90, (-1, 0)), (-90, (1, 0)), (180, (0, -1))):
-        offsets = pp.Slopes([(0, 30), (90, 50), (180, 50), (270, 50)]).offsets_by_region(pp.Grid((0, 0, 0), (10, 10, 10), (1, 1, 1), rotation))["default"]
+def test_offsets_lead_the_way_that_bearings_say():
+    # the east wall is flat: along x, or along y where the y axis points east
+    for rotation, flat in ((0, (1, 0)), (90, (0, 1)), (-90, (0, -1)), (180, (-1, 0))):
+        offsets = pp.Slopes([(0, 46), (90, 38), (180, 46), (270, 46)]).offsets_by_region(pp.Grid((0, 0, 0), (10, 10, 10), (1, 1, 1), rotation))["default"]
         out = {way: max((i * way[0] + j * way[1]) / k for i, j, k in offsets) for way in ((0, 1), (1, 0), (0, -1), (-1, 0))}
-        assert max(out, key=out.get) == flat and out[flat] == pytest.approx(1 / math.tan(math.radians(30)), rel=0.06), rotation
+        assert max(out, key=out.get) == flat and out[flat] == pytest.approx(1 / math.tan(math.radians(38)), rel=0.06), rotation
 
 
 def test_regions_of_numbers_and_of_empty_cells(tmp_path):

@@ -1,0 +1,71 @@
+#!/usr/bin/python3
+"""How large pitplan's page is, what it takes to write it, and how soon it is ready in a headless Chromium that draws by software.
+
+    bench/page.py [--columns N] [--levels N] [--pits N] [--rounds N]
+
+The model and its pits are made up (cones, one within the next), so that no `pit` is needed: 118 x 118 columns of 36 levels have
+501,264 blocks. Of the rounds the fewest seconds count; "ready" is by the page's own clock, from the opening to the first picture.
+"""
+import argparse
+import os
+import sys
+import tempfile
+import time
+from pathlib import Path
+from types import SimpleNamespace
+
+import numpy as np
+import pandas as pd
+
+TOP = Path(__file__).resolve().parent.parent
+sys.path[:0] = [str(TOP / "python"), str(TOP / "python/tests")]
+
+from browsers import chromium, opened
+from pitplan import page
+from pitplan.economics import Economics, Metal
+from pitplan.grid import Grid
+from pitplan.model import Model
+from pitplan.shells import Shells
+
+
+def made_up(columns, levels, pits):
+    """Shells of cones about the middle, ragged by a block as pits are."""
+    i, j, k = (v.ravel() for v in np.meshgrid(np.arange(columns), np.arange(columns), np.arange(levels), indexing="ij"))
+    ragged = np.random.default_rng(1).normal(0, 0.7, (columns, columns))[i, j]
+    out = np.hypot(i - columns / 2, j - columns / 2) + ragged
+    blocks = pd.DataFrame({"id": "", "ix": i, "iy": j, "iz": k, "tonnes": 16_000.0, "rock": "ore", "row": np.arange(len(i)), "CU": np.maximum(0.0, 0.8 - out / columns)})
+    model = Model(blocks, Grid((430_000.0, 7_215_000.0, 1_007.5), (20.0, 20.0, 15.0), (columns, columns, levels), 30.0), "made-up")
+    economics = Economics(metals=(Metal("copper", "CU", price=8500, recovery=0.85),), mining=2.2, processing=9.0)
+    shells = Shells.__new__(Shells)
+    shells.study = SimpleNamespace(model=model, priced=economics.priced(model), key="0" * 64,
+                                   manifest={"currency": "$", "metals": {"copper": {"grade": "CU", "grade_unit": "%", "price_unit": "t"}}})
+    shells.factors = [300 + 50 * n for n in range(pits)]
+    shells.shell = np.clip((out + (levels - 1 - k)) / (0.6 * columns) * pits, 0, pits).astype(np.int16)
+    shells.verdicts = [{"count": int((shells.shell <= n).sum()), "worth": "0"} for n in range(pits)]
+    return shells
+
+
+def main():
+    words = argparse.ArgumentParser(description=__doc__.split("\n")[0])
+    for name, usual in (("columns", 118), ("levels", 36), ("pits", 19), ("rounds", 3)):
+        words.add_argument("--" + name, type=int, default=usual)
+    asked = words.parse_args()
+    shells = made_up(asked.columns, asked.levels, asked.pits)
+    table = shells.table()
+    with tempfile.TemporaryDirectory() as folder:
+        wrote, ready = [], []
+        for _ in range(asked.rounds):
+            began = time.process_time()
+            file = page.write(shells, Path(folder) / "pits.html", table)
+            wrote.append(time.process_time() - began)
+            browser = chromium()
+            try:
+                ready.append(opened(browser, file) / 1000)
+            finally:
+                browser.quit()
+        print(f"{len(shells.study.model):,} blocks, {asked.pits} pits: {file.stat().st_size / 1e6:.2f} MB, written in {min(wrote):.2f} processor seconds, "
+              f"ready after {min(ready):.1f} s (load {os.getloadavg()[0]:.0f} on {os.cpu_count()} cores)")
+
+
+if __name__ == "__main__":
+    main()

@@ -1,0 +1,56 @@
+"""Factors that a planner names on the command line, and their pits."""
+from __future__ import annotations
+
+from pathlib import Path
+
+from .amounts import THOUSAND
+from .console import opened
+from .errors import PlanError
+from .shells import Shells, series_of
+from .study import Study
+
+
+def shares_of(text: str) -> list[int]:
+    """Factors in thousandths of a list with commas, ascending.
+
+    Raises
+    ------
+    PlanError
+        Where one is no share of the price, or they don't ascend.
+
+    >>> shares_of("0.5, 0.75,1")
+    [500, 750, 1000]
+    """
+    found = []
+    for word in text.split(","):
+        try:
+            found.append(float(word))
+        except ValueError:
+            raise PlanError(f"{word.strip()!r} is no factor", try_this="shares of the price with commas, as 0.5,0.75,1.0") from None
+    return series_of(found)
+
+
+def pits_at(folder: Path, series: list[int]) -> Shells:
+    """The pits of a study at some factors; nothing is run.
+
+    Raises
+    ------
+    PlanError
+        Where one hasn't been run: with the nearest that have.
+    """
+    study = opened(folder)
+    for factor in series:
+        if not study.verdict(factor):
+            raise not_run(study, factor)
+    return Shells(study, series)
+
+
+def not_run(study: Study, factor: int) -> PlanError:
+    """The error of a pit that isn't there."""
+    there = [int(path.name[1:]) for path in sorted((study.folder / "runs" / "base").glob("f*")) if path.name[1:].isdigit()]
+    there = [found for found in there if study.verdict(found)]
+    near = sorted(sorted(there, key=lambda found: abs(found - factor))[:2])
+    if not near:
+        return PlanError(f"the pit at factor {factor / THOUSAND:g} hasn't been run", try_this="pitplan shells")
+    return PlanError(f"the pit at factor {factor / THOUSAND:g} hasn't been run; the nearest that have are " + ", ".join(f"{found / THOUSAND:g}" for found in near),
+                     try_this="one of these, or another [shells] factors in study.toml, and pitplan shells")

@@ -1,0 +1,142 @@
+"""`pitplan compare`."""
+from __future__ import annotations
+
+import json
+import re
+from pathlib import Path
+from typing import TYPE_CHECKING, Any, List, Optional
+
+import typer
+from rich.markup import escape
+
+from .console import STUDY, app, err, opened, out, results
+from .errors import PlanError
+
+if TYPE_CHECKING:
+    from .compare import Comparison
+    from .design import Design
+    from .model import Model
+    from .study import Study
+
+
+@app.command()
+def compare(folder: Path = STUDY,
+            ids: Optional[Path] = typer.Option(None, "--ids", help="A table or a text with the ids of the design's blocks."),
+            column: Optional[str] = typer.Option(None, "--column", help="The column of the study's table that says which rows the design takes."),
+            value: Optional[str] = typer.Option(None, "--value", help="With --column: the cell of the rows that it takes; any number above 0, or yes, unless told."),
+            surface: Optional[Path] = typer.Option(None, "--surface", help="A DXF with faces, or a CSV of points x, y, z: the blocks above it."),
+            layer: List[str] = typer.Option([], "--layer", help="With --surface: a layer of the DXF; all unless told."),
+            factor: float = typer.Option(1.0, "--factor", help="The pit to compare with, by its factor of the price."),
+            bench: List[float] = typer.Option([], "--bench", help="Draw the plan of the bench at this elevation; where the two differ most unless told.")) -> None:
+    """Put a designed pit beside the proved best one: does it keep the slopes, what is it worth, how far from the bound. Status 1 where it breaks the slopes."""
+    from .chosen import not_run
+    from .compare import compare as compared
+    from .shells import thousandths
+    study, wanted = opened(folder), thousandths(factor)
+    if not study.verdict(wanted):
+        raise not_run(study, wanted)
+    design = design_of(study.model, ids, (column, value), (surface, layer))
+    with err.status("pit check reads the design"):
+        found = compared(study, design, wanted)
+    target = write(study, found, bench)
+    tell(study, found)
+    out.print(escape(f"{target}: summary.json, benches.csv" + ("" if found.is_closed else ", pairs.csv, walls.csv, repair.csv") + ", plans"), soft_wrap=True)
+    if not found.is_closed:
+        raise typer.Exit(1)
+
+
+def design_of(model: Model, ids: Path | None, column: tuple[str | None, str | None], surface: tuple[Path | None, list[str]]) -> Design:
+    """The design that is asked for; exactly one."""
+    from .design import by_column, by_ids_of, by_surface
+    if sum(given is not None for given in (ids, column[0], surface[0])) != 1:
+        raise PlanError("a design is given by one of --ids FILE, --column NAME and --surface FILE")
+    if ids is not None:
+        return by_ids_of(model, ids)
+    if surface[0] is not None:
+        return by_surface(model, surface[0], surface[1])
+    return by_column(model, str(column[0]), column[1])
+
+
+def write(study: Study, found: Comparison, elevations: list[float]) -> Path:
+    """Writes all that was found into a folder of its own."""
+    from .compare_plan import plan, widest_bench
+    from .export_csv import safe
+    from .pictures import save
+    from .whole_file import whole_file
+    target = results(study) / ("compare-" + re.sub(r"[^\w.-]+", "_", found.design.name))
+    target.mkdir(exist_ok=True)
+    tables: dict[str, Any] = {"benches.csv": found.benches}
+    if found.repair:
+        b = study.model.blocks[found.repair.held & ~found.design.held]
+        tables |= {"pairs.csv": safe(found.pairs), "walls.csv": safe(found.walls), "repair.csv": safe(b[["id", "rock", "tonnes"]])}
+    for stale in ("pairs.csv", "walls.csv", "repair.csv"):
+        (target / stale).unlink(missing_ok=True)
+    for name, frame in tables.items():
+        with whole_file(target / name) as part:
+            frame.to_csv(part, index=False)
+    with whole_file(target / "summary.json") as part:
+        part.write_text(json.dumps(summary(study, found), indent=1) + "\n")
+    for elevation in elevations or ([widest_bench(found)] if len(found.benches) else []):
+        save(plan(study.model, found, elevation), target / f"plan-{elevation:.10g}.png")
+    return target
+
+
+def summary(study: Study, found: Comparison) -> dict[str, Any]:
+    """What an auditor asks of the comparison."""
+    verdict = study.verdict(found.factor)
+    tonnes = study.model.blocks.tonnes.to_numpy(float)
+    told: dict[str, Any] = {"design": found.design.name, "notes": found.design.notes, "factor": found.factor / 1000, "pit_check_said": found.said, "is_closed": found.is_closed,
+                            "blocks": int(found.design.held.sum()), "tonnes": float(tonnes[found.design.held].sum()), "worth": found.worth, "bound": found.bound, "gap": found.gap,
+                            "best_blocks": int(found.optimum.sum()), "best_tonnes": float(tonnes[found.optimum].sum()),
+                            "left_tonnes": float(found.benches.left_t.sum()), "over_tonnes": float(found.benches.over_t.sum()),
+                            "certificate": verdict["certificate"] if verdict else None, "model": study.key, "pit": study.manifest["pit"]}
+    if found.repair:
+        told["repair"] = {"blocks": found.repair.blocks, "tonnes": found.repair.tonnes, "worth": found.repair.worth, "gap": found.repair.gap}
+        told["broken_pairs"] = len(found.pairs)
+    return told
+
+
+def tell(study: Study, found: Comparison) -> None:
+    """The comparison on the screen."""
+    currency, held = study.manifest["currency"], found.design.held
+    tonnes = study.model.blocks.tonnes.to_numpy(float)
+    lines = [f"{found.design.name}: {int(held.sum()):,} blocks, {tonnes[held].sum() / 1e6:,.2f} Mt, worth {money(found.worth, currency)} at factor {found.factor / 1000:g}", *(f"  {note}" for note in found.design.notes),
+             f"best pit: {int(found.optimum.sum()):,} blocks, {tonnes[found.optimum].sum() / 1e6:,.2f} Mt, worth {money(found.bound, currency)}: no pit that keeps the slopes is worth more",
+             f"pit check says of the design: {found.said}"]
+    lines += closed_lines(found, currency) if found.is_closed else broken_lines(found, currency)
+    b = found.benches
+    lines.append(f"left by the design {b.left_t.sum() / 1e6:,.2f} Mt ({b.left_ore_t.sum() / 1e6:,.2f} Mt of ore), beyond the best pit {b.over_t.sum() / 1e6:,.2f} Mt ({b.over_ore_t.sum() / 1e6:,.2f} Mt of ore)")
+    for line in lines:
+        out.print(escape(line), soft_wrap=True)
+
+
+def closed_lines(found: Comparison, currency: str) -> list[str]:
+    """What is said of a design that keeps the slopes."""
+    if found.said.startswith("ACCEPTED"):
+        return ["the design is the best pit"]
+    return [f"the design keeps the slopes, and is {money(str(found.gap), currency)} ({found.share(str(found.gap)):.2%}) below the proved bound"]
+
+
+def broken_lines(found: Comparison, currency: str) -> list[str]:
+    """What is said of a design that breaks the slopes. How far it is from the bound is said of the mended design alone, since one
+    that breaks slopes may be worth more than any pit."""
+    assert found.repair
+    lines = [f"the design breaks the slopes at {len(found.pairs):,} pairs of a block and a predecessor that it leaves, on {found.pairs['bench'].nunique():,} benches"]
+    for wall in found.walls.head(3).to_dict("records"):
+        way = "straight above" if wall["bearing"] != wall["bearing"] else f"towards {wall['bearing']:05.1f}"
+        may = "" if wall["built"] != wall["built"] else f" where {wall['built']:.1f} may stand"
+        lines.append(f"  wall {way}: {wall['steepest']:.1f} degrees at worst{may}, {wall['height']:,.10g} m up over {wall['away']:,.1f} m, "
+                     f"from block {wall['id']} at ({wall['x']:,.1f}, {wall['y']:,.1f}), bench {wall['bench']:,.10g}; {wall['pairs']:,} pairs")
+    more = len(found.walls) - 3
+    lines += [f"  {more} more {'bearings' if more > 1 else 'bearing'} in walls.csv"] if more > 0 else []
+    gap = found.repair.gap
+    lines.append(f"to keep them it has to dig {found.repair.blocks:,} blocks more ({found.repair.tonnes / 1e6:,.2f} Mt); then it is worth {money(found.repair.worth, currency)}, "
+                 f"{money(gap, currency)} ({found.share(gap):.2%}) below the proved bound")
+    return lines
+
+
+def money(amount: str, currency: str) -> str:
+    """An exact amount with its thousands parted."""
+    whole, point, places = amount.partition(".")
+    sign, digits = ("-", whole[1:]) if whole.startswith("-") else ("", whole)
+    return f"{currency} {sign}{int(digits):,}{point}{places}"

@@ -1,0 +1,268 @@
+"""A designed pit beside the proved best one: does it keep the slopes, where not, what is it worth, how far from the bound.
+
+Whether the design is closed is `pit check`'s own word. Its blocks are put in place of the PIT lines of the certificate of the best
+pit, and `pit check` reads that: REFUSED NotClosed(b, p) names a pair that the design breaks; REFUSED NotTight comes
+only after closedness was looked at, so the design is closed, and isn't the best pit; ACCEPTED says that it is. What it is
+worth is the exact sum over the planner's own table, in whole units, beside the worth of the accepted certificate.
+"""
+from __future__ import annotations
+
+import gzip
+import hashlib
+import re
+import shutil
+import tempfile
+from dataclasses import dataclass
+from decimal import Decimal
+from pathlib import Path
+from typing import TYPE_CHECKING, Any
+
+import numpy as np
+import numpy.typing as npt
+import pandas as pd
+
+from . import walls
+from .amounts import THOUSAND, spelled
+from .design import Design
+from .errors import Disagreement, NotAccepted
+from .program import hint_of
+from .resting import Resting
+
+if TYPE_CHECKING:
+    from .study import Study
+
+Bools = npt.NDArray[np.bool_]
+PIECE = 1 << 22
+
+
+@dataclass(frozen=True)
+class Repair:
+    """The least closed set that has a design: what else has to be dug to keep the slopes.
+
+    Attributes
+    ----------
+    held : bool array of shape (blocks,)
+    blocks, tonnes : int, float
+        What it has more than the design.
+    worth, gap : str
+        Of the whole set, and how far that is below the bound.
+    """
+
+    held: Bools
+    blocks: int
+    tonnes: float
+    worth: str
+    gap: str
+
+
+@dataclass(frozen=True)
+class Comparison:
+    """A design beside the best pit.
+
+    Attributes
+    ----------
+    design : Design
+        Its blocks, with those that it couldn't name and rests on.
+    factor : int
+        Of the price, in thousandths.
+    said : str
+        `pit check`'s own words of the design.
+    is_closed : bool
+        Whether it keeps the slopes.
+    worth, bound : str
+        What the design and the best pit are worth at the factor: exact, in units of currency.
+    gap : str or None
+        How far the design is below the bound, at least 0. None where it breaks the slopes: it may be worth more than any pit
+        then, and `repair` has the distance.
+    repair : Repair or None
+        Where it breaks the slopes.
+    optimum : bool array of shape (blocks,)
+        The best pit.
+    pairs : DataFrame
+        The pairs that it breaks: ``id``, ``needs`` (ids of a block that it digs and of a predecessor that it leaves), ``bench`` and
+        ``needs_bench`` (elevations of their centres), ``x``, ``y`` (of the block), ``tonnes`` (of the predecessor).
+    walls : DataFrame
+        As `walls.worst`.
+    benches : DataFrame
+        As `by_bench`.
+    """
+
+    design: Design
+    factor: int
+    said: str
+    is_closed: bool
+    worth: str
+    bound: str
+    gap: str | None
+    repair: Repair | None
+    optimum: Bools
+    pairs: pd.DataFrame
+    walls: pd.DataFrame
+    benches: pd.DataFrame
+
+    def share(self, amount: str) -> float:
+        """An amount as a share of the bound; not a number where the bound is 0."""
+        bound = Decimal(self.bound)
+        return float(Decimal(amount) / bound) if bound else float("nan")
+
+
+def compare(study: Study, design: Design, factor: int = THOUSAND) -> Comparison:
+    """Compares a design with the best pit at a factor (in thousandths), which has been run.
+
+    Raises
+    ------
+    PlanError
+        Where the best pit hasn't been run.
+    NotAccepted
+        Where `pit check` says something else of the design than closed or not.
+    Disagreement
+        Where `pit` and this package's own look-ups contradict each other, or a closed design is worth more than the bound.
+    """
+    resting, optimum = Resting(study), study.mask(factor)
+    design = completed(study, resting, design)
+    certificate = Certificate(study, factor)
+    said, broken = certificate.judge(design.held), resting.broken(design.held)
+    is_closed = agreed(said, broken)
+    bound = study.priced.worth_of(optimum, factor)
+    worth = study.priced.worth_of(design.held, factor)
+    repair = None if is_closed else repaired(certificate, resting, design.held, bound)
+    return Comparison(design, factor, said, is_closed, worth, bound, below(bound, worth) if is_closed else None, repair, optimum,
+                      pairs_of(study, broken), walls.worst(study.model, resting, design.held, broken), by_bench(study, design.held, optimum, factor))
+
+
+def completed(study: Study, resting: Resting, design: Design) -> Design:
+    """A design with the blocks that it rests on and couldn't name: those that no row of the table is for, and those that weigh
+    nothing, as air."""
+    tonnes = study.model.blocks.tonnes.to_numpy(float)
+    whole = resting.mended(design.held, design.unnamed | (tonnes == 0))
+    more = whole & ~design.held
+    if not more.any():
+        return design
+    note = f"{int(more.sum()):,} blocks that the design rests on and can't name were added: air, or rock that the table has no row for ({tonnes[more].sum() / 1e6:,.2f} Mt)"
+    return Design(design.name, whole, design.unnamed, [*design.notes, note])
+
+
+class Certificate:
+    """The certificate of the best pit at a factor, by which `pit check` judges other sets of blocks.
+
+    Raises
+    ------
+    PlanError
+        Where that pit hasn't been run.
+    """
+
+    def __init__(self, study: Study, factor: int) -> None:
+        self.study, self.factor = study, factor
+        study.verify()
+        study.mask(factor)
+
+    def judge(self, held: Bools) -> str:
+        """What `pit check` says of a set of blocks in place of the best pit's.
+
+        Raises
+        ------
+        Disagreement
+            Where the certificate that is kept isn't the one that was accepted.
+        """
+        verdict = self.study.verdict(self.factor)
+        assert verdict is not None           # its mask has been read
+        digest = hashlib.sha256()
+        with tempfile.TemporaryDirectory(prefix="pitplan-") as work:
+            path = Path(work) / "design.cert"
+            with gzip.open(self.study.place(self.factor) / "best.cert.gz", "rb") as old, open(path, "wb") as new:
+                for _ in range(4):
+                    line = old.readline()
+                    digest.update(line)
+                    new.write(line)
+                new.write(b"".join(b"PIT %d\n" % b for b in np.flatnonzero(held).tolist()))
+                while (line := old.readline()).startswith(b"PIT "):
+                    digest.update(line)
+                while line:
+                    digest.update(line)
+                    new.write(line)
+                    line = old.read(PIECE)
+            if digest.hexdigest() != verdict["certificate"]:
+                raise Disagreement(f"{self.study.place(self.factor) / 'best.cert.gz'} isn't the certificate that was accepted", try_this=f"take {self.study.place(self.factor)} away, and pitplan shells again")
+            return self.study.program.run(["check", *self.study.files.words(), "--verbose", path]).strip()
+
+
+def agreed(said: str, broken: tuple[Any, Any, Any]) -> bool:
+    """Whether `pit` says that a design is closed; what this package looked up has to say the same.
+
+    Raises
+    ------
+    NotAccepted
+        Where `pit check` said something else.
+    Disagreement
+        Where the two contradict each other.
+    """
+    pair = re.fullmatch(r"REFUSED NotClosed\((\d+), (\d+)\)", said)
+    blocks, predecessors, _ = broken
+    if pair:
+        here = (blocks == int(pair[1])) & (predecessors == int(pair[2]))
+        if not here.any():
+            raise Disagreement(f"pit check said {said} of the design, and by the slopes that were built that pair isn't broken", try_this="tell the maintainers")
+        return False
+    if said != "REFUSED NotTight" and not said.startswith("ACCEPTED "):
+        raise NotAccepted(f"pit check said {said} of the design", try_this=hint_of(said))
+    if len(blocks):
+        raise Disagreement(f"pit check said {said} of the design: it is closed. By the slopes that were built {len(blocks):,} pairs are broken", try_this="tell the maintainers")
+    return True
+
+
+def below(bound: str, worth: str) -> str:
+    """How far a closed set is below the bound.
+
+    Raises
+    ------
+    Disagreement
+        Where it is above it, which `pit` proves that no closed set is.
+    """
+    gap = Decimal(bound) - Decimal(worth)
+    if gap < 0:
+        raise Disagreement(f"a closed set is worth {worth}, and pit proves that none is worth more than {bound}", try_this="tell the maintainers")
+    return spelled(gap)
+
+
+def repaired(certificate: Certificate, resting: Resting, held: Bools, bound: str) -> Repair:
+    """The least closed set that has a design, and `pit`'s word that it is closed."""
+    study = certificate.study
+    whole = resting.mended(held)
+    if not agreed(certificate.judge(whole), resting.broken(whole)):
+        raise Disagreement("the mended design isn't closed, by pit check", try_this="tell the maintainers")
+    worth = study.priced.worth_of(whole, certificate.factor)
+    more = whole & ~held
+    return Repair(whole, int(more.sum()), float(study.model.blocks.tonnes.to_numpy(float)[more].sum()), worth, below(bound, worth))
+
+
+def pairs_of(study: Study, broken: tuple[Any, Any, Any]) -> pd.DataFrame:
+    """The pairs that a design breaks, in the planner's terms."""
+    blocks, predecessors, _ = broken
+    x, y, z = study.model.xyz()
+    ids = study.model.blocks["id"].to_numpy()
+    return pd.DataFrame({"id": ids[blocks], "needs": ids[predecessors], "bench": z[blocks], "needs_bench": z[predecessors], "x": x[blocks], "y": y[blocks],
+                         "tonnes": study.model.blocks.tonnes.to_numpy(float)[predecessors]})
+
+
+def by_bench(study: Study, held: Bools, optimum: Bools, factor: int) -> pd.DataFrame:
+    """A row for each bench that the design or the best pit has blocks on, from the top.
+
+    Returns
+    -------
+    DataFrame
+        ``bench`` (elevation of the blocks' centres), ``design_t`` and ``best_t`` (tonnes of each), ``left_t`` (in the best pit and
+        not in the design), ``over_t`` (in the design and not in the best pit), ``left_ore_t`` and ``over_ore_t`` (of
+        these what would go to the mill), ``left_worth`` and ``over_worth``.
+    """
+    grid, priced = study.model.grid, study.priced
+    level, tonnes = study.model.blocks.iz.to_numpy(), study.model.blocks.tonnes.to_numpy(float)
+    ore, worth = tonnes * priced.milled(factor), priced.worth(factor)
+
+    def summed(mask: Bools, values: Any) -> Any:
+        return np.bincount(level[mask], values[mask], grid.shape[2])[::-1]
+    left, over = optimum & ~held, held & ~optimum
+    found = pd.DataFrame({"bench": grid.world(0, 0, np.arange(grid.shape[2]))[2][::-1], "design_t": summed(held, tonnes), "best_t": summed(optimum, tonnes),
+                          "left_t": summed(left, tonnes), "over_t": summed(over, tonnes), "left_ore_t": summed(left, ore), "over_ore_t": summed(over, ore),
+                          "left_worth": summed(left, worth), "over_worth": summed(over, worth)})
+    there = np.bincount(level[held | optimum], minlength=grid.shape[2])[::-1] > 0
+    return found[there].reset_index(drop=True)
