@@ -80,8 +80,8 @@ def opened(path: Path) -> IO[bytes]:
         return open(path, "rb")
     except FileNotFoundError:
         raise PlanError("there is no such file", table=path) from None
-    except OSError as error:
-        raise PlanError(f"can't be opened: {error.strerror}", table=path) from None
+    except (OSError, ValueError) as error:   # ValueError: a name with a byte of zeros
+        raise PlanError(f"can't be opened: {getattr(error, 'strerror', None) or error}", table=path) from None
 
 
 def head_of(path: Path, encoding: str = "utf-8-sig", lines: int = 12) -> list[str]:
@@ -193,6 +193,8 @@ def parsed(path: Path, dialect: Dialect, names: Sequence[str], words: Collection
             except pd.errors.ParserWarning:
                 with opened(path) as file:
                     return without_ends(pd.read_csv(file, names=[*names, ""], **given), names, path)
+    except pd.errors.ParserWarning:
+        raise too_long(path, dialect, len(names)) from None
     except pd.errors.EmptyDataError:
         raise PlanError("has no rows below its header line", table=path) from None
     except pd.errors.ParserError as error:
@@ -200,6 +202,15 @@ def parsed(path: Path, dialect: Dialect, names: Sequence[str], words: Collection
     except (UnicodeDecodeError, EOFError, OSError, zlib.error) as error:
         raise PlanError(f"can't be read: {error}", table=path,
                         try_this='save it as "CSV UTF-8", or encoding = "cp1252" in [model]' if isinstance(error, UnicodeDecodeError) else None) from None
+
+
+def too_long(path: Path, dialect: Dialect, width: int) -> PlanError:
+    """The error of the first row that has more cells than the header line."""
+    with opened(path) as file, io.TextIOWrapper(file, dialect.encoding, newline="") as text:
+        for row, cells_of in enumerate(csv.reader(text, delimiter=dialect.separator), -1):
+            if row >= dialect.skip and len(cells_of) > width:
+                return PlanError(f"has {len(cells_of)} cells, and the header line {width}", table=path, row=row, try_this="is there a separator within a number or a name?")
+    return PlanError("has rows with more cells than the header line", table=path)
 
 
 def without_ends(frame: pd.DataFrame, names: Sequence[str], path: Path) -> pd.DataFrame:

@@ -15,7 +15,7 @@ import pytest
 
 import mines
 import pitplan as pp
-from pitplan import cells, recheck, store
+from pitplan import commands_shells, export_csv, recheck, store
 from pitplan.errors import PlanError
 from pitplan.formula import worked_out
 
@@ -144,6 +144,8 @@ def strange(tmp_path_factory):
     mines.written_study(folder, strange_mine(), STRANGE)
     for word in ("build", "shells", "page"):
         pitplan(word, folder)
+    pitplan("phases", "0.6,1.0", folder)
+    pitplan("export", folder, "--to", "csv")
     pitplan("bundle", folder / "bundle", folder)
     return folder
 
@@ -171,15 +173,19 @@ def test_no_cell_that_pitplan_writes_is_a_formula(strange):
             continue                         # the planner's own lines, byte for byte
         with open(path, newline="") as file:
             for row in csv.reader(file):
-                assert not [cell for cell in row if cell.startswith(cells.BEGIN) and not re.fullmatch(r"[+-]?[\d.]+(e[+-]?\d+)?", cell)], (path, row)
+                assert not [cell for cell in row if export_csv.FORMULA.match(cell) and not re.fullmatch(r"[+-]?[\d.]+(e[+-]?\d+)?", cell)], (path, row)
                 found += 1
     assert found > 20
 
 
 def test_ids_are_no_formulas_where_the_table_is_gone(strange, tmp_path):
     shells = pp.Study(strange).shells([600, 1000, 1200])
-    cells.write_csv(shells.of_blocks(), tmp_path / "blocks.csv")
-    kept = pd.read_csv(tmp_path / "blocks.csv")
+    (strange / "t.csv").rename(tmp_path / "t.csv")
+    try:
+        commands_shells.write_tables(shells, {})
+    finally:
+        (tmp_path / "t.csv").rename(strange / "t.csv")
+    kept = pd.read_csv(strange / "out" / "blocks.csv")
     assert kept["id"].str.startswith("'=HYPERLINK").all() and len(kept) == len(shells.study.model)
 
 
