@@ -4,6 +4,7 @@ import pytest
 
 import mines
 import pitplan as pp
+from pitplan import shells
 from pitplan.errors import PlanError
 
 
@@ -23,6 +24,25 @@ def test_a_sample_that_is_not_answered_is_found(monkeypatch):
             raise error
         monkeypatch.setattr(fuzz_studies, "read_study_file", failing)
         assert len(fuzz_studies.run(1)[1]) == 1
+
+
+@pytest.mark.parametrize("share", [float("nan"), float("inf"), -float("inf")])
+def test_a_factor_that_is_no_number_is_refused(share):
+    with pytest.raises(PlanError, match="a factor is"):
+        shells.thousandths(share)
+
+
+def test_a_first_row_with_more_cells_than_the_header_is_told(tmp_path):
+    frame = mines.table(4, 4, 3, 1)
+    lines = frame.to_csv(index=False).splitlines()
+    (tmp_path / "t.csv").write_text("\n".join([lines[0], lines[1] + ",,,,", *lines[2:]]) + "\n")
+    with pytest.raises(PlanError, match="row 2: has 13 cells, and the header line 9"):
+        pp.read_table(tmp_path / "t.csv", size=mines.SIZE)
+
+
+def test_a_name_with_a_byte_of_zeros_is_told():
+    with pytest.raises(PlanError, match="can't be opened"):
+        pp.read_table("\0", size=mines.SIZE)
 
 
 @pytest.mark.parametrize("what, keys", [("widen = 9", {"widen": 9 * 10 ** 18}), ("widen = 100,000", {"widen": 100_000})])
