@@ -144,8 +144,6 @@ def strange(tmp_path_factory):
     mines.written_study(folder, strange_mine(), STRANGE)
     for word in ("build", "shells", "page"):
         pitplan(word, folder)
-    pitplan("phases", "0.6,1.0", folder)
-    pitplan("export", folder, "--to", "csv")
     pitplan("bundle", folder / "bundle", folder)
     return folder
 
