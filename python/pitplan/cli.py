@@ -13,7 +13,7 @@ from rich.markup import escape
 from .console import app, err
 from .errors import Disagreement, MachineError, NotAccepted, PlanError
 
-ORDER = ("init", "build", "slopes", "shells", "plot", "page", "phases", "export", "compare", "risk", "vary", "submit", "status", "task")        # of a working day, for --help
+ORDER = ("init", "build", "slopes", "shells", "plot", "page", "phases", "export", "compare", "risk", "vary", "submit", "status", "task", "bundle", "doctor")  # of a working day, for --help
 NO, WRONG, MACHINE, STOPPED = 1, 3, 4, 130
 
 

@@ -78,6 +78,7 @@ def lines(total: int) -> Told:
 def write_tables(found: Shells, table: pd.DataFrame) -> None:
     """Pit by pit, bench by bench, and the planner's own table with a column more."""
     from . import table_back
+    from .export_csv import safe
     folder = results(found.study)
     table.to_csv(folder / "pit_by_pit.csv", index=False)
     found.benches().to_csv(folder / "benches.csv", index=False)
@@ -87,7 +88,7 @@ def write_tables(found: Shells, table: pd.DataFrame) -> None:
         rows = table_back.write(found, folder / name)
         out.print(f"{folder / name}: the table with a column more, pit_shell, that {rows:,} of its rows have")
     except PlanError as error:
-        found.of_blocks().to_csv(folder / "blocks.csv", index=False)
+        safe(found.of_blocks()).to_csv(folder / "blocks.csv", index=False)
         err.print(f"[yellow]{escape(str(error))}[/yellow]\n{folder / 'blocks.csv'} has the shell of each block by its id instead")
 
 

@@ -3,8 +3,10 @@ from __future__ import annotations
 
 import csv
 import gzip
+import io
 import re
 import warnings
+import zlib
 from collections.abc import Collection, Sequence
 from dataclasses import dataclass
 from pathlib import Path
@@ -19,6 +21,7 @@ from .errors import PlanError
 SEPARATORS = ",;\t"
 THOUSANDS = re.compile(r"[+-]?\d{1,3}(([, ]\d{3})+(\.\d+)?|([. ]\d{3})+,\d+)")
 COMMA_DECIMAL = re.compile(r"([+-]?\d*),(\d+(?:[eE][+-]?\d+)?)")
+SMALL, MOST_TIMES = 1 << 26, 200              # bytes that any table may unpack to, and how many times its size a larger one may
 PLAIN = re.compile(r"[+-]?(\d+\.?\d*|\.\d+)([eE][+-]?\d+)?")
 
 
@@ -33,6 +36,36 @@ class Dialect:
     skip: int = 0
 
 
+class Unpacked(io.RawIOBase):
+    """The bytes of a packed table, which is refused where it unpacks to far more than a table does: a few bytes can stand for
+    more than any machine holds."""
+
+    def __init__(self, path: Path) -> None:
+        self.path, self.file = path, gzip.open(path, "rb")
+        self.left = max(SMALL, MOST_TIMES * path.stat().st_size)
+
+    def readable(self) -> bool:
+        return True
+
+    def readinto(self, buffer: Any) -> int:
+        """Unpacks the next bytes.
+
+        Raises
+        ------
+        PlanError
+            Where they are more than `MOST_TIMES` the packed ones.
+        """
+        count = self.file.readinto(buffer)
+        self.left -= count
+        if self.left < 0:
+            raise PlanError(f"unpacks to more than {MOST_TIMES} times its size", table=self.path, try_this="is it a table? Unpack it, and look")
+        return count
+
+    def close(self) -> None:
+        self.file.close()
+        super().close()
+
+
 def opened(path: Path) -> IO[bytes]:
     """The table's bytes, unpacked where its name ends in ``.gz``.
 
@@ -43,12 +76,12 @@ def opened(path: Path) -> IO[bytes]:
     """
     try:
         if path.suffix.lower() == ".gz":
-            return cast(IO[bytes], gzip.open(path, "rb"))
+            return cast(IO[bytes], io.BufferedReader(Unpacked(path), 1 << 18))
         return open(path, "rb")
     except FileNotFoundError:
         raise PlanError("there is no such file", table=path) from None
-    except OSError as error:
-        raise PlanError(f"can't be opened: {error.strerror}", table=path) from None
+    except (OSError, ValueError) as error:   # ValueError: a name with a byte of zeros
+        raise PlanError(f"can't be opened: {getattr(error, 'strerror', None) or error}", table=path) from None
 
 
 def head_of(path: Path, encoding: str = "utf-8-sig", lines: int = 12) -> list[str]:
@@ -62,7 +95,7 @@ def head_of(path: Path, encoding: str = "utf-8-sig", lines: int = 12) -> list[st
     try:
         with opened(path) as file:
             raw = [line for line in (file.readline(1 << 20) for _ in range(lines)) if line]
-    except (OSError, EOFError) as error:
+    except (OSError, EOFError, zlib.error) as error:
         raise PlanError(f"can't be read: {error}", table=path) from None
     start = raw[0][:4] if raw else b""
     if start[:2] in (b"\xff\xfe", b"\xfe\xff"):
@@ -162,23 +195,35 @@ def parsed(path: Path, dialect: Dialect, names: Sequence[str], words: Collection
     """The cells of a table by pandas; a row with more cells than the header line is told, never cut off."""
     given: dict[str, Any] = dict(sep=dialect.separator, decimal=dialect.decimal, encoding=dialect.encoding, header=None,
                                  skiprows=1 + dialect.skip, skipinitialspace=True, keep_default_na=False, na_values={name: [""] for name in ("", *names) if name not in words},
-                                 skip_blank_lines=False, index_col=False, dtype={name: str for name in words if name in names},
-                                 compression="gzip" if path.suffix.lower() == ".gz" else None)
+                                 skip_blank_lines=False, index_col=False, dtype={name: str for name in words if name in names})
     try:
         with warnings.catch_warnings():
             warnings.simplefilter("ignore", pd.errors.DtypeWarning)      # number_column tells the cell
             warnings.simplefilter("error", pd.errors.ParserWarning)
             try:
-                return pd.read_csv(path, names=list(names), **given)
+                with opened(path) as file:
+                    return pd.read_csv(file, names=list(names), **given)
             except pd.errors.ParserWarning:
-                return without_ends(pd.read_csv(path, names=[*names, ""], **given), names, path)
+                with opened(path) as file:
+                    return without_ends(pd.read_csv(file, names=[*names, ""], **given), names, path)
+    except pd.errors.ParserWarning:
+        raise too_long(path, dialect, len(names)) from None
     except pd.errors.EmptyDataError:
         raise PlanError("has no rows below its header line", table=path) from None
     except pd.errors.ParserError as error:
         raise uneven(path, str(error), len(names)) from None
-    except (UnicodeDecodeError, EOFError, OSError) as error:
+    except (UnicodeDecodeError, EOFError, OSError, zlib.error) as error:
         raise PlanError(f"can't be read: {error}", table=path,
                         try_this='save it as "CSV UTF-8", or encoding = "cp1252" in [model]' if isinstance(error, UnicodeDecodeError) else None) from None
+
+
+def too_long(path: Path, dialect: Dialect, width: int) -> PlanError:
+    """The error of the first row that has more cells than the header line."""
+    with opened(path) as file, io.TextIOWrapper(file, dialect.encoding, newline="") as text:
+        for row, cells_of in enumerate(csv.reader(text, delimiter=dialect.separator), -1):
+            if row >= dialect.skip and len(cells_of) > width:
+                return PlanError(f"has {len(cells_of)} cells, and the header line {width}", table=path, row=row, try_this="is there a separator within a number or a name?")
+    return PlanError("has rows with more cells than the header line", table=path)
 
 
 def without_ends(frame: pd.DataFrame, names: Sequence[str], path: Path) -> pd.DataFrame:

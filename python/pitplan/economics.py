@@ -242,7 +242,7 @@ def row_at(model: Model, block: int) -> int | None:
 def in_whole(name: str, values: Floats, rounding: Decimal, model: Model) -> Whole:
     """Amounts in whole multiples of `rounding`, half to even."""
     most = float(MOST)
-    if np.abs(values).max(initial=0.0) > most:
+    if not np.abs(values).max(initial=0.0) <= most:            # so also where a product is no number
         at = int(np.argmax(np.abs(values)))
         raise PlanError(f"a {name} of {values[at]:g} for one block: is a unit wrong?", table=model.table, row=row_at(model, at))
     whole: Whole = np.rint(values / float(rounding)).astype(np.int64)

@@ -25,7 +25,16 @@ class PlanError(Exception):
         self.what, self.table, self.row, self.column, self.try_this = what, table, row, column, try_this
         place = ", ".join(part for part in (str(table) if table else "", f"row {row + 2}" if row is not None else "",
                                             f"column {column}" if column else "") if part)
-        super().__init__((place + ": " if place else "") + what + (f"\n  try: {try_this}" if try_this else ""))
+        super().__init__(in_a_line((place + ": " if place else "") + what) + (f"\n  try: {in_a_line(try_this)}" if try_this else ""))
+
+
+def in_a_line(text: str) -> str:
+    """A text of a stranger's words in one line, without bytes that a terminal would obey.
+
+    >>> in_a_line("a" + chr(10) + "b" + chr(27))
+    'a\\\\nb\\\\x1b'
+    """
+    return "".join(c if c.isprintable() else c.encode("unicode_escape").decode() for c in text)
 
 
 class NotAccepted(PlanError):

@@ -16,6 +16,7 @@ if TYPE_CHECKING:
 
 Bools = npt.NDArray[np.bool_]
 AIR = "air"                                  # the rock of a place within the model that the planner calls air
+LARGEST = 1 << 24                            # blocks that pit reads
 
 
 def enclosed(columns: Bools) -> Bools:
@@ -125,6 +126,8 @@ def widen(model: Model, n: int) -> None:
     """Adds n columns of barren rock on each side: the nearest column of the model again, which is never ore."""
     g = model.grid
     nx, ny, nz = g.shape
+    if (nx + 2 * n) * (ny + 2 * n) > LARGEST:
+        raise PlanError(f"[model] widen = {n:,} makes more blocks than pit reads", try_this="widen = 10: so many columns on each side")
     i, j = (v.ravel() for v in np.meshgrid(np.arange(-n, nx + n), np.arange(-n, ny + n), indexing="ij"))
     outside = (i < 0) | (i >= nx) | (j < 0) | (j >= ny)
     i, j = i[outside], j[outside]

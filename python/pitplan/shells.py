@@ -30,7 +30,7 @@ def thousandths(share: float) -> int:
     >>> thousandths(0.85)
     850
     """
-    if isinstance(share, bool) or not isinstance(share, (int, float, np.floating, np.integer)):
+    if isinstance(share, bool) or not isinstance(share, (int, float, np.floating, np.integer)) or not abs(share) < float("inf"):
         raise PlanError(f"a factor is {share!r}, and has to be a share of the price, as 0.85")
     found = round(float(share) * THOUSAND)
     if abs(found - share * THOUSAND) > 1e-6 or not 0 <= found <= LARGEST_FACTOR:

@@ -2,6 +2,10 @@
 from __future__ import annotations
 
 import json
+import zipfile
+import zlib
+from collections.abc import Iterator
+from contextlib import contextmanager
 from pathlib import Path
 from typing import Any
 
@@ -10,6 +14,7 @@ import numpy.typing as npt
 import pandas as pd
 
 from .amounts import Priced, rounding_of
+from .errors import PlanError
 from .grid import Grid
 from .model import Model
 
@@ -41,6 +46,22 @@ def save(path: Path, model: Model, priced: Priced, region: npt.NDArray[np.int64]
     np.savez(path, told=np.frombuffer(json.dumps(told).encode(), np.uint8), **arrays)
 
 
+@contextmanager
+def opened(path: Path) -> Iterator[Any]:
+    """The arrays of a file.
+
+    Raises
+    ------
+    PlanError
+        Where they aren't those of `save`, as where one of them would need code to be read.
+    """
+    try:
+        with np.load(path, allow_pickle=False) as file:
+            yield file
+    except (ValueError, KeyError, TypeError, IndexError, EOFError, zipfile.BadZipFile, zlib.error):
+        raise PlanError("isn't a model that pitplan wrote", table=path, try_this="pitplan build") from None
+
+
 def told_of(file: Any) -> dict[str, Any]:
     told: dict[str, Any] = json.loads(bytes(file["told"]).decode())
     return told
@@ -53,7 +74,7 @@ def three(values: list[Any]) -> tuple[Any, Any, Any]:
 
 def load_model(path: Path) -> Model:
     """The model that `save` wrote."""
-    with np.load(path, allow_pickle=False) as file:
+    with opened(path) as file:
         told = told_of(file)
         columns = {name: file[COLUMN + name] if COLUMN + name in file.files else bytes_as_words(file[WORDS + name], told["blocks"]) for name in told["order"]}
         grid = Grid(three(told["origin"]), three(told["size"]), three(told["shape"]), told["rotation"])
@@ -62,7 +83,7 @@ def load_model(path: Path) -> Model:
 
 def load_priced(path: Path) -> Priced:
     """What the blocks bring and cost; the planner's own columns aren't read."""
-    with np.load(path, allow_pickle=False) as file:
+    with opened(path) as file:
         told = told_of(file)
         metal = {name[len(METAL):]: file[name] for name in file.files if name.startswith(METAL)}
         grade = {name[len(GRADE):]: file[name] for name in file.files if name.startswith(GRADE)}
@@ -71,6 +92,6 @@ def load_priced(path: Path) -> Priced:
 
 def load_region(path: Path) -> npt.NDArray[np.int64]:
     """The region of slopes of each block: 0 is "default", the others in the order of ``study.toml``."""
-    with np.load(path, allow_pickle=False) as file:
+    with opened(path) as file:
         region: npt.NDArray[np.int64] = file["region"].astype(np.int64)
         return region

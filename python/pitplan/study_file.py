@@ -5,7 +5,7 @@ import hashlib
 import json
 import re
 import tomllib
-from collections.abc import Mapping
+from collections.abc import Callable, Mapping
 from dataclasses import dataclass, field, fields
 from pathlib import Path
 from typing import Any
@@ -121,6 +121,9 @@ def checked(path: Path, told: Mapping[str, Any]) -> StudyFile:
     shells = told.get("shells", {})
     known("[shells]", shells, ("factors", *RATES))
     rates = {name: shells[name] for name in RATES if name in shells}
+    for name, value in rates.items():
+        if not is_number(value):
+            raise PlanError(f"[shells] {name} is {value!r}, and has to be a number")
     Rates(rates.get("mining_rate"), rates.get("mill_rate"), rates.get("discount", 0.1))
     digest = hashlib.sha256(json.dumps([told[name] for name in SECTIONS[:3]], sort_keys=True, default=str).encode()).hexdigest()
     return StudyFile(path, table, keys, economics_of(told["economics"]), made("slopes", Slopes, told["slopes"]), series(shells.get("factors")),
@@ -137,16 +140,40 @@ def known(where: str, found: Mapping[str, Any], names: tuple[str, ...]) -> None:
 def made(section: str, kind: Any, found: Mapping[str, Any]) -> Any:
     """A dataclass of the keys of a section."""
     known(f"[{section}]", found, tuple(f.name for f in fields(kind) if f.init))
-    for f in fields(kind):
-        kept = found.get(f.name)
-        if str(f.type) == "bool" and not isinstance(kept, (bool, type(None))):
-            raise PlanError(f"[{section}] {f.name} is {kept!r}, and has to be true or false")
-        if str(f.type) in ("int", "float", "int | None") and (isinstance(kept, bool) or not isinstance(kept, (int, float, type(None)))):
-            raise PlanError(f"[{section}] {f.name} is {kept!r}, and has to be a number")
+    of_kind(f"[{section}]", kind, found)
     try:
         return kind(**found)
     except TypeError as error:
         raise PlanError(f"[{section}]: {error}".replace("__init__() ", "")) from None
+
+
+def of_kind(where: str, kind: Any, found: Mapping[str, Any]) -> None:
+    """Refuses values of another kind than the fields of a dataclass say: words for a number, or a number for a list."""
+    for f in fields(kind):
+        told = KINDS.get(str(f.type).removesuffix(" | None"))
+        if told and f.name in found and not told[1](found[f.name]):
+            raise PlanError(f"{where} {f.name} is {found[f.name]!r}, and has to be {told[0]}")
+
+
+def is_number(value: object) -> bool:
+    return isinstance(value, (int, float)) and not isinstance(value, bool) and abs(value) < float("inf")
+
+
+def is_words(value: object) -> bool:
+    return isinstance(value, list) and all(isinstance(word, str) for word in value)
+
+
+# What a value of a field may be, by how the field is typed: in words, and whether a value of a TOML file is one.
+KINDS: dict[str, tuple[str, Callable[[Any], bool]]] = {
+    "bool": ("true or false", lambda value: isinstance(value, bool)),
+    "int": ("a whole number", lambda value: isinstance(value, int) and not isinstance(value, bool)),
+    "float": ("a number", is_number),
+    "str": ("words in quotes", lambda value: isinstance(value, str)),
+    "Sequence[str]": ('a list of words, as ["a", "b"]', is_words),
+    "Sequence[float]": ("a list of numbers", lambda value: isinstance(value, list) and all(map(is_number, value))),
+    "Mapping[str, str]": ('a table of words, as { x = "XC" }', lambda value: isinstance(value, dict) and is_words(list(value.values()))),
+    "Mapping[str, Any]": ("a table, as { tonnes = 10400 }", lambda value: isinstance(value, dict)),
+}
 
 
 def economics_of(found: Mapping[str, Any]) -> Economics:
@@ -157,6 +184,7 @@ def economics_of(found: Mapping[str, Any]) -> Economics:
     needed = ("name", "grade", "price")
     for m in metals:
         known("[economics] metals", m, tuple(f.name for f in fields(Metal)))
+        of_kind(f"[economics] metal {m.get('name', '')}", Metal, m)
         for key in needed:
             if key not in m:
                 raise PlanError(f"[economics] metal {m.get('name', '')} has no {key}", try_this=", ".join(needed))
@@ -174,7 +202,7 @@ def series(found: Any) -> list[int]:
     if isinstance(found, dict):
         known("[shells] factors", found, SERIES)
         missing = [key for key in SERIES if key not in found]
-        if missing or not all(isinstance(found[key], (int, float)) for key in SERIES):
+        if missing or not all(is_number(found[key]) for key in SERIES):
             raise PlanError("[shells] factors needs three numbers: from, to, step", try_this="factors = { from = 0.30, to = 1.20, step = 0.05 }")
         return factors(*(float(found[key]) for key in SERIES))
     if isinstance(found, list):

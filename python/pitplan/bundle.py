@@ -1,0 +1,141 @@
+"""What an auditor gets: all that the numbers rest on, with two scripts that check it again without this package."""
+from __future__ import annotations
+
+import json
+import re
+import shutil
+from dataclasses import asdict
+from importlib import resources
+from pathlib import Path
+from typing import TYPE_CHECKING, Any
+
+import numpy as np
+import pandas as pd
+
+from . import __version__
+from .amounts import THOUSAND
+from .csv_text import Dialect
+from .errors import PlanError
+from .program import sha256
+from .study import COLUMNS, READ, made_whole
+
+if TYPE_CHECKING:
+    from .shells import Shells
+    from .study import Study
+
+SUMS = "SHA256SUMS"
+SCRIPTS = ("recheck.py", "plainly.py")
+KEPT = ("factor", "count", "worth", "certificate", "pit", "seconds", "host")
+README = """A bundle of pitplan %(version)s: the ultimate pits of %(table)s, and all that they rest on.
+
+    python3 recheck.py /path/to/pit              checks all of it again, by Python's standard library and a pit that you trust
+    python3 recheck.py --plainly /path/to/pit    and each certificate by plainly.py too, which shares nothing with pit: slow
+    sha256sum -c SHA256SUMS                      the digests alone
+
+study.toml           prices, recoveries, costs, slopes and factors, as the planner wrote them
+table/               the planner's table of blocks, byte for byte
+model/               what pit was given: blocks, predecessors, settings, slopes
+certificates/        for each factor the pit, and the flow that proves it
+verdicts.json        what pit check said of each, when and where
+tables/              pit by pit, bench by bench, and the row and the shell of each block
+facts.json           how the table was read, the grid, the versions of the programs
+
+What this shows, and what it doesn't: the page for auditors, docs/AUDIT.md, of the repository of pit.
+"""
+
+
+def write(shells: Shells, folder: str | Path, told: Path, dialect: Dialect, rates: dict[str, Any] | None = None) -> str:
+    """Writes a bundle, in a folder of its own that is renamed when it is whole.
+
+    Parameters
+    ----------
+    shells : Shells
+        Checked as they are read: files whose digests don't hold aren't bundled.
+    folder : str or Path
+        The new folder.
+    told : Path
+        The study.toml.
+    dialect : Dialect
+        How the table is written.
+    rates : dict, optional
+        For `Shells.table`.
+
+    Returns
+    -------
+    str
+        The sha256 of its SHA256SUMS: sent to the auditor by another way, it stands for all of the bundle.
+
+    Raises
+    ------
+    PlanError
+        Where the folder is there already, or the study was made of no file, or its table isn't there any more.
+    """
+    folder, study = Path(folder), shells.study
+    if folder.exists():
+        raise PlanError(f"{folder} is there already", try_this="another name, or take it away")
+    source = study.manifest["source"]
+    if not source or not Path(source["table"]).is_file() or sha256(Path(source["table"])) != source["sha256"]:
+        raise PlanError("the table that the study was built from isn't there any more", table=source and source["table"], try_this="pitplan build, pitplan shells")
+    with made_whole(folder) as work:
+        name = f"table/{plain_name(Path(source['table']).name)}"
+        copy_files(study, work, {told: "study.toml", Path(source["table"]): name})
+        write_certificates(shells, work)
+        write_tables(shells, work, rates or {})
+        (work / "facts.json").write_text(json.dumps(facts_of(study, name, dialect), indent=1))
+        (work / "README.txt").write_text(README % {"version": __version__, "table": Path(name).name})
+        names = sorted(path.relative_to(work).as_posix() for path in work.rglob("*") if path.is_file())
+        (work / SUMS).write_text("".join(f"{sha256(work / it)}  {it}\n" for it in names))
+        return sha256(work / SUMS)
+
+
+def plain_name(name: str) -> str:
+    """A file's name of letters, digits, points and lines alone: it stands in a list, and is typed.
+
+    >>> plain_name("mine 7 (final).csv")
+    'mine_7__final_.csv'
+    """
+    return re.sub(r"[^\w.-]", "_", name, flags=re.ASCII).lstrip(".-") or "table.csv"
+
+
+def copy_files(study: Study, work: Path, more: dict[Path, str]) -> None:
+    """The planner's two files, those of the model that `pit` reads, and the scripts."""
+    for part in ("model", "table", "tables", "certificates"):
+        (work / part).mkdir()
+    names: list[str] = [name for name in study.manifest["files"] if name in READ or name.endswith(".toml")]
+    copies = dict(more)
+    for part in [*names, "manifest.json"]:
+        copies[study.where / part] = f"model/{part}"
+    for source, name in copies.items():
+        shutil.copyfile(source, work / name)
+    for name in SCRIPTS:
+        (work / name).write_text(resources.files(__package__).joinpath(name).read_text("utf-8"), "utf-8")
+
+
+def write_certificates(shells: Shells, work: Path) -> None:
+    """The certificates, and what `pit check` said of them."""
+    verdicts = []
+    for verdict in shells.verdicts:
+        name = f"certificates/f{verdict['factor']:05d}.cert.gz"
+        shutil.copyfile(shells.study.place(verdict["factor"]) / "best.cert.gz", work / name)
+        entry: dict[str, object] = {key: value for key, value in verdict.items() if key in KEPT}
+        entry["file"] = name
+        verdicts.append(entry)
+    (work / "verdicts.json").write_text(json.dumps(verdicts, indent=1))
+
+
+def write_tables(shells: Shells, work: Path, rates: dict[str, Any]) -> None:
+    """Numbers alone: no cell of a stranger's table comes into these."""
+    shells.table(**rates).to_csv(work / "tables" / "pit_by_pit.csv", index=False)
+    shells.benches().to_csv(work / "tables" / "benches.csv", index=False)
+    row = shells.study.model.blocks["row"].to_numpy()
+    shares = np.array([*(factor / THOUSAND for factor in shells.factors), np.nan])
+    pd.DataFrame({"block": np.arange(len(row)), "row": np.where(row >= 0, row + 2, 0), "shell": shares[shells.shell]}).to_csv(work / "tables" / "blocks.csv", index=False)
+
+
+def facts_of(study: Study, name: str, dialect: Dialect) -> dict[str, Any]:
+    """How the table was read."""
+    model, used = study.model, study.model.row_block[study.model.row_block >= 0]
+    return {"pitplan": __version__, "pit": study.manifest["pit"], "table": name, "sha256": study.manifest["source"]["sha256"], "dialect": asdict(dialect),
+            "columns": model.columns, "depth": model.depth, "blocks": len(model), "pairs": study.manifest["pairs"], "currency": study.manifest["currency"],
+            "settings": list(COLUMNS), "has_sub_blocks": bool(len(np.unique(used)) < len(used)),
+            "grid": {"origin": list(model.grid.origin), "size": list(model.grid.size), "shape": list(model.grid.shape), "rotation": model.grid.rotation}}

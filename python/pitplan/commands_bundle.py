@@ -1,0 +1,20 @@
+"""`pitplan bundle`."""
+from __future__ import annotations
+
+from pathlib import Path
+
+import typer
+from rich.markup import escape
+
+from .console import STUDY, app, described, out, shells_of
+
+
+@app.command()
+def bundle(target: Path = typer.Argument(..., metavar="DIR", help="The new folder."), folder: Path = STUDY) -> None:
+    """All that the numbers rest on, with scripts that check it again: for an auditor."""
+    from .bundle import write
+    told = described(folder)
+    shells, rates = shells_of(folder)
+    digest = write(shells, target, told.path, told.keys.dialect(told.table), rates)
+    out.print(escape(f"{target}: {len(shells)} proved pits, with all that they rest on; python3 {target}/recheck.py PIT checks it again"))
+    out.print(f"tell the auditor by another way: sha256 of SHA256SUMS is\n{digest}", soft_wrap=True)

@@ -1,0 +1,402 @@
+#!/usr/bin/env python3
+"""Checks a certificate of a pit without `pit`: slowly, by Python's standard library alone (3.9 or later).
+
+    python3 plainly.py --prec FILE (--upit FILE | --blocks FILE --settings FILE) CERTIFICATE
+
+The answer is a line as `pit check` prints it: ACCEPTED count worth (status 0), REFUSED why (1), or fault: certificate why
+(3). A certificate whose name ends in .gz is unpacked as it is read.
+
+What ACCEPTED says, over the model that these files denote: the pit holds each predecessor of each of its blocks, and no
+such set of blocks is worth more. The proof is the flow of the certificate. Ore gives no more than it is worth, waste takes
+no more than it costs, and each block passes on what it gets. So the ore of any pit pays its own waste at least out of this
+flow, and no pit is worth more than all ore less the flow; this pit is worth that.
+
+This file was written from docs/FORMATS.md of pit, and has no line in common with it.
+"""
+from __future__ import annotations
+
+import argparse
+import gzip
+import re
+import sys
+from array import array
+from collections.abc import Iterator, Sequence
+from fractions import Fraction
+from typing import IO, cast
+
+LINE, WHOLE_128 = 65536, 1 << 127
+MOST_BLOCKS, MOST_PAIRS = 1 << 24, 1 << 27
+MICRO, NANO = 10 ** 6, 10 ** 9
+SPLIT = re.compile(rb"[ \t:\r]+")
+WHOLE = re.compile(rb"[0-9]{1,39}")
+SIGNED = re.compile(rb"[+-]?[0-9]{1,39}")
+DECIMAL = re.compile(rb"([+-]?)(?=\.?[0-9])([0-9]*)(?:\.([0-9]*))?(?:[eE]([+-]?[0-9]+))?")
+SPELLED = re.compile(rb"0|-?[1-9][0-9]*")
+SETTING = re.compile(r"\s*(\w+)\s*=\s*(\d+)\s*(?:#.*)?")
+KINDS = (b"PIT", b"SOURCE", b"REST", b"SINK", b"END")
+
+
+class Wrong(Exception):
+    """A file of the model can't be read: nothing is said of the certificate."""
+
+
+class Refused(Exception):
+    """The certificate proves nothing, and why."""
+
+
+class Fault(Exception):
+    """The certificate isn't spelled as a certificate, and where."""
+
+
+def opened(name: str) -> IO[bytes]:
+    return cast(IO[bytes], gzip.open(name, "rb")) if name.endswith(".gz") else open(name, "rb")
+
+
+def records(name: str) -> Iterator[tuple[int, list[bytes]]]:
+    """The lines of a file of the model that have a record: the number of the line, and its fields."""
+    with opened(name) as file:
+        number = 0
+        while True:
+            line = file.readline(LINE + 2)
+            if not line:
+                return
+            number += 1
+            if len(line.rstrip(b"\n")) > LINE:
+                raise Wrong("%s, line %d is too long" % (name, number))
+            fields = [field for field in SPLIT.split(line.rstrip(b"\n")) if field]
+            if fields and not fields[0].startswith(b"%"):
+                yield number, fields
+
+
+def whole(field: bytes, below: int, where: str) -> int:
+    """A field as a whole number below a bound."""
+    if not WHOLE.fullmatch(field) or int(field) >= below:
+        raise Wrong("%s: %r is no whole number below %d" % (where, field.decode(errors="replace"), below))
+    return int(field)
+
+
+def millionths(field: bytes, where: str) -> int:
+    """A decimal in millionths, rounded to the nearest, ties away from zero."""
+    found = DECIMAL.fullmatch(field)
+    if not found:
+        raise Wrong("%s: %r is no decimal" % (where, field.decode(errors="replace")))
+    sign, left, right, power = found.groups()
+    right, power = right or b"", int(power or 0)
+    if len(left) + len(right) > 36 or abs(power) > 40:
+        raise Wrong("%s: %r has too many digits" % (where, field.decode()))
+    exact = Fraction(int(left + right), 10 ** len(right)) * Fraction(10) ** power * MICRO
+    nearest = (2 * exact.numerator + exact.denominator) // (2 * exact.denominator)
+    if nearest > 10 ** 12 * MICRO:
+        raise Wrong("%s: %r is above 10^12" % (where, field.decode()))
+    return -nearest if sign == b"-" else nearest
+
+
+def read_settings(name: str) -> list[int]:
+    """The columns of a priced model, of lines KEY = NUMBER; other keys of pit's settings aren't looked at."""
+    found: dict[str, int] = {}
+    with open(name, encoding="utf-8") as file:
+        for line in file:
+            setting = SETTING.fullmatch(line.rstrip("\n"))
+            if setting:
+                found[setting[1]] = int(setting[2])
+    if "revenue" in found and "cost" in found and not {"processing", "mining"} & set(found):
+        return [found["revenue"], found["cost"]]
+    if {"revenue", "processing", "mining"} <= set(found) and "cost" not in found:
+        return [found["revenue"], found["processing"], found["mining"]]
+    raise Wrong("%s names neither revenue and cost nor revenue, processing and mining" % name)
+
+
+def read_blocks(name: str, columns: list[int]) -> list[list[int]]:
+    """For each column of prices, what each block has there, in millionths."""
+    kept: dict[int, list[int]] = {}
+    for number, fields in records(name):
+        where = "%s, line %d" % (name, number)
+        if len(kept) >= MOST_BLOCKS:
+            raise Wrong(where + ": too many blocks")
+        if len(fields) <= 4 + max(columns):
+            raise Wrong(where + ": a column is missing")
+        block = whole(fields[0], 1 << 64, where)
+        if block in kept:
+            raise Wrong(where + ": a second record for the block")
+        for field in fields[1:4]:
+            if not SIGNED.fullmatch(field) or not -(1 << 31) <= int(field) < 1 << 31:
+                raise Wrong(where + ": a coordinate is no whole number of 32 bits")
+        kept[block] = [millionths(fields[4 + column], where) for column in columns]
+        if kept[block][0] < 0:
+            raise Wrong(where + ": a revenue below 0")
+    if any(block >= len(kept) for block in kept):
+        raise Wrong("%s: the blocks aren't numbered from 0 to %d" % (name, len(kept) - 1))
+    return [[kept[block][i] for block in range(len(kept))] for i in range(len(columns))]
+
+
+def read_values(name: str) -> list[int]:
+    """What each block of a .upit file is worth, in millionths."""
+    values: list[int] = []
+    count: int | None = None
+    is_header, seen = True, set[int]()
+    for number, fields in records(name):
+        where = "%s, line %d" % (name, number)
+        if is_header:
+            if fields[0] == b"TYPE" and fields[1:2] != [b"UPIT"]:
+                raise Wrong(where + ": the type isn't UPIT")
+            if fields[0] == b"NBLOCKS":
+                found = whole(fields[1] if len(fields) > 1 else b"", MOST_BLOCKS + 1, where)
+                if count not in (None, found):
+                    raise Wrong(where + ": another number of blocks")
+                count = found
+            if fields[0] == b"OBJECTIVE_FUNCTION":
+                if count is None:
+                    raise Wrong(where + ": no number of blocks before it")
+                is_header, values = False, [0] * count
+            continue
+        if fields == [b"EOF"]:
+            break
+        if len(fields) != 2:
+            raise Wrong(where + ": a value has two fields")
+        block = whole(fields[0], len(values), where)
+        if block in seen:
+            raise Wrong(where + ": a second record for the block")
+        seen.add(block)
+        values[block] = millionths(fields[1], where)
+    if is_header:
+        raise Wrong("%s has no OBJECTIVE_FUNCTION" % name)
+    return values
+
+
+class Predecessors:
+    """The predecessors of each block, in one array."""
+
+    def __init__(self, name: str, count: int) -> None:
+        self.listed, self.first, self.behind = array("I"), array("Q", bytes(8 * count)), array("Q", bytes(8 * count))
+        seen = bytearray(count)
+        for number, fields in records(name):
+            where = "%s, line %d" % (name, number)
+            block = whole(fields[0], count, where)
+            if len(fields) < 2 or whole(fields[1], 1 << 64, where) != len(fields) - 2:
+                raise Wrong(where + ": a wrong number of predecessors")
+            if seen[block]:
+                raise Wrong(where + ": a second record for the block")
+            seen[block] = 1
+            if len(self.listed) + len(fields) - 2 > MOST_PAIRS:
+                raise Wrong(where + ": too many predecessors")
+            self.first[block] = len(self.listed)
+            self.listed.extend(sorted({whole(field, count, where) for field in fields[2:]} - {block}))
+            self.behind[block] = len(self.listed)
+
+    def of(self, block: int) -> Sequence[int]:
+        return self.listed[self.first[block]:self.behind[block]]
+
+
+def worths_of(price: list[bytes], table: list[list[int]], values: list[int] | None) -> list[int]:
+    """What each block is worth, in billionths, by the price line of a certificate: exact whole numbers."""
+    if values is not None:
+        if price != [b"OBJECTIVE"]:
+            raise Fault("WrongPrice")
+        return [1000 * value for value in values]
+    if len(table) == 3:
+        if len(price) != 2:
+            raise Fault("WrongPrice")
+        k = int(price[1])
+        return [max(k * revenue - 1000 * treating, 0) - 1000 * digging for revenue, treating, digging in zip(*table)]
+    if len(price) != 1 or price == [b"OBJECTIVE"]:
+        raise Fault("WrongPrice")
+    k = int(price[0])
+    return [k * revenue - 1000 * cost for revenue, cost in zip(*table)]
+
+
+def fits(*numbers: int) -> bool:
+    return all(-WHOLE_128 <= number < WHOLE_128 for number in numbers)
+
+
+class Certificate:
+    """The lines of a certificate, one after the other, with the faults that FORMATS names."""
+
+    def __init__(self, name: str) -> None:
+        self.file, self.number = opened(name), 0
+
+    def line(self) -> list[bytes]:
+        """The words of the next line."""
+        line = self.file.readline(LINE + 2)
+        self.number += 1
+        if len(line.rstrip(b"\n")) > LINE:
+            raise self.text()
+        if not line.endswith(b"\n"):
+            raise Fault("Truncated")
+        return line[:-1].split(b" ")
+
+    def text(self) -> Fault:
+        return Fault("Text(%d)" % self.number)
+
+    def whole(self, word: bytes, most: int | None = None) -> int:
+        """A number as certificates spell it, and of a block that there is one."""
+        if not SPELLED.fullmatch(word) or not fits(int(word)) or (most is not None and not 0 <= int(word) <= most):
+            raise Fault("Number(%d)" % self.number)
+        return int(word)
+
+    def header(self) -> tuple[int, list[bytes], str]:
+        """The number of blocks, the words of the price, and the group."""
+        first = self.line()
+        if first not in ([b"PITCERT", b"1"], [b"PITCERT", b"2"]):
+            raise self.text()
+        blocks = self.line()
+        if len(blocks) != 2 or blocks[0] != b"BLOCKS":
+            raise self.text()
+        count = self.whole(blocks[1])
+        price = self.line()
+        is_mill = len(price) == 3 and price[1] == b"MILL"
+        if price[0] != b"PRICE" or len(price) != (3 if is_mill else 2) or is_mill != (first[1] == b"2"):
+            raise self.text()
+        if price[1] != b"OBJECTIVE":
+            self.whole(price[-1], 10_000)
+        group = self.line()
+        if len(group) != 2 or group[0] != b"GROUP" or group[1] not in (b"WORTH", b"PAIR", b"SCALED"):
+            raise self.text()
+        return count, price[1:], group[1].decode()
+
+
+class Check:
+    """A check of one certificate over one model."""
+
+    def __init__(self, certificate: Certificate, rests: Predecessors, worths: list[int], group: str) -> None:
+        self.certificate, self.rests, self.group = certificate, rests, group
+        self.worths = worths
+        n = len(worths)
+        if group == "PAIR":
+            self.amounts = [(worth, -1) for worth in worths]
+        elif group == "SCALED":
+            self.amounts = [(worth * (n + 1) - 1, 0) for worth in worths]
+        else:
+            self.amounts = [(worth, 0) for worth in worths]
+        ore = [sum(part) for part in zip(*[a for a in self.amounts if a > (0, 0)])] or [0, 0]
+        if not all(fits(*a) for a in self.amounts) or not fits(*ore):
+            raise Wrong("the amounts are too large")
+        self.ore = ore                       # what is left of it: less what the source has given so far
+        self.pit: list[int] = []
+        self.is_in, self.dug = bytearray(n), [0, 0]
+        self.balance = [[0, 0] for _ in range(n)]
+
+    def run(self) -> None:
+        """Reads all lines: returns where the certificate holds, else raises Fault or Refused."""
+        before: tuple[int, ...] = (-1,)
+        is_closed = False
+        while True:
+            words = self.certificate.line()
+            place, blocks, amount = self.parsed(words)
+            if place <= before:
+                raise Fault("OutOfOrder(%d)" % self.certificate.number)
+            before = place
+            if words[0] == b"REST" and blocks[1] not in self.rests.of(blocks[0]):
+                raise Fault("UnknownPair(%d)" % self.certificate.number)
+            if words[0] != b"PIT" and not is_closed:
+                self.closed()
+                is_closed = True
+            if words[0] == b"END":
+                return self.ended()
+            self.take(words[0], blocks, amount)
+
+    def parsed(self, words: list[bytes]) -> tuple[tuple[int, ...], list[int], tuple[int, ...]]:
+        """A line's place in the order, its blocks and its amount."""
+        if words[0] not in KINDS or len(words) != {b"PIT": 2, b"REST": 5, b"END": 1}.get(words[0], 4):
+            raise self.certificate.text()
+        many = {b"PIT": 1, b"REST": 2, b"END": 0}.get(words[0], 1)
+        blocks = [self.certificate.whole(word, len(self.worths) - 1) for word in words[1:1 + many]]
+        amount = tuple(self.certificate.whole(word) for word in words[1 + many:])
+        if amount and (amount == (0, 0) or (self.group != "PAIR" and amount[1])):
+            raise Fault("Number(%d)" % self.certificate.number)
+        return (KINDS.index(words[0]), *blocks), blocks, amount
+
+    def closed(self) -> None:
+        """Each predecessor of each block of the pit is in the pit."""
+        for block in self.pit:
+            for other in self.rests.of(block):
+                if not self.is_in[other]:
+                    raise Refused("NotClosed(%d, %d)" % (block, other))
+
+    def take(self, kind: bytes, blocks: list[int], amount: tuple[int, ...]) -> None:
+        """Adds up what a line says."""
+        block = blocks[0]
+        if kind == b"PIT":
+            self.pit.append(block)
+            self.is_in[block] = 1
+            self.add(self.dug, self.amounts[block], 1)
+            return
+        if amount < (0, 0):
+            raise Refused("Negative")
+        worth = self.amounts[block]
+        room = worth if kind == b"SOURCE" else (-worth[0], -worth[1])
+        if kind != b"REST" and amount > max(room, (0, 0)):
+            raise Refused("OverCapacity(%d)" % block)
+        self.add(self.balance[block], amount, 1 if kind == b"SOURCE" else -1)
+        if kind == b"REST":
+            self.add(self.balance[blocks[1]], amount, 1)
+        if kind == b"SOURCE":
+            self.add(self.ore, amount, -1)
+
+    @staticmethod
+    def add(total: list[int], amount: tuple[int, ...], sign: int) -> None:
+        """Adds to a total; one that doesn't fit 128 bits is refused."""
+        for i in (0, 1):
+            total[i] += sign * amount[i]
+        if not fits(*total):
+            raise Refused("TooLarge")
+
+    def ended(self) -> None:
+        """What is asked of the whole, once END is read."""
+        if self.certificate.file.read(1):
+            self.certificate.number += 1
+            raise self.certificate.text()
+        for block, left in enumerate(self.balance):
+            if left != [0, 0]:
+                raise Refused("Unbalanced(%d)" % block)
+        if self.dug != self.ore:
+            raise Refused("NotTight")
+
+
+def spelled(nanos: int) -> str:
+    """Billionths as a decimal without zeros at its end."""
+    text = "%d.%09d" % divmod(abs(nanos), NANO)
+    return ("-" if nanos < 0 else "") + text.rstrip("0").rstrip(".")
+
+
+def answer(told: argparse.Namespace) -> tuple[str, int]:
+    """The line that `pit check` would print, and its exit status."""
+    values = read_values(told.upit) if told.upit else None
+    table = [] if told.upit else read_blocks(told.blocks, read_settings(told.settings))
+    count = len(values) if values is not None else len(table[0])
+    rests = Predecessors(told.prec, count)
+    certificate = Certificate(told.certificate)
+    try:
+        found, price, group = certificate.header()
+        if found != count:
+            raise Fault("Number(2)")
+        check = Check(certificate, rests, worths_of(price, table, values), group)
+        check.run()
+    except Fault as fault:
+        return "fault: certificate %s" % fault, 3
+    except Refused as why:
+        return "REFUSED %s" % why, 1
+    finally:
+        certificate.file.close()
+    worth = sum(check.worths[block] for block in check.pit)
+    return "ACCEPTED %d %s%s" % (len(check.pit), spelled(worth), " GROUP WORTH" if group == "WORTH" else ""), 0
+
+
+def main() -> int:
+    reading = argparse.ArgumentParser(description=__doc__.split("\n")[0])
+    reading.add_argument("--prec", required=True)
+    for name in ("upit", "blocks", "settings"):
+        reading.add_argument("--" + name)
+    reading.add_argument("certificate")
+    told = reading.parse_args()
+    if bool(told.upit) == bool(told.blocks) or bool(told.blocks) != bool(told.settings):
+        reading.error("either --upit, or --blocks and --settings")
+    try:
+        line, status = answer(told)
+    except (Wrong, OSError, EOFError) as error:
+        line, status = "plainly: %s" % error, 3
+    print(line)
+    return status
+
+
+if __name__ == "__main__":
+    sys.exit(main())

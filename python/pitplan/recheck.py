@@ -1,0 +1,470 @@
+#!/usr/bin/env python3
+"""Checks this bundle again, by Python's standard library (3.11 or later) and a `pit` that you trust.
+
+    python3 recheck.py [--plainly] [PIT]
+
+PIT is the program; `pit` on the path unless told. With --plainly each certificate is checked by plainly.py too, which shares
+nothing with pit and is slow. A line begins with ok, WRONG, or look (what wasn't looked at, and you should); the last line is
+the verdict. Exit status: 0 all that was looked at holds, 1 something is WRONG.
+"""
+from __future__ import annotations
+
+import ast
+import csv
+import gzip
+import hashlib
+import json
+import math
+import re
+import subprocess
+import sys
+import tomllib
+from collections import Counter
+from collections.abc import Callable, Iterator
+from decimal import Decimal
+from itertools import zip_longest
+from pathlib import Path
+from typing import Any, BinaryIO
+
+HERE = Path(__file__).resolve().parent
+SUMS, PIECE, THOUSAND, MICRO, NANO = "SHA256SUMS", 1 << 20, 1000, 10 ** 6, 10 ** 9
+LINE = 120                                   # bytes that a line of a certificate has at most
+NUMBER = re.compile(r"[+-]?(\d+\.?\d*|\.\d+)([eE][+-]?\d+)?")
+GRADES = {"%": 10_000.0, "kg/t": 1_000.0, "g/t": 1.0, "ppm": 1.0, "mg/kg": 1.0, "ppb": 0.001}           # grams in a tonne
+PRICES = {"t": 1e6, "kg": 1e3, "g": 1.0, "lb": 453.59237, "oz": 31.1034768, "dmtu": 10_000.0}          # grams in a unit
+
+
+class Bad(Exception):
+    """Something is wrong, and what."""
+
+
+class Told:
+    """Prints the lines, and counts them."""
+
+    def __init__(self) -> None:
+        self.count: Counter[str] = Counter()
+
+    def say(self, kind: str, what: str) -> None:
+        self.count[kind] += 1
+        print(f"{kind:8}" + "".join(c if c.isprintable() else "?" for c in what), flush=True)
+
+    def check(self, holds: bool, what: str) -> bool:
+        self.say("ok" if holds else "WRONG", what)
+        return holds
+
+    def attempt(self, what: str, step: Callable[..., Any], *words: Any) -> Any:
+        """Makes a step; whatever goes wrong in it is a line, and the steps behind it are made all the same."""
+        try:
+            return step(*words)
+        except Exception as error:
+            self.say("WRONG", f"{what}: {error if isinstance(error, Bad) else f'{type(error).__name__}: {error}'}")
+            return None
+
+
+def digest_of(path: Path) -> str:
+    """The sha256 of a file."""
+    digest = hashlib.sha256()
+    with open(path, "rb") as file:
+        while data := file.read(PIECE):
+            digest.update(data)
+    return digest.hexdigest()
+
+
+def within(name: str) -> Path:
+    """A file of the bundle by its name; a name that leads out of the bundle is none."""
+    path = HERE / name
+    if Path(name).is_absolute() or ".." in Path(name).parts or path.is_symlink() or HERE not in path.resolve().parents:
+        raise Bad(f"{name} leads out of the bundle")
+    return path
+
+
+def check_digests(told: Told) -> None:
+    """Each file is listed and is the one that was listed."""
+    listed = {}
+    for line in within(SUMS).read_text("utf-8").splitlines():
+        found = re.fullmatch(r"([0-9a-f]{64})  (.+)", line)
+        if not found:
+            raise Bad(f"a line that is none: {line[:100]!r}")
+        listed[found[2]] = found[1]
+    for name, digest in listed.items():
+        told.attempt(f"sha256 of {name}", lambda: told.check(digest_of(within(name)) == digest, f"sha256 of {name}"))
+    there = {path.relative_to(HERE).as_posix() for path in HERE.rglob("*") if not path.is_dir() or path.is_symlink()}
+    for name in sorted(there - set(listed) - {SUMS}):
+        told.check(False, f"{name} isn't listed in {SUMS}")
+
+
+def load(name: str) -> Any:
+    return json.loads(within(name).read_text("utf-8"))
+
+
+def millionths(text: str) -> int:
+    """An amount of .blocks in millionths, exactly."""
+    found = Decimal(text) * MICRO
+    if found != int(found):
+        raise Bad(f"{text} has more than six decimals")
+    return int(found)
+
+
+class Blocks:
+    """model/mine.blocks: places, and what each block brings and costs."""
+
+    def __init__(self) -> None:
+        columns = tomllib.loads(within("model/settings.toml").read_text())
+        names = ("revenue", "processing", "mining")
+        rows: dict[int, list[str]] = {}
+        with open(within("model/mine.blocks"), encoding="ascii") as file:
+            for line in file:
+                fields = line.split()
+                rows[int(fields[0])] = fields[1:]
+        if sorted(rows) != list(range(len(rows))):
+            raise Bad("the blocks aren't numbered from 0 on")
+        self.places = [tuple(map(int, rows[b][:3])) for b in range(len(rows))]
+        self.amounts = [tuple(millionths(rows[b][3 + columns[name]]) for name in names) for b in range(len(rows))]
+        self.tonnes = [float(rows[b][3 + columns["tonnes"]]) for b in range(len(rows))]
+
+    def worth(self, block: int, factor: int) -> int:
+        """What a block is worth at a factor in thousandths, in billionths."""
+        revenue, processing, mining = self.amounts[block]
+        return max(factor * revenue - THOUSAND * processing, 0) - THOUSAND * mining
+
+
+def spelled(nanos: int) -> str:
+    """Billionths as `pit` prints a worth."""
+    whole, rest = divmod(abs(nanos), NANO)
+    return ("-" if nanos < 0 else "") + f"{whole}.{rest:09d}".rstrip("0").rstrip(".")
+
+
+def pieces(file: BinaryIO, most: int) -> Iterator[bytes]:
+    """What a packed file has, in pieces; one that unpacks to more than `most` bytes isn't read on."""
+    with gzip.open(file, "rb") as unpacked:
+        while data := unpacked.read(PIECE):
+            most -= len(data)
+            if most < 0:
+                raise Bad("it unpacks to more than a certificate of this model can have")
+            yield data
+
+
+def judged(pit: str, path: Path, most: int) -> tuple[str, str, list[int]]:
+    """What `pit check` says of a certificate, the digest of the bytes that it was given, and their PIT lines."""
+    words = ["--prec", str(within("model/mine.prec")), "--blocks", str(within("model/mine.blocks")), "--settings", str(within("model/settings.toml"))]
+    digest, text = hashlib.sha256(), bytearray()
+    run = subprocess.Popen([pit, "check", *words, "/dev/stdin"], stdin=subprocess.PIPE, stdout=subprocess.PIPE, stderr=subprocess.STDOUT)
+    assert run.stdin and run.stdout
+    try:
+        with open(path, "rb") as file:
+            for data in pieces(file, most):
+                digest.update(data)
+                text += data
+                try:
+                    run.stdin.write(data)
+                except BrokenPipeError:
+                    pass
+        try:
+            run.stdin.close()
+        except BrokenPipeError:
+            pass
+        said = run.stdout.read().decode(errors="replace").strip()
+    finally:
+        run.kill()
+        run.wait()
+    return said, digest.hexdigest(), [int(line[4:]) for line in bytes(text).splitlines() if line.startswith(b"PIT ")]
+
+
+def check_pits(told: Told, pit: str, blocks: Blocks, facts: dict[str, Any], is_plain: bool) -> list[int]:
+    """Each certificate: its digest, `pit check`, its blocks added up, and that it lies within the next. Returns the first
+    factor whose pit has each block, 0 where none has it."""
+    most = LINE * (3 * len(blocks.places) + facts["pairs"] + 10)
+    shell, below, last = [0] * len(blocks.places), set[int](), 0
+    for verdict in load("verdicts.json"):
+        factor, path = verdict["factor"], within(verdict["file"])
+        at = f"factor {factor / THOUSAND:g}"
+        wanted = f"ACCEPTED {verdict['count']} {verdict['worth']}"
+        found = told.attempt(f"the certificate at {at}", judged, pit, path, most)
+        if not found or factor <= last:
+            told.check(factor > last, f"{at} comes behind {last / THOUSAND:g}")
+            continue
+        said, digest, held = found
+        told.check(digest == verdict["certificate"], f"the certificate at {at} is the one whose pit is shown")
+        told.check(said == wanted, f"pit check at {at}: {said}" + ("" if said == wanted else f", and the bundle says {wanted}"))
+        if is_plain:
+            plain = plainly(path)
+            told.check(plain == wanted, f"plainly.py at {at}: {plain}")
+        worth = spelled(sum(blocks.worth(block, factor) for block in held))
+        told.check(worth == verdict["worth"] and len(held) == verdict["count"], f"its {len(held):,} blocks add up to {worth}")
+        now = set(held)
+        if last:
+            told.check(below <= now, f"the pit at {last / THOUSAND:g} lies within that at {factor / THOUSAND:g}")
+        for block in now - below:
+            shell[block] = shell[block] or factor
+        below, last = now, factor
+    return shell
+
+
+def plainly(path: Path) -> str:
+    """What plainly.py says of a certificate."""
+    words = ["--prec", "model/mine.prec", "--blocks", "model/mine.blocks", "--settings", "model/settings.toml"]
+    return subprocess.run([sys.executable, "-I", str(HERE / "plainly.py"), *words, str(path)], cwd=HERE, stdout=subprocess.PIPE, text=True).stdout.strip()
+
+
+class Table:
+    """The planner's table, read again by the csv module.
+
+    Attributes
+    ----------
+    rows : dict
+        The cells of each row that isn't blank, by its number below the header line.
+    """
+
+    def __init__(self, facts: dict[str, Any], absent: list[str]) -> None:
+        self.told, self.absent = facts["dialect"], [mark.strip() for mark in absent]
+        self.marks = {float(mark) for mark in self.absent if NUMBER.fullmatch(mark)}
+        path = within(facts["table"])
+        is_packed = path.suffix.lower() == ".gz"
+        with gzip.open(path, "rt", 9, self.told["encoding"], newline="") if is_packed else open(path, encoding=self.told["encoding"], newline="") as file:
+            rows = csv.reader(file, delimiter=self.told["separator"], skipinitialspace=True)
+            self.names = [name.strip() or f"column {i + 1}" for i, name in enumerate(next(rows))]
+            self.rows = {i: row for i, row in enumerate(rows) if i >= self.told["skip"] and any(cell.strip() for cell in row)}
+        self.at = {name: i for i, name in enumerate(self.names)}
+
+    def word(self, row: int, column: str) -> str:
+        """A cell as it stands."""
+        cells = self.rows[row]
+        return cells[self.at[column]] if self.at[column] < len(cells) else ""
+
+    def number(self, row: int, column: str) -> float:
+        """A cell as a number; what stands for "not estimated" is 0."""
+        cell = self.word(row, column).strip()
+        if cell in self.absent:
+            return 0.0
+        plain = cell.replace(self.told["decimal"], ".")
+        if not NUMBER.fullmatch(plain):
+            raise Bad(f"row {row + 2}, column {column}: {cell!r} is no number")
+        return 0.0 if float(plain) in self.marks else float(plain)
+
+
+class Formula:
+    """A formula of study.toml, worked out for one row at a time: numbers, words, columns, operators and five functions."""
+
+    BINARY: dict[type, Callable[[Any, Any], Any]] = {ast.Add: lambda a, b: a + b, ast.Sub: lambda a, b: a - b, ast.Mult: lambda a, b: a * b, ast.Div: lambda a, b: a / b,
+                                                     ast.Pow: lambda a, b: a ** b}
+    ORDER: dict[type, Callable[[Any, Any], Any]] = {ast.Gt: lambda a, b: a > b, ast.GtE: lambda a, b: a >= b, ast.Lt: lambda a, b: a < b, ast.LtE: lambda a, b: a <= b,
+                                                     ast.Eq: lambda a, b: a == b, ast.NotEq: lambda a, b: a != b}
+    CALLS: dict[str, Callable[..., Any]] = {"where": lambda a, b, c: b if a else c, "min": min, "max": max, "abs": abs, "sqrt": math.sqrt}
+
+    def __init__(self, text: str, cell: Callable[[str], Any]) -> None:
+        self.tree, self.cell = ast.parse(text.strip(), mode="eval").body, cell
+
+    def value(self, node: ast.expr | None = None) -> Any:
+        """What a part of the formula is for the row that `cell` reads."""
+        node = node or self.tree
+        if isinstance(node, ast.Constant) and isinstance(node.value, (int, float, str)):
+            return node.value if isinstance(node.value, str) else float(node.value)
+        if isinstance(node, ast.Name):
+            return self.cell(node.id)
+        if isinstance(node, ast.BinOp) and type(node.op) in self.BINARY:
+            return self.BINARY[type(node.op)](self.value(node.left), self.value(node.right))
+        if isinstance(node, ast.UnaryOp):
+            inner = self.value(node.operand)
+            return -inner if isinstance(node.op, ast.USub) else not inner if isinstance(node.op, ast.Not) else inner
+        if isinstance(node, ast.Compare):
+            sides = [self.value(side) for side in (node.left, *node.comparators)]
+            return all(self.ORDER[type(op)](a, b) for op, a, b in zip(node.ops, sides, sides[1:]))
+        if isinstance(node, ast.BoolOp):
+            return (all if isinstance(node.op, ast.And) else any)([self.value(side) for side in node.values])
+        if isinstance(node, ast.Call) and isinstance(node.func, ast.Name) and not node.keywords:
+            words = [self.value(word) for word in node.args]
+            return self.cell(words[0]) if node.func.id == "column" else self.CALLS[node.func.id](*words)
+        raise Bad(f"{ast.unparse(node)!r} is no part of a formula")
+
+
+class Economics:
+    """[economics] of study.toml, worked out again for each row of the table."""
+
+    def __init__(self, told: dict[str, Any], table: Table, facts: dict[str, Any]) -> None:
+        self.told, self.table, self.columns = told, table, facts["columns"]
+        self.volume: float = math.prod(facts["grid"]["size"])
+        self.rounding = float(told.get("rounding", 1))
+
+    def rock(self, row: int) -> str:
+        return self.table.word(row, self.columns["rock"]) if "rock" in self.columns else "rock"
+
+    def tonnes(self, row: int) -> float:
+        """Of a block: its tonnes, or its density times its volume."""
+        if "tonnes" in self.columns:
+            return self.table.number(row, self.columns["tonnes"])
+        return self.table.number(row, self.columns["density"]) * self.volume
+
+    def cell(self, row: int, name: str) -> Any:
+        """What a formula gets for a column."""
+        if name in self.table.at:
+            if name in (self.columns.get("rock"), self.columns.get("id")):
+                return self.table.word(row, name)
+            word = self.table.word(row, name).strip()
+            return self.table.number(row, name) if word in self.table.absent or NUMBER.fullmatch(word.replace(self.table.told["decimal"], ".")) else word
+        if name in ("rock", "tonnes"):
+            return self.rock(row) if name == "rock" else self.tonnes(row)
+        raise Bad(f"a formula names {name}, which is no column of the table")
+
+    def amount(self, given: Any, row: int) -> float:
+        """A number, a column, a formula, or a number by rock."""
+        if isinstance(given, dict):
+            return float(given.get(self.rock(row), given.get("other", 0.0)))
+        if isinstance(given, str):
+            return self.table.number(row, given) if given in self.table.at else float(Formula(given, lambda name: self.cell(row, name)).value())
+        return float(given)
+
+    def is_fenced(self, row: int) -> bool:
+        return any(Formula(text, lambda name: self.cell(row, name)).value() for text in self.told.get("forbid", ()))
+
+    def of_row(self, row: int) -> tuple[float, float, float]:
+        """What the block of a row brings if it is treated, what treating it costs, and what digging it costs."""
+        told, tonnes = self.told, self.tonnes(row)
+        takes = told.get("mill") is None or self.rock(row) in told["mill"]
+        kept = told.get("mining_recovery", 1.0)
+        revenue = selling = 0.0
+        for metal in told["metals"] if takes else ():
+            content = GRADES[metal.get("grade_unit", "%")] / PRICES[metal.get("price_unit", "t")]
+            units = tonnes * kept * self.table.number(row, metal["grade"]) * content * self.amount(metal.get("recovery", 1.0), row)
+            revenue += units * metal["price"] * metal.get("payable", 1.0)
+            selling += units * metal.get("selling", 0.0)
+        treating = tonnes * kept * (1 + told.get("dilution", 0.0)) * self.amount(told["processing"], row) + selling if takes else 0.0
+        return revenue, treating, tonnes * self.amount(told["mining"], row)
+
+    def is_near(self, ours: float, theirs: int) -> bool:
+        """Whether an amount in millionths is the nearest multiple of `rounding`."""
+        return abs(theirs / MICRO - ours) <= self.rounding * 0.500001 + 1e-9 * abs(ours)
+
+
+def check_table(told: Told, blocks: Blocks, facts: dict[str, Any]) -> None:
+    """Each block's place, tonnes and amounts are those of its row of the planner's table."""
+    study = tomllib.loads(within("study.toml").read_text("utf-8-sig"))
+    told.say("look", "the columns that were taken: " + ", ".join(f"{key} = {name}" for key, name in facts["columns"].items()))
+    if facts["has_sub_blocks"]:
+        told.say("look", "sub-blocks were added up to whole blocks: what a block brings and costs isn't added up from the table here")
+        return
+    table = Table(facts, study["model"].get("absent", []))
+    economics = Economics(study["economics"], table, facts)
+    rows = [int(line["row"]) - 2 for line in numbering()]
+    known = [row for row in rows if row >= 0]
+    told.check(len(rows) == len(blocks.places) and sorted(known) == sorted(table.rows), f"each of the {len(table.rows):,} rows of the table is one block")
+    steps: dict[str, Callable[[int, int], bool]] = {
+        "place": lambda b, row: is_placed(table, row, blocks.places[b], facts),
+        "tonnage": lambda b, row: abs(economics.tonnes(row) - blocks.tonnes[b]) <= 6e-4 + 1e-9 * blocks.tonnes[b]}
+    for what, is_right in steps.items():
+        bad = [row for b, row in enumerate(rows) if row >= 0 and not is_right(b, row)]
+        told.check(not bad, f"the {what} of each block is that of its row" + (f": not so for {len(bad):,}, the first is row {bad[0] + 2}" if bad else ""))
+    check_amounts(told, economics, blocks, rows)
+
+
+def numbering() -> list[dict[str, str]]:
+    """tables/blocks.csv: the row of each block (as a spreadsheet counts it; 0 where it was added), and its shell."""
+    with open(within("tables/blocks.csv"), newline="", encoding="utf-8") as file:
+        return list(csv.DictReader(file))
+
+
+def check_amounts(told: Told, economics: Economics, blocks: Blocks, rows: list[int]) -> None:
+    """What each block brings and costs, by the table and [economics]."""
+    bad, fenced, most = [], 0, 2 * sum(amounts[0] for amounts in blocks.amounts)
+    for b, row in enumerate(rows):
+        revenue, processing, mining = blocks.amounts[b]
+        if row < 0:
+            is_right = revenue == processing == 0 <= mining
+        else:
+            ours = economics.of_row(row)
+            is_out = economics.is_fenced(row)
+            fenced += is_out
+            is_right = economics.is_near(ours[0], revenue) and economics.is_near(ours[1], processing) and (mining > most if is_out else economics.is_near(ours[2], mining))
+        if not is_right:
+            bad.append((b, row))
+    more = f": not so for {len(bad):,} blocks, the first is {bad[0][0]} of row {bad[0][1] + 2}" if bad else ""
+    told.check(not bad, "what each block brings and costs, worked out again from the table and study.toml, is what pit was given" + more)
+    if fenced:
+        told.say("ok", f"{fenced:,} blocks may not be dug by forbid, and cost more than the whole mine brings")
+    added = sum(row < 0 for row in rows)
+    if added:
+        told.say("look", f"{added:,} blocks have no row (widen, missing): they bring nothing, and what digging them costs isn't worked out again")
+
+
+def is_placed(table: Table, row: int, place: tuple[int, ...], facts: dict[str, Any]) -> bool:
+    """Whether a row's coordinates are those of a place of the grid, to 0.06 of a block."""
+    grid, columns = facts["grid"], facts["columns"]
+    u, v, up = (i * size for i, size in zip(place, grid["size"]))
+    turn = math.radians(grid["rotation"])
+    x = grid["origin"][0] + u * math.cos(turn) + v * math.sin(turn)
+    y = grid["origin"][1] - u * math.sin(turn) + v * math.cos(turn)
+    z = (grid["origin"][2] + up) * (-1 if facts["depth"] else 1)
+    return all(abs(table.number(row, columns[key]) - value) <= 0.06 * size for key, value, size in zip("xyz", (x, y, z), (min(grid["size"][:2]),) * 2 + (grid["size"][2],)))
+
+
+def check_tables(told: Told, blocks: Blocks, facts: dict[str, Any], shell: list[int]) -> None:
+    """The tables say what the certificates do."""
+    shown = [round(float(line["shell"]) * THOUSAND) if line["shell"] else 0 for line in numbering()]
+    told.check(shown == shell, "tables/blocks.csv has the shell of each block")
+    with open(within("tables/pit_by_pit.csv"), newline="", encoding="utf-8") as file:
+        lines = [(round(float(line["factor"]) * THOUSAND), int(line["blocks"]), float(line["worth_at_factor"])) for line in csv.DictReader(file)]
+    wanted = [(verdict["factor"], verdict["count"], float(verdict["worth"])) for verdict in load("verdicts.json")]
+    is_same = len(lines) == len(wanted) and all(a[:2] == b[:2] and math.isclose(a[2], b[2], rel_tol=1e-9, abs_tol=1e-6) for a, b in zip(lines, wanted))
+    told.check(is_same, "tables/pit_by_pit.csv has the blocks and the worth of each pit")
+    count, worth = Counter[tuple[float, int]](), Counter[tuple[float, int]]()
+    for b, factor in enumerate(shell):
+        if factor:
+            bench = (round(facts["grid"]["origin"][2] + blocks.places[b][2] * facts["grid"]["size"][2], 3), factor)
+            count[bench] += 1
+            worth[bench] += blocks.worth(b, THOUSAND)
+    with open(within("tables/benches.csv"), newline="", encoding="utf-8") as file:
+        found = {(round(float(line["bench"]), 3), round(float(line["shell"]) * THOUSAND)): (int(line["blocks"]), float(line["worth"])) for line in csv.DictReader(file)}
+    is_same = {key: n for key, (n, _) in found.items() if n} == dict(count) and all(math.isclose(found[key][1], worth[key] / NANO, rel_tol=1e-9, abs_tol=1e-3) for key in count)
+    told.check(is_same, "tables/benches.csv has the blocks and the worth of each bench and shell")
+
+
+def check_slopes(told: Told, pit: str) -> None:
+    """Each block's predecessors are those that `pit slopes` gives it by one of the lists of offsets."""
+    lists = sorted(path.name for path in (HERE / "model").glob("slope-*.toml"))
+    words = [pit, "slopes", "--blocks", str(within("model/mine.blocks")), "--pattern", "settings", "--settings"]
+    runs = [subprocess.Popen([*words, str(within(f"model/{name}"))], stdout=subprocess.PIPE) for name in lists]
+    try:
+        with open(within("model/mine.prec"), "rb") as file:
+            bad = next((n for n, lines in enumerate(zip_longest(file, *(run.stdout or () for run in runs))) if lines[0] not in lines[1:]), None)
+    finally:
+        for run in runs:
+            run.kill()
+            run.wait()
+    told.check(bad is None, f"each block's predecessors are those that pit slopes gives it by model/{', '.join(lists)}" + (f": not so in line {bad + 1}" if bad is not None else ""))
+    told.say("look", "whether these offsets hold the angles of [slopes] in study.toml" + ("" if len(lists) == 1 else ", and whether each block is in the region that it should be in"))
+
+
+def check_all(told: Told, pit: str, is_plain: bool) -> None:
+    """All steps, in the order of what rests on what."""
+    told.attempt(SUMS, check_digests, told)
+    facts, blocks = told.attempt("facts.json", load, "facts.json"), told.attempt("model/mine.blocks", Blocks)
+    said = told.attempt(f"{pit} --version", lambda: subprocess.run([pit, "--version"], stdout=subprocess.PIPE, text=True).stdout.split("\n"))
+    if facts is None or blocks is None or said is None:
+        return
+    here = [line for line in said if line]
+    told.say("ok" if here == facts["pit"] else "look", f"the program here is {', '.join(here)}; the bundle was made by {', '.join(facts['pit'])}")
+    told.attempt("the table", check_table, told, blocks, facts)
+    told.attempt("the slopes", check_slopes, told, pit)
+    shell = told.attempt("verdicts.json", check_pits, told, pit, blocks, facts, is_plain)
+    if shell is not None:
+        told.attempt("the tables", check_tables, told, blocks, facts, shell)
+
+
+def main() -> int:
+    words = [word for word in sys.argv[1:] if word != "--plainly"]
+    if len(words) > 1 or any(word.startswith("-") for word in words):
+        print(__doc__)
+        return 2
+    told = Told()
+    check_all(told, words[0] if words else "pit", "--plainly" in sys.argv)
+    try:
+        print(f"sha256 of {SUMS}: {digest_of(HERE / SUMS)} (compare it with the one that you were told)")
+    except OSError:
+        pass
+    bad, looks = told.count["WRONG"], told.count["look"]
+    print(f"{bad} of {told.count.total()} things are WRONG" if bad else f"everything that was looked at holds: {told.count['ok']} things"
+          + (f"; {looks} lines begin with look, and are yours to judge" if looks else ""))
+    return 1 if bad else 0
+
+
+if __name__ == "__main__":
+    sys.exit(main())

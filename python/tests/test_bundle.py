@@ -1,0 +1,247 @@
+"""A bundle holds, and whatever is changed in it is found: by its digest, or, where the digests were made again, by what it means."""
+import gzip
+import hashlib
+import json
+import os
+import re
+import shutil
+import subprocess
+import sys
+from pathlib import Path
+
+import pytest
+
+import mines
+from pitplan import bundle
+from pitplan.errors import PlanError
+from pitplan.study import Study
+from pitplan.study_file import read_study_file
+
+RICH = """[model]
+table = "t.csv"
+size = [20, 20, 15]
+rotation = 30
+absent = ["-99"]
+widen = 1
+
+[economics]
+mining = "2.0 + 0.01 * abs(150 - ZC) * where(ROCK == 'OXI', 1, 1.5)"
+processing = { OXI = 7.5, other = 9.0 }
+dilution = 0.05
+mining_recovery = 0.95
+rounding = 0.01
+forbid = ["XC > 5110 and ROCK != 'OXI'"]
+metals = [ { name = "copper", grade = "CU", price = 8500, recovery = { OXI = 0.8, SUL = 0.9 }, payable = 0.96, selling = 300 },
+           { name = "gold", grade = "AU", grade_unit = "g/t", price = 1900, price_unit = "oz", recovery = "0.5 + 0.1 * min(AU, 1)" } ]
+
+[slopes]
+angles = 45
+by = "SECTOR"
+regions = { WEST = 38 }
+
+[shells]
+factors = [0.6, 1.0, 1.2]
+"""
+
+
+def bundled(folder, text=mines.STUDY_TOML, frame=None):
+    """The bundle of a small study."""
+    told = read_study_file(mines.written_study(folder, frame, text))
+    study = Study.create(told.path.parent, told.read_model(), told.economics, told.slopes, keys=told.digest)
+    bundle.write(study.shells(told.factors), folder / "for the auditor", told.path, told.keys.dialect(told.table), told.rates)
+    return folder / "for the auditor"
+
+
+@pytest.fixture(scope="module")
+def whole(tmp_path_factory):
+    return bundled(tmp_path_factory.mktemp("bundle"))
+
+
+@pytest.fixture
+def copy(whole, tmp_path):
+    return Path(shutil.copytree(whole, tmp_path / "copy"))
+
+
+def rechecked(folder, *words):
+    """The lines of recheck.py that aren't ok, and its exit status; a traceback is none of its answers."""
+    ran = subprocess.run([sys.executable, "-I", str(folder / "recheck.py"), *words, os.environ["PIT"]], capture_output=True, text=True, cwd="/")
+    assert "Traceback" not in ran.stderr, ran.stderr
+    return [line for line in ran.stdout.splitlines() if not line.startswith(("ok ", "look ", "sha256 of"))], ran.returncode
+
+
+def summed(folder):
+    """Makes the digests again, as somebody who changes a bundle would."""
+    names = sorted(path.relative_to(folder).as_posix() for path in folder.rglob("*") if path.is_file() and path.name != bundle.SUMS)
+    (folder / bundle.SUMS).write_text("".join(f"{hashlib.sha256((folder / name).read_bytes()).hexdigest()}  {name}\n" for name in names))
+
+
+def test_it_holds(whole):
+    lines, status = rechecked(whole, "--plainly")
+    assert status == 0 and len(lines) == 1 and lines[0].startswith("everything that was looked at holds"), lines
+
+
+def test_formulas_regions_fences_rotation_and_added_blocks_are_worked_out_again(tmp_path):
+    frame = mines.table(7, 6, 4, 3, 30)
+    frame.loc[[3, 9], "CU"] = -99
+    lines, status = rechecked(bundled(tmp_path, RICH, frame))
+    assert status == 0 and len(lines) == 1, lines
+
+
+def test_sub_blocks_are_said_to_be_no_part_of_it(tmp_path):
+    folder = bundled(tmp_path)
+    facts = json.loads((folder / "facts.json").read_text())
+    (folder / "facts.json").write_text(json.dumps({**facts, "has_sub_blocks": True}))
+    summed(folder)
+    ran = subprocess.run([sys.executable, str(folder / "recheck.py"), os.environ["PIT"]], capture_output=True, text=True)
+    assert ran.returncode == 0 and re.search(r"^look +sub-blocks were added up", ran.stdout, re.M)
+
+
+def test_a_changed_byte_in_any_file_is_found(whole, copy):
+    for path in sorted(path for path in copy.rglob("*") if path.is_file()):
+        kept = path.read_bytes()
+        at = kept.index(b"Checks this bundle") if path.name == "recheck.py" else len(kept) // 2       # the program itself goes on running
+        path.write_bytes(kept[:at] + bytes([kept[at] ^ 1]) + kept[at + 1:])
+        lines, status = rechecked(copy)
+        name = path.relative_to(copy).as_posix()
+        assert status == 1, name
+        if path.name != bundle.SUMS:
+            assert f"WRONG   sha256 of {name}" in lines, (name, lines)
+            assert subprocess.run(["sha256sum", "-c", "--quiet", bundle.SUMS], cwd=copy, capture_output=True).returncode == 1, name
+        path.write_bytes(kept)
+    assert rechecked(copy)[1] == 0
+
+
+def test_files_that_are_gone_or_new_are_found(copy):
+    (copy / "table" / "more.csv").write_text("1")
+    assert any("more.csv isn't listed" in line for line in rechecked(copy)[0])
+    (copy / "table" / "more.csv").unlink()
+    (copy / "model" / "slope-0.toml").unlink()
+    assert rechecked(copy)[1] == 1
+
+
+def replaced(path, old, new):
+    text = path.read_text()
+    assert old in text, old
+    path.write_text(text.replace(old, new, 1))
+
+
+def packed(path, change):
+    """Changes a packed certificate, and its digest in verdicts.json."""
+    text = change(gzip.decompress(path.read_bytes()).decode()).encode()
+    path.write_bytes(gzip.compress(text))
+    verdicts = path.parents[1] / "verdicts.json"
+    told = json.loads(verdicts.read_text())
+    next(v for v in told if v["file"].endswith(path.name))["certificate"] = hashlib.sha256(text).hexdigest()
+    verdicts.write_text(json.dumps(told))
+
+
+def first_row(folder, change):
+    """Changes the cells of the table's second row."""
+    lines = (folder / "table" / "t.csv").read_text().splitlines(keepends=True)
+    lines[2] = ",".join(change(lines[2].split(",")))
+    (folder / "table" / "t.csv").write_text("".join(lines))
+
+
+def cell(at, value):
+    return lambda folder: first_row(folder, lambda cells: [value if i == at else c for i, c in enumerate(cells)])
+
+
+def other_worth(folder):
+    told = json.loads((folder / "verdicts.json").read_text())
+    told[0]["worth"] = str(int(float(told[0]["worth"])) + 1)
+    (folder / "verdicts.json").write_text(json.dumps(told))
+
+
+def swapped(folder):
+    told = json.loads((folder / "verdicts.json").read_text())
+    (folder / "verdicts.json").write_text(json.dumps(told[::-1]))
+
+
+def dearer(folder):
+    """Each block costs a dollar less to dig: a consistent model, but not that of the table."""
+    path = folder / "model" / "mine.blocks"
+    rows = [line.split() for line in path.read_text().splitlines()]
+    path.write_text("".join(" ".join([*row[:6], str(int(row[6]) - 1), row[7]]) + "\n" for row in rows))
+
+
+def fewer_predecessors(folder):
+    path = folder / "model" / "mine.prec"
+    lines = path.read_text().splitlines()
+    at = next(i for i, line in enumerate(lines) if line.split()[1] != "0")
+    block, count, *rest = lines[at].split()
+    lines[at] = " ".join([block, str(int(count) - 1), *rest[1:]])
+    path.write_text("\n".join(lines) + "\n")
+
+
+CHANGES = {
+    "a worth": (other_worth, "pit check at factor 0.6"),
+    "the order of the pits": (swapped, "comes behind"),
+    "a price": (lambda f: replaced(f / "study.toml", "8500", "8600"), "what each block brings and costs"),
+    "a cost": (lambda f: replaced(f / "study.toml", "mining = 2.0", "mining = 2.1"), "what each block brings and costs"),
+    "a grade": (cell(5, "7.5"), "what each block brings and costs"),
+    "a coordinate": (cell(1, "4000"), "the place of each block"),
+    "a tonnage": (cell(4, "1.0"), "the tonnage of each block"),
+    "what blocks cost": (dearer, "what each block brings and costs"),
+    "a predecessor": (fewer_predecessors, "predecessors are those that pit slopes gives"),
+    "a PIT line": (lambda f: packed(f / "certificates" / "f01000.cert.gz", lambda t: re.sub(r"PIT \d+\n", "", t, count=1)), "pit check at factor 1"),
+    "a flow": (lambda f: packed(f / "certificates" / "f01000.cert.gz", lambda t: re.sub(r"(SOURCE \d+ )\d+", r"\g<1>1", t, count=1)), "pit check at factor 1"),
+    "a shell": (lambda f: replaced(f / "tables" / "blocks.csv", ",0.6\n", ",1.0\n"), "tables/blocks.csv"),
+    "a row of the pit-by-pit table": (lambda f: replaced(f / "tables" / "pit_by_pit.csv", "\n1.0,", "\n0.9,"), "tables/pit_by_pit.csv"),
+    "a bench": (lambda f: (f / "tables" / "benches.csv").write_text("".join((f / "tables" / "benches.csv").read_text().splitlines(keepends=True)[:-1])), "tables/benches.csv"),
+    "a number of a row": (lambda f: replaced(f / "tables" / "blocks.csv", "\n1,", "\n1,9"), "each of the"),
+}
+
+
+@pytest.mark.parametrize("what", CHANGES)
+def test_what_is_changed_with_its_digests_is_found_by_what_it_means(copy, what):
+    change, told = CHANGES[what]
+    change(copy)
+    summed(copy)
+    lines, status = rechecked(copy)
+    assert status == 1 and any(line.startswith("WRONG") and told in line for line in lines), lines
+
+
+def test_no_name_leads_out_of_the_bundle(copy, tmp_path):
+    outside = tmp_path / "outside"
+    outside.write_text("x")
+    digest = hashlib.sha256(b"x").hexdigest()
+    sums = (copy / bundle.SUMS).read_text()
+    for name in ("../outside", str(outside), "table/../../outside", "link"):
+        if name == "link":
+            (copy / "link").symlink_to(outside)
+        (copy / bundle.SUMS).write_text(sums + f"{digest}  {name}\n")
+        lines, status = rechecked(copy)
+        assert status == 1 and any("leads out of the bundle" in line for line in lines), (name, lines)
+
+
+def test_a_certificate_that_unpacks_without_end_is_not_read_on(copy):
+    path = copy / "certificates" / "f01000.cert.gz"
+    with gzip.open(path, "wb", 9) as file:
+        for _ in range(60):
+            file.write(bytes(1 << 20))
+    summed(copy)
+    lines, status = rechecked(copy)
+    assert status == 1 and any("unpacks to more than" in line for line in lines), lines
+
+
+def test_bytes_for_a_terminal_are_not_printed(copy):
+    replaced(copy / "verdicts.json", '"worth": "', '"worth": "\\u001b[2J')
+    summed(copy)
+    ran = subprocess.run([sys.executable, str(copy / "recheck.py"), os.environ["PIT"]], capture_output=True)
+    assert ran.returncode == 1 and b"\x1b" not in ran.stdout
+
+
+def test_a_folder_that_is_there_is_left_alone(whole, tmp_path):
+    (tmp_path / "there").mkdir()
+    told = read_study_file(whole.parent)
+    with pytest.raises(PlanError, match="is there already"):
+        bundle.write(Study(whole.parent).shells(told.factors), tmp_path / "there", told.path, told.keys.dialect(told.table))
+    assert not list((tmp_path / "there").iterdir())
+
+
+def test_the_command(whole, tmp_path):
+    top = Path(__file__).resolve().parents[2]
+    ran = subprocess.run([str(top / "bin" / "pitplan"), "bundle", str(tmp_path / "b"), str(whole.parent)], capture_output=True, text=True)
+    assert ran.returncode == 0, ran.stderr
+    digest = hashlib.sha256((tmp_path / "b" / bundle.SUMS).read_bytes()).hexdigest()
+    assert digest in ran.stdout and rechecked(tmp_path / "b")[1] == 0
