@@ -38,7 +38,9 @@ def row(mine, given):
     said = sorted({line for _, lines in runs for line in lines})
     passed = len(said) == 1 and said[0].startswith("ACCEPTED ")
     cpu, peak = min(it.cpu for it, _ in runs), min(it.peak for it, _ in runs)
-    return ["%s" % mine.name, f"{blocks:,}", f"{pairs:,}", "; ".join(said), "%.1f" % cpu, f"{peak:,.0f}"], passed
+    cells = [mine.name, f"{blocks:,}", f"{pairs:,}", "; ".join(said), "%.1f" % cpu, f"{peak:,.0f}"]
+    print("measured: " + ", ".join(cells), file=sys.stderr, flush=True)
+    return cells, passed
 
 
 def main():
