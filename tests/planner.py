@@ -7,9 +7,14 @@ from pathlib import Path
 PYTHON = "/usr/bin/python3"
 
 
-def packages(top):
-    """Debian's packages that pitplan and its tests need, by python/packages."""
-    return [line.strip() for line in (top / "python" / "packages").read_text().splitlines() if line.strip() and not line.startswith("#")]
+ENGINES = "# its tests on a cluster's engines"
+
+
+def packages(top, with_engines):
+    """Debian's packages that pitplan and its tests need, by python/packages; with those of a cluster's engines or without."""
+    text = (top / "python" / "packages").read_text()
+    lines = (text if with_engines else text.partition(ENGINES)[0]).splitlines()
+    return [line.strip() for line in lines if line.strip() and not line.startswith("#")]
 
 
 def missing(names):
@@ -19,9 +24,9 @@ def missing(names):
     return [name for name in names if name not in there]
 
 
-def installed(top):
+def installed(top, with_engines):
     """Installs what is missing where that may be done, else says by which command; whether all is there."""
-    lacking = missing(packages(top))
+    lacking = missing(packages(top, with_engines))
     if not lacking:
         return True
     command = ["apt-get", "install", "-y", "--no-install-recommends", *lacking]
@@ -38,14 +43,14 @@ def installed(top):
     return not lacking
 
 
-def try_all(top, pit):
-    """Runs the tests, and gives how many passed and failed."""
+def try_all(top, pit, with_engines=False):
+    """Runs the tests, with those on a one-node Slurm, Snakemake and Dask or without, and gives how many passed and failed."""
     if not os.access(pit, os.X_OK):
         print("no program at %s" % pit)
         return 0, 1
-    if not installed(top):
+    if not installed(top, with_engines):
         return 0, 1
-    words = [PYTHON, "-m", "pytest", "-q", "-p", "no:cacheprovider", "tests"]
+    words = [PYTHON, "-m", "pytest", "-q", "-p", "no:cacheprovider", *([] if with_engines else ["--ignore=tests/test_engines.py"]), "tests"]
     ran = subprocess.run(words, cwd=top / "python", env={**os.environ, "PIT": str(pit)}, stdin=subprocess.DEVNULL, stdout=subprocess.PIPE, stderr=subprocess.STDOUT, text=True)
     counts = {word: int(number) for number, word in re.findall(r"(\d+) (passed|failed|error|errors)\b", ran.stdout.strip().rsplit("\n", 1)[-1])}
     passed, failed = counts.get("passed", 0), counts.get("failed", 0) + counts.get("error", 0) + counts.get("errors", 0)
