@@ -382,6 +382,7 @@ def answer(told: argparse.Namespace) -> tuple[str, int]:
 
 
 def main() -> int:
+    """Judges the certificate that the words name, and gives the exit status."""
     reading = argparse.ArgumentParser(description=__doc__.split("\n")[0])
     reading.add_argument("--prec", required=True)
     for name in ("upit", "blocks", "settings"):

@@ -450,6 +450,7 @@ def check_all(told: Told, pit: str, is_plain: bool) -> None:
 
 
 def main() -> int:
+    """Checks the bundle in this script's folder, and gives the exit status."""
     words = [word for word in sys.argv[1:] if word != "--plainly"]
     if len(words) > 1 or any(word.startswith("-") for word in words):
         print(__doc__)
