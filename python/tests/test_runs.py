@@ -293,7 +293,7 @@ def test_a_model_comes_back_from_its_file(tmp_path):
 
 def test_a_store_takes_no_pickles(tmp_path):
     np.savez(tmp_path / "x.npz", told=np.array([{"a": 1}], dtype=object))
-    with pytest.raises(ValueError, match="pickle"):
+    with pytest.raises(pp.PlanError, match="isn.t a model that pitplan wrote"):
         store.load_model(tmp_path / "x.npz")
 
 
