@@ -295,7 +295,7 @@ def a_release_holds_what_it_should(tree):
     answers = [subprocess.run([str(tree.room / at)], stdout=subprocess.PIPE, text=True).stdout
                for at in ("pit-0.1.0-x86_64-linux/pit", "installed/usr/bin/pit")]
     needs = re.search(r"^Depends: (.*)$", (tree.room / "control/control").read_text(), re.M)[1]
-    wanted = ["pit-0.1.0-x86_64-linux/" + it for it in ("LICENSE", "README.md", "pit.1", "examples/copper/copper.prec")]
+    wanted = ["pit-0.1.0-x86_64-linux/" + it for it in ("LICENSE", "README.md", "pit.1", "examples/copper/copper.prec", "python/pitplan/offsets.py")]
     wanted += ["installed/usr/share/man/man1/pit.1.gz", "installed/usr/share/doc/pit/examples/copper/copper.cert"]
     commit = subprocess.run(["git", "rev-parse", "HEAD"], cwd=tree.top, stdout=subprocess.PIPE, text=True).stdout.strip()
     about = files["BUILT.txt"].decode()

@@ -125,7 +125,7 @@ class Tree:
         self.write("../kit/toolchain/bin/clang", LLVM, 0o755)
         for name in ("copper.prec", "copper.upit", "copper.cert"):
             self.write("examples/copper/" + name, name)
-        for name in ("README.md", "CHANGELOG.md", "LICENSE", "docs/pit.1", "docs/GUIDE.md"):
+        for name in ("README.md", "CHANGELOG.md", "LICENSE", "docs/pit.1", "docs/GUIDE.md", "python/pitplan/offsets.py"):
             self.write(name, "a text\n")
         self.write(".gitignore", "out/\ndist/\n")
         self.around = dict(os.environ, PATH="%s:%s" % (self.kit / "bin", os.environ["PATH"]), GIT_CONFIG_GLOBAL=os.devnull)
