@@ -208,7 +208,7 @@ def amount(what: str, given: Amount, model: Model) -> Floats:
                         try_this=f"{{ {unsaid[0]} = .. }}, or {{ other = .. }} for the rest")
     for rock, value in given.items():
         number(f"{what} of rock {rock}", value, -math.inf)
-        if rock not in (*kinds, "other", AIR):
+        if "other" in given and rock not in (*kinds, "other", AIR):        # else a misspelt rock counts as one of the others
             raise PlanError(f"{what}: no block is of rock {rock!r}{meant(rock, kinds)}")
     found: Floats = b.rock.map({kind: float(given.get(kind, given.get("other", 0.0))) for kind in kinds}).to_numpy(float)
     return found

@@ -151,7 +151,8 @@ def of_kind(where: str, kind: Any, found: Mapping[str, Any]) -> None:
     """Refuses values of another kind than the fields of a dataclass say: words for a number, or a number for a list."""
     for f in fields(kind):
         told = KINDS.get(str(f.type).removesuffix(" | None"))
-        if told and f.name in found and not told[1](found[f.name]):
+        is_left_out = f.name not in found or found[f.name] is None and str(f.type).endswith(" | None")
+        if told and not is_left_out and not told[1](found[f.name]):
             raise PlanError(f"{where} {f.name} is {found[f.name]!r}, and has to be {told[0]}")
 
 

@@ -180,7 +180,7 @@ def test_ids_are_no_formulas_where_the_table_is_gone(strange, tmp_path):
     shells = pp.Study(strange).shells([600, 1000, 1200])
     (strange / "t.csv").rename(tmp_path / "t.csv")
     try:
-        commands_shells.write_tables(shells, {})
+        commands_shells.write_tables(shells, shells.table())
     finally:
         (tmp_path / "t.csv").rename(strange / "t.csv")
     kept = pd.read_csv(strange / "out" / "blocks.csv")
