@@ -73,15 +73,6 @@ def how_far_the_machine_is(program):
     yield None if well and int(told[0][3]) < int(told[1][3]) and int(told[0][1]) < int(told[1][1]) else "progress of the machine: %r" % (lines,)
 
 
-def how_far_pseudoflow_is(program):
-    """Pseudoflow tells how many blocks of how many are settled."""
-    with room_with(chain(20_000, 20_000)) as room:
-        lines = first_lines_of_progress(program, ["solve", *VALUES, "--method", "pseudoflow"], room)
-    told = [re.fullmatch(r"progress: (\d+) of 40000 blocks settled, (\d+) s\n", line) for line in lines]
-    well = all(told) and all(int(one[1]) < 40_000 for one in told)
-    yield None if well and int(told[0][2]) < int(told[1][2]) else "progress of pseudoflow: %r" % (lines,)
-
-
 def the_engine_by_size(program):
     """Up to 1,000 blocks `auto` is the push-relabel machine, and beyond pseudoflow: the two find different flows here."""
     for blocks, method in ((1_000, "push-relabel"), (1_001, "pseudoflow")):
@@ -95,7 +86,7 @@ def the_engine_by_size(program):
 
 def try_all(program):
     """Tries all of it, and gives how many answers were as they must be and how many not."""
-    results = [line for tried in (on_one_processor, with_closed_outputs, how_far_the_machine_is, how_far_pseudoflow_is, the_engine_by_size)
+    results = [line for tried in (on_one_processor, with_closed_outputs, how_far_the_machine_is, the_engine_by_size)
                for line in tried(program)]
     wrong = [line for line in results if line]
     for line in wrong:
