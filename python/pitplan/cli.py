@@ -12,6 +12,7 @@ from rich.markup import escape
 
 from .console import app, err
 from .errors import Disagreement, MachineError, NotAccepted, PlanError
+from .next_command import remember
 
 ORDER = ("init", "build", "slopes", "shells", "plot", "page", "phases", "export", "compare", "risk", "vary", "submit", "status", "task", "bundle", "doctor")  # of a working day, for --help
 NO, WRONG, MACHINE, STOPPED = 1, 3, 4, 130
@@ -41,6 +42,7 @@ def remedy(error: OSError) -> str:
 
 def main() -> None:
     """Runs a command. Exit status: 0 done, 1 no, 2 wrong words, 3 a file is wrong, 4 the machine, 130 stopped."""
+    remember(sys.argv[0])
     load_commands()
     try:
         status = app(prog_name="pitplan", standalone_mode=False)

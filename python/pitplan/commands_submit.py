@@ -9,6 +9,7 @@ from rich.markup import escape
 
 from .console import STUDY, app, described, err, opened, out
 from .errors import MachineError, PlanError
+from .next_command import command
 
 if TYPE_CHECKING:
     from .study import Study
@@ -41,7 +42,7 @@ def submit(folder: Path = STUDY,
         out.print(f"{len(tasks)} tasks done")
     elif engine == "slurm":
         from .engines import submit_slurm
-        out.print(f"{len(tasks)} tasks handed in as job {', '.join(submit_slurm(study, tasks, Limits(minutes, at_once)))}; then: pitplan status")
+        out.print(f"{len(tasks)} tasks handed in as job {', '.join(submit_slurm(study, tasks, Limits(minutes, at_once)))}; then: {command('status', folder)}", soft_wrap=True)
     else:
         from .engines import snakemake_lines, write_snakefile
         written = write_snakefile(study, tasks)

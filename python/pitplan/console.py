@@ -11,6 +11,7 @@ from rich.console import Console
 from rich.markup import escape
 
 from .errors import PlanError
+from .next_command import command
 
 if TYPE_CHECKING:
     from .shells import Shells
@@ -56,12 +57,12 @@ def opened(folder: Path) -> Study:
     from .program import sha256
     from .study import Study
     told = described(folder)
-    study = Study(told.path.parent)
+    study = Study(told.path.parent, named=folder)
     if study.manifest["keys"] != told.digest:
-        raise PlanError(f"{told.path} has changed since the study was built", try_this="pitplan build")
+        raise PlanError(f"{told.path} has changed since the study was built", try_this=command("build", folder))
     source = study.manifest["source"]
     if source and told.table.is_file() and sha256(told.table) != source["sha256"]:
-        raise PlanError("the table has changed since the study was built", table=told.table, try_this="pitplan build")
+        raise PlanError("the table has changed since the study was built", table=told.table, try_this=command("build", folder))
     return study
 
 
@@ -78,7 +79,7 @@ def shells_of(folder: Path) -> tuple[Shells, dict[str, float]]:
     study = opened(folder)
     missing = [factor for factor in told.factors if not study.verdict(factor)]
     if missing:
-        raise PlanError(f"{len(missing)} of {len(told.factors)} pits haven't been run, the first at factor {missing[0] / 1000:g}", try_this="pitplan shells")
+        raise PlanError(f"{len(missing)} of {len(told.factors)} pits haven't been run, the first at factor {missing[0] / 1000:g}", try_this=command("shells", folder))
     return Shells(study, told.factors), told.rates
 
 

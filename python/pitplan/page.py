@@ -20,6 +20,7 @@ import pandas as pd
 from numpy.typing import NDArray
 
 from .errors import PlanError
+from .next_command import command
 from .shells import Shells
 from .units_shown import amount_text, factor_text, scale_of
 
@@ -59,7 +60,7 @@ def heights(shells: Shells) -> NDArray[np.uint16]:
     if list(dug) != shown:
         at = int(np.argmax(dug != np.array(shown)))
         raise PlanError(f"the pit at factor {factor_text(shells.factors[at])} has blocks without all that is above them: its surface isn't one height for each column",
-                        try_this="pitplan plot, which draws sections and benches as they are")
+                        try_this=f"{command('plot', shells.study.named)}, which draws sections and benches as they are")
     return out
 
 

@@ -1,6 +1,8 @@
 """The command line, as a planner uses it."""
 import json
 import os
+import re
+import shlex
 import subprocess
 from pathlib import Path
 
@@ -17,6 +19,11 @@ PITPLAN = Path(__file__).resolve().parents[2] / "bin" / "pitplan"
 
 def pitplan(*words, cwd=None, **env):
     return subprocess.run([str(PITPLAN), *map(str, words)], capture_output=True, text=True, cwd=cwd, env={**os.environ, **env})
+
+
+def hinted(ran):
+    """The words of the command that an error says to try."""
+    return shlex.split(ran.stderr.rsplit("try: ", 1)[1])
 
 
 def test_from_a_table_to_shells(tmp_path):
@@ -41,7 +48,7 @@ def test_from_a_table_to_shells(tmp_path):
     # what was built counts only as long as study.toml says the same
     (study / "study.toml").write_text(text.replace("mining = 2.50", "mining = 2.60"))
     stale = pitplan("shells", study)
-    assert stale.returncode == 3 and "has changed since the study was built" in stale.stderr and "try: pitplan build" in stale.stderr
+    assert stale.returncode == 3 and "has changed since the study was built" in stale.stderr and hinted(stale) == [str(PITPLAN), "build", str(study)]
     (study / "study.toml").write_text(text)
     f.assign(CU=f.CU + 1).to_csv(tmp_path / "mine.csv", index=False)
     assert "the table has changed" in pitplan("shells", study).stderr
@@ -58,7 +65,22 @@ def test_wrong_words_and_files_have_their_status(tmp_path, words, status, said):
 
 def test_shells_before_build_says_so(tmp_path):
     ran = pitplan("shells", written_study(tmp_path / "s"))
-    assert ran.returncode == 3 and "never built" in ran.stderr and "try: pitplan build" in ran.stderr
+    assert ran.returncode == 3 and "never built" in ran.stderr and hinted(ran) == [str(PITPLAN), "build", str(tmp_path / "s")]
+
+
+def test_each_hint_can_be_pasted(tmp_path):
+    """What an error says to try is typed as it stands, until pitplan has nothing more to say; also where the folder has a space, a
+    study.toml has another name, and the command is found on the path."""
+    written_study(tmp_path / "my mine").joinpath("study.toml").rename(tmp_path / "my mine" / "high price.toml")
+    (tmp_path / "bin").mkdir()
+    (tmp_path / "bin" / "pitplan").symlink_to(PITPLAN)
+    path = f"{tmp_path / 'bin'}:{os.environ['PATH']}"
+    typed, said = "pitplan phases 0.6,1 'my mine/high price.toml'", []
+    while typed and len(said) < 6:
+        ran = subprocess.run(["bash", "-c", typed], capture_output=True, text=True, cwd=tmp_path, env={**os.environ, "PATH": path})
+        said.append(typed)
+        typed = next(iter(re.findall(r"try: (.*)" if ran.returncode else r"then: (.*)", ran.stderr + ran.stdout)), "")
+    assert said == ["pitplan phases 0.6,1 'my mine/high price.toml'", "pitplan build 'my mine/high price.toml'", "pitplan shells 'my mine/high price.toml'"], ran.stderr
 
 
 def test_help_needs_no_study_and_no_pit(tmp_path):
