@@ -53,7 +53,7 @@ def named(said: str) -> tuple[str, str]:
 @app.command()
 def build(folder: Path = STUDY) -> None:
     """Read the table, work out what each block brings and costs, and make the slopes."""
-    from .commands_slopes import print_patterns
+    from .commands_slopes import key_of, print_patterns
     from .study import Study
     told = described(folder)
     with err.status("reading the table"):
@@ -66,7 +66,19 @@ def build(folder: Path = STUDY) -> None:
         study.named = folder
     print_tonnage(study)
     print_patterns(told.slopes, study.model.grid)
+    set_aside(study, key_of(told.slopes, study.model.grid))
     print_size(study, told)
+
+
+def set_aside(study: Study, walls: str) -> None:
+    """Puts the tables and pictures of the model before out of the way of the new one's, and says so."""
+    from . import older
+    folder = study.folder / "out"
+    moved, changed = older.set_aside(folder, {study.key, walls})
+    if moved:
+        out.print(escape(f"{folder / older.OLDER} has what was written of the model before: {', '.join(moved)}"), soft_wrap=True)
+    for name in changed:
+        err.print("[yellow]look:[/yellow] " + escape(f"{folder / name} is of the model before; it was changed since it was written, so it stays there"), soft_wrap=True)
 
 
 def print_tonnage(study: Study) -> None:

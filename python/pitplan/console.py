@@ -84,7 +84,9 @@ def shells_of(folder: Path) -> tuple[Shells, dict[str, float]]:
 
 
 def results(study: Study) -> Path:
-    """The folder for tables and pictures, made where it isn't there."""
+    """The folder for tables and pictures, made where it isn't there. What is written there from now on is noted as of this model."""
+    from . import older
     folder = study.folder / "out"
     folder.mkdir(exist_ok=True)
+    older.watch(folder, study.key)
     return folder

@@ -134,6 +134,10 @@ class Study:
         """The region of slopes of each block, of shape (blocks,): an index into ``manifest["offsets"]``."""
         return store.load_region(self.where / "blocks.npz")
 
+    def read_ahead(self) -> None:
+        """Reads what the tables of a series will need, while its first pits are looked for."""
+        self.model, self.priced, self.region
+
     @classmethod
     def create(cls, folder: str | Path, model: Model, economics: Economics, slopes: Slopes, program: Pit | None = None, keys: str = "") -> Study:
         """Makes the files that `pit` reads. A model that stands there already is replaced once the new one is whole.
