@@ -101,7 +101,7 @@ MAIN = """//! The program.
 //sh esac
 fn main() {}
 """
-FILES = ("build", "run-example", "install", "release", "tools/*.py", "tests/run", "tests/*.py")
+FILES = ("build", "run-example", "install", "release", "tools/*.py", "tools/launcher", "tests/run", "tests/*.py")
 
 
 class Tree:
