@@ -205,15 +205,17 @@ def wrong_drawings_are_refused(top, folder):
 def installs_where_the_caller_stands(top, folder):
     """Whether ./install FOLDER, called from elsewhere, takes a folder of the caller's. Its build is one that does nothing."""
     tree, caller = folder / "tree", folder / "caller"
-    (tree / "out").mkdir(parents=True)
     caller.mkdir()
-    shutil.copy(top / "install", tree / "install")
-    for name, text in (("build", "#!/bin/sh\n"), ("out/pit", "the program")):
+    for name in ("install", "tools/launcher", "docs/pit.1", "completions/pit.bash", "completions/pit.zsh", "completions/pit.fish"):
+        (tree / name).parent.mkdir(parents=True, exist_ok=True)
+        shutil.copy(top / name, tree / name)
+    for name, text in (("build", "#!/bin/sh\n"), ("out/pit", "the program"), ("python/packages", "python3-nowhere\n")):
+        (tree / name).parent.mkdir(exist_ok=True)
         (tree / name).write_text(text)
         (tree / name).chmod(0o755)
     done = subprocess.run([str(tree / "install"), "bin"], cwd=caller, stdin=subprocess.DEVNULL, stdout=subprocess.PIPE,
                           stderr=subprocess.STDOUT, text=True)
-    well = (caller / "bin" / "pit").exists() and not (tree / "bin").exists() and done.stdout == "installed %s/bin/pit\n" % caller.resolve()
+    well = (caller / "bin" / "pit").exists() and not (tree / "bin").exists() and done.stdout.startswith("installed %s/bin/pit, which" % caller.resolve())
     return done.returncode == 0 and well, done.stdout
 
 

@@ -41,6 +41,11 @@ def names_in(folder, pattern="*"):
     return sorted("%s/%s" % (folder, at.name) for at in (tree.TOP / folder).glob(pattern) if at.is_file())
 
 
+def programs(folder, library, program):
+    """The launcher in one folder and the program in another, by path: it finds it beside itself or one folder up."""
+    return {folder + "pit": File(read("tools/launcher"), 0o755), library + "lib/pontihaw/pit": File(program, 0o755)}
+
+
 def documents():
     """The texts that the README leads to, and the example that they type commands on."""
     return ["README.md", "CHANGELOG.md", "LICENSE", *names_in("docs", "*.md"), *names_in("docs/pictures"), *names_in("examples"), *names_in("examples/copper"),
@@ -95,7 +100,7 @@ def tarred(files, time):
 
 def tarball(name, program, about, time):
     """The archive to unpack anywhere: the program, its manual page, the documents and the example, below a folder of this name."""
-    files = {"pit": File(program, 0o755), "pit.1": file("docs/pit.1"), "BUILT.txt": File(about, 0o644), **completions("pit")}
+    files = {**programs("", "", program), "pit.1": file("docs/pit.1"), "BUILT.txt": File(about, 0o644), **completions("pit")}
     files.update({path: file(path) for path in documents()})
     return zipped(tarred({"%s/%s" % (name, path): its for path, its in files.items()}, time))
 
@@ -104,7 +109,7 @@ def debian_files(program, about, package="pit"):
     """What the Debian package of the program installs, by its path below /; with its documents below the name of this package."""
     own = "usr/share/doc/%s/" % package
     files = {
-        "usr/bin/pit": File(program, 0o755),
+        **programs("usr/bin/", "usr/", program),
         "usr/share/man/man1/pit.1.gz": File(zipped(read("docs/pit.1")), 0o644),
         **completions("pit", SHELLS_PATHS),
         own + "BUILT.txt": File(about, 0o644),
