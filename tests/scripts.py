@@ -106,15 +106,16 @@ def a_failed_proof_fails_the_example(tree):
 
 
 def version_is_up_to_date(top):
-    """Whether `pit --version` tells the changelog's newest version and the logic of the kit that is installed."""
+    """Whether `pit --version` tells the changelog's newest version and the logic of the kit that is installed, and pitplan that version."""
     kit = subprocess.run(["rt", "version"], stdin=subprocess.DEVNULL, stdout=subprocess.PIPE, text=True).stdout
     logic = kit[kit.index("logic "):].strip()
     newest = re.search(r"^## (\S+)", (top / "CHANGELOG.md").read_text(), re.M)[1]
     told = re.search(r'VERSION: &str = "([^"]*)"', (top / "crates/command_line/src/version.rt").read_text())[1]
     wanted = "%s\n%s" % (newest, logic)
     case = (top / "tests/cases/usage/version/stdout").read_text()
-    well = told == wanted and case == "pit %s\n" % wanted and "`%s`" % logic in (top / "README.md").read_text()
-    return well, "version.rt has %r, usage/version has %r, wanted is %r, in README too" % (told, case, wanted)
+    planner = re.search(r'^__version__ = "([^"]*)"', (top / "python/pitplan/__init__.py").read_text(), re.M)[1]
+    well = told == wanted and planner == newest and case == "pit %s\n" % wanted and "`%s`" % logic in (top / "README.md").read_text()
+    return well, "version.rt has %r, pitplan %r, usage/version has %r, wanted is %r, in README too" % (told, planner, case, wanted)
 
 
 def pages_are_right(top):
