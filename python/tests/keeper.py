@@ -58,8 +58,8 @@ class Keeper:
         assert status and "No space left" in errors, errors
 
     def widen(self, folder):
-        """Takes away what fills such a disk, and makes it a larger one."""
-        self.done("rm", folder / "ballast")
+        """Takes away what fills such a disk, where something does, and makes it a larger one."""
+        self.done("rm", "-f", folder / "ballast")
         self.done("mount", "-o", "remount,size=8m", folder)
 
     def end(self):

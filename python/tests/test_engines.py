@@ -96,7 +96,7 @@ def test_a_slurm_array_with_a_killed_task_and_a_killed_node(tmp_path, asked_for,
     shown = said("status", study.folder, env=env)
     assert "3 done, 2 running, 6 waiting, 1 failed, of 12 tasks" in shown and status.ENDED in shown, shown
     shown = said("submit", study.folder, "--engine", "slurm", "--dry", env=env)
-    assert "1 tasks of" in shown and shown.count("\n  pitplan task") == 1, shown
+    assert "1 task of" in shown and shown.count("\n  pitplan task") == 1, shown
     slurm.kill_node()
     assert gone(at_work)
     pit.let_go()
@@ -104,7 +104,7 @@ def test_a_slurm_array_with_a_killed_task_and_a_killed_node(tmp_path, asked_for,
     slurm.until(slurm.is_empty, "the array never ended")
     assert "11 done, 1 failed, of 12 tasks" in said("status", study.folder, env=env)
     shown = said("submit", study.folder, "--engine", "slurm", env=env)
-    assert "1 tasks handed in" in shown, shown   # what was killed, and nothing else
+    assert "1 task handed in" in shown, shown   # what was killed, and nothing else
     slurm.until(slurm.is_empty, "the last task never ended")
     all_done(study)
     assert len(pit.solvers()) == 12 + 1 + 2      # nothing that was done ran twice
@@ -208,8 +208,7 @@ def test_a_full_disk_is_told_and_what_is_done_is_kept(tmp_path, asked_for, small
 
 def test_a_full_scratch_is_told(tmp_path, asked_for, small_disks):
     study, scratch = twelve(asked_for, tmp_path), tmp_path / "scratch"
-    small_disks.mount(scratch, 64)
-    small_disks.fill(scratch)
+    small_disks.mount(scratch, 8)                # Python would take another folder for one that is full to the brim
     env = {**os.environ, "TMPDIR": str(scratch)}
     code, _, errors = small_disks.said(TOP / "bin/pitplan", "task", study.folder, "realisation", 3, 1000, env=env)
     assert code == 4 and "No space left on device" in errors and "TMPDIR=" in errors, errors
@@ -244,6 +243,35 @@ def test_a_slurm_that_cant_be_asked(tmp_path, program):
     assert "squeue isn't there" in shown[1] and "3 to do, of 3 tasks" in shown[0]
     run = command("submit", folder, env=env)
     assert "squeue isn't there" in run.communicate(timeout=600)[1] and run.returncode == 4
+
+
+def test_what_another_machine_left_half_done(tmp_path, asked_for):
+    """A process of another machine can't be looked for: its task runs, as far as is known, unless Slurm has it no more."""
+    study, task, log = twelve(asked_for, tmp_path), Task("realisation", "3", (1000,)), tmp_path / "log"
+    (study.folder / "runs/r0003/.f01000.node7.1.xyz").mkdir(parents=True)
+    state = lambda handed: status.states(study, [task], handed)[0]      # noqa: E731
+    assert (state({}).state, state({}).words) == (status.RUNNING, "on node7")
+    assert state({task: engines.Handed("RUNNING", log)}).state == status.RUNNING
+    assert state({task: engines.Handed("PENDING", log)}).state == status.WAITING
+    log.write_text("realisation 3\nslurmstepd: error: *** JOB 7 CANCELLED DUE TO TIME LIMIT ***\n\n")
+    found = state({task: engines.Handed("", log)})
+    assert found.state == status.FAILED and found.words.startswith(status.ENDED) and found.words.endswith("DUE TO TIME LIMIT ***")
+    run = command("submit", study.folder, "--dry")
+    shown, look = run.communicate(timeout=600)
+    assert "11 tasks of" in shown and "realisation 3 1000" not in shown and "1 task running on node7" in look and "--again" in look, (shown, look)
+    assert "12 tasks of" in said("submit", study.folder, "--dry", "--again")
+
+
+def test_scratch_of_a_process_that_is_no_more_is_taken_away(tmp_path, monkeypatch):
+    study = prepared(tmp_path, 1, table(6, 5, 4, 3), factors=(1000,))
+    scratch = tmp_path / "scratch"
+    names = {f"pitplan.{status.host()}.{pid}.abc": pid for pid in (os.getpid(), 999_999_999)} | {"pitplan.node7.999999999.abc": 0, "pitplan.toml": 0}
+    for name in names:
+        (scratch / name).mkdir(parents=True)
+    monkeypatch.setattr("tempfile.tempdir", str(scratch))
+    with risk.realisation(study, 0).written() as files:
+        assert files.blocks.parent.parent == scratch and files.blocks.is_file()
+    assert sorted(path.name for path in scratch.iterdir()) == sorted(name for name in names if names[name] != 999_999_999)
 
 
 def test_memory_is_asked_by_the_size_of_the_model(tmp_path):
