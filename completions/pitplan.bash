@@ -54,7 +54,7 @@ _pitplan() {
             compare) words="--ids --column --value --surface --layer --factor --bench -h --help" files=1 ;;
             risk) words="--realisations --factors --metal --later --workers -h --help" files=1 ;;
             vary) words="--factor --later --workers -h --help" files=1 ;;
-            submit) words="--engine --dry --workers --minutes --at-once -h --help" files=1 ;;
+            submit) words="--engine --dry --workers --minutes --at-once --again -h --help" files=1 ;;
             status) words="-h --help" files=1 ;;
             task) words="-h --help" files=1 ;;
             bundle) words="-h --help" files=1 ;;

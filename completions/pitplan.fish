@@ -80,6 +80,7 @@ complete -c pitplan -n '__fish_seen_subcommand_from submit' -l dry -d 'Show what
 complete -c pitplan -n '__fish_seen_subcommand_from submit' -l workers -x -d 'Of engine local'
 complete -c pitplan -n '__fish_seen_subcommand_from submit' -l minutes -x -d 'That a task may take, for the scheduler'
 complete -c pitplan -n '__fish_seen_subcommand_from submit' -l at-once -x -d 'Tasks of an array that may run at a time'
+complete -c pitplan -n '__fish_seen_subcommand_from submit' -l again -d 'Hand in too what seems to run on other machines, as where one of them died'
 complete -c pitplan -n '__fish_seen_subcommand_from submit' -s h -l help -d 'Show this message and exit'
 complete -c pitplan -n __fish_use_subcommand -a status -d 'Show what is done, running, waiting and failed, and how long the rest will take'
 complete -c pitplan -n '__fish_seen_subcommand_from status' -F

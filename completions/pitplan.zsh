@@ -80,6 +80,7 @@ _pitplan() {
             '--workers[Of engine local]:workers: ' \
             '--minutes[That a task may take, for the scheduler]:minutes: ' \
             '--at-once[Tasks of an array that may run at a time]:at-once: ' \
+            '--again[Hand in too what seems to run on other machines, as where one of them died]' \
             '-h[Show this message and exit]' '--help[Show this message and exit]' '*:file:_files' ;;
         status) _arguments '-h[Show this message and exit]' '--help[Show this message and exit]' '*:file:_files' ;;
         task) _arguments '-h[Show this message and exit]' '--help[Show this message and exit]' '*:file:_files' ;;
