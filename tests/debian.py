@@ -10,6 +10,7 @@ nothing of it is left. The last line is 'N passed, M failed'; where it can't be 
 """
 import os
 import re
+import resource
 import shutil
 import subprocess
 import sys
@@ -24,6 +25,7 @@ sys.dont_write_bytecode = True
 MIRROR = os.environ.get("DEBIAN_MIRROR", "http://deb.debian.org/debian")
 INSTALL = "apt-get install -y -qq --no-install-recommends"
 THERE = "/root/tried"                         # in the new Debian: the package, this script, and what is compared
+ROOM = 4 * 10**9                              # bytes that the new Debian takes at most
 QUIET = {"DEBIAN_FRONTEND": "noninteractive", "LC_ALL": "C.UTF-8", "PATH": "/usr/local/bin:/usr/local/sbin:/usr/bin:/usr/sbin:/bin:/sbin"}
 WALK = """set -e
 cp -r /usr/share/doc/pitplan/examples/copper copper
@@ -146,14 +148,27 @@ def hooks(package, room):
 
 def try_all(program):
     """Tries all, and gives how many passed and failed; both are 0 where it can't be tried here."""
-    if os.geteuid() or not shutil.which("mmdebstrap"):
-        print("the Debian package wasn't tried: it needs root and mmdebstrap")
+    if os.geteuid() or not shutil.which("mmdebstrap") or shutil.disk_usage(tempfile.gettempdir()).free < ROOM:
+        print("the Debian package wasn't tried: it needs root, mmdebstrap and %d GB of disk" % (ROOM // 10**9))
         return 0, 0
+    if not os.access(program, os.X_OK):
+        print("no program at %s" % program)
+        return 0, 1
+    try:
+        return tried_anew(program)
+    except (ValueError, subprocess.CalledProcessError) as error:
+        print("no Debian package was made: %s" % error)
+        return 0, 1
+
+
+def tried_anew(program):
+    """The same, in a Debian that is made for it."""
     began = time.monotonic()
     with tempfile.TemporaryDirectory(prefix="pit-debian-") as name:
         room = Path(name)
         package = package_of(program, room)
-        made = subprocess.run(["mmdebstrap", "--variant=apt", "--mode=root", "--dpkgopt=force-unsafe-io", "--aptopt=APT::Sandbox::User \"root\"",
+        # what is mounted there is seen by mmdebstrap alone, so that nothing of it is left, however this ends
+        made = subprocess.run(["unshare", "--mount", "mmdebstrap", "--variant=apt", "--mode=root", "--dpkgopt=force-unsafe-io", "--aptopt=APT::Sandbox::User \"root\"",
                                *("--customize-hook=" + hook for hook in hooks(package, room)), "bookworm", "/dev/null", MIRROR],
                               env={**os.environ, "TMPDIR": name}, stdin=subprocess.DEVNULL, stdout=subprocess.PIPE, stderr=subprocess.STDOUT, text=True)
         told = (room / "said").read_text() if (room / "said").exists() else ""
@@ -174,6 +189,8 @@ def main():
     if len(sys.argv) > 2:
         sys.exit(__doc__)
     passed, failed = try_all(Path(sys.argv[1] if len(sys.argv) == 2 else TOP / "out" / "pit").resolve())
+    used = resource.getrusage(resource.RUSAGE_CHILDREN)
+    print("%.0f processor seconds" % (used.ru_utime + used.ru_stime))
     print("%d passed, %d failed" % (passed, failed))
     return 1 if failed else 0
 
