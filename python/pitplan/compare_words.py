@@ -32,7 +32,7 @@ def broken_lines(found: Comparison, currency: str) -> list[str]:
         lines.append(f"  wall {way}: {wall['steepest']:.1f} degrees at worst{may}, {wall['height']:,.10g} m up over {wall['away']:,.1f} m, "
                      f"from block {wall['id']} at ({wall['x']:,.1f}, {wall['y']:,.1f}), bench {wall['bench']:,.10g}; {wall['pairs']:,} pairs")
     more = len(found.walls) - 3
-    lines += [f"  {more} more {'bearings' if more > 1 else 'bearing'} in walls.csv"] if more > 0 else []
+    lines += [f"  {more} more {'bearings' if more > 1 else 'bearing'} in walls.csv of pitplan compare"] if more > 0 else []
     gap = found.repair.gap
     lines.append(f"to keep them it has to dig {found.repair.blocks:,} blocks more ({found.repair.tonnes / 1e6:,.2f} Mt); then it is worth {money(found.repair.worth, currency)}, "
                  f"{money(gap, currency)} ({found.share(gap):.2%}) below the proved bound")
