@@ -59,7 +59,7 @@ def file(shells, table, phases, compared, tmp_path_factory):
 def risk(tmp_path_factory):
     """Five realisations of a mine that is turned."""
     folder = tmp_path_factory.mktemp("risk")
-    return done(prepared(folder, 5, mine(8, 7, 5, 5, rotation=30.0), factors=(1000,)))
+    return done(prepared(folder, 5, mine(8, 7, 5, 5, rotation=30.0), factors=(1000,), rotation=30))
 
 
 @pytest.fixture(scope="module")
@@ -369,7 +369,7 @@ def test_black_and_white_tells_kinds_apart(all_views, shells, phases, compared):
                 found.setdefault(kind, []).append(colours[0][1] / len(INNER) ** 2)
         assert len(found) > 2
         for kind, shares in found.items():
-            assert kind == "rock that isn't dug" or (np.median(shares) > 0.9) == (kind == plain), (kind, shares)
+            assert kind == "rock that isn't dug" or (np.median(shares) > 0.97) == (kind == plain), (kind, shares)
         keys = all_views.execute_script("return [...document.querySelectorAll('#key canvas')].map(c => c.toDataURL())")
         assert len(set(keys)) == len(keys)
     chosen(all_views, PITS)
@@ -384,14 +384,15 @@ def swatches(browser):
 
 
 def test_a_pushback_is_named_where_it_has_most_room(phases_view, shells, phases, compared):
-    """With patterns off nothing within the cells is white but the rim of a name."""
+    """With patterns off and no surface shown nothing over the cells is white but the rim of a name."""
     patterns(phases_view, False)
+    slider(phases_view).send_keys(Keys.HOME)
     model, kinds = shells.study.model, kinds_of(PHASES, shells, phases, compared)
     for kind in ("1", "2"):
         at = int(model.blocks.iy[kinds == kind].mode()[0])
         cut(phases_view, "y", at)
         blocks = model.blocks[(model.blocks.iy == at) & (kinds == kind)]
-        named = [any(colour == (255, 255, 255, 255) for colour, _ in colours) for colours in cells(phases_view, model, "y", blocks, np.linspace(-0.4, 0.4, 30))]
+        named = [any(colour == (255, 255, 255, 255) for colour, _ in colours) for colours in cells(phases_view, model, "y", blocks, np.linspace(-0.5, 0.5, 40))]
         assert 1 <= sum(named) <= 4, (kind, named)
     patterns(phases_view, True)
 
