@@ -94,11 +94,15 @@ def serve(path):
 
 def server():
     """The socket of a server, which is started once."""
+    import atexit
+    import shutil
     import subprocess
     import tempfile
     import time
     if not _server or _server["run"].poll() is not None:
-        path = os.path.join(tempfile.mkdtemp(prefix="pitplan-tests-"), "door")
+        room = tempfile.mkdtemp(prefix="pitplan-tests.")
+        atexit.register(shutil.rmtree, room, ignore_errors=True)
+        path = os.path.join(room, "door")
         environment = {key: value for key, value in os.environ.items() if key not in ("COLUMNS", "LINES")}
         _server["run"] = subprocess.Popen([PYTHON, "-I", os.path.abspath(__file__), path], stdin=subprocess.PIPE, stdout=subprocess.DEVNULL, env=environment)
         _server["path"] = path
