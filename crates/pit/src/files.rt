@@ -3,7 +3,7 @@
 ghost use Rattle.engines.specs.Slopes.{IsChoice};
 
 use crate::advice::advice_for_series;
-use crate::opened::{PricedFiles, ValueFiles, file, open_prices, open_values};
+use crate::opened::{PricedFiles, ValueFiles, file, open_prices, open_values, settings_file};
 use crate::told::output;
 use command_line::{CheckWords, ModelWords, ReplayWords, SeriesCommand, SeriesWords, SlopesWords};
 use engines::{
@@ -176,7 +176,7 @@ pub fn listed_slopes_files<R: Files + Print + Eprint + AllocGlobal>(
     settings: &str,
     up: Up,
 ) -> Result<Verdict, EngineFault> {
-    let mut settings = file(rt, words.verbose, settings)?;
+    let mut settings = settings_file(rt, words.verbose, settings)?;
     let mut blocks = file(rt, words.verbose, words.blocks)?;
     let mut out = Counted::new(output(rt, words.verbose, None));
     slopes_from_settings_engine(rt.alloc(), &mut settings, &mut blocks, up, &mut out)

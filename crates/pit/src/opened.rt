@@ -3,7 +3,7 @@
 ghost use Rattle.std.specs.Prelude.{◌≡◌, IfOk};
 
 use crate::replaced::Replaced;
-use crate::told::{Told, made, opened};
+use crate::told::{Told, made, opened, opened_settings};
 use engines::EngineFault;
 use fixed_worth::Counted;
 use std::rt::Files;
@@ -49,7 +49,7 @@ pub fn open_values<'a, R: Files + Eprint>(
 ///
 /// # Errors
 /// `Device` where one can't be opened.
-pub fn open_prices<'a, R: Files + Eprint>(
+pub fn open_prices<'a, R: Files + Eprint + AllocGlobal>(
     rt: &'a R,
     verbose: bool,
     prec: &'a str,
@@ -60,7 +60,7 @@ pub fn open_prices<'a, R: Files + Eprint>(
         (mine.prec.failures ≡ 0) × (mine.settings.failures ≡ 0) × (mine.blocks.failures ≡ 0)) }
 {
     let prec = file(rt, verbose, prec)?;
-    let settings = file(rt, verbose, settings)?;
+    let settings = settings_file(rt, verbose, settings)?;
     let blocks = file(rt, verbose, blocks)?;
     Ok(PricedFiles {
         settings,
@@ -81,6 +81,23 @@ pub fn file<'a, R: Files + Eprint>(
     ensures { IfOk result (λ counted. counted.failures ≡ 0) }
 {
     match opened(rt, verbose, name) {
+        Ok(file) => Ok(Counted::new(file)),
+        Err(_) => Err(EngineFault::Device),
+    }
+}
+
+/// Opens a file of settings to be read.
+///
+/// # Errors
+/// `Device` where it can't be opened.
+pub fn settings_file<'a, R: Files + Eprint + AllocGlobal>(
+    rt: &'a R,
+    verbose: bool,
+    name: &'a str,
+) -> Result<Counted<Told<'a, R, R::File>>, EngineFault>
+    ensures { IfOk result (λ counted. counted.failures ≡ 0) }
+{
+    match opened_settings(rt, verbose, name) {
         Ok(file) => Ok(Counted::new(file)),
         Err(_) => Err(EngineFault::Device),
     }

@@ -2,6 +2,7 @@
 
 use crate::advice::Advice;
 use crate::replaced::{Replaced, open_replaced};
+use crate::settings_reasons::KeptText;
 use command_line::Escaped;
 use std::fs::File;
 use std::io;
@@ -20,6 +21,8 @@ pub struct Told<'a, R, D> {
     device: D,
     // whether something was read
     is_begun: bool,
+    // what was read of settings of which it is told why they are refused
+    settings: Option<KeptText>,
 }
 
 // What some programs put at the head of a text in UTF-8.
@@ -41,6 +44,22 @@ pub fn opened<'a, R: Files + Eprint>(
             Err(error)
         }
     }
+}
+
+/// Opens a file of settings to be read. Where the text is refused, it tells why.
+///
+/// # Errors
+/// That of the system, of which it tells.
+pub fn opened_settings<'a, R: Files + Eprint + AllocGlobal>(
+    rt: &'a R,
+    verbose: bool,
+    name: &'a str,
+) -> io::Result<Told<'a, R, R::File>> {
+    let mut told = opened(rt, verbose, name)?;
+    if verbose {
+        told.settings = Some(KeptText::new(rt.alloc()));
+    }
+    Ok(told)
 }
 
 /// Opens a file to be replaced at the first write, or makes one.
@@ -80,10 +99,11 @@ fn told_by<'a, R, D>(rt: &'a R, verbose: bool, name: &'a str, device: D) -> Told
         advice: None,
         device,
         is_begun: false,
+        settings: None,
     }
 }
 
-impl<R: Eprint, D: Read> Read for Told<'_, R, D> {
+impl<R: Eprint + AllocGlobal, D: Read> Read for Told<'_, R, D> {
     fn read(&mut self, buf: &mut [u8]) -> io::Result<usize> {
         match self.device.read(buf) {
             Ok(count) => {
@@ -92,12 +112,26 @@ impl<R: Eprint, D: Read> Read for Told<'_, R, D> {
                     let begins_with_mark = count >= MARK.len() && buf.starts_with(MARK);
                     tell_mark(self.rt, self.verbose && begins_with_mark, self.name);
                 }
+                self.keep_settings(&buf[..count]);
                 Ok(count)
             }
             Err(error) => {
                 tell(self.rt, self.verbose, "read", self.name, error);
                 Err(error)
             }
+        }
+    }
+}
+
+impl<R: Eprint + AllocGlobal, D> Told<'_, R, D> {
+    // Keeps what was read of settings, and tells at their end why they are refused.
+    fn keep_settings(&mut self, read: &[u8]) {
+        if !read.is_empty() {
+            if let Some(text) = &mut self.settings {
+                text.keep(read);
+            }
+        } else if let Some(text) = self.settings.take() {
+            text.tell(self.rt, self.rt.alloc(), self.name);
         }
     }
 }
