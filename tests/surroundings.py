@@ -1,5 +1,5 @@
 """Runs the built program where a case's folder can't say what is wanted: on one processor, with outputs that are closed, past the
-limit of a file's size, on runs that are long enough to tell how far they are, and on mines whose size chooses the solver.
+limit of a file's size, on blocks of too many pairs, on runs that are long enough to tell how far they are, and on mines whose size chooses the solver.
 
 What must come is worked out from FORMATS.md and the help texts, or is what the program answers without the surroundings.
 """
@@ -92,6 +92,21 @@ def with_files_of_a_limit(program):
         yield None if well else "a trace past its limit: %r" % ((status, errors, output),)
 
 
+def more_pairs_than_may_be(program):
+    """Once the blocks are read, and before pairs are looked for, --verbose tells how many there may be at most, where that is too many.
+    Here two blocks at one place end the run then."""
+    width, blocks = 35, 35_000
+    offsets = sum(x * x + y * y <= width * width for x in range(-width, width + 1) for y in range(-width, width + 1))
+    listed = [[x, y, 1] for x in range(64) for y in range(64)]
+    files = {"b": "".join("%d %d 0 0\n" % (b, 0 if b == blocks - 1 else 100 * b) for b in range(blocks)), "s": "offsets = %r\n" % listed}
+    by_list = ["--pattern", "settings", "--settings", "s"]
+    with room_with(files) as room:
+        for pattern, number in ((["--pattern", "cone:1:%d:1" % width], offsets), (by_list, len(listed)), (["--pattern", "nine"], None)):
+            said = run(program, ["slopes", "--blocks", "b", *pattern, "--verbose"], room)
+            note = b"note: %d offsets give at most %d pairs for %d blocks, and no more than 134217728 are written\n" % (number, number * blocks, blocks) if number else b""
+            yield None if said == (3, b"", note + b"fault: slope SamePlace(0, %d)\n" % (blocks - 1)) else "pairs of %s: %r" % (pattern, said)
+
+
 def first_lines_of_progress(program, words, folder):
     """What a run tells on standard error until its second line; then it is ended."""
     with subprocess.Popen([str(program), *words, "--progress"], cwd=folder, stdin=subprocess.DEVNULL, stdout=subprocess.DEVNULL,
@@ -123,7 +138,7 @@ def the_solver_by_size(program):
 
 def try_all(program):
     """Tries all of it, and gives how many answers were as they must be and how many not."""
-    results = [line for tried in (on_one_processor, with_closed_outputs, with_files_of_a_limit, how_far_the_machine_is, the_solver_by_size)
+    results = [line for tried in (on_one_processor, with_closed_outputs, with_files_of_a_limit, more_pairs_than_may_be, how_far_the_machine_is, the_solver_by_size)
                for line in tried(program)]
     wrong = [line for line in results if line]
     for line in wrong:

@@ -7,7 +7,9 @@
 mod advice;
 mod effort_words;
 mod files;
+mod heard;
 mod opened;
+mod pairs_bound;
 mod progress;
 mod reasons;
 mod replaced;

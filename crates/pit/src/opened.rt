@@ -2,8 +2,10 @@
 
 ghost use Rattle.std.specs.Prelude.{◌≡◌, IfOk};
 
+use crate::heard::Heard;
 use crate::replaced::Replaced;
-use crate::told::{Told, made, opened, opened_settings};
+use crate::settings_reasons::KeptText;
+use crate::told::{Told, made, opened, opened_and_heard};
 use engines::EngineFault;
 use fixed_worth::Counted;
 use std::rt::Files;
@@ -60,7 +62,8 @@ pub fn open_prices<'a, R: Files + Eprint + AllocGlobal>(
         (mine.prec.failures ≡ 0) × (mine.settings.failures ≡ 0) × (mine.blocks.failures ≡ 0)) }
 {
     let prec = file(rt, verbose, prec)?;
-    let settings = settings_file(rt, verbose, settings)?;
+    let heard = Heard::Settings(KeptText::new(rt.alloc(), None));
+    let settings = heard_file(rt, verbose, settings, heard)?;
     let blocks = file(rt, verbose, blocks)?;
     Ok(PricedFiles {
         settings,
@@ -86,18 +89,19 @@ pub fn file<'a, R: Files + Eprint>(
     }
 }
 
-/// Opens a file of settings to be read.
+/// Opens a file to be read of which there is something to tell at its end.
 ///
 /// # Errors
 /// `Device` where it can't be opened.
-pub fn settings_file<'a, R: Files + Eprint + AllocGlobal>(
+pub fn heard_file<'a, R: Files + Eprint>(
     rt: &'a R,
     verbose: bool,
     name: &'a str,
+    heard: Heard<'a>,
 ) -> Result<Counted<Told<'a, R, R::File>>, EngineFault>
     ensures { IfOk result (λ counted. counted.failures ≡ 0) }
 {
-    match opened_settings(rt, verbose, name) {
+    match opened_and_heard(rt, verbose, name, heard) {
         Ok(file) => Ok(Counted::new(file)),
         Err(_) => Err(EngineFault::Device),
     }

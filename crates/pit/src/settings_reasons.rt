@@ -3,6 +3,7 @@
 use command_line::Escaped;
 use settings_file::{Key, SettingsFault, read_settings};
 use std::alloc::Global;
+use std::sync::atomic::{AtomicU64, Ordering};
 use toml::Table;
 
 // The most bytes of settings that are kept: more are hardly written by hand.
@@ -19,19 +20,21 @@ const KEYS: [Key; 8] = [
     Key::Mining,
 ];
 
-/// What was read of settings so far.
+/// What was read of settings so far, and where the number of offsets that they list is put.
 #[derive(Drop)]
-pub struct KeptText {
+pub struct KeptText<'a> {
     bytes: Vec<u8>,
     is_whole: bool,
+    offsets: Option<&'a AtomicU64>,
 }
 
-impl KeptText {
+impl<'a> KeptText<'a> {
     /// Nothing was read.
-    pub fn new(alloc: Global) -> KeptText {
+    pub fn new(alloc: Global, offsets: Option<&'a AtomicU64>) -> KeptText<'a> {
         KeptText {
             bytes: Vec::new(alloc),
             is_whole: true,
+            offsets,
         }
     }
 
@@ -44,7 +47,7 @@ impl KeptText {
     }
 
     /// Tells what is wrong with the whole text of the settings with this name, if it is no TOML text or has a key that
-    /// settings haven't. The engine meets the same fault, and answers it.
+    /// settings haven't. The engine meets the same fault, and answers it. Of settings that are right it notes the offsets.
     pub fn tell<R: Eprint>(&self, rt: &R, alloc: Global, name: &str) {
         if !self.is_whole {
             return;
@@ -52,7 +55,12 @@ impl KeptText {
         match read_settings(alloc, &self.bytes) {
             Err(SettingsFault::NotToml) => tell_line(rt, alloc, name, &self.bytes),
             Err(SettingsFault::UnknownKey) => tell_key(rt, alloc, name, &self.bytes),
-            _ => {}
+            Err(_) => {}
+            Ok(settings) => {
+                if let (Some(number), Some(listed)) = (self.offsets, settings.offsets()) {
+                    number.store(listed.len() as u64, Ordering::SeqCst);
+                }
+            }
         }
     }
 }

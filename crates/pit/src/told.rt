@@ -1,8 +1,8 @@
 //! Files and the output, which tell why they failed where that is asked for.
 
 use crate::advice::Advice;
+use crate::heard::Heard;
 use crate::replaced::{Replaced, open_replaced};
-use crate::settings_reasons::KeptText;
 use command_line::Escaped;
 use std::fs::File;
 use std::io;
@@ -21,8 +21,8 @@ pub struct Told<'a, R, D> {
     device: D,
     // whether something was read
     is_begun: bool,
-    // what was read of settings of which it is told why they are refused
-    settings: Option<KeptText>,
+    // what is told at the end of what is read
+    heard: Option<Heard<'a>>,
 }
 
 // What some programs put at the head of a text in UTF-8.
@@ -46,18 +46,19 @@ pub fn opened<'a, R: Files + Eprint>(
     }
 }
 
-/// Opens a file of settings to be read. Where the text is refused, it tells why.
+/// Opens a file to be read of which there is something to tell at its end.
 ///
 /// # Errors
 /// That of the system, of which it tells.
-pub fn opened_settings<'a, R: Files + Eprint + AllocGlobal>(
+pub fn opened_and_heard<'a, R: Files + Eprint>(
     rt: &'a R,
     verbose: bool,
     name: &'a str,
+    heard: Heard<'a>,
 ) -> io::Result<Told<'a, R, R::File>> {
     let mut told = opened(rt, verbose, name)?;
     if verbose {
-        told.settings = Some(KeptText::new(rt.alloc()));
+        told.heard = Some(heard);
     }
     Ok(told)
 }
@@ -99,7 +100,7 @@ fn told_by<'a, R, D>(rt: &'a R, verbose: bool, name: &'a str, device: D) -> Told
         advice: None,
         device,
         is_begun: false,
-        settings: None,
+        heard: None,
     }
 }
 
@@ -112,7 +113,7 @@ impl<R: Eprint + AllocGlobal, D: Read> Read for Told<'_, R, D> {
                     let begins_with_mark = count >= MARK.len() && buf.starts_with(MARK);
                     tell_mark(self.rt, self.verbose && begins_with_mark, self.name);
                 }
-                self.keep_settings(&buf[..count]);
+                self.hear(&buf[..count]);
                 Ok(count)
             }
             Err(error) => {
@@ -124,14 +125,14 @@ impl<R: Eprint + AllocGlobal, D: Read> Read for Told<'_, R, D> {
 }
 
 impl<R: Eprint + AllocGlobal, D> Told<'_, R, D> {
-    // Keeps what was read of settings, and tells at their end why they are refused.
-    fn keep_settings(&mut self, read: &[u8]) {
+    // Takes in what was read, and tells at its end what there is to tell.
+    fn hear(&mut self, read: &[u8]) {
         if !read.is_empty() {
-            if let Some(text) = &mut self.settings {
-                text.keep(read);
+            if let Some(heard) = &mut self.heard {
+                heard.hear(read);
             }
-        } else if let Some(text) = self.settings.take() {
-            text.tell(self.rt, self.rt.alloc(), self.name);
+        } else if let Some(heard) = self.heard.take() {
+            heard.tell(self.rt, self.name);
         }
     }
 }
