@@ -3,7 +3,10 @@
 ghost use Rattle.engines.specs.Slopes.{IsChoice};
 
 use crate::advice::advice_for_series;
-use crate::opened::{PricedFiles, ValueFiles, file, open_prices, open_values};
+use crate::heard::Heard;
+use crate::opened::{PricedFiles, ValueFiles, file, heard_file, open_prices, open_values};
+use crate::pairs_bound::{PairsBound, offsets_of};
+use crate::settings_reasons::KeptText;
 use crate::told::output;
 use command_line::{CheckWords, ModelWords, ReplayWords, SeriesCommand, SeriesWords, SlopesWords};
 use engines::{
@@ -20,6 +23,7 @@ use shells::Factor;
 use slope::Up;
 use std::rt::Files;
 use std::sync::Wait;
+use std::sync::atomic::AtomicU64;
 use std::thread::Threads;
 use workers::Gate;
 
@@ -164,7 +168,9 @@ pub fn slopes_file<R: Files + Print + Eprint + AllocGlobal>(
 ) -> Result<Verdict, EngineFault>
     requires { IsChoice pattern }
 {
-    let mut blocks = file(rt, words.verbose, words.blocks)?;
+    let offsets = AtomicU64::new(offsets_of(rt.alloc(), pattern));
+    let bound = Heard::Blocks(PairsBound::new(&offsets));
+    let mut blocks = heard_file(rt, words.verbose, words.blocks, bound)?;
     let mut out = Counted::new(output(rt, words.verbose, None));
     slopes_engine(rt.alloc(), &mut blocks, pattern, up, &mut out)
 }
@@ -176,8 +182,11 @@ pub fn listed_slopes_files<R: Files + Print + Eprint + AllocGlobal>(
     settings: &str,
     up: Up,
 ) -> Result<Verdict, EngineFault> {
-    let mut settings = file(rt, words.verbose, settings)?;
-    let mut blocks = file(rt, words.verbose, words.blocks)?;
+    let offsets = AtomicU64::new(0);
+    let text = Heard::Settings(KeptText::new(rt.alloc(), Some(&offsets)));
+    let mut settings = heard_file(rt, words.verbose, settings, text)?;
+    let bound = Heard::Blocks(PairsBound::new(&offsets));
+    let mut blocks = heard_file(rt, words.verbose, words.blocks, bound)?;
     let mut out = Counted::new(output(rt, words.verbose, None));
     slopes_from_settings_engine(rt.alloc(), &mut settings, &mut blocks, up, &mut out)
 }
