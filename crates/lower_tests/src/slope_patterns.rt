@@ -1,6 +1,6 @@
 use blocks_file::{BlockModel, Place, read_blocks};
 use prec_file::Rests;
-use slope::{Pattern, PatternFault, SlopeFault, Up, predecessors_of, rests_of};
+use slope::{Pattern, PatternFault, Selection, SlopeFault, Up, predecessors_of, rests_of};
 use std::alloc::Global;
 use std::fmt::{Debug, Display};
 use std::process::Abort;
@@ -112,7 +112,7 @@ fn pairs_by_filter(
 }
 
 fn agrees(alloc: Global, model: &BlockModel, pattern: &Pattern, up: Up) -> Result<bool, Fail> {
-    let rests = rests_of(alloc, model, pattern, up)?;
+    let rests = rests_of(alloc, model, pattern, up, Selection::Every)?;
     let pairs = pairs_by_filter(alloc, model, pattern, up)?;
     if rests.pairs() as usize != pairs.len() {
         return Ok(false);
@@ -225,7 +225,7 @@ fn pairs_of(
 ) -> Result<Rests, Fail> {
     let pattern = pattern?;
     let model = model(alloc, text)?;
-    Ok(rests_of(alloc, &model, &pattern, up)?)
+    Ok(rests_of(alloc, &model, &pattern, up, Selection::Every)?)
 }
 
 #[test]
@@ -322,7 +322,7 @@ fn predecessors_alone(rt: HostRuntime) -> Result<(), Fail> {
     let alloc: Global = rt.alloc();
     let five = Pattern::five(alloc)?;
     let cube = model(alloc, CUBE)?;
-    let predecessors = predecessors_of(alloc, &cube, &five, Up::PlusZ)?;
+    let predecessors = predecessors_of(alloc, &cube, &five, Up::PlusZ, Selection::Every)?;
     equal(&rt, predecessors.len(), 18);
     let lent = predecessors.lent();
     if lent.len() == 18 {
@@ -339,7 +339,7 @@ fn predecessors_alone(rt: HostRuntime) -> Result<(), Fail> {
 // Whether two blocks of a text, the first two that are met, are at one place.
 fn at_one_place(alloc: Global, text: &[u8], first: u32, second: u32) -> Result<bool, Fail> {
     let five = Pattern::five(alloc)?;
-    let answer = rests_of(alloc, &model(alloc, text)?, &five, Up::PlusZ);
+    let answer = rests_of(alloc, &model(alloc, text)?, &five, Up::PlusZ, Selection::Every);
     Ok(answer.err() == Some(SlopeFault::SamePlace(first, second)))
 }
 

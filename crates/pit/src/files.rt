@@ -4,6 +4,7 @@ ghost use Rattle.engines.specs.Slopes.{IsChoice};
 
 use crate::advice::advice_for_series;
 use crate::opened::{PricedFiles, ValueFiles, file, open_prices, open_values};
+use crate::slopes_words::selection_asked;
 use crate::told::output;
 use command_line::{CheckWords, ModelWords, ReplayWords, SeriesCommand, SeriesWords, SlopesWords};
 use engines::{
@@ -166,7 +167,8 @@ pub fn slopes_file<R: Files + Print + Eprint + AllocGlobal>(
 {
     let mut blocks = file(rt, words.verbose, words.blocks)?;
     let mut out = Counted::new(output(rt, words.verbose, None));
-    slopes_engine(rt.alloc(), &mut blocks, pattern, up, &mut out)
+    let selection = selection_asked(words);
+    slopes_engine(rt.alloc(), &mut blocks, pattern, up, selection, &mut out)
 }
 
 /// Writes the predecessors of each block of a file, by the offsets that a file of settings lists.
@@ -179,5 +181,6 @@ pub fn listed_slopes_files<R: Files + Print + Eprint + AllocGlobal>(
     let mut settings = file(rt, words.verbose, settings)?;
     let mut blocks = file(rt, words.verbose, words.blocks)?;
     let mut out = Counted::new(output(rt, words.verbose, None));
-    slopes_from_settings_engine(rt.alloc(), &mut settings, &mut blocks, up, &mut out)
+    let selection = selection_asked(words);
+    slopes_from_settings_engine(rt.alloc(), &mut settings, &mut blocks, up, selection, &mut out)
 }
