@@ -7,6 +7,7 @@ use crate::heard::Heard;
 use crate::opened::{PricedFiles, ValueFiles, file, heard_file, open_prices, open_values};
 use crate::pairs_bound::{PairsBound, offsets_of};
 use crate::settings_reasons::KeptText;
+use crate::slopes_words::selection_asked;
 use crate::told::output;
 use command_line::{CheckWords, ModelWords, ReplayWords, SeriesCommand, SeriesWords, SlopesWords};
 use engines::{
@@ -172,7 +173,8 @@ pub fn slopes_file<R: Files + Print + Eprint + AllocGlobal>(
     let bound = Heard::Blocks(PairsBound::new(&offsets));
     let mut blocks = heard_file(rt, words.verbose, words.blocks, bound)?;
     let mut out = Counted::new(output(rt, words.verbose, None));
-    slopes_engine(rt.alloc(), &mut blocks, pattern, up, &mut out)
+    let selection = selection_asked(words);
+    slopes_engine(rt.alloc(), &mut blocks, pattern, up, selection, &mut out)
 }
 
 /// Writes the predecessors of each block of a file, by the offsets that a file of settings lists.
@@ -188,5 +190,6 @@ pub fn listed_slopes_files<R: Files + Print + Eprint + AllocGlobal>(
     let bound = Heard::Blocks(PairsBound::new(&offsets));
     let mut blocks = heard_file(rt, words.verbose, words.blocks, bound)?;
     let mut out = Counted::new(output(rt, words.verbose, None));
-    slopes_from_settings_engine(rt.alloc(), &mut settings, &mut blocks, up, &mut out)
+    let selection = selection_asked(words);
+    slopes_from_settings_engine(rt.alloc(), &mut settings, &mut blocks, up, selection, &mut out)
 }
