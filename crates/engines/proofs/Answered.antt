@@ -23,7 +23,7 @@ use Rattle.engines.specs.ReadMines.{AreRead, IsMineRead}
 use Rattle.engines.specs.Solving.{Solves}
 use Rattle.engines.specs.Verdicts.{verdict_of}
 use Rattle.engines.proofs.Complete.{complete_at}
-use Rattle.engines.proofs.MineInputs.{always, under, for_texts}
+use Rattle.engines.proofs.MineDevices.{always, under, for_texts}
 
 pub keeps_self : (w : Option (List ℕ)) → Keeps w w
 keeps_self None = tt

@@ -17,7 +17,7 @@ pub mod SlopeAnswers
 pub mod Lone
 pub mod NetAnswers
 pub mod Solutions
-pub mod MineInputs
+pub mod MineDevices
 pub mod MinesRead
 pub mod HeaderAnswers
 pub mod Streamed

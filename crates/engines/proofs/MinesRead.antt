@@ -24,7 +24,7 @@ use Rattle.engines.specs.ReadMines.{AreRead, AreWorthsOf, IsMineRead}
 use Rattle.engines.specs.Worths.{billionths_of, blocks_valued, nanos_at, price_at}
 use Rattle.settings_file.proofs.Known.{settings_are}
 use Rattle.engines.proofs.Judged.{read_as}
-use Rattle.engines.proofs.MineInputs.{always, under, under2, all_texts, for_worths, for_texts}
+use Rattle.engines.proofs.MineDevices.{always, under, under2, all_texts, for_worths, for_texts}
 use Rattle.engines.proofs.PricedAnswers.{settings_answer, missing_answer, prices_unsaid, prices_answer, prices_said, priced}
 
 -- ---- values

@@ -26,6 +26,10 @@ under3 (Some s) None r P Q h f = tt
 under3 (Some s) (Some b) None P Q h f = tt
 under3 (Some s) (Some b) (Some p) P Q h f = f s b p h
 
+pub anything : (o : Option (List ℕ)) → IfSome o (λ c. Unit {0})
+anything None = tt
+anything (Some c) = tt
+
 -- ---- the texts of a mine of prices
 
 settings_fail : (s b p : List ℕ) (e : EngineFault) → SettingsReadFails s e → PricedMineFails s b p e

@@ -1,5 +1,6 @@
 -- From the header of a certificate and what stands behind it to what is judged, where the device tells its bytes.
 use Rattle.std.proofs.Common.{◌≡◌, ◌≢◌, ℕ, ◌≤◌, ℤ, List, Option, Some, None, Result, Ok, Err, refl, sym, ap, ◌∙◌, subst, arith, IfSome}
+use Rattle.std.specs.Prelude.{MatchOption}
 use Rattle.fixed_worth.specs.declared.limits.TheConstants.{MOST_FACTOR}
 use Rattle.prec_file.specs.Rests.{RestsView}
 use Rattle.check_pit.specs.declared.header.Header.{Header}
@@ -35,6 +36,13 @@ FailsFor n e c = (texts : MineTexts) → DenoteMine texts n → Fails texts c e
 pub header_unjudged : (t : Option (List ℕ)) (worths : Worths) (rests : RestsView) (n : ℕ) (e : EngineFault) → n ≡ rests.blocks → IfSome t (FailsFor n e) → IfSome t (JudgedBy worths rests (Err e))
 header_unjudged None worths rests n e size h = tt
 header_unjudged (Some c) worths rests n e size h = λ texts read. h texts (subst (DenoteMine texts) (sym size) read.0.mine)
+
+-- what is known of an answer by what it is
+pub found_none : {V : Type 0} (found : Option V) (P : Type 0) (Q : V → Type 0) → MatchOption found P Q → found ≡ None → P
+found_none found P Q h e = subst (λ o. MatchOption o P Q) e h
+
+pub found_some : {V : Type 0} (found : Option V) (P : Type 0) (Q : V → Type 0) (v : V) → MatchOption found P Q → found ≡ Some v → Q v
+found_some found P Q v h e = subst (λ o. MatchOption o P Q) e h
 
 -- the factor of a price is at most 10,000
 factor_low : (price : Price) → IsPrice price → factor_at price ≤ MOST_FACTOR

@@ -109,11 +109,12 @@ fn judge_stream<R: Threads + Sync, C: CountedRead>(
         predecessors,
     } = mine;
     let header = header_for(stream, predecessors.len())?;
-    let Some(nanos) = worths.nanos_by(rt, alloc, header.price)? else {
-        return Err(EngineFault::Certificate(CertificateProblem::WrongPrice));
-    };
+    let found = worths.nanos_by(rt, alloc, header.price)?;
     drop(worths);
-    judge_in(alloc, header.group, nanos, predecessors, stream)
+    match found {
+        Some(nanos) => judge_in(alloc, header.group, nanos, predecessors, stream),
+        None => Err(EngineFault::Certificate(CertificateProblem::WrongPrice)),
+    }
 }
 
 // The header of a certificate for a mine of n blocks.

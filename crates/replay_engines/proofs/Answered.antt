@@ -13,7 +13,7 @@ use Rattle.engines.specs.MineInputs.{ForTexts}
 use Rattle.engines.specs.Mines.{MineTexts, price_wanted, DenoteMine}
 use Rattle.engines.specs.ReadMines.{AreRead}
 use Rattle.engines.proofs.Answered.{keeps_self}
-use Rattle.engines.proofs.MineInputs.{always, under, for_texts}
+use Rattle.engines.proofs.MineDevices.{always, under, for_texts}
 use Rattle.replay_engines.specs.TraceTexts.{ReadsTrace, TraceReadFails}
 use Rattle.replay_engines.specs.Replays.{Replays}
 

@@ -1,7 +1,7 @@
 use Rattle.std.proofs.Common.{refl}
 use Rattle.std.proofs.lemmas.Result.{err_from_is_err_and}
 use Rattle.engines.proofs.Failed.{raised, stayed, went, memory_alone}
-use Rattle.engines.proofs.MineInputs.{worths_once, prec_once}
+use Rattle.engines.proofs.MineDevices.{worths_once, prec_once}
 use Rattle.engines.proofs.MinesRead.{worths_unread, prec_unread, memory_refused, mine_priced}
 use Rattle.engines.proofs.mine_inputs.mine_to_solve.Goals as goal
 

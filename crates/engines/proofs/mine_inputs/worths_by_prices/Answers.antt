@@ -21,4 +21,4 @@ returns-in_err-prices-clause-read g c = λ factor precedence.
 pub returns-clause-read : goal.returns-clause-read
 returns-clause-read g c = λ factor precedence.
     let columns = c.in_ok-columns.ensures.columns in
-    prices_read (g.D.Read.remaining c.args.settings.now) (g.D.Read.remaining c.args.blocks.now) precedence factor c.in_ok-settings.settings c.in_ok-settings.ensures.read columns.1 c.in_ok-columns.columns columns.0 c.in_ok-prices.prices c.len.ensures.table.revenues c.in_ok-prices.ensures.read
+    prices_read (g.D.Read.remaining c.args.settings.now) (g.D.Read.remaining c.args.blocks.now) precedence factor c.in_ok-settings.settings c.in_ok-settings.ensures.read columns.1 c.in_ok-columns.columns columns.0 c.in_ok-prices.prices c.len-blocks.ensures.table.revenues c.in_ok-prices.ensures.read

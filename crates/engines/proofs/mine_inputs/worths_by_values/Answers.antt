@@ -9,4 +9,4 @@ returns-in_err-upit_from-clause-read g c = λ factor precedence.
 
 pub returns-clause-read : goal.returns-clause-read
 returns-clause-read g c = λ factor precedence.
-    values_read (g.D.Read.remaining c.args.upit.now) precedence factor c.in_ok-upit_from.upit_from c.in_ok-upit_from.ensures.read
+    values_read (g.D.Read.remaining c.args.upit.now) precedence factor c.in_ok-upit_from.field-0 c.in_ok-upit_from.ensures.read

@@ -3,7 +3,7 @@ use Rattle.std.proofs.lemmas.Result.{err_from_is_err_and}
 use Rattle.engines.specs.declared.method.Method.TheVariants.{PushRelabel}
 use Rattle.engines.proofs.Answered.{unsolved, answered}
 use Rattle.engines.proofs.Failed.{raised, stayed, went}
-use Rattle.engines.proofs.MineInputs.{mine_once, other_once}
+use Rattle.engines.proofs.MineDevices.{mine_once, other_once}
 use Rattle.word_engines.specs.WordSolving.{SolvesByWords, word_group}
 use Rattle.word_engines.proofs.MineAnswers.{unread}
 use Rattle.word_engines.proofs.words_solving.solve_words_engine.Goals as goal
