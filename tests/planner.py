@@ -1,9 +1,13 @@
-"""The tests of pitplan, the planner's side in Python: python/tests, by Debian's own Python and packages."""
+"""The tests of pitplan, the planner's side in Python: python/tests, by Debian's own Python and packages, its Debian package in a
+fresh Debian, and damaged studies."""
 import os
 import re
 import subprocess
 import tempfile
+from concurrent.futures import ThreadPoolExecutor
 from pathlib import Path
+
+import debian
 
 PYTHON = "/usr/bin/python3"
 
@@ -55,3 +59,20 @@ def try_all(top, pit):
     if ran.returncode:
         print(ran.stdout)
     return passed, max(failed, int(ran.returncode != 0))
+
+
+def try_packaged(top, pit):
+    """The same tests, and beside them, since it waits for downloads and disks, the Debian package in a fresh Debian."""
+    if not installed(top):                    # mmdebstrap is one of them
+        return 0, 1
+    with ThreadPoolExecutor(1) as beside:
+        packaged = beside.submit(debian.try_all, pit)
+        counts = [try_all(top, pit), packaged.result()]
+    return sum(passed for passed, _ in counts), sum(failed for _, failed in counts)
+
+
+def fuzz(top, minutes, seed):
+    """Throws damaged studies at pitplan for so many minutes: each is answered by a result or a message, never by a traceback."""
+    words = [PYTHON, "tests/fuzz_studies.py", str(10**9), str(60 * minutes), str(seed)]
+    well = subprocess.run(words, cwd=top / "python", stdin=subprocess.DEVNULL).returncode == 0
+    return int(well), int(not well)

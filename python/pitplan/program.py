@@ -8,6 +8,7 @@ import re
 import shutil
 import signal
 import subprocess
+import sys
 import threading
 from collections.abc import Callable, Iterable, Iterator, Sequence
 from contextlib import contextmanager, nullcontext
@@ -86,7 +87,7 @@ class Files:
 
 
 def found_program() -> str:
-    """Where `pit` is: as PIT in the environment says, on the path, or where this repository builds it.
+    """Where `pit` is: as PIT in the environment says, on the path, where this repository builds it, or beside the command.
 
     Raises
     ------
@@ -99,7 +100,8 @@ def found_program() -> str:
         if not where:
             raise PlanError(f"PIT in the environment is {named!r}, and there is no such program")
         return str(Path(where).resolve())
-    where = shutil.which("pit") or next((str(path) for path in BUILT if os.access(path, os.X_OK)), None)
+    beside = Path(sys.argv[0]).resolve().parent / "pit"
+    where = shutil.which("pit") or next((str(path) for path in (*BUILT, beside) if os.access(path, os.X_OK)), None)
     if not where:
         raise PlanError("the program pit isn't there", try_this="./install in the repository, or PIT=/path/to/pit")
     return where
