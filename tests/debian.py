@@ -168,7 +168,7 @@ def tried_anew(program):
         room = Path(name)
         package = package_of(program, room)
         # what is mounted there is seen by mmdebstrap alone, so that nothing of it is left, however this ends
-        made = subprocess.run(["unshare", "--mount", "mmdebstrap", "--variant=apt", "--mode=root", "--dpkgopt=force-unsafe-io", "--aptopt=APT::Sandbox::User \"root\"",
+        made = subprocess.run(["unshare", "--mount", "mmdebstrap", "--variant=apt", "--mode=root", "--skip=cleanup", "--dpkgopt=force-unsafe-io", "--aptopt=APT::Sandbox::User \"root\"",
                                *("--customize-hook=" + hook for hook in hooks(package, room)), "bookworm", "/dev/null", MIRROR],
                               env={**os.environ, "TMPDIR": name}, stdin=subprocess.DEVNULL, stdout=subprocess.PIPE, stderr=subprocess.STDOUT, text=True)
         told = (room / "said").read_text() if (room / "said").exists() else ""
