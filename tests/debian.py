@@ -99,7 +99,7 @@ def tells(tried):
         command = re.search(r"sudo (apt-get install --no-install-recommends .*)", told)
         well = line in told and (status == 1) == (package != "ezdxf") and "Traceback" not in told and command
         again = said(command[1] + " -y -qq") if command else (1, "")
-        tried.that("a missing %s is told, and the command that is named brings it" % package, well and again[0] == 0 and said("pitplan doctor", True)[0] == 0, told + again[1])
+        tried.that("a missing %s is told, and the command that is named brings it" % package, well and again[0] == 0 and said("python3 -c 'import %s'" % package)[0] == 0, told + again[1])
 
 
 def leaves(tried):
