@@ -113,15 +113,16 @@ def a_failed_proof_fails_the_example(tree):
 
 
 def version_is_up_to_date(top):
-    """Whether `pit --version` tells the changelog's newest version and the logic of the kit that is installed."""
+    """Whether `pit --version` tells the changelog's newest version and the logic of the kit that is installed, and pitplan that version."""
     kit = subprocess.run(["rt", "version"], stdin=subprocess.DEVNULL, stdout=subprocess.PIPE, text=True).stdout
     logic = kit[kit.index("logic "):].strip()
     newest = re.search(r"^## (\S+)", (top / "CHANGELOG.md").read_text(), re.M)[1]
     told = re.search(r'VERSION: &str = "([^"]*)"', (top / "crates/command_line/src/version.rt").read_text())[1]
     wanted = "%s\n%s" % (newest, logic)
     case = (top / "tests/cases/usage/version/stdout").read_text()
-    well = told == wanted and case == "pit %s\n" % wanted and "`%s`" % logic in (top / "README.md").read_text()
-    return well, "version.rt has %r, usage/version has %r, wanted is %r, in README too" % (told, case, wanted)
+    planner = re.search(r'^__version__ = "([^"]*)"', (top / "python/pitplan/__init__.py").read_text(), re.M)[1]
+    well = told == wanted and planner == newest and case == "pit %s\n" % wanted and "`%s`" % logic in (top / "README.md").read_text()
+    return well, "version.rt has %r, pitplan %r, usage/version has %r, wanted is %r, in README too" % (told, planner, case, wanted)
 
 
 def pages_are_right(top):
@@ -212,18 +213,17 @@ def wrong_drawings_are_refused(top, folder):
 def installs_where_the_caller_stands(top, folder):
     """Whether ./install FOLDER, called from elsewhere, takes a folder of the caller's. Its build is one that does nothing."""
     tree, caller = folder / "tree", folder / "caller"
-    for below in ("out", "tools"):
-        (tree / below).mkdir(parents=True)
     caller.mkdir()
-    for file in ("install", "tools/launcher"):
-        shutil.copy(top / file, tree / file)
-    for name, text in (("build", "#!/bin/sh\n"), ("out/pit", "the program")):
+    for name in ("install", "tools/launcher", "docs/pit.1", "completions/pit.bash", "completions/pit.zsh", "completions/pit.fish"):
+        (tree / name).parent.mkdir(parents=True, exist_ok=True)
+        shutil.copy(top / name, tree / name)
+    for name, text in (("build", "#!/bin/sh\n"), ("out/pit", "the program"), ("python/packages", "python3-nowhere\n")):
+        (tree / name).parent.mkdir(exist_ok=True)
         (tree / name).write_text(text)
         (tree / name).chmod(0o755)
     done = subprocess.run([str(tree / "install"), "bin"], cwd=caller, stdin=subprocess.DEVNULL, stdout=subprocess.PIPE,
                           stderr=subprocess.STDOUT, text=True)
-    said = "installed {0}/bin/pit, which starts {0}/lib/pontihaw/pit\n".format(caller.resolve())
-    well = (caller / "bin" / "pit").exists() and not (tree / "bin").exists() and done.stdout == said
+    well = (caller / "bin" / "pit").exists() and not (tree / "bin").exists() and done.stdout.startswith("installed %s/bin/pit, which" % caller.resolve())
     return done.returncode == 0 and well, done.stdout
 
 

@@ -2,12 +2,17 @@
 from __future__ import annotations
 
 from pathlib import Path
+from typing import TYPE_CHECKING
 
 from .amounts import THOUSAND
-from .console import opened
+from .console import err, opened
 from .errors import PlanError
-from .shells import Shells, series_of
+from .shells import Shells, series_of, thousandths
 from .study import Study
+
+if TYPE_CHECKING:
+    from .compare import Comparison
+    from .design import Design
 
 
 def shares_of(text: str) -> list[int]:
@@ -43,6 +48,22 @@ def pits_at(folder: Path, series: list[int]) -> Shells:
         if not study.verdict(factor):
             raise not_run(study, factor)
     return Shells(study, series)
+
+
+def beside(study: Study, design: Design, factor: float) -> Comparison:
+    """A design beside the best pit at a factor, as a share of the price.
+
+    Raises
+    ------
+    PlanError
+        Where that pit hasn't been run.
+    """
+    from .compare import compare
+    wanted = thousandths(factor)
+    if not study.verdict(wanted):
+        raise not_run(study, wanted)
+    with err.status("pit check reads the design"):
+        return compare(study, design, wanted)
 
 
 def not_run(study: Study, factor: int) -> PlanError:

@@ -73,9 +73,10 @@ def lines() -> Heard:
 
 
 def write_risk(found: Risk) -> None:
-    """The tables, a section by likelihood, and the table on the screen."""
+    """The tables, a section and a page by likelihood, and the table on the screen."""
     from rich.box import SIMPLE_HEAD
     from rich.table import Table
+    from . import page
     from .pictures import save
     from .risk import spelled_factor
     from .risk_pictures import section
@@ -87,6 +88,7 @@ def write_risk(found: Risk) -> None:
     pits = found.pits(factor)
     pits.to_csv(folder / "likelihood_pits.csv", index=False)
     save(section(found, factor), folder / "likelihood.png")
+    page.write_likelihood(found, factor, folder / "likelihood.html", pits)
     currency = found.study.manifest["currency"]
     shown = Table(title=f"{found.count} realisations, million {currency} and Mt; a tenth of them lies below p10", title_justify="left", box=SIMPLE_HEAD)
     for name in ("factor", "worth p10", "p50", "p90", "mean", "rock p10", "p50", "p90"):
@@ -97,4 +99,4 @@ def write_risk(found: Risk) -> None:
     most = pits.worth_mean.idxmax()
     out.print(f"at factor {spelled_factor(factor)}: the blocks of at least {pits.likelihood[most]:.0%} likelihood, {pits.blocks[most]:,}, are the fixed pit worth most on the mean, "
               f"{pits.worth_mean[most] / 1e6:,.2f} million; each realisation's own best pit, {pits.best_mean[most] / 1e6:,.2f}", soft_wrap=True)
-    out.print(f"{folder}: risk.csv, risk_runs.csv, likelihood.csv, likelihood_pits.csv, likelihood.png", soft_wrap=True)
+    out.print(f"{folder}: risk.csv, risk_runs.csv, likelihood.csv, likelihood_pits.csv, likelihood.png, likelihood.html", soft_wrap=True)

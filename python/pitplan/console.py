@@ -6,10 +6,13 @@ from collections.abc import Sequence
 from pathlib import Path
 from typing import TYPE_CHECKING, Any
 
+import click
 import typer
 from rich.console import Console
 from rich.markup import escape
+from typer.core import TyperGroup
 
+from . import __version__
 from .errors import PlanError
 
 if TYPE_CHECKING:
@@ -17,11 +20,32 @@ if TYPE_CHECKING:
     from .study import Study
     from .study_file import StudyFile
 
-app = typer.Typer(add_completion=True, no_args_is_help=True, pretty_exceptions_enable=False, rich_markup_mode=None, context_settings={"help_option_names": ["-h", "--help"]},
-                  help="From a planner's table of blocks to proved pits, tables and pictures. Every pit that it shows was accepted by `pit check`.")
+
+
+class InOrder(TyperGroup):
+    """The commands as they were registered, and not by the alphabet."""
+
+    def list_commands(self, ctx: click.Context) -> list[str]:
+        return list(self.commands)
+
+
+app = typer.Typer(cls=InOrder, add_completion=True, no_args_is_help=True, pretty_exceptions_enable=False, rich_markup_mode=None, context_settings={"help_option_names": ["-h", "--help"]},
+                  help="From a planner's table of blocks to proved pits, tables and pictures. Every pit that it shows was accepted by `pit check`.",
+                  epilog="Exit status: 0 done; 1 no, where pit check refuses or a check of pitplan fails; 2 wrong words; 3 a file is wrong; 4 the machine (memory, disk); 130 stopped.")
 out = Console(width=None if sys.stdout.isatty() else 160, soft_wrap=not sys.stdout.isatty(), highlight=False)
 err = Console(stderr=True, highlight=False)
 STUDY: Any = typer.Argument(Path("."), help="The folder of the study, with its study.toml.", show_default="this folder")
+
+
+def tell_version(is_asked: bool) -> None:
+    if is_asked:
+        out.print(f"pitplan {__version__}")
+        raise typer.Exit
+
+
+@app.callback()
+def before_any_command(version: bool = typer.Option(False, "--version", help="Print the version.", is_eager=True, callback=tell_version)) -> None:
+    """Options that need no command."""
 
 
 def print_columns(title: str, names: Sequence[str], rows: Sequence[Sequence[str]], words: int = 0) -> None:

@@ -32,6 +32,7 @@ from .units_shown import Scale, factor_text, scale_of
 
 ROCK_HATCH, ROCK_EDGE = "....", "#9a9a9a"
 CASING = [patheffects.withStroke(linewidth=3.6, foreground="white")]
+THIN_CASING = [patheffects.withStroke(linewidth=2.4, foreground="white")]           # black dots on the darkest colour need one too
 SEPARATED = FuncFormatter(lambda value, _: f"{value:,.10g}")
 MANY_WORDS = 8           # words of a text column that get a colour of their own
 
@@ -227,7 +228,7 @@ def add_outlines(axes: Any, shells: Shells, cut: Plane, chosen: int) -> list[Any
         inside = there & (shells.shell[cut.number] <= i)
         label = f"{word} at factor {factor_text(shells.factors[i])}" + ("" if inside.any() else ": not here")
         if word == "Pit" or (i != chosen and inside.any()):
-            axes.plot(*planes.borders(inside, cut), color="black", linewidth=width, linestyle=stroke, path_effects=CASING if word == "Pit" else None)
+            axes.plot(*planes.borders(inside, cut), color="black", linewidth=width, linestyle=stroke, path_effects=CASING if word == "Pit" else THIN_CASING)
             handles.append(Line2D([], [], color="black", linewidth=width, linestyle=stroke, label=label))
     return handles
 

@@ -25,10 +25,10 @@ import pandas as pd
 from . import store
 from .amounts import THOUSAND, Priced, spelled
 from .economics import Economics
-from .errors import PlanError
+from .errors import MachineError, PlanError
 from .grid import Grid
 from .model import Model
-from .study import Study, Told, Verdict, made_whole, write_blocks
+from .study import FULL, Study, Told, Verdict, made_whole, mark, sweep, write_blocks
 from .study_file import economics_of
 from .task import Task
 
@@ -39,6 +39,8 @@ Bools = npt.NDArray[np.bool_]
 Floats = npt.NDArray[np.float32]
 TENTHS = tuple(tenth / 10 for tenth in range(1, 10))
 SPREAD = (0.1, 0.5, 0.9)
+SCRATCH = "pitplan."                         # folders of `.blocks` and certificates, in TMPDIR
+ROOM = "TMPDIR=/a/larger/disk: a realisation's blocks and certificate are written there"
 
 
 @dataclass(frozen=True)
@@ -252,27 +254,40 @@ class Realisation(Study):
         """The folder of a factor's result (in thousandths)."""
         return self.folder / "runs" / f"r{self.number:04d}" / f"f{factor:05d}"
 
+    keeps = False                            # its digest is kept
+
+    def room(self, work: Path) -> Path:
+        """The certificate is written in this machine's scratch, and never goes over the network."""
+        return self.made.parent if self.made else work
+
     def run(self, factor: int, told: Told | None = None) -> Verdict:
         """One pit of this realisation, as `Study.run`; the certificate isn't kept, its digest is."""
         done = self.verdict(factor)
         if done:
             return done
         with self.written():
-            done = super().run(factor, told)
-        (self.place(factor) / "best.cert.gz").unlink(missing_ok=True)
-        return done
+            return super().run(factor, told)
 
     @contextmanager
     def written(self) -> Iterator[Files]:
-        """The files of this realisation, for the time of a run or a series of runs."""
+        """The files of this realisation, for the time of a run or a series of runs.
+
+        Raises
+        ------
+        MachineError
+            Where there is no room for them.
+        """
         if self.made:
             yield self.files
             return
-        with tempfile.TemporaryDirectory(prefix="pitplan.", ignore_cleanup_errors=True) as scratch:
+        sweep(Path(tempfile.gettempdir()), SCRATCH + "*")
+        with tempfile.TemporaryDirectory(prefix=SCRATCH + mark(), ignore_cleanup_errors=True) as scratch:
             self.made = Path(scratch) / "mine.blocks"
             try:
                 write_blocks(self.made, self.model, self.priced)
                 yield self.files
+            except OSError as error:
+                raise MachineError(f"{error.filename or scratch}: {error.strerror}", try_this=ROOM if error.errno in FULL else None) from error
             finally:
                 self.made = None
 

@@ -43,6 +43,7 @@ Bools = npt.NDArray[np.bool_]
 Told = Callable[[int, str, float], None]     # a factor, what is done for it, and how far that is, from 0 to 1
 COLUMNS = ("revenue", "processing", "mining", "tonnes")
 READ = ("mine.blocks", "mine.prec", "settings.toml")
+FULL = (errno.ENOSPC, errno.EDQUOT)          # a disk has no room, or its user's share of it
 
 
 class Verdict(TypedDict):
@@ -91,6 +92,12 @@ class Study:
             raise PlanError(f"{self.where / 'manifest.json'} is damaged", try_this="pitplan build") from None
         self.key: str = self.manifest["key"]
         self.given = program
+
+    keeps = True                             # the certificate of each pit, packed, beside it
+
+    def room(self, work: Path) -> Path:
+        """The folder in which a certificate is written while it is checked: beside the result, unless told otherwise."""
+        return work
 
     @cached_property
     def program(self) -> Pit:
@@ -209,7 +216,7 @@ class Study:
             return done
         began, place = time.time(), self.place(factor)
         with made_whole(place) as work:
-            found = self.program.best(self.files, factor, work / "best.cert", solving(told, factor))
+            found = self.program.best(self.files, factor, self.room(work) / "best.cert", solving(told, factor), self.keeps)
             self.agree(found, factor)
             bits = np.packbits(found.mask)
             np.savez_compressed(work / "pit.npz", bits=bits)
@@ -317,7 +324,7 @@ def made_whole(place: Path) -> Iterator[Path]:
     Its name says the host and the process, for `sweep`.
     """
     place.parent.mkdir(parents=True, exist_ok=True)
-    work = Path(tempfile.mkdtemp(prefix=f".{place.name}.{host()}.{os.getpid()}.", dir=place.parent))
+    work = Path(tempfile.mkdtemp(prefix=f".{place.name}.{mark()}", dir=place.parent))
     work.chmod(place.parent.stat().st_mode & 0o777)       # mkdtemp makes it for one's own eyes
     try:
         yield work
@@ -328,7 +335,7 @@ def made_whole(place: Path) -> Iterator[Path]:
         shutil.rmtree(older, ignore_errors=True)
     except OSError as error:
         shutil.rmtree(work, ignore_errors=True)
-        hint = "make room on the disk, and start the same command again: what is done is kept" if error.errno in (errno.ENOSPC, errno.EDQUOT) else None
+        hint = "make room on the disk, and start the same command again: what is done is kept" if error.errno in FULL else None
         raise MachineError(f"{error.filename or place}: {error.strerror}", try_this=hint) from error
     except BaseException:
         shutil.rmtree(work, ignore_errors=True)
@@ -340,9 +347,14 @@ def host() -> str:
     return os.uname().nodename.replace(".", "_")
 
 
-def sweep(folder: Path) -> None:
+def mark() -> str:
+    """What names a folder of this process, for `sweep`."""
+    return f"{host()}.{os.getpid()}."
+
+
+def sweep(folder: Path, names: str = ".f*") -> None:
     """Takes away what processes of this machine that are no more have left half done."""
-    for half in folder.glob(".f*"):
+    for half in folder.glob(names):
         parts = half.name.removesuffix(".old").rsplit(".", 3)
         if len(parts) == 4 and parts[1] == host() and not os.path.exists(f"/proc/{parts[2]}"):
             shutil.rmtree(half, ignore_errors=True)

@@ -5,7 +5,6 @@ import os
 import re
 import signal
 import subprocess
-import time
 from pathlib import Path
 
 import numpy as np
@@ -16,7 +15,8 @@ import pitplan as pp
 from mines import SIZE, costs, study_of, table, written_study
 from pitplan import local, risk
 from pitplan.task import Task, Tasks, task_of, wanted
-from test_runs import command, runs, slow_pit, waited_for
+from processes import command, gone, waited_for
+from test_runs import slow_pit
 
 FACTORS = (800, 1000)
 
@@ -214,11 +214,7 @@ def test_a_killed_task_leaves_no_pit_and_goes_on(tmp_path, program, how):
     solver = waited_for(marks, 1)[0]
     run.send_signal(how)
     run.communicate(timeout=60)
-    for _ in range(200):
-        if not runs(solver):
-            break
-        time.sleep(0.05)
-    assert not runs(solver)
+    assert gone([solver])
     if how == signal.SIGTERM:
         assert run.returncode == 130 and not list((study.folder / "runs/r0001").iterdir()) and not list(scratch.iterdir())
     assert Tasks(study.folder).do(task_of(["realisation", "1", "1000"])) == 1
