@@ -268,7 +268,8 @@ def number_column(values: pd.Series, table: object, absent: Collection[str] = ()
     if values.dtype.kind not in "iuf":
         values = numbers_of(values, table, absent)
     found: npt.NDArray[np.float64] = values.to_numpy(dtype=float, copy=True)
-    marks = [float(mark) for mark in absent if PLAIN.fullmatch(mark)]
+    spelt = [COMMA_DECIMAL.sub(r"\1.\2", mark.strip()) for mark in absent]      # a mark as it stands in a table with decimal commas
+    marks = [float(mark) for mark in spelt if PLAIN.fullmatch(mark)]
     if marks:
         found[np.isin(found, marks)] = 0.0
     if "" in absent:

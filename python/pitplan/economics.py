@@ -181,6 +181,8 @@ def grades_of(metal: Metal, model: Model) -> Floats:
                                f"in {metal.grade_unit} is more than the whole rock", "another grade_unit")):
         if wrong.any():
             at = int(np.argmax(wrong))
+            if what == "is below 0" and len(np.unique(found[wrong])) > 1:          # no mark: what kriging leaves
+                hint = "0 in their place, if the estimation left them so"
             raise PlanError(f"{found[at]:g} {what}" + (f"; {int(wrong.sum()):,} cells are so" if wrong.sum() > 1 else ""), table=model.table,
                             row=int(model.blocks["row"].iloc[at]), column=metal.grade, try_this=hint.format(found[at]))
     return found

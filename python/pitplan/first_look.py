@@ -129,7 +129,9 @@ def is_grade(frame: pd.DataFrame, name: str, look: Look) -> bool:
         values = number_column(frame[name].iloc[:20000], name, look.absent)
     except PlanError:
         return False
-    return bool(values.min() >= 0) and (metal_of(name) is not None or len(np.unique(values)) > 12)
+    if metal_of(name) is not None and (values < 0).mean() < 0.5:       # kriging leaves a few below 0: `build` names their row
+        return True
+    return bool(values.min() >= 0) and len(np.unique(values)) > 12
 
 
 def metal_of(column: str) -> tuple[str, str, str, float] | None:

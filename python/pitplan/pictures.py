@@ -35,6 +35,7 @@ ROCK_HATCH, ROCK_EDGE = "....", "#9a9a9a"
 CASING = [patheffects.withStroke(linewidth=3.6, foreground="white")]
 THIN_CASING = [patheffects.withStroke(linewidth=2.4, foreground="white")]           # black dots on the darkest colour need one too
 SEPARATED = FuncFormatter(lambda value, _: f"{value:,.10g}")
+LABELS_AN_INCH = 4.5     # elevations beside a section, one above the other
 MANY_WORDS = 8           # words of a text column that get a colour of their own
 
 
@@ -160,7 +161,9 @@ def section(shells: Shells, *, north: float | None = None, east: float | None = 
     cut = planes.section(model, axis, int(at) if is_index else planes.line_at(model, axis, float(at)))
     figure, axes = draw(shells, cut, style, style.exaggeration)
     toes = np.unique(cut.up)
-    axes.set_yticks(toes[::max(1, len(toes) // 12)])              # elevations are those of benches
+    high = figure.get_figheight() * axes.get_position().height    # inches
+    most = min(12, max(2, int(high * LABELS_AN_INCH)))
+    axes.set_yticks(toes[::-(-len(toes) // most)])                # elevations are those of benches
     axes.grid(axis="y", color="#888888", linewidth=0.3)
     return figure
 

@@ -12,7 +12,7 @@ import numpy as np
 import numpy.typing as npt
 
 from .amounts import THOUSAND
-from .csv_text import head_of, names_of, opened, separator_of
+from .csv_text import dialect_of, head_of, names_of, opened, separator_of
 from .errors import PlanError
 from .next_command import command
 from .program import sha256
@@ -43,7 +43,8 @@ def with_column(record: bytes, more: bytes) -> bytes:
 
 def write(shells: Shells, target: Path) -> int:
     """Writes the study's table again, with a column `pit_shell` behind the others: the share of the price at which a pit first
-    has the row's block, and nothing where none has it. The way back is by row, never by coordinates.
+    has the row's block, with the table's own mark of a decimal, and nothing where none has it. The way back is by row, never by
+    coordinates.
 
     Parameters
     ----------
@@ -70,7 +71,8 @@ def write(shells: Shells, target: Path) -> int:
     header = head_of(path, "latin-1", 1)[0]
     mark = separator_of(header)
     name = free_name(names_of(header, mark))
-    shares = [f"{factor / THOUSAND:g}" for factor in shells.factors] + [""]
+    decimal = dialect_of(path, "latin-1").decimal          # where 0,5 is a number, 0.5 is a word, and 1.1 a day of January
+    shares = [f"{factor / THOUSAND:g}".replace(".", decimal) for factor in shells.factors] + [""]
     cells = [(mark + share).encode() for share in shares]
     block = study.model.row_block
     shell = np.where(block >= 0, shells.shell[np.maximum(block, 0)], len(shells.factors))

@@ -142,6 +142,14 @@ def test_init_sees_marks_sub_blocks_and_descriptions(tmp_path):
     assert told.keys.absent == ["-99"] and told.keys.regularise
 
 
+def test_a_metal_with_a_few_grades_below_0_is_still_a_metal(tmp_path):
+    f = table(6, 5, 3, 3)
+    f.loc[4, "CU"], f.loc[7, "CU"] = -0.004, -0.003
+    f.to_csv(tmp_path / "t.csv", index=False)
+    look = first_look.look_at(tmp_path / "t.csv")
+    assert "CU" in look.grades and 'grade = "CU"' in first_look.written(look, "t.csv")
+
+
 def test_every_key_that_init_writes_is_known_and_explained(tmp_path):
     table(6, 5, 3, 3).to_csv(tmp_path / "t.csv", index=False)
     text = first_look.written(first_look.look_at(tmp_path / "t.csv"), "t.csv")

@@ -10,7 +10,7 @@ from shapely.geometry import Polygon
 from shapely.ops import unary_union
 
 import pitplan as pp
-from mines import shells_of, table, written_study
+from mines import shells_of, study_of, table, written_study
 from pitplan import pictures, plane
 from pitplan.grid import Grid
 from pitplan.model import Model
@@ -161,6 +161,15 @@ def test_a_turned_model_names_its_axis_and_no_false_east(turned):
     for words in ({"north": 9000.0}, {"east": 5000.0}):
         with pytest.raises(pp.PlanError, match="turned by 30 degrees.*\n.*N, from 0 to"):
             pictures.section(turned, **words)
+
+
+def test_elevations_of_a_flat_section_dont_overlap(tmp_path):
+    shells = study_of(tmp_path, table(40, 3, 10, 1)).shells([1000])
+    for style in (Style(), Style(exaggeration=0.2)):
+        figure = pictures.section(shells, row=1, style=style)
+        figure.canvas.draw()
+        boxes = [label.get_window_extent() for label in figure.axes[0].get_yticklabels()]
+        assert len(boxes) >= 2 and all(low.y1 <= high.y0 for low, high in zip(boxes, boxes[1:]))
 
 
 def test_sections_say_where_they_look(shells):

@@ -114,6 +114,14 @@ def test_the_planners_table_comes_back_byte_for_byte(tmp_path, separator, end, m
     assert len(old) == len(new) and count == sum(value != "" for value in shares.values()) > 0
 
 
+def test_the_column_has_the_tables_own_mark_of_a_decimal(tmp_path):
+    table(6, 5, 4, 3).to_csv(tmp_path / "t.csv", index=False, sep=";", decimal=",")
+    shells = pp.Study.create(tmp_path / "s", pp.read_table(tmp_path / "t.csv", size=SIZE), costs(), pp.Slopes(45)).shells([800, 1100])
+    table_back.write(shells, tmp_path / "back.csv")
+    back = pd.read_csv(tmp_path / "back.csv", sep=";", decimal=",").pit_shell
+    assert back.dtype == float and ((back == 0.8) == shells.holds(0)).all() and ((back <= 1.1) == shells.holds(1)).all() and shells.holds(0).any()
+
+
 def test_cells_with_line_ends_and_packed_tables(tmp_path):
     f = table(5, 4, 3, 3)
     f["NOTE"] = ["two\nlines" if n % 3 == 0 else "one" for n in range(len(f))]

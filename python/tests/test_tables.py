@@ -132,6 +132,21 @@ def test_cells_that_stand_for_not_estimated(tmp_path):
     assert grade[3] == grade[5] == grade[7] == 0 and grade[1] == f.CU[1]
 
 
+def test_a_mark_may_have_a_decimal_comma_as_its_table_has(tmp_path):
+    f = table(4, 4, 3, 2)
+    f.loc[3, "CU"] = -9.5
+    f.to_csv(tmp_path / "t.csv", index=False, sep=";", decimal=",")
+    for mark in ("-9,5", "-9.5"):
+        assert costs().priced(pp.read_table(tmp_path / "t.csv", size=SIZE, absent=[mark])).grade["copper"][3] == 0
+
+
+def test_several_grades_below_0_are_no_mark(tmp_path):
+    f = table(4, 4, 3, 2)
+    f.loc[3, "CU"], f.loc[5, "CU"] = -0.004, -0.003
+    said = refusal(tmp_path, f)
+    assert "row 5, column CU: -0.004 is below 0; 2 cells are so" in said and "absent" not in said and "0 in their place" in said
+
+
 def test_depths_count_downward(tmp_path):
     f = table(4, 4, 4, 3)
     plain = read(tmp_path, f)
