@@ -229,7 +229,7 @@ def add_outlines(axes: Any, shells: Shells, cut: Plane, chosen: int) -> list[Any
         inside = there & (shells.shell[cut.number] <= i)
         label = f"{word} at factor {factor_text(shells.factors[i])}" + ("" if inside.any() else ": not here")
         if word == "Pit" or (i != chosen and inside.any()):
-            axes.plot(*planes.borders(inside, cut), color="black", linewidth=width, linestyle=stroke, path_effects=CASING if word == "Pit" else THIN_CASING)
+            axes.plot(*planes.borders(inside, cut), color="black", linewidth=width, linestyle=stroke, path_effects=CASING if word == "Pit" else THIN_CASING, zorder=3 if word == "Pit" else 2.5)
             handles.append(Line2D([], [], color="black", linewidth=width, linestyle=stroke, label=label))
     return handles
 

@@ -10,6 +10,7 @@ from __future__ import annotations
 
 import hashlib
 import json
+import re
 import tempfile
 from collections.abc import Iterator, Sequence
 from contextlib import contextmanager
@@ -40,6 +41,7 @@ Bools = npt.NDArray[np.bool_]
 Floats = npt.NDArray[np.float32]
 TENTHS = tuple(tenth / 10 for tenth in range(1, 10))
 SPREAD = (0.1, 0.5, 0.9)
+ASKED = ("ix", "iy", "iz", "row", "tonnes", "rock")      # columns that pricing and `.blocks` ask for, beside those that [economics] names
 SCRATCH = "pitplan."                         # folders of `.blocks` and certificates, in TMPDIR
 ROOM = "TMPDIR=/a/larger/disk: a realisation's blocks and certificate are written there"
 
@@ -175,17 +177,29 @@ def digest_of(grades: npt.NDArray[Any]) -> str:
     return hashlib.sha256(np.ascontiguousarray(grades, np.float32).tobytes()).hexdigest()
 
 
+def words_in(value: Any) -> list[str]:
+    """The words among the values of what was read from JSON: columns and formulas are there."""
+    if isinstance(value, dict):
+        return [word for of in value.values() for word in words_in(of)]
+    if isinstance(value, (list, tuple)):
+        return [word for of in value for word in words_in(of)]
+    return [value] if isinstance(value, str) else []
+
+
 def lean_model(study: Study, economics: dict[str, Any]) -> Model:
-    """The study's model without the words that pricing doesn't ask for: the planner's names of 10,000,000 blocks take a gigabyte."""
-    said = json.dumps(economics)
+    """The study's model without the columns that pricing doesn't ask for: the planner's names of 10,000,000 blocks take a gigabyte."""
+    said = "\n".join(words_in(economics))
     with np.load(study.where / "blocks.npz", allow_pickle=False) as file:
         told = store.told_of(file)
         columns: dict[str, Any] = {}
         for name in told["order"]:
+            if name not in ASKED and not re.search(rf"(?<!\w){re.escape(name)}(?!\w)", said) and not set("'\"\\") & set(name):
+                continue                     # a name with quotes may stand there in another spelling
             if store.COLUMN + name in file.files:
                 columns[name] = file[store.COLUMN + name]
-            elif name == "rock" or name in said:
-                columns[name] = store.bytes_as_words(file[store.WORDS + name], told["blocks"])
+            else:                            # each word once, however many blocks have it
+                codes, words = pd.factorize(store.bytes_as_words(file[store.WORDS + name], told["blocks"]))
+                columns[name] = words[codes]
         grid = Grid(store.three(told["origin"]), store.three(told["size"]), store.three(told["shape"]), told["rotation"])
         return Model(pd.DataFrame(columns), grid, told["name"], told["notes"], told["columns"], file["row_block"], told["depth"])
 

@@ -92,7 +92,7 @@ def test_borders_are_those_that_shapely_finds(seed, rotation):
     cut = plane.bench(model, 0)
     inside = r.random((4, 5)) < 0.5
     x, y = plane.borders(inside, cut)
-    drawn = np.nansum(np.hypot(x[1::3] - x[::3], y[1::3] - y[::3]))
+    drawn = np.nansum(np.hypot(np.diff(x), np.diff(y)))
     cells = [Polygon([(cut.across[c], cut.up[c]) for c in ((j, i), (j, i + 1), (j + 1, i + 1), (j + 1, i))]) for j, i in zip(*np.nonzero(inside))]
     assert abs(drawn - (unary_union([c.buffer(1e-7, join_style=2) for c in cells]).length if cells else 0)) < 1e-4
 
