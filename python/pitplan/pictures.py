@@ -26,6 +26,7 @@ from numpy.typing import NDArray
 from . import plane as planes
 from .amounts import THOUSAND
 from .errors import PlanError, meant
+from .next_command import command
 from .plane import Plane
 from .shells import Shells
 from .units_shown import Scale, factor_text, scale_of
@@ -76,7 +77,7 @@ def pit_index(shells: Shells, factor: float | None) -> int:
     if factor is None:
         return len(shells.factors) - 1
     known = ", ".join(factor_text(k) for k in shells.factors)
-    raise PlanError(f"there is no pit at factor {factor:g}", try_this=f"one of {known}, or add it to factors in [shells] and run pitplan shells")
+    raise PlanError(f"there is no pit at factor {factor:g}", try_this=f"one of {known}; or put it into factors in [shells] of study.toml, then: {command('shells', shells.study.named)}")
 
 
 def paint(shells: Shells, colour: str) -> Paint:
