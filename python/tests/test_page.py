@@ -221,9 +221,9 @@ def test_the_heights_add_up_to_each_surface(all_views, shells, phases, compared)
 
 
 PIXELS = """const g = document.getElementById("picture").getContext("webgl"), w = g.drawingBufferWidth, h = g.drawingBufferHeight, p = new Uint8Array(4 * w * h);
-g.readPixels(0, 0, w, h, g.RGBA, g.UNSIGNED_BYTE, p); const seen = new Map();
-for (let k = 0; k < p.length; k += 4) { const c = p[k] << 24 | p[k + 1] << 16 | p[k + 2] << 8 | p[k + 3]; seen.set(c, (seen.get(c) || 0) + 1); }
-return [seen.size, Math.max(...seen.values()) / (w * h), document.getElementById("picture").toDataURL()]"""
+g.readPixels(0, 0, w, h, g.RGBA, g.UNSIGNED_BYTE, p); const seen = new Map(), all = new Uint32Array(p.buffer); let sum = 7;
+for (let k = 0; k < all.length; k += 3) { seen.set(all[k], (seen.get(all[k]) || 0) + 3); sum = Math.imul(sum ^ all[k], 16777619); }
+return [seen.size, Math.max(...seen.values()) / (w * h), sum]"""
 
 
 def test_the_picture_isnt_blank_and_follows_the_slider_and_the_controls(pits_view, shells):
