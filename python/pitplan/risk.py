@@ -29,6 +29,7 @@ from .economics import Economics
 from .errors import MachineError, PlanError
 from .grid import Grid
 from .model import Model
+from .next_command import command
 from .study import FULL, Study, Told, Verdict, made_whole, mark, sweep, write_blocks
 from .study_file import economics_of
 from .task import Task
@@ -84,7 +85,7 @@ def setup_of(study: Study) -> Setup | None:
     except FileNotFoundError:
         return None
     except (TypeError, json.JSONDecodeError):
-        raise PlanError(f"{folder_of(study) / 'risk.json'} is damaged", try_this="pitplan risk --realisations FILE") from None
+        raise PlanError(f"{folder_of(study) / 'risk.json'} is damaged", try_this=command("risk", study.named, "--realisations", "FILE")) from None
     return found if found.study == study.key else None
 
 
@@ -217,7 +218,7 @@ class Realisation(Study):
     """
 
     def __init__(self, base: Study, setup: Setup, number: int, model: Model | None = None) -> None:
-        super().__init__(base.folder, base.given)
+        super().__init__(base.folder, base.given, base.named)
         self.base, self.setup, self.number, self.shared = base, setup, number, model
         named = [base.key, base.manifest["files"]["blocks.npz"], json.dumps(setup.economics, sort_keys=True), setup.column, setup.digests[number]]
         self.key = hashlib.sha256("\n".join(named).encode()).hexdigest()
@@ -259,9 +260,9 @@ class Realisation(Study):
         try:
             found: Floats = np.ascontiguousarray(np.load(path, mmap_mode="r", allow_pickle=False)[self.number], np.float32)
         except (FileNotFoundError, IndexError, ValueError) as error:
-            raise PlanError(f"realisation {self.number} can't be read: {error}", table=path, try_this="pitplan risk --realisations FILE") from None
+            raise PlanError(f"realisation {self.number} can't be read: {error}", table=path, try_this=command("risk", self.base.named, "--realisations", "FILE")) from None
         if digest_of(found) != self.setup.digests[self.number]:
-            raise PlanError(f"realisation {self.number} has changed since pitplan risk looked through it", table=path, try_this="pitplan risk --realisations FILE")
+            raise PlanError(f"realisation {self.number} has changed since pitplan risk looked through it", table=path, try_this=command("risk", self.base.named, "--realisations", "FILE"))
         return found
 
     def place(self, factor: int) -> Path:
@@ -316,7 +317,7 @@ def realisation(base: Study, number: int) -> Realisation:
     """
     setup = setup_of(base)
     if setup is None:
-        raise PlanError("no realisations were asked for over the model that stands there", try_this="pitplan risk --realisations FILE")
+        raise PlanError("no realisations were asked for over the model that stands there", try_this=command("risk", base.named, "--realisations", "FILE"))
     if not 0 <= number < len(setup.digests):
         raise PlanError(f"there is no realisation {number}: they are 0 to {len(setup.digests) - 1}")
     return Realisation(base, setup, number)
@@ -355,7 +356,7 @@ class Risk:
     def __init__(self, study: Study) -> None:
         setup = setup_of(study)
         if setup is None:
-            raise PlanError("no realisations were asked for over the model that stands there", try_this="pitplan risk --realisations FILE")
+            raise PlanError("no realisations were asked for over the model that stands there", try_this=command("risk", study.named, "--realisations", "FILE"))
         study.verify()
         self.study, self.setup, self.factors, self.count = study, setup, setup.factors, len(setup.digests)
         self.hits: npt.NDArray[np.uint16] = np.zeros((len(self.factors), study.manifest["blocks"]), np.uint16)
