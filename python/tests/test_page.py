@@ -221,9 +221,9 @@ def test_the_heights_add_up_to_each_surface(all_views, shells, phases, compared)
 
 
 PIXELS = """const g = document.getElementById("picture").getContext("webgl"), w = g.drawingBufferWidth, h = g.drawingBufferHeight, p = new Uint8Array(4 * w * h);
-g.readPixels(0, 0, w, h, g.RGBA, g.UNSIGNED_BYTE, p); const seen = new Map();
-for (let k = 0; k < p.length; k += 4) { const c = p[k] << 24 | p[k + 1] << 16 | p[k + 2] << 8 | p[k + 3]; seen.set(c, (seen.get(c) || 0) + 1); }
-return [seen.size, Math.max(...seen.values()) / (w * h), document.getElementById("picture").toDataURL()]"""
+g.readPixels(0, 0, w, h, g.RGBA, g.UNSIGNED_BYTE, p); const seen = new Map(), all = new Uint32Array(p.buffer); let sum = 7;
+for (let k = 0; k < all.length; k += 3) { seen.set(all[k], (seen.get(all[k]) || 0) + 3); sum = Math.imul(sum ^ all[k], 16777619); }
+return [seen.size, Math.max(...seen.values()) / (w * h), sum]"""
 
 
 def test_the_picture_isnt_blank_and_follows_the_slider_and_the_controls(pits_view, shells):
@@ -328,7 +328,7 @@ def test_sections_and_plans_show_what_each_block_is(all_views, shells, phases, c
             else:
                 assert colours[0][0] == key[kind], (way, at, kind)
     assert seen == set(kinds)
-    patterns(all_views, view != PITS)
+    patterns(all_views, True)
 
 
 def test_a_cut_goes_by_keys(pits_view):
@@ -373,7 +373,7 @@ def test_black_and_white_tells_kinds_apart(all_views, shells, phases, compared):
         keys = all_views.execute_script("return [...document.querySelectorAll('#key canvas')].map(c => c.toDataURL())")
         assert len(set(keys)) == len(keys)
     chosen(all_views, PITS)
-    assert not all_views.find_element(By.ID, "patterns").is_selected()
+    patterns(all_views, False)
     light = [luminance("#%02x%02x%02x" % tuple(colour[:3])) for colour in swatches(all_views)]
     assert (np.diff(light) > 0.01).all() and len(light) == len(shells.factors)
 
@@ -441,7 +441,7 @@ def test_from_above_each_column_has_the_colour_of_what_is_open(all_views, shells
     for at in range(model.grid.shape[1]):
         cut(all_views, "y", at)
         colours |= key_of(all_views)
-    surface = {PITS: shells.shell <= step - 1, PHASES: (phases.pushback > 0) & (phases.pushback <= step), DESIGN: (compared.design.held, compared.optimum)[step - 1]}[view]
+    surface = shells.shell <= step - 1 if view == PITS else (phases.pushback > 0) & (phases.pushback <= step)
     places, wanted = [], []
     for (ix, iy), blocks in model.blocks.groupby(["ix", "iy"]):
         dug = blocks[surface[blocks.index]]
@@ -457,7 +457,7 @@ def test_from_above_each_column_has_the_colour_of_what_is_open(all_views, shells
         true = np.array(colours[kind][:3] if kind else (184, 178, 168), float)
         assert np.abs(np.array(found[:3]) / max(sum(found[:3]), 1) - true / true.sum()).max() < 0.02, (kind, found, true)
     all_views.find_element(By.ID, "slant").click()
-    patterns(all_views, view != PITS)
+    patterns(all_views, True)
 
 
 # The page of likelihood, over a turned model.
@@ -475,6 +475,7 @@ def test_pits_by_likelihood(likelihood_view, risk):
     browser, hits, model = likelihood_view, shares_of(risk), risk.study.model
     assert browser.title == f"{model.name}: likelihood over 5 realisations" and browser.get_log("browser") == []
     assert text_of(browser, "step") == "50%" and not browser.find_element(By.ID, "which").is_displayed()
+    assert not browser.find_element(By.ID, "patterns").is_selected()             # nine patterns would tell less than they hide
     tenths = list(range(9, 0, -1))
     priced = [Realisation(risk.study, risk.setup, r).priced for r in range(risk.count)]
     slider(browser).send_keys(Keys.HOME)
