@@ -18,6 +18,12 @@ _pitplan() {
         "plot --colour") : ;;
         "plot --pit") : ;;
         "plot --exaggerate") : ;;
+        "page --phases") : ;;
+        "page --design") files=1 ;;
+        "page --layer") : ;;
+        "page --column") : ;;
+        "page --value") : ;;
+        "page --factor") : ;;
         "page --title") : ;;
         "phases --mining-width") : ;;
         "export --to") : ;;
@@ -48,7 +54,7 @@ _pitplan() {
             slopes) words="--every -h --help" files=1 ;;
             shells) words="--workers -h --help" files=1 ;;
             plot) words="--bench --north --east --row --column --colour --pit --exaggerate -h --help" files=1 ;;
-            page) words="--title -h --help" files=1 ;;
+            page) words="--phases --design --layer --column --value --factor --title -h --help" files=1 ;;
             phases) words="--mining-width -h --help" files=1 ;;
             export) words="--to --factors --columns --whole --cut-corners --crs -h --help" files=1 ;;
             compare) words="--ids --column --value --surface --layer --factor --bench -h --help" files=1 ;;

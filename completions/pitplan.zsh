@@ -8,7 +8,7 @@ _pitplan() {
         'slopes:Show the angles that are asked for and those that are built, by bearing and region, and draw them'
         'shells:Find the proved pit at each factor, and the tables'
         'plot:Draw the pit-by-pit graph, a plan and a section'
-        'page:Write one HTML file with the pits in three dimensions, a slider over the factors and the table'
+        'page:Write one HTML file with pits in three dimensions, sections, plans and tables'
         'phases:Cut the mine into pushbacks'
         'export:Write the pits for CAD (dxf), ParaView (vtu), GIS (gpkg) and any other program (csv), in true coordinates'
         'compare:Put a designed pit beside the proved best one'
@@ -46,7 +46,13 @@ _pitplan() {
             '--pit[The factor of the pit that is outlined]:pit: ' \
             '--exaggerate[Draw heights so many times longer, in sections]:exaggerate: ' \
             '-h[Show this message and exit]' '--help[Show this message and exit]' '*:file:_files' ;;
-        page) _arguments '--title[The heading]:title: ' \
+        page) _arguments '--phases[Show pushbacks too]:phases: ' \
+            '--design[Show a designed pit beside the best one too]:design:_files' \
+            '--layer[With --design]:layer: ' \
+            '--column[In place of --design]:column: ' \
+            '--value[With --column]:value: ' \
+            '--factor[The pit that the design is compared with, by its factor of the price]:factor: ' \
+            '--title[The heading]:title: ' \
             '-h[Show this message and exit]' '--help[Show this message and exit]' '*:file:_files' ;;
         phases) _arguments '--mining-width[The least width that machines need, in metres]:mining-width: ' \
             '-h[Show this message and exit]' '--help[Show this message and exit]' '*:file:_files' ;;

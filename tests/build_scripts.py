@@ -404,13 +404,13 @@ def what_is_not_committed_is_not_released(tree):
 def the_manual_page_follows_the_help_texts(tree):
     help_text = ("Digs.\\n\\nUsage: pit <COMMAND>\\n\\nCommands:\\n  dig   Digs\\n  help  Print\\n\\nOptions:\\n  -h, --help  Print help\\n\\n"
                  "Exit status:\\n  0  done\\n")
-    of_dig = "Digs a .pit\\n\\nUsage: pit dig [OPTIONS]\\n\\nOptions:\\n      --deep <N>\\n          How deep: 3 by default\\n"
+    of_dig = "Digs a .pit\\n\\nUsage: pit dig [OPTIONS]\\n\\nOptions:\\n      --deep <N>\\n          How deep: 3 by default\\n\\n            far  to the end\\n"
     program = "#!/bin/sh\ncase \"$*\" in\n--version) echo pit 7.8.9;;\n--help) printf '%s';;\n'dig --help') printf '%s';;\nesac\n"
     tree.write("out/pit", program % (help_text, of_dig), 0o755)
     status, said = tree.ran("tools/man_page.py")
     page = (tree.top / "docs/pit.1").read_text()
     parts = ['.TH PIT 1 "" "pit 7.8.9"', ".SH NAME\npit \\- digs.", ".B pit dig [OPTIONS]", ".SS pit dig\nDigs a .pit\n",
-             ".TP\n.B \\-\\-deep <N>\nHow deep: 3 by default\n", ".SH EXIT STATUS\n.TP\n.B 0\ndone\n"]
+             ".TP\n.B \\-\\-deep <N>\nHow deep: 3 by default\n.br\nfar: to the end\n", ".SH EXIT STATUS\n.TP\n.B 0\ndone\n"]
     compared = [asked(tree, "manual(run.tree.PROGRAM)")]
     tree.write("out/pit", program % (help_text, of_dig.replace("3 by", "4 by")), 0o755)
     compared.append(asked(tree, "manual(run.tree.PROGRAM)"))

@@ -53,7 +53,7 @@ def try_all(top, pit):
         return 0, 1
     with tempfile.TemporaryDirectory(prefix="pitplan-tests.", ignore_cleanup_errors=True) as room:
         words = [PYTHON, "-m", "pytest", "-q", "-p", "no:cacheprovider", "--basetemp=" + os.path.join(room, "t"), "tests"]
-        ran = subprocess.run(words, cwd=top / "python", env={**os.environ, "PIT": str(pit)}, stdin=subprocess.DEVNULL, stdout=subprocess.PIPE, stderr=subprocess.STDOUT, text=True)
+        ran = subprocess.run(words, cwd=top / "python", env={**os.environ, "PIT": str(pit), "TMPDIR": room}, stdin=subprocess.DEVNULL, stdout=subprocess.PIPE, stderr=subprocess.STDOUT, text=True)
     counts = {word: int(number) for number, word in re.findall(r"(\d+) (passed|failed|error|errors)\b", ran.stdout.strip().rsplit("\n", 1)[-1])}
     passed, failed = counts.get("passed", 0), counts.get("failed", 0) + counts.get("error", 0) + counts.get("errors", 0)
     if ran.returncode:

@@ -82,6 +82,13 @@ def an_accepted_edit_fails(tree):
     return status == 1 and is_told and said.endswith("1 passed, 2 failed\n"), said
 
 
+def named_edits_are_tried_alone(tree):
+    """Those of one name, over the edits of the tests above: harmless is accepted, and not tried here."""
+    status, said = ran(tree, "tests/run", "--planted", "small/the_number_itself")
+    unknown, told = ran(tree, "tests/run", "--planted", "small/nothing")
+    return (status, unknown) == (0, 1) and said.endswith("1 passed, 0 failed\n") and "no such edit: small/nothing" in told, said + told
+
+
 def edits_are_tried_by_their_function(tree):
     for name, text in {"of_next": NEXT + REFUSED, "of_another": SOME + REFUSED, "harmless": SOME + ACCEPTED, "unnamed": REFUSED,
                        "stale": NEXT + STALE, "unreadable": NEXT + REFUSED.replace("new:     n", "new:     nobody")}.items():
@@ -221,7 +228,7 @@ def installs_where_the_caller_stands(top, folder):
 
 
 # the build comes first: the copies in which edits are tried begin with what it made
-CASES = [a_build_says_what_it_proved, edits_are_tried_by_their_function, refused_edits_pass, an_accepted_edit_fails,
+CASES = [a_build_says_what_it_proved, edits_are_tried_by_their_function, refused_edits_pass, an_accepted_edit_fails, named_edits_are_tried_alone,
          a_failed_proof_fails_the_example, wrong_pages_are_told]
 
 

@@ -28,7 +28,7 @@ class Option:
     def __init__(self, texts, text, term, said):
         self.names = re.findall(r"(?<![\w-])--?[a-z][\w-]*", term, re.I)
         self.value = re.sub(r"(?<![\w-])--?[a-z][\w-]*,?", "", term, flags=re.I).strip(" <>")
-        self.said = re.split(r"(?<=\w)[.;:] | \[default|  ", said)[0].rstrip(".")
+        self.said = re.split(r"(?<=\w)[.;:] | \[default|  |\n", said)[0].rstrip(".")
         listed = re.fullmatch(r"\[([\w|]+)\]", self.value)
         block = self.value.capitalize() + "s"
         told = VALUES.get((texts.name, self.names[-1]), "").split()

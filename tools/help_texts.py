@@ -59,17 +59,20 @@ class Help:
 
     def rows(self, title):
         """The rows of a block, none where there is no such: (term, what is said of it). A term that is alone on its line has its
-        text on the lines below."""
-        found = []
+        text on the lines below. A row within such a text, and what comes after an empty line, begins a line of its own."""
+        found, before = [], " "
         for line in self.blocks.get(title, []):
             if not line.strip():
+                before = "\n"
                 continue
             indent = len(line) - len(line.lstrip())
             term, _, said = line.strip().partition("  ")
             if indent < 8 and (term.startswith(("-", "<", "[")) or indent == 2):
                 found.append([term, said.strip()])
             elif found:
-                found[-1][1] = (found[-1][1] + " " + line.strip()).strip()
+                is_row = re.match(r"\S+ {2,}", line.strip())
+                found[-1][1] = (found[-1][1] + ("\n" if is_row else before) + re.sub(r"^(\S+) {2,}", r"\1: ", line.strip())).strip()
+            before = " "
         return found
 
 

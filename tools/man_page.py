@@ -56,7 +56,7 @@ def paragraphs(lines):
 
 def table(found):
     """Rows as a list of terms."""
-    return "".join(".TP\n.B %s\n%s\n" % (plain(term), plain(said)) for term, said in found)
+    return "".join(".TP\n.B %s\n%s\n" % (plain(term), plain(said).replace("\n", "\n.br\n")) for term, said in found)
 
 
 def command_section(name, text):

@@ -7,6 +7,7 @@ from typing import TYPE_CHECKING
 from .amounts import THOUSAND
 from .console import err, opened
 from .errors import PlanError
+from .next_command import command
 from .shells import Shells, series_of, thousandths
 from .study import Study
 
@@ -72,6 +73,6 @@ def not_run(study: Study, factor: int) -> PlanError:
     there = [found for found in there if study.verdict(found)]
     near = sorted(sorted(there, key=lambda found: abs(found - factor))[:2])
     if not near:
-        return PlanError(f"the pit at factor {factor / THOUSAND:g} hasn't been run", try_this="pitplan shells")
+        return PlanError(f"the pit at factor {factor / THOUSAND:g} hasn't been run", try_this=command("shells", study.named))
     return PlanError(f"the pit at factor {factor / THOUSAND:g} hasn't been run; the nearest that have are " + ", ".join(f"{found / THOUSAND:g}" for found in near),
-                     try_this="one of these, or another [shells] factors in study.toml, and pitplan shells")
+                     try_this=f"one of these; or put it into factors in [shells] of study.toml, then: {command('shells', study.named)}")

@@ -10,6 +10,7 @@ import typer
 
 from .console import STUDY, app, described, err, opened, out, results
 from .errors import PlanError
+from .next_command import command
 
 if TYPE_CHECKING:
     from .local import Heard
@@ -37,9 +38,9 @@ def risk(folder: Path = STUDY,
         prepare(study, described(folder).economics, realisations, series, metal)
     setup = setup_of(study)
     if setup is None:
-        raise PlanError("no realisations were asked for over the model that stands there", try_this="pitplan risk --realisations FILE")
+        raise PlanError("no realisations were asked for over the model that stands there", try_this=command("risk", folder, "--realisations", "FILE"))
     if later:
-        out.print(f"{len(setup.digests)} realisations at {len(setup.factors)} factors; then: pitplan submit, and pitplan risk again for the tables", soft_wrap=True)
+        out.print(f"{len(setup.digests)} realisations at {len(setup.factors)} factors; then: {command('submit', folder)}, and {command('risk', folder)} for the tables", soft_wrap=True)
         return
     do_all(study, tasks(study), workers)
     write_risk(Risk(study))

@@ -10,6 +10,7 @@ from rich.markup import escape
 
 from .console import STUDY, app, described, err, opened, out
 from .errors import MachineError, PlanError
+from .next_command import command
 
 if TYPE_CHECKING:
     from .engines import Handed
@@ -44,7 +45,7 @@ def submit(folder: Path = STUDY,
         out.print(f"{counted(tasks)} done")
     elif engine == "slurm":
         from .engines import submit_slurm
-        out.print(f"{counted(tasks)} handed in as job {', '.join(submit_slurm(study, tasks, Limits(minutes, at_once)))}; then: pitplan status")
+        out.print(f"{counted(tasks)} handed in as job {', '.join(submit_slurm(study, tasks, Limits(minutes, at_once)))}; then: {command('status', folder)}", soft_wrap=True)
     else:
         from .engines import snakemake_lines, write_snakefile
         written = write_snakefile(study, tasks)

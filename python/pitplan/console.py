@@ -14,6 +14,7 @@ from typer.core import TyperGroup
 
 from . import __version__
 from .errors import PlanError
+from .next_command import command
 
 if TYPE_CHECKING:
     from .shells import Shells
@@ -80,12 +81,12 @@ def opened(folder: Path) -> Study:
     from .program import sha256
     from .study import Study
     told = described(folder)
-    study = Study(told.path.parent)
+    study = Study(told.path.parent, named=folder)
     if study.manifest["keys"] != told.digest:
-        raise PlanError(f"{told.path} has changed since the study was built", try_this="pitplan build")
+        raise PlanError(f"{told.path} has changed since the study was built", try_this=command("build", folder))
     source = study.manifest["source"]
     if source and told.table.is_file() and sha256(told.table) != source["sha256"]:
-        raise PlanError("the table has changed since the study was built", table=told.table, try_this="pitplan build")
+        raise PlanError("the table has changed since the study was built", table=told.table, try_this=command("build", folder))
     return study
 
 
@@ -102,12 +103,14 @@ def shells_of(folder: Path) -> tuple[Shells, dict[str, float]]:
     study = opened(folder)
     missing = [factor for factor in told.factors if not study.verdict(factor)]
     if missing:
-        raise PlanError(f"{len(missing)} of {len(told.factors)} pits haven't been run, the first at factor {missing[0] / 1000:g}", try_this="pitplan shells")
+        raise PlanError(f"{len(missing)} of {len(told.factors)} pits haven't been run, the first at factor {missing[0] / 1000:g}", try_this=command("shells", folder))
     return Shells(study, told.factors), told.rates
 
 
 def results(study: Study) -> Path:
-    """The folder for tables and pictures, made where it isn't there."""
+    """The folder for tables and pictures, made where it isn't there. What is written there from now on is noted as of this model."""
+    from . import older
     folder = study.folder / "out"
     folder.mkdir(exist_ok=True)
+    older.watch(folder, study.key)
     return folder

@@ -67,14 +67,14 @@ class Slurm:
 
     def __init__(self, folder, at_once=2):
         self.folder = Path(folder)
-        for name in ("state", "spool"):
+        for name in ("state", "spool", "tmp"):
             (self.folder / name).mkdir(parents=True)
         self.folder.chmod(0o755)
         (self.folder / "munge.key").write_bytes(os.urandom(1024))
         (self.folder / "munge.key").chmod(0o400)
         self.conf = self.folder / "slurm.conf"
         self.conf.write_text(CONF.format(host=HOST, folder=self.folder, port1=free_port(), port2=free_port(), at_once=at_once))
-        self.env = {**os.environ, "SLURM_CONF": str(self.conf), "PATH": PATH, "TMPDIR": "/tmp"}
+        self.env = {**os.environ, "SLURM_CONF": str(self.conf), "PATH": PATH, "TMPDIR": str(self.folder / "tmp")}
         self.keeper = Keeper(self.folder)
         f = self.folder
         try:

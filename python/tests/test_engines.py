@@ -208,7 +208,7 @@ def test_a_full_disk_is_told_and_what_is_done_is_kept(tmp_path, asked_for, small
 
 def test_a_full_scratch_is_told(tmp_path, asked_for, small_disks):
     study, scratch = twelve(asked_for, tmp_path), tmp_path / "scratch"
-    small_disks.mount(scratch, 8)                # Python would take another folder for one that is full to the brim
+    small_disks.mount(scratch, 4)                # Python would take another folder for one that is full to the brim
     env = {**os.environ, "TMPDIR": str(scratch)}
     code, _, errors = small_disks.said(TOP / "bin/pitplan", "task", study.folder, "realisation", 3, 1000, env=env)
     assert code == 4 and "No space left on device" in errors and "TMPDIR=" in errors, errors

@@ -1,4 +1,5 @@
 """The unit of work, and risk over realisations: pits of a likelihood are closed by pit's own word, and nested."""
+import dataclasses
 import gzip
 import json
 import os
@@ -94,6 +95,19 @@ def test_each_realisation_is_the_study_with_its_grades(tmp_path):
             assert (risk.realisation(study, r).mask(factor) == pit.mask).all()
     likely = sum(risk.realisation(study, r).mask(1000).astype(int) for r in range(3)) / 3
     assert (found.likelihood(1000) == likely).all()
+
+
+def test_the_lean_model_has_what_pricing_asks_for(tmp_path):
+    frame = table(6, 5, 4, 3).rename(columns={"AU": "ley é", "TONNES": "T"})
+    frame = frame.assign(**{"it's": 1.5, "spare": 1.0})
+    economics = costs(mining="2 + 0.01 * (160 - ZC) + column('ley é')", processing={"OXI": 7.5, "SUL": 9.0}, forbid=["SECTOR == 'WEST' and column(\"it's\") > 2"])
+    study = study_of(tmp_path, frame, economics=economics, columns={"tonnes": "T"})
+    lean = risk.lean_model(study, dataclasses.asdict(economics))
+    assert {"ZC", "ley é", "SECTOR", "it's", "CU", "rock"} <= set(lean.blocks.columns) and not {"spare", "id", "IJK", "T", "XC"} & set(lean.blocks.columns)
+    assert lean.blocks.rock.tolist() == study.model.blocks.rock.tolist()
+    ours = economics.priced(lean)
+    for name in ("revenue", "processing", "mining"):
+        assert (getattr(ours, name) == getattr(study.priced, name)).all()
 
 
 def test_what_risk_says_is_added_up_by_pandas(tmp_path):

@@ -1,3 +1,2 @@
-pub mod Failed
 pub mod RunAnswers
 pub mod MineAnswers

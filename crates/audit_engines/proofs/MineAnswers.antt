@@ -1,5 +1,5 @@
 -- From what is written for a net to what is written for the mine of texts.
-use Rattle.std.proofs.Common.{ℕ, ℤ, Bool, List, length, sym, subst, Option, Some, None, Result, Ok, Err, inl, inr, IfSome}
+use Rattle.std.proofs.Common.{ℕ, ℤ, Bool, List, length, sym, subst, Option, Result, Ok, Err, inl, inr}
 use Rattle.ordered_group.specs.Amount.{Amount}
 use Rattle.ordered_group.specs.declared.groups.Group.{Group}
 use Rattle.prec_file.specs.Rests.{RestsView}
@@ -11,14 +11,11 @@ use Rattle.engines.specs.declared.judgement.Verdict.TheVariants.{Done, No}
 use Rattle.engines.specs.declared.engine_fault.EngineFault.{EngineFault}
 use Rattle.engines.specs.declared.engine_fault.EngineFault.TheVariants as engine
 use Rattle.engines.specs.declared.method.Method.TheVariants.{PushRelabel}
-use Rattle.engines.specs.Inputs.{PricedMineFails, ValueMineFails}
 use Rattle.engines.specs.ReadMines.{AreRead, IsGroupNamed}
 use Rattle.engines.specs.EngineFaults.{of_model}
-use Rattle.engines.specs.Mines.{MineTexts, mine_texts, priced_texts, price_wanted}
+use Rattle.engines.specs.Mines.{MineTexts, price_wanted}
 use Rattle.engines.specs.Solving.{IsNetBy, Solves}
 use Rattle.engines.proofs.Answered.{keeps_self}
-use Rattle.engines.proofs.PricedAnswers.{under3, unread_to_solve}
-use Rattle.engines.proofs.ValueMines.{unsolved}
 use Rattle.engines.proofs.Solutions.{certificate_is, unmade}
 use Rattle.audit_engines.specs.Tracing.{IsCertificateOfRun, TracesNet, TraceAtFault, Traces}
 
@@ -67,21 +64,3 @@ module _ (block : ℤ → ℕ → Amount) (counts : Bool) (texts : MineTexts) (n
   traced (Err (engine.Slope q)) h = absurd h
   traced (Err (engine.Settings q)) h = absurd h
   traced (Err (engine.Prices q)) h = absurd h
-
--- ---- where the readers tell their bytes
-
-pub values_unread : (o r t w : Option (List ℕ)) (name : Group) (limit room : ℕ) (e : EngineFault) → IfSome o (λ u. IfSome r (λ p. ValueMineFails u p e)) → IfSome o (λ u. IfSome r (λ p. Traces (mine_texts u p) name limit room t t w w (Err e)))
-values_unread o r t w name limit room e h = unsolved (λ texts. Traces texts name limit room t t w w (Err e)) o r w name PushRelabel limit e h (λ u p f s. untraced (mine_texts u p) name limit room t w e s)
-
-pub priced_unread : (o q r t w : Option (List ℕ)) (k : ℕ) (name : Group) (limit room : ℕ) (e : EngineFault) → IfSome o (λ s. IfSome q (λ b. IfSome r (λ p. PricedMineFails s b p e))) → IfSome o (λ s. IfSome q (λ b. IfSome r (λ p. Traces (priced_texts s b p k) name limit room t t w w (Err e))))
-priced_unread o q r t w k name limit room e h = under3 o q r (λ s b p. PricedMineFails s b p e) (λ s b p. Traces (priced_texts s b p k) name limit room t t w w (Err e)) h (λ s b p f. untraced (priced_texts s b p k) name limit room t w e (unread_to_solve s b p k name PushRelabel limit w e f))
-
--- memory was refused before there was a net
-no_memory : (texts : MineTexts) (name : Group) (limit room : ℕ) (t w : Option (List ℕ)) → Traces texts name limit room t t w w (Err engine.Memory)
-no_memory texts name limit room t w = (tt, inl (keeps_self t, keeps_self w))
-
-pub priced_refused : (o q r t w : Option (List ℕ)) (k : ℕ) (name : Group) (limit room : ℕ) → IfSome o (λ s. IfSome q (λ b. IfSome r (λ p. Traces (priced_texts s b p k) name limit room t t w w (Err engine.Memory))))
-priced_refused None q r t w k name limit room = tt
-priced_refused (Some s) None r t w k name limit room = tt
-priced_refused (Some s) (Some b) None t w k name limit room = tt
-priced_refused (Some s) (Some b) (Some p) t w k name limit room = no_memory (priced_texts s b p k) name limit room t w

@@ -6,11 +6,11 @@
 //! of the history leads, and where there is none the history shows why.
 #![tactic(auto)]
 
-mod priced_traced_solving;
 mod room_word;
+mod traced_asked;
 mod traced_solving;
 pub mod tracing;
 
-pub use priced_traced_solving::solve_traced_priced_engine;
 pub use room_word::room_named;
+pub use traced_asked::TracedAsked;
 pub use traced_solving::solve_traced_engine;

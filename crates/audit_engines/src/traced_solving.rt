@@ -1,29 +1,29 @@
 //! The engine of `solve` with a trace: the bytes of a mine in, the trace of a run and a certificate of its best pit out.
 
-ghost use Rattle.std.specs.Prelude.{◌≡◌, ◌+◌, ◌-◌, ◌^◌, ◌<◌, IfSome, IsErrOf};
+ghost use Rattle.std.specs.Prelude.{◌≡◌, ◌+◌, ◌-◌, ◌^◌, ◌<◌, IsErrOf};
 ghost use Rattle.check_pit.specs.ReadBack.{IsPrice};
 ghost use Rattle.engines.specs.ReadMines.{AreRead, IsGroupNamed};
-ghost use Rattle.engines.specs.Mines.{MineTexts, mine_texts, price_wanted};
+ghost use Rattle.engines.specs.MineInputs.{ForTexts, CanCount, NoneFailed, OneFailed};
+ghost use Rattle.engines.specs.Mines.{MineTexts, price_wanted};
 ghost use Rattle.audit_engines.specs.Tracing.{Traces};
 
+use crate::traced_asked::TracedAsked;
 use crate::tracing::trace_net;
-use check_pit::Price;
 use closure_net::{Net, laws};
-use engines::mines::value_mine_from;
-use engines::{Effort, EngineFault, Verdict};
+use engines::mine_inputs::{MineToSolve, mine_to_solve};
+use engines::{EngineFault, MineInputs, Verdict};
 use fixed_worth::{CountedRead, CountedWrite};
 use ordered_group::{Group, OrderedGroup, Scaled, Worth, WorthSize};
-use prec_file::Rests;
 use std::alloc::Global;
 use std::sync::Wait;
 use std::thread::Threads;
 use workers::{Audited, Gate, Locked, Shared};
 
-/// Finds the best pit of the mine of two texts by a run of the push-relabel machine, and writes the trace of the run and
-/// the certificate of the pit.
+/// Finds the best pit of a mine, where its blocks have prices at the factor that is asked for, by a run of the push-relabel
+/// machine, and writes the trace of the run and the certificate of the pit.
 ///
 /// The run is that of the effort's workers and steps, whatever its method. Its trace has the whole history: all steps in
-/// their order, at most `room` and never more than 2^24. It is written right after the run and before anything is
+/// their order, at most as many as there is room for and never more than 2^24. It is written right after the run and before anything is
 /// written to `out`.
 ///
 /// `Done` where it wrote a certificate, as `engines::solve_engine` says; its flow is the one to which a replay of the
@@ -41,67 +41,50 @@ use workers::{Audited, Gate, Locked, Shared};
 /// Each device must have counted fewer than 2^64 - 1 failures, so that one more can be counted.
 pub fn solve_traced_engine<
     R: Threads + Wait + Sync,
-    U: CountedRead,
-    P: CountedRead,
+    D: CountedRead,
     T: Gate,
     V: CountedWrite,
     W: CountedWrite,
 >(
     rt: &R,
     alloc: Global,
-    upit: &mut U,
-    prec: &mut P,
-    group: Group,
-    effort: Effort,
-    room: u32,
+    inputs: &mut MineInputs<D>,
+    asked: TracedAsked,
     gate: &T,
     trace: &mut V,
     out: &mut W,
 ) -> Result<Verdict, EngineFault>
-    requires upit_room { U.failed upit.old < 2 ^ 64 - 1 }
-    requires prec_room { P.failed prec.old < 2 ^ 64 - 1 }
+    requires inputs_room { CanCount inputs.old D.failed }
     requires trace_room { V.failed trace.old < 2 ^ 64 - 1 }
     requires out_room { W.failed out.old < 2 ^ 64 - 1 }
 
     // What it answers and writes, where the readers tell their bytes.
-    ensures answer { IfSome (U.remaining upit.old) (λ u. IfSome (P.remaining prec.old) (λ p.
-        Traces (mine_texts u p) group effort.steps room (V.contents trace.old) (V.contents trace.new) (W.contents out.old) (W.contents out.new) result)) }
+    ensures answer { ForTexts inputs.old D.remaining asked.factor (λ texts.
+        Traces texts asked.group asked.effort.steps asked.room (V.contents trace.old) (V.contents trace.new) (W.contents out.old) (W.contents out.new) result) }
 
     // A device is named exactly where one failed.
-    ensures device { IsErrOf result EngineFault.Device → U.failed upit.new + P.failed prec.new + V.failed trace.new + W.failed out.new
-        ≡ U.failed upit.old + P.failed prec.old + V.failed trace.old + W.failed out.old + 1 }
-    ensures kept { ¬ IsErrOf result EngineFault.Device → (U.failed upit.new ≡ U.failed upit.old) × (P.failed prec.new ≡ P.failed prec.old)
-        × (V.failed trace.new ≡ V.failed trace.old) × (W.failed out.new ≡ W.failed out.old) }
+    ensures device { IsErrOf result EngineFault.Device → OneFailed inputs.old inputs.new D.failed (V.failed trace.old + W.failed out.old) (V.failed trace.new + W.failed out.new) }
+    ensures kept { ¬ IsErrOf result EngineFault.Device → NoneFailed inputs.old inputs.new D.failed × (V.failed trace.new ≡ V.failed trace.old) × (W.failed out.new ≡ W.failed out.old) }
 {
-    let mine = value_mine_from(alloc, upit, prec)?;
-    let rests = mine.rests;
-    let nanos = mine.nanos.as_slice();
-    let price = Price::Objective;
-    trace_mine(
-        rt, alloc, nanos, rests, price, group, effort, room, gate, trace, out,
-    )
+    let mine = mine_to_solve(rt, alloc, inputs, asked.factor)?;
+    trace_mine(rt, alloc, mine, asked, gate, trace, out)
 }
 
-/// `solve_traced_engine` once the mine is read: from each block's worth in billionths, the pairs and the price that the
-/// certificate names.
-pub(crate) fn trace_mine<R: Threads + Wait + Sync, T: Gate, V: CountedWrite, W: CountedWrite>(
+// The same once the mine is read: the certificate names its price.
+fn trace_mine<R: Threads + Wait + Sync, T: Gate, V: CountedWrite, W: CountedWrite>(
     rt: &R,
     alloc: Global,
-    nanos: &[i128],
-    rests: Rests,
-    price: Price,
-    group: Group,
-    effort: Effort,
-    room: u32,
+    mine: MineToSolve,
+    asked: TracedAsked,
     gate: &T,
     trace: &mut V,
     out: &mut W,
 ) -> Result<Verdict, EngineFault>
-    requires price { IsPrice price }
+    requires price { IsPrice mine.price }
     requires trace_room { V.failed trace.old < 2 ^ 64 - 1 }
     requires out_room { W.failed out.old < 2 ^ 64 - 1 }
-    ensures answer { (texts : MineTexts) → AreRead texts nanos.now rests → price ≡ price_wanted texts
-        → Traces texts group effort.steps room (V.contents trace.old) (V.contents trace.new) (W.contents out.old) (W.contents out.new) result }
+    ensures answer { (texts : MineTexts) → AreRead texts mine.nanos.items mine.rests → mine.price ≡ price_wanted texts
+        → Traces texts asked.group asked.effort.steps asked.room (V.contents trace.old) (V.contents trace.new) (W.contents out.old) (W.contents out.new) result }
     ensures device { IsErrOf result EngineFault.Device → V.failed trace.new + W.failed out.new ≡ V.failed trace.old + W.failed out.old + 1 }
     ensures kept { ¬ IsErrOf result EngineFault.Device → (V.failed trace.new ≡ V.failed trace.old) × (W.failed out.new ≡ W.failed out.old) }
 {
@@ -109,16 +92,14 @@ pub(crate) fn trace_mine<R: Threads + Wait + Sync, T: Gate, V: CountedWrite, W: 
     laws::greatest_set_is_richest_pit();
     laws::greatest_set_is_best_pit::<WorthSize>();
     laws::greatest_set_is_best_pit::<Scaled>();
-    match group {
-        Group::Worth => trace_by::<Worth, R, T, V, W>(
-            rt, alloc, nanos, rests, price, effort, room, gate, trace, out,
-        ),
-        Group::Pair => trace_by::<WorthSize, R, T, V, W>(
-            rt, alloc, nanos, rests, price, effort, room, gate, trace, out,
-        ),
-        Group::Scaled => trace_by::<Scaled, R, T, V, W>(
-            rt, alloc, nanos, rests, price, effort, room, gate, trace, out,
-        ),
+    match asked.group {
+        Group::Worth => { trace_by::<Worth, R, T, V, W>(rt, alloc, mine, asked, gate, trace, out) }
+        Group::Pair => {
+            trace_by::<WorthSize, R, T, V, W>(rt, alloc, mine, asked, gate, trace, out)
+        }
+        Group::Scaled => {
+            trace_by::<Scaled, R, T, V, W>(rt, alloc, mine, asked, gate, trace, out)
+        }
     }
 }
 
@@ -126,26 +107,36 @@ pub(crate) fn trace_mine<R: Threads + Wait + Sync, T: Gate, V: CountedWrite, W: 
 fn trace_by<G: OrderedGroup, R: Threads + Wait + Sync, T: Gate, V: CountedWrite, W: CountedWrite>(
     rt: &R,
     alloc: Global,
-    nanos: &[i128],
-    rests: Rests,
-    price: Price,
-    effort: Effort,
-    room: u32,
+    mine: MineToSolve,
+    asked: TracedAsked,
     gate: &T,
     trace: &mut V,
     out: &mut W,
 ) -> Result<Verdict, EngineFault>
 where
     Locked<Audited<G>>: Shared,
-    requires price { IsPrice price }
+    requires price { IsPrice mine.price }
     requires trace_room { V.failed trace.old < 2 ^ 64 - 1 }
     requires out_room { W.failed out.old < 2 ^ 64 - 1 }
-    ensures answer { (texts : MineTexts) → AreRead texts nanos.now rests → price ≡ price_wanted texts → IsGroupNamed G.name G.block_parts G.counts
-        → Traces texts G.name effort.steps room (V.contents trace.old) (V.contents trace.new) (W.contents out.old) (W.contents out.new) result }
+    ensures answer { (texts : MineTexts) → AreRead texts mine.nanos.items mine.rests → mine.price ≡ price_wanted texts → IsGroupNamed G.name G.block_parts G.counts
+        → Traces texts G.name asked.effort.steps asked.room (V.contents trace.old) (V.contents trace.new) (W.contents out.old) (W.contents out.new) result }
     ensures device { IsErrOf result EngineFault.Device → V.failed trace.new + W.failed out.new ≡ V.failed trace.old + W.failed out.old + 1 }
     ensures kept { ¬ IsErrOf result EngineFault.Device → (V.failed trace.new ≡ V.failed trace.old) × (W.failed out.new ≡ W.failed out.old) }
 {
-    let net = Net::<G>::of_worths(alloc, rests, nanos)?;
+    let price = mine.price;
+    let net = Net::<G>::of_worths(alloc, mine.rests, mine.nanos.as_slice())?;
+    drop(mine.nanos);
+    // proof: what is known of every net, that its pairs are of its blocks and in order
     let _worths = net.worths();
-    trace_net(rt, alloc, &net, price, effort, room, gate, trace, out)
+    trace_net(
+        rt,
+        alloc,
+        &net,
+        price,
+        asked.effort,
+        asked.room,
+        gate,
+        trace,
+        out,
+    )
 }

@@ -1,25 +1,29 @@
--- From the parts of a check to its answer, where the readers tell their bytes.
-use Rattle.std.proofs.Common.{◌≡◌, ℕ, ◌<◌, pos, ◌*ℤ◌, List, length, refl, sym, ap, ◌∙◌, subst, arith, Option, Some, None, Ok, Err, inl, inr, IfSome}
-use Rattle.std.proofs.lemmas.List.{length-map, get_or-map}
+-- From the parts of an engine to its answer, where the readers tell their bytes.
+use Rattle.std.proofs.Common.{◌≡◌, ℕ, ℤ, List, refl, sym, subst, Option, Some, None, Result, Ok, Err, inl, inr, IfSome}
 use Rattle.std.specs.Io.KnownBytes.{Appends, Keeps}
+use Rattle.ordered_group.specs.declared.groups.Group.{Group}
 use Rattle.prec_file.specs.Rests.{RestsView}
-use Rattle.prec_file.specs.Records as prec
-use Rattle.upit_file.specs.Records as upit
+use Rattle.check_pit.specs.declared.header.Price.{Price}
 use Rattle.engines.specs.declared.judgement.Judgement.{Judgement}
 use Rattle.engines.specs.declared.judgement.Judgement.TheVariants.{Accepted, Refused}
 use Rattle.engines.specs.declared.judgement.Verdict.{Verdict}
 use Rattle.engines.specs.declared.engine_fault.EngineFault.{EngineFault}
 use Rattle.engines.specs.declared.engine_fault.EngineFault.TheVariants as engine
-use Rattle.engines.specs.FaultStands.{AreWorths}
-use Rattle.engines.specs.Inputs.{ReadsUpit, ReadsPrec}
+use Rattle.engines.specs.declared.method.Method.{Method}
+use Rattle.engines.specs.declared.mine_inputs.MineInputs.{MineInputs}
+use Rattle.engines.specs.declared.worths.Worths.{Worths}
+use Rattle.engines.specs.Checking.{Checks, SoundIsAccepted, WritesAtFault, LineFails}
+use Rattle.engines.specs.FaultStands.{Fails, MineFails}
 use Rattle.engines.specs.Judgements.{IsJudged}
-use Rattle.check_pit.specs.declared.header.Price.TheVariants.{Objective}
-use Rattle.engines.specs.Mines.{MineTexts, mine_texts, price_wanted, ValuesRead}
-use Rattle.engines.specs.Judging.{Judges}
-use Rattle.engines.specs.ReadMines.{AreRead, billionths_of}
+use Rattle.engines.specs.Judging.{Judges, factor_in}
+use Rattle.engines.specs.MineInputs.{ForTexts}
+use Rattle.engines.specs.Mines.{MineTexts, price_wanted}
 use Rattle.engines.specs.OutputLines.{judgement_line}
+use Rattle.engines.specs.ReadMines.{AreRead, IsMineRead}
+use Rattle.engines.specs.Solving.{Solves}
 use Rattle.engines.specs.Verdicts.{verdict_of}
-use Rattle.engines.specs.Checking.{Checks, WritesAtFault, LineFails}
+use Rattle.engines.proofs.Complete.{complete_at}
+use Rattle.engines.proofs.MineDevices.{always, under, for_texts}
 
 pub keeps_self : (w : Option (List ℕ)) → Keeps w w
 keeps_self None = tt
@@ -41,51 +45,9 @@ at_fault texts c old new engine.Thread k = k
 at_fault texts c old new engine.Stranger k = k
 at_fault texts c old new engine.Device k = inl k
 
--- what is read of the values
-worths_read : (n : ℕ) (values precedence : List ℕ) (read : upit.UpitView) → upit.Denotes n values read → AreWorths (mine_texts values precedence) n (billionths_of read.values)
-worths_read n values precedence read d =
-    let size = length-map read.values (λ x. pos 1000 *ℤ x) in
-    record {
-      size = size ∙ d.count;
-      each = λ b h.
-          let l : b < length read.values = omega (arith, h, d.count) in
-          get_or-map (λ x. pos 1000 *ℤ x) read.values b (pos 0) (pos 0) l ∙ ap (λ x. pos 1000 *ℤ x) (d.worth b h);
-    }
-
--- the two texts of the mine were read
-pub read_both : (u p : List ℕ) (values : upit.UpitView) (rests : RestsView) (n : ℕ) → n ≡ length values.values → ReadsUpit u values → ReadsPrec n p rests → AreRead (mine_texts u p) (billionths_of values.values) rests
-read_both u p values rests n e a b =
-    let q : length values.values ≡ rests.blocks = sym e ∙ sym b.2 in
-    let F : ℕ → Type 0 = λ k. prec.fault_of k p ≡ None in
-    let V : ℕ → Type 0 = λ k. ValuesRead u k in
-    let N : ℕ → Type 0 = λ k. upit.Denotes k u values in
-    record {
-      mine = record {
-        worths_read = subst V q a.0;
-        precedence_within = b.0;
-        precedence_read = subst F (sym b.2) b.1;
-      };
-      worths = worths_read rests.blocks u p values (subst N q a.1);
-      pairs = b.3;
-    }
-
--- it could not be judged
-pub judge_answer : (o r s w : Option (List ℕ)) (values : upit.UpitView) (rests : RestsView) (n : ℕ) (fault : EngineFault) → n ≡ length values.values → IfSome o (λ u. ReadsUpit u values) → IfSome r (λ p. ReadsPrec n p rests) → IfSome s (λ c. (texts : MineTexts) → AreRead texts (billionths_of values.values) rests → price_wanted texts ≡ Objective → Judges texts c (Err fault)) → IfSome o (λ u. IfSome r (λ p. IfSome s (λ c. Checks (mine_texts u p) c w w (Err fault))))
-judge_answer None r s w values rests n fault e a b h = tt
-judge_answer (Some u) None s w values rests n fault e a b h = tt
-judge_answer (Some u) (Some p) None w values rests n fault e a b h = tt
-judge_answer (Some u) (Some p) (Some c) w values rests n fault e a b h = (h (mine_texts u p) (read_both u p values rests n e a b) refl, at_fault (mine_texts u p) c w w fault (keeps_self w))
-
 pub written : (texts : MineTexts) (c : List ℕ) (old new : Option (List ℕ)) (judgement : Judgement) → IsJudged texts c judgement → Appends old new (judgement_line judgement) → Checks texts c old new (Ok (verdict_of judgement))
 written texts c old new (Accepted group count worth) h k = record { group = group; count = count; worth = worth; accepted = h; written = k }
 written texts c old new (Refused fault) h k = record { fault = fault; refused = h; written = k }
-
--- the line was written
-pub line_answer : (o r s old new : Option (List ℕ)) (values : upit.UpitView) (rests : RestsView) (n : ℕ) (judgement : Judgement) → n ≡ length values.values → IfSome o (λ u. ReadsUpit u values) → IfSome r (λ p. ReadsPrec n p rests) → IfSome s (λ c. (texts : MineTexts) → AreRead texts (billionths_of values.values) rests → price_wanted texts ≡ Objective → Judges texts c (Ok judgement)) → Appends old new (judgement_line judgement) → IfSome o (λ u. IfSome r (λ p. IfSome s (λ c. Checks (mine_texts u p) c old new (Ok (verdict_of judgement)))))
-line_answer None r s old new values rests n j e a b h k = tt
-line_answer (Some u) None s old new values rests n j e a b h k = tt
-line_answer (Some u) (Some p) None old new values rests n j e a b h k = tt
-line_answer (Some u) (Some p) (Some c) old new values rests n j e a b h k = written (mine_texts u p) c old new j (h (mine_texts u p) (read_both u p values rests n e a b) refl) k
 
 pub line_failed : (texts : MineTexts) (c : List ℕ) (old new : Option (List ℕ)) (judgement : Judgement) (fault : EngineFault) → IsJudged texts c judgement → LineFails old new (judgement_line judgement) fault → Checks texts c old new (Err fault)
 line_failed texts c old new j (engine.Upit q) h k = absurd k
@@ -102,15 +64,84 @@ line_failed texts c old new j engine.Thread h k = absurd k
 line_failed texts c old new j engine.Stranger h k = absurd k
 line_failed texts c old new j engine.Device h k = (tt, inr (j, h, k))
 
--- it could not be written
-pub failed_answer : (o r s old new : Option (List ℕ)) (values : upit.UpitView) (rests : RestsView) (n : ℕ) (judgement : Judgement) (fault : EngineFault) → n ≡ length values.values → IfSome o (λ u. ReadsUpit u values) → IfSome r (λ p. ReadsPrec n p rests) → IfSome s (λ c. (texts : MineTexts) → AreRead texts (billionths_of values.values) rests → price_wanted texts ≡ Objective → Judges texts c (Ok judgement)) → LineFails old new (judgement_line judgement) fault → IfSome o (λ u. IfSome r (λ p. IfSome s (λ c. Checks (mine_texts u p) c old new (Err fault))))
-failed_answer None r s old new values rests n j fault e a b h k = tt
-failed_answer (Some u) None s old new values rests n j fault e a b h k = tt
-failed_answer (Some u) (Some p) None old new values rests n j fault e a b h k = tt
-failed_answer (Some u) (Some p) (Some c) old new values rests n j fault e a b h k = line_failed (mine_texts u p) c old new j fault (h (mine_texts u p) (read_both u p values rests n e a b) refl) k
+-- ---- a check, where the readers tell their bytes
 
--- the answer, by what the judgement's verdict is
-pub line_answer_by : (o r s old new : Option (List ℕ)) (values : upit.UpitView) (rests : RestsView) (n : ℕ) (judgement : Judgement) (verdict : Verdict) → verdict ≡ verdict_of judgement → n ≡ length values.values → IfSome o (λ u. ReadsUpit u values) → IfSome r (λ p. ReadsPrec n p rests) → IfSome s (λ c. (texts : MineTexts) → AreRead texts (billionths_of values.values) rests → price_wanted texts ≡ Objective → Judges texts c (Ok judgement)) → Appends old new (judgement_line judgement) → IfSome o (λ u. IfSome r (λ p. IfSome s (λ c. Checks (mine_texts u p) c old new (Ok verdict))))
-line_answer_by o r s old new values rests n j verdict v e a b h k =
-    let P : Verdict → Type 0 = λ w. IfSome o (λ u. IfSome r (λ p. IfSome s (λ c. Checks (mine_texts u p) c old new (Ok w)))) in
-    subst P (sym v) (line_answer o r s old new values rests n j e a b h k)
+-- a fault of the texts of the mine is one of their check
+fails : (texts : MineTexts) (c : List ℕ) (e : EngineFault) → MineFails texts e → Fails texts c e
+fails texts c (engine.Upit q) h = h
+fails texts c (engine.Settings q) h = h
+fails texts c (engine.Blocks q) h = h
+fails texts c (engine.Prices q) h = h
+fails texts c (engine.Prec q) h = h
+fails texts c engine.Memory h = h
+fails texts c engine.Device h = h
+fails texts c (engine.Model q) h = absurd h
+fails texts c (engine.Certificate q) h = absurd h
+fails texts c (engine.Trace q) h = absurd h
+fails texts c (engine.Slope q) h = absurd h
+fails texts c engine.Thread h = absurd h
+fails texts c engine.Stranger h = absurd h
+
+-- what is answered of a certificate for a mine that was read, at the factor that it names
+abbrev pub JudgedBy : Worths → RestsView → Result Judgement EngineFault → List ℕ → Type 0
+JudgedBy worths rests answer c = (texts : MineTexts) → IsMineRead texts (factor_in c) worths rests → Judges texts c answer
+
+module _ {D : Type 0} (inputs : MineInputs D) (remaining : D → Option (List ℕ)) (t : Option (List ℕ)) where
+  abbrev pub Answers : (List ℕ → MineTexts → Type 0) → Type 0
+  Answers Q = IfSome t (λ c. ForTexts inputs remaining (factor_in c) (λ texts. Q c texts))
+
+  -- the texts of the mine were not read
+  pub unread : (w : Option (List ℕ)) (e : EngineFault) → ((factor : ℕ) → ForTexts inputs remaining factor (λ texts. MineFails texts e)) → Answers (λ c texts. Checks texts c w w (Err e))
+  unread w e h = always t (λ c. ForTexts inputs remaining (factor_in c) (λ texts. Checks texts c w w (Err e))) (λ c.
+      for_texts inputs remaining (factor_in c) (λ texts. MineFails texts e) (λ texts. Checks texts c w w (Err e)) (h (factor_in c)) (λ texts f. (fails texts c e f, at_fault texts c w w e (keeps_self w))))
+
+  -- what follows for the texts of a mine that was read from what is answered of the certificate
+  judged : (worths : Worths) (rests : RestsView) (answer : Result Judgement EngineFault) (Q : List ℕ → MineTexts → Type 0) → ((factor : ℕ) → ForTexts inputs remaining factor (λ texts. IsMineRead texts factor worths rests)) → IfSome t (JudgedBy worths rests answer)
+      → ((c : List ℕ) (texts : MineTexts) → Judges texts c answer → Q c texts) → Answers Q
+  judged worths rests answer Q h j f = under t (JudgedBy worths rests answer) (λ c. ForTexts inputs remaining (factor_in c) (λ texts. Q c texts)) j (λ c a.
+      for_texts inputs remaining (factor_in c) (λ texts. IsMineRead texts (factor_in c) worths rests) (λ texts. Q c texts) (h (factor_in c)) (λ texts r. f c texts (a texts r)))
+
+  module _ (worths : Worths) (rests : RestsView) (h : (factor : ℕ) → ForTexts inputs remaining factor (λ texts. IsMineRead texts factor worths rests)) where
+    -- it could not be judged
+    pub unjudged : (w : Option (List ℕ)) (e : EngineFault) → IfSome t (JudgedBy worths rests (Err e)) → Answers (λ c texts. Checks texts c w w (Err e))
+    unjudged w e j = judged worths rests (Err e) (λ c texts. Checks texts c w w (Err e)) h j (λ c texts a. (a, at_fault texts c w w e (keeps_self w)))
+
+    -- the line could not be written
+    pub untold : (old new : Option (List ℕ)) (judgement : Judgement) (e : EngineFault) → IfSome t (JudgedBy worths rests (Ok judgement)) → LineFails old new (judgement_line judgement) e → Answers (λ c texts. Checks texts c old new (Err e))
+    untold old new judgement e j k = judged worths rests (Ok judgement) (λ c texts. Checks texts c old new (Err e)) h j (λ c texts a. line_failed texts c old new judgement e a k)
+
+    -- it was written
+    pub told : (old new : Option (List ℕ)) (judgement : Judgement) (verdict : Verdict) → verdict ≡ verdict_of judgement → IfSome t (JudgedBy worths rests (Ok judgement)) → Appends old new (judgement_line judgement) → Answers (λ c texts. Checks texts c old new (Ok verdict))
+    told old new judgement verdict v j k = judged worths rests (Ok judgement) (λ c texts. Checks texts c old new (Ok verdict)) h j (λ c texts a.
+        subst (λ (x : Verdict). Checks texts c old new (Ok x)) (sym v) (written texts c old new judgement a k))
+
+  pub complete : (old new : Option (List ℕ)) (answer : Result Verdict EngineFault) → Answers (λ c texts. Checks texts c old new answer) → Answers (λ c texts. SoundIsAccepted texts c answer)
+  complete old new answer h = under t (λ c. ForTexts inputs remaining (factor_in c) (λ texts. Checks texts c old new answer)) (λ c. ForTexts inputs remaining (factor_in c) (λ texts. SoundIsAccepted texts c answer)) h (λ c a.
+      for_texts inputs remaining (factor_in c) (λ texts. Checks texts c old new answer) (λ texts. SoundIsAccepted texts c answer) a (λ texts k. complete_at texts c old new answer k))
+
+-- ---- a solution, where the readers tell their bytes
+
+-- a fault of the texts of the mine is one of solving it
+unsolved_at : (texts : MineTexts) (name : Group) (method : Method) (limit : ℕ) (w : Option (List ℕ)) (e : EngineFault) → MineFails texts e → Solves texts name method limit w w (Err e)
+unsolved_at texts name method limit w (engine.Upit q) h = (h, keeps_self w)
+unsolved_at texts name method limit w (engine.Settings q) h = (h, keeps_self w)
+unsolved_at texts name method limit w (engine.Blocks q) h = (h, keeps_self w)
+unsolved_at texts name method limit w (engine.Prices q) h = (h, keeps_self w)
+unsolved_at texts name method limit w (engine.Prec q) h = (h, keeps_self w)
+unsolved_at texts name method limit w engine.Memory h = (h, keeps_self w)
+unsolved_at texts name method limit w engine.Device h = (h, inl (keeps_self w))
+unsolved_at texts name method limit w (engine.Model q) h = absurd h
+unsolved_at texts name method limit w (engine.Certificate q) h = absurd h
+unsolved_at texts name method limit w (engine.Trace q) h = absurd h
+unsolved_at texts name method limit w (engine.Slope q) h = absurd h
+unsolved_at texts name method limit w engine.Thread h = absurd h
+unsolved_at texts name method limit w engine.Stranger h = absurd h
+
+module _ {D : Type 0} (inputs : MineInputs D) (remaining : D → Option (List ℕ)) (factor : ℕ) where
+  -- and of whatever is answered where solving is
+  pub unsolved : (Q : MineTexts → Type 0) (name : Group) (method : Method) (limit : ℕ) (w : Option (List ℕ)) (e : EngineFault) → ForTexts inputs remaining factor (λ texts. MineFails texts e) → ((texts : MineTexts) → MineFails texts e → Solves texts name method limit w w (Err e) → Q texts) → ForTexts inputs remaining factor Q
+  unsolved Q name method limit w e h f = for_texts inputs remaining factor (λ texts. MineFails texts e) Q h (λ texts k. f texts k (unsolved_at texts name method limit w e k))
+
+  -- what holds of all texts of what was read holds of these
+  pub answered : (Q : MineTexts → Type 0) (nanos : List ℤ) (rests : RestsView) (price : Price) → ForTexts inputs remaining factor (λ texts. AreRead texts nanos rests × (price ≡ price_wanted texts)) → ((texts : MineTexts) → AreRead texts nanos rests → price ≡ price_wanted texts → Q texts) → ForTexts inputs remaining factor Q
+  answered Q nanos rests price h f = for_texts inputs remaining factor (λ texts. AreRead texts nanos rests × (price ≡ price_wanted texts)) Q h (λ texts r. f texts r.0 r.1)

@@ -1,11 +1,11 @@
 -- What follows of the answer for a sound certificate.
-use Rattle.std.proofs.Common.{ℕ, List, Option, Some, None, Result, Ok, Err, inl, inr, IfSome}
+use Rattle.std.proofs.Common.{ℕ, List, Option, Result, Ok, Err, inl, inr}
 use Rattle.engines.specs.declared.judgement.Verdict.{Verdict}
 use Rattle.engines.specs.declared.judgement.Verdict.TheVariants.{Done, No}
 use Rattle.engines.specs.declared.engine_fault.EngineFault.{EngineFault}
 use Rattle.engines.specs.declared.engine_fault.EngineFault.TheVariants as engine
 use Rattle.engines.specs.Checking.{Checks, SoundIsAccepted}
-use Rattle.engines.specs.Mines.{MineTexts, mine_texts}
+use Rattle.engines.specs.Mines.{MineTexts}
 use Rattle.engines.proofs.SoundLines.{refused_leaves}
 use Rattle.engines.specs.declared.engine_fault.CertificateProblem.TheVariants as problem
 use Rattle.engines.proofs.Unread.{upit_read, settings_read, blocks_read, prices_read, prec_read, model_read, price_read, header_read, body_read}
@@ -28,9 +28,3 @@ complete_at texts c old new (Err engine.Memory) h read s = tt
 complete_at texts c old new (Err engine.Thread) h read s = absurd h.0
 complete_at texts c old new (Err engine.Stranger) h read s = absurd h.0
 complete_at texts c old new (Err engine.Device) h read s = tt
-
-pub complete : (o r s old new : Option (List ℕ)) (answer : Result Verdict EngineFault) → IfSome o (λ u. IfSome r (λ p. IfSome s (λ c. Checks (mine_texts u p) c old new answer))) → IfSome o (λ u. IfSome r (λ p. IfSome s (λ c. SoundIsAccepted (mine_texts u p) c answer)))
-complete None r s old new answer h = tt
-complete (Some u) None s old new answer h = tt
-complete (Some u) (Some p) None old new answer h = tt
-complete (Some u) (Some p) (Some c) old new answer h = complete_at (mine_texts u p) c old new answer h

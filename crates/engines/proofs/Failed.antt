@@ -36,27 +36,3 @@ first_of_two a b a' b' p q = omega arith
 
 pub second_of_two : (a b a' b' : ℕ) → a' ≡ a → b' ≡ b + 1 → a' + b' ≡ a + b + 1
 second_of_two a b a' b' p q = omega arith
-
-pub earlier_of_three : (a b c a' b' c' : ℕ) → a' + b' ≡ a + b + 1 → c' ≡ c → a' + b' + c' ≡ a + b + c + 1
-earlier_of_three a b c a' b' c' p q = omega arith
-
-pub first_of_three : (a b c a' b' c' : ℕ) → a' ≡ a + 1 → b' ≡ b → c' ≡ c → a' + b' + c' ≡ a + b + c + 1
-first_of_three a b c a' b' c' p q r = omega arith
-
-pub second_of_three : (a b c a' b' c' : ℕ) → a' ≡ a → b' ≡ b + 1 → c' ≡ c → a' + b' + c' ≡ a + b + c + 1
-second_of_three a b c a' b' c' p q r = omega arith
-
-pub third_of_three : (a b c a' b' c' : ℕ) → a' ≡ a → b' ≡ b → c' ≡ c + 1 → a' + b' + c' ≡ a + b + c + 1
-third_of_three a b c a' b' c' p q r = omega arith
-
-pub earlier_of_four : (a b c d a' b' c' d' : ℕ) → a' + b' + c' ≡ a + b + c + 1 → d' ≡ d → a' + b' + c' + d' ≡ a + b + c + d + 1
-earlier_of_four a b c d a' b' c' d' p q = omega arith
-
-pub last_of_four : (a b c d a' b' c' d' : ℕ) → a' ≡ a → b' ≡ b → c' ≡ c → d' ≡ d + 1 → a' + b' + c' + d' ≡ a + b + c + d + 1
-last_of_four a b c d a' b' c' d' p q r s = omega arith
-
-pub earlier_of_five : (a b c d e a' b' c' d' e' : ℕ) → a' + b' + c' + d' ≡ a + b + c + d + 1 → e' ≡ e → a' + b' + c' + d' + e' ≡ a + b + c + d + e + 1
-earlier_of_five a b c d e a' b' c' d' e' p q = omega arith
-
-pub last_of_five : (a b c d e a' b' c' d' e' : ℕ) → a' ≡ a → b' ≡ b → c' ≡ c → d' ≡ d → e' ≡ e + 1 → a' + b' + c' + d' + e' ≡ a + b + c + d + e + 1
-last_of_five a b c d e a' b' c' d' e' p q r s t = omega arith

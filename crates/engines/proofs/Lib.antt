@@ -17,8 +17,8 @@ pub mod SlopeAnswers
 pub mod Lone
 pub mod NetAnswers
 pub mod Solutions
-pub mod ValueMines
-pub mod OfTexts
+pub mod MineDevices
+pub mod MinesRead
 pub mod HeaderAnswers
 pub mod Streamed
 pub mod SoundLines

@@ -1,38 +1,22 @@
--- From the parts of an engine over prices to its answer, where the readers tell their bytes.
-use Rattle.std.proofs.Common.{◌≡◌, ℕ, ℤ, List, sym, ap, ◌∙◌, subst, Option, Some, None, Result, Ok, Err, inl, IfSome, unwrap_or}
+-- From the parts of the reading of a mine of prices to what was read, where the readers tell their bytes.
+use Rattle.std.proofs.Common.{◌≡◌, ℕ, List, sym, ap, ◌∙◌, subst, Option, Some, None, IfSome, unwrap_or}
 use Rattle.std.proofs.lemmas.List.FromFn.{length-map-range_with_len}
-use Rattle.std.specs.Io.KnownBytes.{Appends}
 use Rattle.blocks_file.specs.Records as blocks
 use Rattle.prec_file.specs.Rests.{RestsView}
 use Rattle.settings_file.specs.declared.keys.Key.{Key}
 use Rattle.settings_file.specs.declared.settings_fault.SettingsFault.TheVariants as settings_fault
 use Rattle.settings_file.specs.Settings.{SettingsView, first_missing}
 use Rattle.settings_file.proofs.Known.{settings_are, settings_read}
-use Rattle.shells.specs.Prices.{PricesView, PricesFaultStands, NoneNegative, blocks_of, price_of, worths_at}
-use Rattle.engines.specs.declared.judgement.Judgement.{Judgement}
-use Rattle.engines.specs.declared.judgement.Verdict.{Verdict}
+use Rattle.shells.specs.Prices.{PricesView, PricesFaultStands, NoneNegative, blocks_of}
 use Rattle.engines.specs.declared.engine_fault.EngineFault.{EngineFault}
 use Rattle.engines.specs.declared.engine_fault.EngineFault.TheVariants as engine
 use Rattle.engines.specs.declared.engine_fault.Problem.TheVariants as problem
-use Rattle.engines.specs.declared.method.Method.{Method}
 use Rattle.engines.specs.declared.priced_inputs.PriceColumns.{PriceColumns}
-use Rattle.ordered_group.specs.declared.groups.Group.{Group}
 use Rattle.engines.specs.BlockTexts.{BlocksFails}
 use Rattle.engines.specs.PricedTexts.{price_keys, columns_said, price_columns, cell, table_by, table_of, KeysSaid, ColumnsKnown, PricesRead, SettingsFails}
 use Rattle.engines.specs.Inputs.{ReadsSettingsText, SettingsReadFails, IsMissing, ReadsPrices, PricesReadFail, ReadsPrec, PrecReadFails, PricedMineFails}
-use Rattle.engines.specs.Mines.{MineTexts, priced_texts, price_wanted}
-use Rattle.engines.specs.ReadMines.{AreRead, ArePricesRead}
-use Rattle.engines.specs.Judging.{Judges, factor_in}
-use Rattle.engines.specs.OutputLines.{judgement_line}
-use Rattle.engines.specs.Verdicts.{verdict_of}
-use Rattle.engines.specs.FaultStands.{Fails}
-use Rattle.engines.specs.Checking.{Checks, SoundIsAccepted, LineFails}
-use Rattle.engines.specs.Solving.{Solves}
-use Rattle.engines.proofs.Answered.{keeps_self, at_fault, written, line_failed}
-use Rattle.check_pit.specs.declared.header.Price.{Price}
-use Rattle.engines.proofs.Complete.{complete_at}
-use Rattle.engines.proofs.Judged.{read_as}
-use Rattle.engines.proofs.Priced.{all_read, worths_priced}
+use Rattle.engines.specs.ReadMines.{ArePricesRead}
+use Rattle.engines.proofs.Priced.{all_read}
 
 -- ---- readers that tell their bytes
 
@@ -41,21 +25,6 @@ under3 None q r P Q h f = tt
 under3 (Some s) None r P Q h f = tt
 under3 (Some s) (Some b) None P Q h f = tt
 under3 (Some s) (Some b) (Some p) P Q h f = f s b p h
-
-pub under4 : (o q r t : Option (List ℕ)) (P : List ℕ → List ℕ → List ℕ → Type 0) (R : List ℕ → Type 0) (Q : List ℕ → List ℕ → List ℕ → List ℕ → Type 0) → IfSome o (λ s. IfSome q (λ b. IfSome r (λ p. P s b p))) → IfSome t R
-    → ((s b p c : List ℕ) → P s b p → R c → Q s b p c) → IfSome o (λ s. IfSome q (λ b. IfSome r (λ p. IfSome t (λ c. Q s b p c))))
-under4 None q r t P R Q h k f = tt
-under4 (Some s) None r t P R Q h k f = tt
-under4 (Some s) (Some b) None t P R Q h k f = tt
-under4 (Some s) (Some b) (Some p) None P R Q h k f = tt
-under4 (Some s) (Some b) (Some p) (Some c) P R Q h k f = f s b p c h k
-
-pub all4 : (o q r t : Option (List ℕ)) (P Q : List ℕ → List ℕ → List ℕ → List ℕ → Type 0) → IfSome o (λ s. IfSome q (λ b. IfSome r (λ p. IfSome t (λ c. P s b p c)))) → ((s b p c : List ℕ) → P s b p c → Q s b p c) → IfSome o (λ s. IfSome q (λ b. IfSome r (λ p. IfSome t (λ c. Q s b p c))))
-all4 None q r t P Q h f = tt
-all4 (Some s) None r t P Q h f = tt
-all4 (Some s) (Some b) None t P Q h f = tt
-all4 (Some s) (Some b) (Some p) None P Q h f = tt
-all4 (Some s) (Some b) (Some p) (Some c) P Q h f = f s b p c h
 
 pub anything : (o : Option (List ℕ)) → IfSome o (λ c. Unit {0})
 anything None = tt
@@ -147,7 +116,7 @@ pub prices_unsaid : (q : Option (List ℕ)) (columns : PriceColumns) (said : Set
 prices_unsaid q columns said e same h = subst (λ (cs : PriceColumns). IfSome q (λ b. PricesReadFail cs b e)) same h
 
 -- prices that were read are of the blocks of the text
-priced : (s b : List ℕ) (said : SettingsView) (table : PricesView) (n : ℕ) → n ≡ blocks_of table → NoneNegative table → first_missing (price_keys said) said ≡ None → ReadsSettingsText s said → ReadsPrices (columns_said said) b table → PricesRead s b n
+pub priced : (s b : List ℕ) (said : SettingsView) (table : PricesView) (n : ℕ) → n ≡ blocks_of table → NoneNegative table → first_missing (price_keys said) said ≡ None → ReadsSettingsText s said → ReadsPrices (columns_said said) b table → PricesRead s b n
 priced s b said table n e positive whole a t =
     let known = sym (settings_are s said a.1) in
     let is : table ≡ table_of s b = t.is ∙ ap (λ (v : SettingsView). table_by v b) known in
@@ -183,88 +152,3 @@ mine_answer None q r said table rests n size positive whole a t h = tt
 mine_answer (Some s) None r said table rests n size positive whole a t h = tt
 mine_answer (Some s) (Some b) None said table rests n size positive whole a t h = tt
 mine_answer (Some s) (Some b) (Some p) said table rests n size positive whole a t h = all_read s b p said table rests n size positive whole a t h
-
--- ---- a check
-
-mine_stands : (s b p c : List ℕ) (k : ℕ) (e : EngineFault) → PricedMineFails s b p e → Fails (priced_texts s b p k) c e
-mine_stands s b p c k (engine.Settings q) h = h
-mine_stands s b p c k (engine.Blocks q) h = h
-mine_stands s b p c k (engine.Prices q) h = h
-mine_stands s b p c k (engine.Prec q) h = h
-mine_stands s b p c k engine.Memory h = tt
-mine_stands s b p c k engine.Device h = tt
-mine_stands s b p c k (engine.Upit q) h = absurd h
-mine_stands s b p c k (engine.Slope q) h = absurd h
-mine_stands s b p c k (engine.Model q) h = absurd h
-mine_stands s b p c k (engine.Certificate q) h = absurd h
-mine_stands s b p c k (engine.Trace q) h = absurd h
-mine_stands s b p c k engine.Thread h = absurd h
-mine_stands s b p c k engine.Stranger h = absurd h
-
--- the texts of the mine were not read
-pub unread : (s b p c : List ℕ) (w : Option (List ℕ)) (e : EngineFault) → PricedMineFails s b p e → Checks (priced_texts s b p (factor_in c)) c w w (Err e)
-unread s b p c w e h = (mine_stands s b p c (factor_in c) e h, at_fault (priced_texts s b p (factor_in c)) c w w e (keeps_self w))
-
--- it could not be judged
-pub unjudged : (s b p c : List ℕ) (w : Option (List ℕ)) (e : EngineFault) → Judges (priced_texts s b p (factor_in c)) c (Err e) → Checks (priced_texts s b p (factor_in c)) c w w (Err e)
-unjudged s b p c w e h = (h, at_fault (priced_texts s b p (factor_in c)) c w w e (keeps_self w))
-
--- the line was written
-pub told : (s b p c : List ℕ) (old new : Option (List ℕ)) (judgement : Judgement) (verdict : Verdict) → verdict ≡ verdict_of judgement → Judges (priced_texts s b p (factor_in c)) c (Ok judgement) → Appends old new (judgement_line judgement) → Checks (priced_texts s b p (factor_in c)) c old new (Ok verdict)
-told s b p c old new judgement verdict v h k =
-    let P : Verdict → Type 0 = λ x. Checks (priced_texts s b p (factor_in c)) c old new (Ok x) in
-    subst P (sym v) (written (priced_texts s b p (factor_in c)) c old new judgement h k)
-
--- what is answered of a certificate, at the factor that it names
-abbrev pub JudgedAt : PricesView → RestsView → Result Judgement EngineFault → List ℕ → Type 0
-JudgedAt table rests answer c = (s b p : List ℕ) → ArePricesRead s b p table rests → Judges (priced_texts s b p (factor_in c)) c answer
-
--- where the readers tell their bytes: the texts of the mine were not read
-pub mine_answer4 : (o q r t w : Option (List ℕ)) (e : EngineFault) → IfSome o (λ s. IfSome q (λ b. IfSome r (λ p. PricedMineFails s b p e))) → IfSome o (λ s. IfSome q (λ b. IfSome r (λ p. IfSome t (λ c. Checks (priced_texts s b p (factor_in c)) c w w (Err e)))))
-mine_answer4 o q r t w e h = under4 o q r t (λ s b p. PricedMineFails s b p e) (λ c. Unit {0}) (λ s b p c. Checks (priced_texts s b p (factor_in c)) c w w (Err e)) h (anything t) (λ s b p c a k. unread s b p c w e a)
-
--- the certificate could not be judged
-pub judge_answer4 : (o q r t w : Option (List ℕ)) (table : PricesView) (rests : RestsView) (e : EngineFault) → IfSome o (λ s. IfSome q (λ b. IfSome r (λ p. ArePricesRead s b p table rests))) → IfSome t (JudgedAt table rests (Err e)) → IfSome o (λ s. IfSome q (λ b. IfSome r (λ p. IfSome t (λ c. Checks (priced_texts s b p (factor_in c)) c w w (Err e)))))
-judge_answer4 o q r t w table rests e h judges = under4 o q r t (λ s b p. ArePricesRead s b p table rests) (JudgedAt table rests (Err e)) (λ s b p c. Checks (priced_texts s b p (factor_in c)) c w w (Err e)) h judges (λ s b p c a j. unjudged s b p c w e (j s b p a))
-
--- the line was written, or could not be
-pub line_answer4 : (o q r t old new : Option (List ℕ)) (table : PricesView) (rests : RestsView) (judgement : Judgement) (verdict : Verdict) → verdict ≡ verdict_of judgement → IfSome o (λ s. IfSome q (λ b. IfSome r (λ p. ArePricesRead s b p table rests))) → IfSome t (JudgedAt table rests (Ok judgement)) → Appends old new (judgement_line judgement)
-    → IfSome o (λ s. IfSome q (λ b. IfSome r (λ p. IfSome t (λ c. Checks (priced_texts s b p (factor_in c)) c old new (Ok verdict)))))
-line_answer4 o q r t old new table rests judgement verdict v h judges sent = under4 o q r t (λ s b p. ArePricesRead s b p table rests) (JudgedAt table rests (Ok judgement)) (λ s b p c. Checks (priced_texts s b p (factor_in c)) c old new (Ok verdict)) h judges (λ s b p c a j. told s b p c old new judgement verdict v (j s b p a) sent)
-
-pub failed_answer4 : (o q r t old new : Option (List ℕ)) (table : PricesView) (rests : RestsView) (judgement : Judgement) (e : EngineFault) → IfSome o (λ s. IfSome q (λ b. IfSome r (λ p. ArePricesRead s b p table rests))) → IfSome t (JudgedAt table rests (Ok judgement)) → LineFails old new (judgement_line judgement) e
-    → IfSome o (λ s. IfSome q (λ b. IfSome r (λ p. IfSome t (λ c. Checks (priced_texts s b p (factor_in c)) c old new (Err e)))))
-failed_answer4 o q r t old new table rests judgement e h judges f = under4 o q r t (λ s b p. ArePricesRead s b p table rests) (JudgedAt table rests (Ok judgement)) (λ s b p c. Checks (priced_texts s b p (factor_in c)) c old new (Err e)) h judges (λ s b p c a j. line_failed (priced_texts s b p (factor_in c)) c old new judgement e (j s b p a) f)
-
-pub complete4 : (o q r t : Option (List ℕ)) (old new : Option (List ℕ)) (answer : Result Verdict EngineFault) → IfSome o (λ s. IfSome q (λ b. IfSome r (λ p. IfSome t (λ c. Checks (priced_texts s b p (factor_in c)) c old new answer)))) → IfSome o (λ s. IfSome q (λ b. IfSome r (λ p. IfSome t (λ c. SoundIsAccepted (priced_texts s b p (factor_in c)) c answer))))
-complete4 o q r t old new answer h = all4 o q r t (λ s b p c. Checks (priced_texts s b p (factor_in c)) c old new answer) (λ s b p c. SoundIsAccepted (priced_texts s b p (factor_in c)) c answer) h (λ s b p c k. complete_at (priced_texts s b p (factor_in c)) c old new answer k)
-
--- ---- a solution
-
--- the texts of the mine were not read
-pub unread_to_solve : (s b p : List ℕ) (k : ℕ) (name : Group) (method : Method) (limit : ℕ) (w : Option (List ℕ)) (e : EngineFault) → PricedMineFails s b p e → Solves (priced_texts s b p k) name method limit w w (Err e)
-unread_to_solve s b p k name method limit w (engine.Settings q) h = (h, keeps_self w)
-unread_to_solve s b p k name method limit w (engine.Blocks q) h = (h, keeps_self w)
-unread_to_solve s b p k name method limit w (engine.Prices q) h = (h, keeps_self w)
-unread_to_solve s b p k name method limit w (engine.Prec q) h = (h, keeps_self w)
-unread_to_solve s b p k name method limit w engine.Memory h = (tt, keeps_self w)
-unread_to_solve s b p k name method limit w engine.Device h = (tt, inl (keeps_self w))
-unread_to_solve s b p k name method limit w (engine.Upit q) h = absurd h
-unread_to_solve s b p k name method limit w (engine.Slope q) h = absurd h
-unread_to_solve s b p k name method limit w (engine.Model q) h = absurd h
-unread_to_solve s b p k name method limit w (engine.Certificate q) h = absurd h
-unread_to_solve s b p k name method limit w (engine.Trace q) h = absurd h
-unread_to_solve s b p k name method limit w engine.Thread h = absurd h
-unread_to_solve s b p k name method limit w engine.Stranger h = absurd h
-
-pub mine_unsolved : (o q r w : Option (List ℕ)) (k : ℕ) (name : Group) (method : Method) (limit : ℕ) (e : EngineFault) → IfSome o (λ s. IfSome q (λ b. IfSome r (λ p. PricedMineFails s b p e))) → IfSome o (λ s. IfSome q (λ b. IfSome r (λ p. Solves (priced_texts s b p k) name method limit w w (Err e))))
-mine_unsolved o q r w k name method limit e h = under3 o q r (λ s b p. PricedMineFails s b p e) (λ s b p. Solves (priced_texts s b p k) name method limit w w (Err e)) h (λ s b p f. unread_to_solve s b p k name method limit w e f)
-
--- what holds of any texts of what was read holds of these
-pub priced_answer : (s b p : List ℕ) (k : ℕ) (price : Price) (table : PricesView) (rests : RestsView) → ArePricesRead s b p table rests → price ≡ price_of table.costs k → price ≡ price_wanted (priced_texts s b p k)
-priced_answer s b p k price table rests a e = e ∙ ap (λ (t : PricesView). price_of t.costs k) a.table
-
-pub solve_answer3 : (o q r old new : Option (List ℕ)) (k : ℕ) (price : Price) (name : Group) (method : Method) (limit : ℕ) (table : PricesView) (rests : RestsView) (slice : List ℤ) (result : Result Verdict EngineFault) → IfSome o (λ s. IfSome q (λ b. IfSome r (λ p. ArePricesRead s b p table rests))) → price ≡ price_of table.costs k → slice ≡ worths_at table k
-    → ((texts : MineTexts) → AreRead texts slice rests → price ≡ price_wanted texts → Solves texts name method limit old new result) → IfSome o (λ s. IfSome q (λ b. IfSome r (λ p. Solves (priced_texts s b p k) name method limit old new result)))
-solve_answer3 o q r old new k price name method limit table rests slice result h e is solves = under3 o q r (λ s b p. ArePricesRead s b p table rests) (λ s b p. Solves (priced_texts s b p k) name method limit old new result) h (λ s b p a.
-    solves (priced_texts s b p k) (read_as (priced_texts s b p k) (worths_at table k) slice rests is (worths_priced s b p table rests k a)) (priced_answer s b p k price table rests a e))

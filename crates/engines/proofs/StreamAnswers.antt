@@ -1,5 +1,6 @@
 -- From the header of a certificate and what stands behind it to what is judged, where the device tells its bytes.
 use Rattle.std.proofs.Common.{◌≡◌, ◌≢◌, ℕ, ◌≤◌, ℤ, List, Option, Some, None, Result, Ok, Err, refl, sym, ap, ◌∙◌, subst, arith, IfSome}
+use Rattle.std.specs.Prelude.{MatchOption}
 use Rattle.fixed_worth.specs.declared.limits.TheConstants.{MOST_FACTOR}
 use Rattle.prec_file.specs.Rests.{RestsView}
 use Rattle.check_pit.specs.declared.header.Header.{Header}
@@ -9,23 +10,20 @@ use Rattle.check_pit.specs.Header.{header_of}
 use Rattle.check_pit.specs.Pieces.{pieces_of}
 use Rattle.check_pit.specs.ReadBack.{IsPrice}
 use Rattle.check_pit.specs.StreamView.{LineView}
-use Rattle.shells.specs.Prices.{CostsView, PricesView, plain_costs, mill_costs, price_of, worths_at}
 use Rattle.engines.specs.declared.engine_fault.EngineFault.{EngineFault}
 use Rattle.engines.specs.declared.engine_fault.EngineFault.TheVariants as engine
 use Rattle.engines.specs.declared.engine_fault.CertificateProblem.TheVariants as problem
 use Rattle.engines.specs.declared.judgement.Judgement.{Judgement}
+use Rattle.engines.specs.declared.worths.Worths.{Worths}
 use Rattle.engines.specs.FaultStands.{Fails}
-use Rattle.engines.specs.Judging.{Judges, StandsBehind, factor_at, factor_in, factor_named}
-use Rattle.engines.specs.Mines.{MineTexts, DenoteMine, priced_texts, price_wanted}
+use Rattle.engines.specs.Judging.{Judges, StandsBehind, factor_in, factor_named}
+use Rattle.engines.specs.Mines.{MineTexts, DenoteMine}
 use Rattle.engines.specs.Readings.{IsHeader}
 use Rattle.engines.specs.ReadMines.{AreRead}
+use Rattle.engines.specs.Worths.{factor_at, nanos_at, price_at}
+use Rattle.engines.proofs.Answered.{JudgedBy}
 use Rattle.engines.proofs.Judged.{header_is, read_as}
-use Rattle.engines.proofs.Priced.{worths_priced, header_price}
-use Rattle.engines.proofs.PricedAnswers.{JudgedAt, priced_answer}
-
--- what is answered of a certificate for a mine of values
-abbrev pub JudgedFor : List ℤ → RestsView → Result Judgement EngineFault → List ℕ → Type 0
-JudgedFor nanos rests answer c = (texts : MineTexts) → AreRead texts nanos rests → price_wanted texts ≡ Objective → Judges texts c answer
+use Rattle.engines.proofs.Priced.{header_price}
 
 -- a header was read of the text, and these lines stand behind it
 abbrev pub HasHeader : {R : Type 0} → (R → Option (List ℕ)) → LineView R → Header → List ℕ → Type 0
@@ -35,23 +33,16 @@ HasHeader remaining s h c = (header_of (pieces_of c) ≡ Ok h) × StandsBehind r
 abbrev pub FailsFor : ℕ → EngineFault → List ℕ → Type 0
 FailsFor n e c = (texts : MineTexts) → DenoteMine texts n → Fails texts c e
 
-pub header_unjudged : (t : Option (List ℕ)) (nanos : List ℤ) (rests : RestsView) (n : ℕ) (e : EngineFault) → n ≡ rests.blocks → IfSome t (FailsFor n e) → IfSome t (JudgedFor nanos rests (Err e))
-header_unjudged None nanos rests n e size h = tt
-header_unjudged (Some c) nanos rests n e size h = λ texts read at. h texts (subst (DenoteMine texts) (sym size) read.mine)
+pub header_unjudged : (t : Option (List ℕ)) (worths : Worths) (rests : RestsView) (n : ℕ) (e : EngineFault) → n ≡ rests.blocks → IfSome t (FailsFor n e) → IfSome t (JudgedBy worths rests (Err e))
+header_unjudged None worths rests n e size h = tt
+header_unjudged (Some c) worths rests n e size h = λ texts read. h texts (subst (DenoteMine texts) (sym size) read.0.mine)
 
-pub stream_judged : {R : Type 0} (remaining : R → Option (List ℕ)) (s : LineView R) (t : Option (List ℕ)) (nanos shown : List ℤ) (rests : RestsView) (h : Header) (answer : Result Judgement EngineFault) → h.blocks ≡ rests.blocks → h.price ≡ Objective → shown ≡ nanos → IfSome t (HasHeader remaining s h)
-    → ((texts : MineTexts) (c : List ℕ) → AreRead texts shown rests → IsHeader texts c rests.blocks h.group → StandsBehind remaining c s → Judges texts c answer) → IfSome t (JudgedFor nanos rests answer)
-stream_judged remaining s None nanos shown rests h answer size price is k judges = tt
-stream_judged remaining s (Some c) nanos shown rests h answer size price is k judges = λ texts read at.
-    judges texts c (read_as texts nanos shown rests is read) (header_is texts c h rests.blocks h.group k.0 size (price ∙ sym at) refl) k.1
+-- what is known of an answer by what it is
+pub found_none : {V : Type 0} (found : Option V) (P : Type 0) (Q : V → Type 0) → MatchOption found P Q → found ≡ None → P
+found_none found P Q h e = subst (λ o. MatchOption o P Q) e h
 
--- ---- a mine of prices
-
-pub header_unpriced : (t : Option (List ℕ)) (table : PricesView) (rests : RestsView) (n : ℕ) (e : EngineFault) → n ≡ rests.blocks → IfSome t (FailsFor n e) → IfSome t (JudgedAt table rests (Err e))
-header_unpriced None table rests n e size h = tt
-header_unpriced (Some c) table rests n e size h = λ settings blocks precedence read.
-    let texts = priced_texts settings blocks precedence (factor_in c) in
-    h texts (subst (DenoteMine texts) (sym size) (read.mine (factor_in c)))
+pub found_some : {V : Type 0} (found : Option V) (P : Type 0) (Q : V → Type 0) (v : V) → MatchOption found P Q → found ≡ Some v → Q v
+found_some found P Q v h e = subst (λ o. MatchOption o P Q) e h
 
 -- the factor of a price is at most 10,000
 factor_low : (price : Price) → IsPrice price → factor_at price ≤ MOST_FACTOR
@@ -59,28 +50,17 @@ factor_low Objective h = omega arith
 factor_low (Factor k) h = h
 factor_low (Mill k) h = h
 
--- the factor of a table's price
-factor_back : (costs : CostsView) (k : ℕ) → factor_at (price_of costs k) ≡ k
-factor_back (plain_costs cost) k = refl
-factor_back (mill_costs processing mining) k = refl
+pub price_unjudged : {R : Type 0} (remaining : R → Option (List ℕ)) (s : LineView R) (t : Option (List ℕ)) (worths : Worths) (rests : RestsView) (h : Header) → h.blocks ≡ rests.blocks → ((k : ℕ) → k ≤ MOST_FACTOR → h.price ≢ price_at worths k) → IfSome t (HasHeader remaining s h)
+    → IfSome t (JudgedBy worths rests (Err (engine.Certificate problem.WrongPrice)))
+price_unjudged remaining s None worths rests h size none k = tt
+price_unjudged remaining s (Some c) worths rests h size none k = λ texts read.
+    let named : factor_in c ≡ factor_at h.price = ap factor_named k.0 in
+    let low : factor_in c ≤ MOST_FACTOR = rw named (factor_low h.price (header_price (pieces_of c) h k.0)) in
+    (rests.blocks, read.0.mine, (h, k.0, size, λ e. none (factor_in c) low (e ∙ sym read.1)))
 
-pub price_unpriced : {R : Type 0} (remaining : R → Option (List ℕ)) (s : LineView R) (t : Option (List ℕ)) (table : PricesView) (rests : RestsView) (h : Header) → h.blocks ≡ rests.blocks → ((k : ℕ) → k ≤ MOST_FACTOR → h.price ≢ price_of table.costs k) → IfSome t (HasHeader remaining s h)
-    → IfSome t (JudgedAt table rests (Err (engine.Certificate problem.WrongPrice)))
-price_unpriced remaining s None table rests h size none k = tt
-price_unpriced remaining s (Some c) table rests h size none k = λ settings blocks precedence read.
-    let factor = factor_in c in
-    let texts = priced_texts settings blocks precedence factor in
-    let named : factor ≡ factor_at h.price = ap factor_named k.0 in
-    let low : factor ≤ MOST_FACTOR = rw named (factor_low h.price (header_price (pieces_of c) h k.0)) in
-    let wanted : price_of table.costs factor ≡ price_wanted texts = priced_answer settings blocks precedence factor (price_of table.costs factor) table rests read refl in
-    (rests.blocks, read.mine factor, (h, k.0, size, λ e. none factor low (e ∙ sym wanted)))
-
-pub stream_priced : {R : Type 0} (remaining : R → Option (List ℕ)) (s : LineView R) (t : Option (List ℕ)) (table : PricesView) (shown : List ℤ) (rests : RestsView) (h : Header) (factor : ℕ) (answer : Result Judgement EngineFault) → h.blocks ≡ rests.blocks → h.price ≡ price_of table.costs factor → shown ≡ worths_at table factor → IfSome t (HasHeader remaining s h)
-    → ((texts : MineTexts) (c : List ℕ) → AreRead texts shown rests → IsHeader texts c rests.blocks h.group → StandsBehind remaining c s → Judges texts c answer) → IfSome t (JudgedAt table rests answer)
-stream_priced remaining s None table shown rests h factor answer size price is k judges = tt
-stream_priced remaining s (Some c) table shown rests h factor answer size price is k judges = λ settings blocks precedence read.
-    let named = factor_in c in
-    let texts = priced_texts settings blocks precedence named in
-    let same : factor ≡ named = sym (ap factor_named k.0 ∙ ap factor_at price ∙ factor_back table.costs factor) in
-    let wanted : h.price ≡ price_wanted texts = priced_answer settings blocks precedence named h.price table rests read (price ∙ ap (price_of table.costs) same) in
-    judges texts c (read_as texts (worths_at table named) shown rests (is ∙ ap (worths_at table) same) (worths_priced settings blocks precedence table rests named read)) (header_is texts c h rests.blocks h.group k.0 size wanted refl) k.1
+pub stream_judged : {R : Type 0} (remaining : R → Option (List ℕ)) (s : LineView R) (t : Option (List ℕ)) (worths : Worths) (nanos : List ℤ) (rests : RestsView) (h : Header) (answer : Result Judgement EngineFault) → h.blocks ≡ rests.blocks → h.price ≡ price_at worths (factor_at h.price) → nanos ≡ nanos_at worths (factor_at h.price) → IfSome t (HasHeader remaining s h)
+    → ((texts : MineTexts) (c : List ℕ) → AreRead texts nanos rests → IsHeader texts c rests.blocks h.group → StandsBehind remaining c s → Judges texts c answer) → IfSome t (JudgedBy worths rests answer)
+stream_judged remaining s None worths nanos rests h answer size price is k judges = tt
+stream_judged remaining s (Some c) worths nanos rests h answer size price is k judges = λ texts read.
+    let same : factor_at h.price ≡ factor_in c = sym (ap factor_named k.0) in
+    judges texts c (read_as texts (nanos_at worths (factor_in c)) nanos rests (is ∙ ap (nanos_at worths) same) read.0) (header_is texts c h rests.blocks h.group k.0 size (price ∙ ap (price_at worths) same ∙ read.1) refl) k.1

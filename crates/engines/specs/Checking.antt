@@ -1,5 +1,5 @@
 -- How the engine of `check` ends, by the bytes of its inputs and of its output.
-use Rattle.std.specs.Prelude.{◌≡◌, ℕ, ◌+◌, ℤ, ◌⊎◌, List, Option, Result, Ok, Err}
+use Rattle.std.specs.Prelude.{ℕ, ℤ, ◌⊎◌, List, Option, Result, Ok, Err}
 use Rattle.std.specs.Io.KnownBytes.{Appends, Keeps}
 use Rattle.ordered_group.specs.declared.groups.Group.{Group}
 use Rattle.check_pit.specs.declared.pit_fault.PitFault.{PitFault}
@@ -71,7 +71,3 @@ AcceptsUnlessHindered text leaves (Err fault) = Hinders text fault
 -- A certificate whose flow is one and whose pit is closed and tight is accepted, where each sum over its first lines fits.
 abbrev pub SoundIsAccepted : MineTexts → List ℕ → Result Verdict EngineFault → Type 0
 SoundIsAccepted texts certificate answer = (read : Reads texts certificate) → ProvesPit read.net read.flow read.pit → AcceptsUnlessHindered certificate (SomeSumLeaves (counts_by read.group) read.net certificate) answer
-
--- the counts of four devices are one more together
-pub record OneFailed (a b c d a' b' c' d' : ℕ) : Type 0 where
-  pub one : a' + b' + c' + d' ≡ a + b + c + d + 1

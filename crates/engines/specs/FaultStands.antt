@@ -99,18 +99,19 @@ TableFails (priced_texts settings blocks precedence factor) fault = PricesFail s
 abbrev pub PrecedenceFails : MineTexts → Problem PrecFault → Type 0
 PrecedenceFails texts p = (n : ℕ) × WorthsRead texts n × PrecFails n (precedence_of texts) p
 
--- Why a check answers a fault of the texts of a mine or of its certificate's. Want of memory and a failing device say nothing of them.
+-- Why the texts of a mine aren't read: the fault stands, and none before it does. Want of memory and a failing device say nothing of them.
+abbrev pub MineFails : MineTexts → EngineFault → Type 0
+MineFails texts (engine.Upit p) = ValuesFail texts p
+MineFails texts (engine.Settings p) = SettingsFail texts p
+MineFails texts (engine.Blocks p) = BlocksFail texts p
+MineFails texts (engine.Prices fault) = TableFails texts fault
+MineFails texts (engine.Prec p) = PrecedenceFails texts p
+MineFails texts engine.Memory = Unit {0}
+MineFails texts engine.Device = Unit {0}
+MineFails texts _ = ⊥
+
+-- Why a check answers a fault: one of the texts of the mine; or, where they are read, one of the certificate's or of the mine's net.
 abbrev pub Fails : MineTexts → List ℕ → EngineFault → Type 0
-Fails texts certificate (engine.Upit p) = ValuesFail texts p
-Fails texts certificate (engine.Prec p) = PrecedenceFails texts p
 Fails texts certificate (engine.Model fault) = (n : ℕ) × DenoteMine texts n × (group : Group) × IsHeader texts certificate n group × ModelFails texts n group fault
 Fails texts certificate (engine.Certificate p) = (n : ℕ) × DenoteMine texts n × CertificateFails texts certificate n p
-Fails texts certificate (engine.Settings p) = SettingsFail texts p
-Fails texts certificate (engine.Blocks p) = BlocksFail texts p
-Fails texts certificate (engine.Prices fault) = TableFails texts fault
-Fails texts certificate (engine.Slope p) = ⊥
-Fails texts certificate (engine.Trace p) = ⊥
-Fails texts certificate engine.Memory = Unit {0}
-Fails texts certificate engine.Device = Unit {0}
-Fails texts certificate engine.Thread = ⊥
-Fails texts certificate engine.Stranger = ⊥
+Fails texts certificate fault = MineFails texts fault

@@ -93,11 +93,3 @@ PricedMineFails settings text precedence (engine.Prec p) = (n : ℕ) × PricesRe
 PricedMineFails settings text precedence engine.Memory = Unit {0}
 PricedMineFails settings text precedence engine.Device = Unit {0}
 PricedMineFails settings text precedence _ = ⊥
-
--- why the texts of a mine of values aren't read
-abbrev pub ValueMineFails : List ℕ → List ℕ → EngineFault → Type 0
-ValueMineFails values precedence (engine.Upit p) = UpitFails values p
-ValueMineFails values precedence (engine.Prec p) = (n : ℕ) × ValuesRead values n × PrecFails n precedence p
-ValueMineFails values precedence engine.Memory = Unit {0}
-ValueMineFails values precedence engine.Device = Unit {0}
-ValueMineFails values precedence _ = ⊥

@@ -3,8 +3,6 @@ use Rattle.std.specs.Prelude.{◌≡◌, ℕ, ◌+◌, false, List, [], ◌++◌
 use Rattle.check_pit.specs.Pieces.{pieces_of}
 use Rattle.check_pit.specs.Header.{header_of}
 use Rattle.check_pit.specs.declared.header.Header.{Header}
-use Rattle.check_pit.specs.declared.header.Price.{Price}
-use Rattle.check_pit.specs.declared.header.Price.TheVariants.{Objective, Factor, Mill}
 use Rattle.check_pit.specs.declared.cert_fault.CertFault.{CertFault}
 use Rattle.check_pit.specs.declared.stream_fault.StreamFault.{StreamFault}
 use Rattle.check_pit.specs.declared.stream_fault.StreamFault.TheVariants as stream
@@ -19,13 +17,9 @@ use Rattle.engines.specs.EngineFaults.{of_certificate}
 use Rattle.engines.specs.Mines.{MineTexts}
 use Rattle.engines.specs.Judgements.{IsJudged}
 use Rattle.engines.specs.FaultStands.{Fails}
+use Rattle.engines.specs.Worths.{factor_at}
 
 -- the factor that a certificate names: 0 where it names none
-abbrev pub factor_at : Price → ℕ
-factor_at Objective = 0
-factor_at (Factor factor) = factor
-factor_at (Mill factor) = factor
-
 abbrev pub factor_named : Result Header CertFault → ℕ
 factor_named (Ok header) = factor_at header.price
 factor_named (Err fault) = 0

@@ -3,6 +3,8 @@ pub mod EngineFaults
 pub mod BlockTexts
 pub mod PricedTexts
 pub mod Mines
+pub mod Worths
+pub mod MineInputs
 pub mod Readings
 pub mod ReadMines
 pub mod Refusals

@@ -21,7 +21,7 @@ use Rattle.engines.specs.declared.solving.Unsolved.{Unsolved}
 use Rattle.engines.specs.declared.solving.Unsolved.TheVariants.{Unsettled, TooLarge, GaveUp, NoMemory, NoThread, Stranger}
 use Rattle.engines.specs.declared.method.Method.{Method}
 use Rattle.engines.specs.Methods.{ends_with_pseudoflow}
-use Rattle.engines.specs.FaultStands.{ValuesFail, SettingsFail, BlocksFail, TableFails, PrecedenceFails, ModelFails}
+use Rattle.engines.specs.FaultStands.{MineFails, ModelFails}
 use Rattle.engines.specs.Mines.{MineTexts, price_wanted, mine_of, DenoteMine}
 use Rattle.engines.specs.NetAnswers.{certificate_text, unsettled_line, too_large_line}
 use Rattle.engines.specs.Readings.{block_by, Reads, IsProvedPit}
@@ -125,20 +125,13 @@ abbrev pub AnswersMine : MineTexts → Group → Method → ℕ → Verdict → 
 AnswersMine texts name method limit Done text = IsCertificate texts name text
 AnswersMine texts name method limit No text = (net : NetView) × IsNetBy texts name net × IsNoOf net method limit text
 
--- Why the engine answers a fault: it stands, and none before it does. Want of memory and a failing device say nothing of the texts;
--- want of a thread and a board that comes back as another's, that they denote a mine, whose run was begun.
+-- Why the engine answers a fault: it is one of the texts, or, where they are read, one of the mine's net. Want of a thread and a board
+-- that comes back as another's say that the texts denote a mine, whose run was begun.
 abbrev pub SolveFails : MineTexts → Group → EngineFault → Type 0
-SolveFails texts name (engine.Upit p) = ValuesFail texts p
-SolveFails texts name (engine.Settings p) = SettingsFail texts p
-SolveFails texts name (engine.Blocks p) = BlocksFail texts p
-SolveFails texts name (engine.Prices fault) = TableFails texts fault
-SolveFails texts name (engine.Prec p) = PrecedenceFails texts p
 SolveFails texts name (engine.Model fault) = (n : ℕ) × DenoteMine texts n × ModelFails texts n name fault
-SolveFails texts name engine.Memory = Unit {0}
 SolveFails texts name engine.Thread = (n : ℕ) × DenoteMine texts n
 SolveFails texts name engine.Stranger = (n : ℕ) × DenoteMine texts n
-SolveFails texts name engine.Device = Unit {0}
-SolveFails texts name _ = ⊥
+SolveFails texts name fault = MineFails texts fault
 
 -- nothing was written, or a front of an answer
 abbrev pub WritesSolveFront : MineTexts → Group → Method → ℕ → Option (List ℕ) → Option (List ℕ) → Type 0

@@ -11,18 +11,17 @@ ghost use Rattle.closure_net.specs.Mine.{IsNetOf};
 ghost use Rattle.check_pit.specs.CertStreams.{IsReadFor};
 ghost use Rattle.check_pit.specs.declared.pit_fault.PitFault.{PitFault};
 ghost use Rattle.check_pit.specs.declared.stream_fault.StreamFault.TheVariants as stream;
-ghost use Rattle.check_pit.specs.declared.header.Price.TheVariants.{Objective};
-ghost use Rattle.engines.specs.Mines.{MineTexts, priced_texts, DenoteMine, mine_of, price_wanted};
+ghost use Rattle.engines.specs.Mines.{MineTexts, DenoteMine, mine_of};
 ghost use Rattle.engines.specs.Readings.{IsHeader};
 ghost use Rattle.engines.specs.FaultStands.{Fails};
 ghost use Rattle.engines.specs.Judging.{Judges, IsFresh, IsOpen, StandsBehind, of_stream, factor_in};
-ghost use Rattle.engines.specs.ReadMines.{AreRead, ArePricesRead, IsGroupNamed, billionths_of};
+ghost use Rattle.engines.specs.ReadMines.{AreRead, IsMineRead, IsGroupNamed};
 
 use crate::engine_fault::{CertificateProblem, EngineFault};
 use crate::judgement::Judgement;
-use crate::mines::nanos_of;
+use crate::mine_inputs::MineToCheck;
 use check_pit::{
-    Accepted, AcceptedPit, CertFault, CertStream, Header, Price, Room, StreamBytes, StreamFault,
+    Accepted, AcceptedPit, CertFault, CertStream, Header, Room, StreamBytes, StreamFault,
     check_graph,
 };
 use closure_net::{Graph, GraphRef, laws};
@@ -30,176 +29,92 @@ use core::mem::replace_with;
 use fixed_worth::CountedRead;
 use ordered_group::{Group, OrderedGroup, Scaled, Worth, WorthSize};
 use prec_file::Predecessors;
-use shells::Prices;
 use std::alloc::Global;
 use std::thread::Threads;
-use upit_file::Upit;
 
-/// What a certificate proves for the mine of these values and pairs, or why it can't be judged. It is read line by line, up
-/// to its end or to its first fault. The values are given back before the check takes memory.
+/// What a certificate proves for a mine that was read, or why it can't be judged. Where the blocks have prices they are
+/// worth what these give at the factor that the certificate names. It is read line by line, up to its end or to its first
+/// fault. The values or prices are given back before the check takes memory.
 ///
 /// # Errors
 /// `Certificate` with the first fault of the certificate, `WrongPrice` among them; `Model` where an amount of the net doesn't fit;
 /// `Device` where a read fails, and `Memory` where memory is refused.
-pub fn judge<C: CountedRead>(
-    alloc: Global,
-    upit: Upit,
-    rests: Predecessors,
-    certificate: &mut C,
-) -> Result<Judgement, EngineFault>
-    requires { C.failed certificate.old < 2 ^ 64 - 1 }
-    ensures judged { IfSome (C.remaining certificate.old) (λ c. (texts : MineTexts) → AreRead texts (billionths_of upit.values) rests → price_wanted texts ≡ Objective → Judges texts c result) }
-    ensures device { IsErrOf result EngineFault.Device → C.failed certificate.new ≡ C.failed certificate.old + 1 }
-    ensures kept { ¬ IsErrOf result EngineFault.Device → C.failed certificate.new ≡ C.failed certificate.old }
-{
-    let held = StreamBytes::new(alloc)?;
-    let mine = ValueCase {
-        alloc,
-        upit,
-        rests,
-        held,
-    };
-    replace_with(certificate, mine, judge_device)
-}
-
-// A mine of values that a certificate is judged for, with memory for a line of the certificate.
-#[derive(Drop)]
-struct ValueCase {
-    alloc: Global,
-    upit: Upit,
-    rests: Predecessors,
-    held: StreamBytes,
-}
-
-// The same; the device is lent to a stream, and handed back.
-fn judge_device<C: CountedRead>(device: C, mine: ValueCase) -> (C, Result<Judgement, EngineFault>)
-    requires count { C.failed device < 2 ^ 64 - 1 }
-    requires held { mine.held ≡ [] }
-    ensures judged { IfSome (C.remaining device) (λ c. (texts : MineTexts) → AreRead texts (billionths_of mine.upit.values) mine.rests → price_wanted texts ≡ Objective → Judges texts c result.1) }
-    ensures device { IsErrOf result.1 EngineFault.Device → C.failed result.0 ≡ C.failed device + 1 }
-    ensures kept { ¬ IsErrOf result.1 EngineFault.Device → C.failed result.0 ≡ C.failed device }
-{
-    let ValueCase {
-        alloc,
-        upit,
-        rests,
-        held,
-    } = mine;
-    let mut stream = CertStream::over(held, device);
-    let judgement = judge_stream(alloc, upit, rests, &mut stream);
-    (stream.into_device(), judgement)
-}
-
-fn judge_stream<C: CountedRead>(
-    alloc: Global,
-    upit: Upit,
-    rests: Predecessors,
-    stream: &mut CertStream<C>,
-) -> Result<Judgement, EngineFault>
-    requires count { C.failed stream.old.lines.from < 2 ^ 64 - 1 }
-    requires fresh { IsFresh stream.old }
-    ensures judged { IfSome (C.remaining stream.old.lines.from) (λ c. (texts : MineTexts) → AreRead texts (billionths_of upit.values) rests → price_wanted texts ≡ Objective → Judges texts c result) }
-    ensures device { IsErrOf result EngineFault.Device → C.failed stream.new.lines.from ≡ C.failed stream.old.lines.from + 1 }
-    ensures kept { ¬ IsErrOf result EngineFault.Device → C.failed stream.new.lines.from ≡ C.failed stream.old.lines.from }
-{
-    let header = header_for(stream, rests.len())?;
-    match header.price {
-        Price::Objective => {}
-        Price::Factor(_) | Price::Mill(_) => {
-            return Err(EngineFault::Certificate(CertificateProblem::WrongPrice));
-        }
-    }
-    let nanos = nanos_of(alloc, &upit)?;
-    drop(upit);
-    judge_in(alloc, header.group, nanos, rests, stream)
-}
-
-/// What a certificate proves for the mine of these prices, at the factor that it names, and of these pairs; or why it
-/// can't be judged. It is read line by line, up to its end or to its first fault. The prices are given back before the
-/// check takes memory.
-///
-/// # Errors
-/// Those of `judge`.
-pub fn judge_priced<R: Threads + Sync, C: CountedRead>(
+pub fn judge<R: Threads + Sync, C: CountedRead>(
     rt: &R,
     alloc: Global,
-    prices: Prices,
-    rests: Predecessors,
+    mine: MineToCheck,
     certificate: &mut C,
 ) -> Result<Judgement, EngineFault>
     requires { C.failed certificate.old < 2 ^ 64 - 1 }
-    ensures judged { IfSome (C.remaining certificate.old) (λ c. (settings blocks precedence : List ℕ) → ArePricesRead settings blocks precedence prices rests
-        → Judges (priced_texts settings blocks precedence (factor_in c)) c result) }
+    ensures judged { IfSome (C.remaining certificate.old) (λ c. (texts : MineTexts) → IsMineRead texts (factor_in c) mine.worths mine.predecessors → Judges texts c result) }
     ensures device { IsErrOf result EngineFault.Device → C.failed certificate.new ≡ C.failed certificate.old + 1 }
     ensures kept { ¬ IsErrOf result EngineFault.Device → C.failed certificate.new ≡ C.failed certificate.old }
 {
     let held = StreamBytes::new(alloc)?;
-    let mine = PricedCase {
+    let case = Case {
         rt,
         alloc,
-        prices,
-        rests,
+        mine,
         held,
     };
-    replace_with(certificate, mine, judge_priced_device)
+    replace_with(certificate, case, judge_device)
 }
 
-// A mine of prices that a certificate is judged for, with memory for a line of the certificate.
+// A mine that a certificate is judged for, with memory for a line of the certificate.
 #[derive(Drop)]
-struct PricedCase<'a, R> {
+struct Case<'a, R> {
     rt: &'a R,
     alloc: Global,
-    prices: Prices,
-    rests: Predecessors,
+    mine: MineToCheck,
     held: StreamBytes,
 }
 
 // The same; the device is lent to a stream, and handed back.
-fn judge_priced_device<R: Threads + Sync, C: CountedRead>(
+fn judge_device<R: Threads + Sync, C: CountedRead>(
     device: C,
-    mine: PricedCase<'_, R>,
+    case: Case<'_, R>,
 ) -> (C, Result<Judgement, EngineFault>)
     requires count { C.failed device < 2 ^ 64 - 1 }
-    requires held { mine.held ≡ [] }
+    requires held { case.held ≡ [] }
     requires sync { IsSync R.row }
-    ensures judged { IfSome (C.remaining device) (λ c. (settings blocks precedence : List ℕ) → ArePricesRead settings blocks precedence mine.entry.prices mine.entry.rests
-        → Judges (priced_texts settings blocks precedence (factor_in c)) c result.1) }
+    ensures judged { IfSome (C.remaining device) (λ c. (texts : MineTexts) → IsMineRead texts (factor_in c) case.entry.mine.worths case.entry.mine.predecessors → Judges texts c result.1) }
     ensures device { IsErrOf result.1 EngineFault.Device → C.failed result.0 ≡ C.failed device + 1 }
     ensures kept { ¬ IsErrOf result.1 EngineFault.Device → C.failed result.0 ≡ C.failed device }
 {
-    let PricedCase {
+    let Case {
         rt,
         alloc,
-        prices,
-        rests,
+        mine,
         held,
-    } = mine;
+    } = case;
     let mut stream = CertStream::over(held, device);
-    let judgement = judge_priced_stream(rt, alloc, prices, rests, &mut stream);
+    let judgement = judge_stream(rt, alloc, mine, &mut stream);
     (stream.into_device(), judgement)
 }
 
-fn judge_priced_stream<R: Threads + Sync, C: CountedRead>(
+fn judge_stream<R: Threads + Sync, C: CountedRead>(
     rt: &R,
     alloc: Global,
-    prices: Prices,
-    rests: Predecessors,
+    mine: MineToCheck,
     stream: &mut CertStream<C>,
 ) -> Result<Judgement, EngineFault>
     requires count { C.failed stream.old.lines.from < 2 ^ 64 - 1 }
     requires fresh { IsFresh stream.old }
-    ensures judged { IfSome (C.remaining stream.old.lines.from) (λ c. (settings blocks precedence : List ℕ) → ArePricesRead settings blocks precedence prices rests
-        → Judges (priced_texts settings blocks precedence (factor_in c)) c result) }
+    ensures judged { IfSome (C.remaining stream.old.lines.from) (λ c. (texts : MineTexts) → IsMineRead texts (factor_in c) mine.worths mine.predecessors → Judges texts c result) }
     ensures device { IsErrOf result EngineFault.Device → C.failed stream.new.lines.from ≡ C.failed stream.old.lines.from + 1 }
     ensures kept { ¬ IsErrOf result EngineFault.Device → C.failed stream.new.lines.from ≡ C.failed stream.old.lines.from }
 {
-    let header = header_for(stream, rests.len())?;
-    let Some(factor) = prices.factor_of(header.price) else {
-        return Err(EngineFault::Certificate(CertificateProblem::WrongPrice));
-    };
-    let nanos = prices.worths_at(rt, alloc, factor)?;
-    drop(prices);
-    judge_in(alloc, header.group, nanos, rests, stream)
+    let MineToCheck {
+        worths,
+        predecessors,
+    } = mine;
+    let header = header_for(stream, predecessors.len())?;
+    let found = worths.nanos_by(rt, alloc, header.price)?;
+    drop(worths);
+    match found {
+        Some(nanos) => judge_in(alloc, header.group, nanos, predecessors, stream),
+        None => Err(EngineFault::Certificate(CertificateProblem::WrongPrice)),
+    }
 }
 
 // The header of a certificate for a mine of n blocks.

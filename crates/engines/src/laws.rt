@@ -3,7 +3,7 @@
 ghost use Rattle.engines.specs.Nested.{AcceptedAreNested};
 ghost use Rattle.engines.specs.Reduced.{ReducedPairsDecide};
 
-/// Of two pits that [`check_priced_engine`](crate::check_priced_engine) accepts over one price table, in amounts with
+/// Of two pits that [`check_engine`](crate::check_engine) accepts over one price table, in amounts with
 /// sizes, the one at the lower factor lies within the other.
 pub fn accepted_pits_are_nested()
     ensures { AcceptedAreNested }

@@ -5,14 +5,12 @@ ghost use Rattle.settings_file.specs.Settings.{names_mill, first_missing};
 ghost use Rattle.engines.specs.Limits.{IsWithinLimit};
 ghost use Rattle.engines.specs.PricedTexts.{keys_by, charges_by, columns_said, charge_list, columns_beside, place_beside, values_of, first_columns};
 ghost use Rattle.engines.specs.BlockTexts.{ReadsBlocks, BlocksReadFails};
-ghost use Rattle.engines.specs.ReadMines.{ArePricesRead};
-ghost use Rattle.engines.specs.Inputs.{ReadsSettingsText, SettingsReadFails, IsMissing, ReadsPrices, PricesReadFail, ModelPricesFail, PricedMineFails};
+ghost use Rattle.engines.specs.Inputs.{ReadsSettingsText, SettingsReadFails, IsMissing, ReadsPrices, PricesReadFail, ModelPricesFail};
 
 use crate::engine_fault::{EngineFault, Problem};
-use crate::inputs::{blocks_from, predecessors_from, rests_from, text_from};
+use crate::inputs::{blocks_from, text_from};
 use blocks_file::BlockModel;
 use fixed_worth::{CountedRead, Micros};
-use prec_file::{Predecessors, Rests};
 use settings_file::{Key, Settings, SettingsFault, read_settings};
 use shells::Prices;
 use std::alloc::{AllocError, Global};
@@ -228,77 +226,4 @@ fn column_of(alloc: Global, model: &BlockModel, i: u32) -> Result<Vec<Micros>, A
         values.push(model.column(i, b))?;
     }
     Ok(values)
-}
-
-/// A mine whose blocks have prices: its revenues and charges, and its precedence.
-#[derive(Drop)]
-pub struct PricedMine {
-    /// The prices of the blocks.
-    pub prices: Prices,
-    /// Which block rests on which.
-    pub rests: Rests,
-}
-
-/// The mine that settings, blocks and a precedence denote, but for the factor: the texts are read in this order, each
-/// to its end.
-///
-/// # Errors
-/// In this order: `Settings` for a fault of this text or a missing key; `Blocks`; `Prices` for a negative revenue;
-/// `Prec`. `Memory` where memory is refused, `Device` where a read fails.
-pub fn priced_mine_from<S: CountedRead, B: CountedRead, P: CountedRead>(
-    alloc: Global,
-    settings: &mut S,
-    blocks: &mut B,
-    prec: &mut P,
-) -> Result<PricedMine, EngineFault>
-    requires settings_room { S.failed settings.old < 2 ^ 64 - 1 }
-    requires blocks_room { B.failed blocks.old < 2 ^ 64 - 1 }
-    requires prec_room { P.failed prec.old < 2 ^ 64 - 1 }
-    ensures read { IfSome (S.remaining settings.old) (λ s. IfSome (B.remaining blocks.old) (λ b. IfSome (P.remaining prec.old) (λ p.
-        MatchResult result (λ mine. ArePricesRead s b p mine.prices mine.rests) (PricedMineFails s b p)))) }
-    ensures device { IsErrOf result EngineFault.Device → S.failed settings.new + B.failed blocks.new + P.failed prec.new ≡ S.failed settings.old + B.failed blocks.old + P.failed prec.old + 1 }
-    ensures kept { ¬ IsErrOf result EngineFault.Device → (S.failed settings.new ≡ S.failed settings.old) × (B.failed blocks.new ≡ B.failed blocks.old) × (P.failed prec.new ≡ P.failed prec.old) }
-{
-    let settings = settings_from(alloc, settings)?;
-    let columns = price_columns(&settings, &[])?;
-    let prices = prices_from(alloc, blocks, columns)?;
-    let rests = rests_from(alloc, prec, prices.len())?;
-    Ok(PricedMine { prices, rests })
-}
-
-/// What a check needs of a mine whose blocks have prices.
-#[derive(Drop)]
-pub struct PricesAndPredecessors {
-    /// The prices of the blocks.
-    pub prices: Prices,
-    /// The predecessors of each block.
-    pub predecessors: Predecessors,
-}
-
-/// The same for a check: the prices, and the predecessors of each block.
-///
-/// # Errors
-/// Those of [`priced_mine_from`].
-pub fn prices_and_predecessors_from<S: CountedRead, B: CountedRead, P: CountedRead>(
-    alloc: Global,
-    settings: &mut S,
-    blocks: &mut B,
-    prec: &mut P,
-) -> Result<PricesAndPredecessors, EngineFault>
-    requires settings_room { S.failed settings.old < 2 ^ 64 - 1 }
-    requires blocks_room { B.failed blocks.old < 2 ^ 64 - 1 }
-    requires prec_room { P.failed prec.old < 2 ^ 64 - 1 }
-    ensures read { IfSome (S.remaining settings.old) (λ s. IfSome (B.remaining blocks.old) (λ b. IfSome (P.remaining prec.old) (λ p.
-        MatchResult result (λ mine. ArePricesRead s b p mine.prices mine.predecessors) (PricedMineFails s b p)))) }
-    ensures device { IsErrOf result EngineFault.Device → S.failed settings.new + B.failed blocks.new + P.failed prec.new ≡ S.failed settings.old + B.failed blocks.old + P.failed prec.old + 1 }
-    ensures kept { ¬ IsErrOf result EngineFault.Device → (S.failed settings.new ≡ S.failed settings.old) × (B.failed blocks.new ≡ B.failed blocks.old) × (P.failed prec.new ≡ P.failed prec.old) }
-{
-    let settings = settings_from(alloc, settings)?;
-    let columns = price_columns(&settings, &[])?;
-    let prices = prices_from(alloc, blocks, columns)?;
-    let predecessors = predecessors_from(alloc, prec, prices.len())?;
-    Ok(PricesAndPredecessors {
-        prices,
-        predecessors,
-    })
 }

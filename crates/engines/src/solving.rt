@@ -1,19 +1,14 @@
-//! Solving a net: an engine makes a flow, a check decides, and the certificate or a refusal is written.
+//! Solving a net: a solver makes a flow, and a check decides.
 
-ghost use Rattle.std.specs.Prelude.{◌≡◌, ◌+◌, ◌-◌, ◌^◌, ◌<◌, ◌↔◌, IfSome, MatchResult, IfOk, IsErrOf};
-ghost use Rattle.check_pit.specs.ReadBack.{IsPrice};
+ghost use Rattle.std.specs.Prelude.{◌≡◌, IfSome, MatchResult, IfOk};
 ghost use Rattle.engines.specs.Certifying.{IsSolution};
-ghost use Rattle.engines.specs.Solving.{UnsolvedStands, MachineStands, SolvesNet, unsolved_by};
+ghost use Rattle.engines.specs.Solving.{UnsolvedStands, MachineStands, unsolved_by};
 
 use crate::certify::{Solution, Uncertified, certified};
 use crate::effort::Effort;
-use crate::engine_fault::EngineFault;
-use crate::judgement::Verdict;
 use crate::method::Method;
-use crate::net_answer::write_answer;
-use check_pit::{Price, laws};
+use check_pit::laws;
 use closure_net::Net;
-use fixed_worth::CountedWrite;
 use ordered_group::OrderedGroup;
 use pseudoflow::{Progress, PseudoflowFault};
 use std::alloc::{AllocError, Global};
@@ -163,29 +158,4 @@ where
         Ok(None) => by_machine(rt, alloc, net, effort, gate),
         Err(_) => Err(Unsolved::NoMemory),
     }
-}
-
-/// Writes the certificate of a net at this price, or a line that says why there is none.
-///
-/// # Errors
-/// `Memory`, `Thread` and `Stranger`: then nothing was written. `Device` where a write fails: the writer then has a prefix.
-pub fn solve_net<G: OrderedGroup, R: Threads + Wait + Sync, T: Gate + Progress, W: CountedWrite>(
-    rt: &R,
-    alloc: Global,
-    net: &Net<G>,
-    price: Price,
-    effort: Effort,
-    gate: &T,
-    out: &mut W,
-) -> Result<Verdict, EngineFault>
-where
-    Locked<TurnBoard<G>>: Shared,
-    requires price { IsPrice price }
-    requires room { W.failed out.old < 2 ^ 64 - 1 }
-    ensures answer { SolvesNet G.counts G.name price net.now effort.method effort.steps (W.contents out.old) (W.contents out.new) result }
-    ensures device { IsErrOf result EngineFault.Device ↔ (W.failed out.new ≡ W.failed out.old + 1) }
-    ensures kept { ¬ IsErrOf result EngineFault.Device → W.failed out.new ≡ W.failed out.old }
-{
-    let found = solution_of(rt, alloc, net, effort, gate);
-    write_answer(net, price, found, out)
 }

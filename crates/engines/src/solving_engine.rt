@@ -1,28 +1,30 @@
 //! The engine of `solve`: the bytes of a mine in, a certificate of its best pit out.
 
-ghost use Rattle.std.specs.Prelude.{◌≡◌, ◌+◌, ◌-◌, ◌^◌, ◌<◌, ◌↔◌, ℕ, List, IfSome, IsErrOf};
+ghost use Rattle.std.specs.Prelude.{◌≡◌, ◌+◌, ◌-◌, ◌^◌, ◌<◌, ◌↔◌, ℕ, List, IsErrOf};
 ghost use Rattle.engines.specs.ReadMines.{AreRead, IsGroupNamed};
 ghost use Rattle.check_pit.specs.ReadBack.{IsPrice};
-ghost use Rattle.engines.specs.Mines.{MineTexts, mine_texts, price_wanted};
+ghost use Rattle.engines.specs.MineInputs.{ForTexts, CanCount, NoneFailed, OneFailed};
+ghost use Rattle.engines.specs.Mines.{MineTexts, price_wanted};
 ghost use Rattle.engines.specs.Solving.{Solves};
 
 use crate::effort::Effort;
 use crate::engine_fault::EngineFault;
 use crate::judgement::Verdict;
-use crate::mines::value_mine_from;
-use crate::solving::solve_net;
-use check_pit::Price;
+use crate::mine_inputs::{MineInputs, MineToSolve, mine_to_solve};
+use crate::net_answer::write_answer;
+use crate::solve_asked::SolveAsked;
+use crate::solving::solution_of;
 use closure_net::{Net, laws};
 use fixed_worth::{CountedRead, CountedWrite};
 use ordered_group::{Group, OrderedGroup, Scaled, Worth, WorthSize};
-use prec_file::Rests;
 use pseudoflow::Progress;
 use std::alloc::Global;
 use std::sync::Wait;
 use std::thread::Threads;
 use workers::{Gate, Locked, Shared, TurnBoard};
 
-/// Finds the best pit of the mine of two texts, and writes its certificate.
+/// Finds the best pit of a mine, where its blocks have prices at the factor that is asked for, and writes its certificate,
+/// which names this factor.
 ///
 /// `Done` where it wrote a certificate that a check has accepted: its pit contains each block's predecessors, and no such
 /// pit is worth more; with `Group::Pair` and `Group::Scaled` every other of equal worth has more blocks (Picard 1976).
@@ -36,66 +38,47 @@ use workers::{Gate, Locked, Shared, TurnBoard};
 /// known. Each worker of the machine passes the gate before each of its turns, and pseudoflow reports to it how far it is.
 ///
 /// # Errors
-/// In this order: `Upit` and `Prec` for a fault of these texts; `Model` where the net's amounts don't
+/// Those of [`worths_from`](crate::mine_inputs::worths_from), then `Prec`, then `Model` where the net's amounts don't
 /// fit. `Memory` where memory is refused, `Thread` where a worker can't be started, `Stranger` where the
 /// board that the workers shared comes back as another's (see `workers::solve`), `Device` where a read or
 /// a write fails: the writer has then received a prefix of the answer, and at every other fault nothing.
 ///
 /// Each device must have counted fewer than 2^64 - 1 failures, so that one more can be counted.
-pub fn solve_engine<
-    R: Threads + Wait + Sync,
-    U: CountedRead,
-    P: CountedRead,
-    T: Gate + Progress,
-    W: CountedWrite,
->(
+pub fn solve_engine<R: Threads + Wait + Sync, D: CountedRead, T: Gate + Progress, W: CountedWrite>(
     rt: &R,
     alloc: Global,
-    upit: &mut U,
-    prec: &mut P,
-    group: Group,
-    effort: Effort,
+    inputs: &mut MineInputs<D>,
+    asked: SolveAsked,
     gate: &T,
     out: &mut W,
 ) -> Result<Verdict, EngineFault>
-    requires upit_room { U.failed upit.old < 2 ^ 64 - 1 }
-    requires prec_room { P.failed prec.old < 2 ^ 64 - 1 }
+    requires inputs_room { CanCount inputs.old D.failed }
     requires out_room { W.failed out.old < 2 ^ 64 - 1 }
 
     // What it answers and writes, where the readers tell their bytes.
-    ensures answer { IfSome (U.remaining upit.old) (λ u. IfSome (P.remaining prec.old) (λ p.
-        Solves (mine_texts u p) group effort.method effort.steps (W.contents out.old) (W.contents out.new) result)) }
+    ensures answer { ForTexts inputs.old D.remaining asked.factor (λ texts.
+        Solves texts asked.group asked.effort.method asked.effort.steps (W.contents out.old) (W.contents out.new) result) }
 
     // A device is named exactly where one failed.
-    ensures device { IsErrOf result EngineFault.Device → U.failed upit.new + P.failed prec.new + W.failed out.new ≡ U.failed upit.old + P.failed prec.old + W.failed out.old + 1 }
-    ensures kept { ¬ IsErrOf result EngineFault.Device → (U.failed upit.new ≡ U.failed upit.old) × (P.failed prec.new ≡ P.failed prec.old) × (W.failed out.new ≡ W.failed out.old) }
+    ensures device { IsErrOf result EngineFault.Device → OneFailed inputs.old inputs.new D.failed (W.failed out.old) (W.failed out.new) }
+    ensures kept { ¬ IsErrOf result EngineFault.Device → NoneFailed inputs.old inputs.new D.failed × (W.failed out.new ≡ W.failed out.old) }
 {
-    let mine = value_mine_from(alloc, upit, prec)?;
-    let rests = mine.rests;
-    let nanos = mine.nanos.as_slice();
-    let price = Price::Objective;
-    solve_mine(rt, alloc, nanos, rests, price, group, effort, gate, out)
+    let mine = mine_to_solve(rt, alloc, inputs, asked.factor)?;
+    solve_mine(rt, alloc, mine, asked, gate, out)
 }
 
-/// `solve_engine` once the mine is read: from each block's worth in billionths, the pairs and the price that the
-/// certificate names.
-///
-/// # Errors
-/// `Model` where an amount of the mine's net doesn't fit; then those of `solve_net`.
-pub fn solve_mine<R: Threads + Wait + Sync, T: Gate + Progress, W: CountedWrite>(
+// The same once the mine is read: the certificate names its price.
+fn solve_mine<R: Threads + Wait + Sync, T: Gate + Progress, W: CountedWrite>(
     rt: &R,
     alloc: Global,
-    nanos: &[i128],
-    rests: Rests,
-    price: Price,
-    group: Group,
-    effort: Effort,
+    mine: MineToSolve,
+    asked: SolveAsked,
     gate: &T,
     out: &mut W,
 ) -> Result<Verdict, EngineFault>
-    requires price { IsPrice price }
+    requires price { IsPrice mine.price }
     requires room { W.failed out.old < 2 ^ 64 - 1 }
-    ensures answer { (texts : MineTexts) → AreRead texts nanos.now rests → price ≡ price_wanted texts → Solves texts group effort.method effort.steps (W.contents out.old) (W.contents out.new) result }
+    ensures answer { (texts : MineTexts) → AreRead texts mine.nanos.items mine.rests → mine.price ≡ price_wanted texts → Solves texts asked.group asked.effort.method asked.effort.steps (W.contents out.old) (W.contents out.new) result }
     ensures device { IsErrOf result EngineFault.Device ↔ (W.failed out.new ≡ W.failed out.old + 1) }
     ensures kept { ¬ IsErrOf result EngineFault.Device → W.failed out.new ≡ W.failed out.old }
 {
@@ -103,16 +86,11 @@ pub fn solve_mine<R: Threads + Wait + Sync, T: Gate + Progress, W: CountedWrite>
     laws::greatest_set_is_richest_pit();
     laws::greatest_set_is_best_pit::<WorthSize>();
     laws::greatest_set_is_best_pit::<Scaled>();
-    match group {
-        Group::Worth => solve_by::<Worth, R, T, W>(
-            rt, alloc, nanos, rests, price, effort, gate, out,
-        ),
-        Group::Pair => solve_by::<WorthSize, R, T, W>(
-            rt, alloc, nanos, rests, price, effort, gate, out,
-        ),
-        Group::Scaled => solve_by::<Scaled, R, T, W>(
-            rt, alloc, nanos, rests, price, effort, gate, out,
-        ),
+    let effort = asked.effort;
+    match asked.group {
+        Group::Worth => solve_by::<Worth, R, T, W>(rt, alloc, mine, effort, gate, out),
+        Group::Pair => solve_by::<WorthSize, R, T, W>(rt, alloc, mine, effort, gate, out),
+        Group::Scaled => solve_by::<Scaled, R, T, W>(rt, alloc, mine, effort, gate, out),
     }
 }
 
@@ -120,23 +98,24 @@ pub fn solve_mine<R: Threads + Wait + Sync, T: Gate + Progress, W: CountedWrite>
 fn solve_by<G: OrderedGroup, R: Threads + Wait + Sync, T: Gate + Progress, W: CountedWrite>(
     rt: &R,
     alloc: Global,
-    nanos: &[i128],
-    rests: Rests,
-    price: Price,
+    mine: MineToSolve,
     effort: Effort,
     gate: &T,
     out: &mut W,
 ) -> Result<Verdict, EngineFault>
 where
     Locked<TurnBoard<G>>: Shared,
-    requires price { IsPrice price }
+    requires price { IsPrice mine.price }
     requires room { W.failed out.old < 2 ^ 64 - 1 }
-    ensures answer { (texts : MineTexts) → AreRead texts nanos.now rests → price ≡ price_wanted texts → IsGroupNamed G.name G.block_parts G.counts
+    ensures answer { (texts : MineTexts) → AreRead texts mine.nanos.items mine.rests → mine.price ≡ price_wanted texts → IsGroupNamed G.name G.block_parts G.counts
         → Solves texts G.name effort.method effort.steps (W.contents out.old) (W.contents out.new) result }
     ensures device { IsErrOf result EngineFault.Device ↔ (W.failed out.new ≡ W.failed out.old + 1) }
     ensures kept { ¬ IsErrOf result EngineFault.Device → W.failed out.new ≡ W.failed out.old }
 {
-    let net = Net::<G>::of_worths(alloc, rests, nanos)?;
+    let net = Net::<G>::of_worths(alloc, mine.rests, mine.nanos.as_slice())?;
+    drop(mine.nanos);
+    // proof: what is known of every net, that its pairs are of its blocks and in order
     let _worths = net.worths();
-    solve_net(rt, alloc, &net, price, effort, gate, out)
+    let found = solution_of(rt, alloc, &net, effort, gate);
+    write_answer(&net, mine.price, found, out)
 }

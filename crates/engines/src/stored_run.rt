@@ -7,10 +7,12 @@ ghost use Rattle.engines.specs.Mines.{mine_texts};
 use crate::checking::check_engine;
 use crate::engine_fault::EngineFault;
 use crate::judgement::Verdict;
+use crate::mine_inputs::{MineInputs, WorthInputs};
 use fixed_worth::{CountedRead, CountedWrite};
 use std::alloc::Global;
 use std::io;
 use std::io::Read;
+use std::thread::Threads;
 
 /// The values of the blocks.
 pub const VALUES: &[u8] = b"NBLOCKS: 3\nOBJECTIVE_FUNCTION:\n0 6\n1 5\n2 -10\n";
@@ -53,14 +55,20 @@ impl CountedRead for StoredText<'_> {
 /// Checks the stored certificate, and writes the answer: what [`check_engine`] answers for these texts.
 ///
 /// `out` must have counted fewer than 2^64 - 1 failures, so that one more can be counted.
-pub fn stored_check<W: CountedWrite>(alloc: Global, out: &mut W) -> Result<Verdict, EngineFault>
+pub fn stored_check<R: Threads + Sync, W: CountedWrite>(
+    rt: &R,
+    alloc: Global,
+    out: &mut W,
+) -> Result<Verdict, EngineFault>
     requires { W.failed out.old < 2 ^ 64 - 1 }
     ensures answer { Checks (mine_texts VALUES.now PRECEDENCE.now) CERTIFICATE.now (W.contents out.old) (W.contents out.new) result }
     ensures device { IsErrOf result EngineFault.Device → W.failed out.new ≡ W.failed out.old + 1 }
     ensures kept { ¬ IsErrOf result EngineFault.Device → W.failed out.new ≡ W.failed out.old }
 {
-    let mut upit = StoredText { left: VALUES };
-    let mut prec = StoredText { left: PRECEDENCE };
+    let upit = StoredText { left: VALUES };
+    let prec = StoredText { left: PRECEDENCE };
+    let worths = WorthInputs::Values { upit };
+    let mut inputs = MineInputs { worths, prec };
     let mut certificate = StoredText { left: CERTIFICATE };
-    check_engine(alloc, &mut upit, &mut prec, &mut certificate, out)
+    check_engine(rt, alloc, &mut inputs, &mut certificate, out)
 }

@@ -3,120 +3,50 @@
 ghost use Rattle.engines.specs.Slopes.{IsChoice};
 
 use crate::advice::advice_for_series;
-use crate::opened::{PricedFiles, ValueFiles, file, open_prices, open_values};
+use crate::heard::Heard;
+use crate::opened::{PricedFiles, file, heard_file, open_mine, open_prices};
+use crate::pairs_bound::{PairsBound, offsets_of};
+use crate::settings_reasons::KeptText;
 use crate::slopes_words::selection_asked;
 use crate::told::output;
-use command_line::{CheckWords, ModelWords, ReplayWords, SeriesCommand, SeriesWords, SlopesWords};
+use command_line::{CheckWords, ReplayWords, SeriesCommand, SeriesWords, SlopesWords};
 use engines::{
-    Effort, EngineFault, PatternChoice, Verdict, check_engine, check_priced_engine, slopes_engine,
+    Effort, EngineFault, PatternChoice, Verdict, check_engine, slopes_engine,
     slopes_from_settings_engine,
 };
 use fixed_worth::Counted;
-use ordered_group::Group;
 use pseudoflow::Progress;
-use replay_engines::{replay_engine, replay_priced_engine};
+use replay_engines::{ReplayAsked, replay_engine};
 use report_engines::report_engine;
 use shell_engines::{SeriesProgress, shells_engine};
-use shells::Factor;
 use slope::Up;
 use std::rt::Files;
 use std::sync::Wait;
+use std::sync::atomic::AtomicU64;
 use std::thread::Threads;
 use workers::Gate;
 
 /// Checks a certificate for the files of a mine.
-pub fn check_files<R: Files + Print + Eprint + Threads + Sync + AllocGlobal>(
-    rt: &R,
-    words: CheckWords<'_>,
-) -> Result<Verdict, EngineFault> {
-    match words.model {
-        ModelWords::Values { upit } => check_values(rt, words, upit),
-        ModelWords::Prices { settings, blocks } => check_prices(rt, words, settings, blocks),
-    }
-}
-
-fn check_values<'a, R: Files + Print + Eprint + AllocGlobal>(
+pub fn check_files<'a, R: Files + Print + Eprint + Threads + Sync + AllocGlobal>(
     rt: &'a R,
     words: CheckWords<'a>,
-    upit: &'a str,
 ) -> Result<Verdict, EngineFault> {
-    let ValueFiles { mut upit, mut prec } = open_values(rt, words.verbose, words.prec, upit)?;
+    let mut mine = open_mine(rt, words.verbose, words.prec, words.model)?;
     let mut certificate = file(rt, words.verbose, words.certificate)?;
     let mut out = Counted::new(output(rt, words.verbose, None));
-    check_engine(rt.alloc(), &mut upit, &mut prec, &mut certificate, &mut out)
+    check_engine(rt, rt.alloc(), &mut mine, &mut certificate, &mut out)
 }
 
-fn check_prices<'a, R: Files + Print + Eprint + Threads + Sync + AllocGlobal>(
-    rt: &'a R,
-    words: CheckWords<'a>,
-    settings: &'a str,
-    blocks: &'a str,
-) -> Result<Verdict, EngineFault> {
-    let PricedFiles {
-        mut settings,
-        mut blocks,
-        mut prec,
-    } = open_prices(rt, words.verbose, words.prec, settings, blocks)?;
-    let mut certificate = file(rt, words.verbose, words.certificate)?;
-    let mut out = Counted::new(output(rt, words.verbose, None));
-    check_priced_engine(
-        rt,
-        rt.alloc(),
-        &mut settings,
-        &mut blocks,
-        &mut prec,
-        &mut certificate,
-        &mut out,
-    )
-}
-
-/// Repeats a run over the mine of files of values and of precedence from the file of its trace.
-pub fn replay_files<'a, R: Files + Print + Eprint + AllocGlobal>(
+/// Repeats a run over the mine of files from the file of its trace.
+pub fn replay_files<'a, R: Files + Print + Eprint + Threads + Sync + AllocGlobal>(
     rt: &'a R,
     words: ReplayWords<'a>,
-    upit: &'a str,
-    group: Group,
+    asked: ReplayAsked,
 ) -> Result<Verdict, EngineFault> {
-    let ValueFiles { mut upit, mut prec } = open_values(rt, words.verbose, words.prec, upit)?;
+    let mut mine = open_mine(rt, words.verbose, words.prec, words.model)?;
     let mut trace = file(rt, words.verbose, words.trace)?;
     let mut out = Counted::new(output(rt, words.verbose, None));
-    replay_engine(
-        rt.alloc(),
-        &mut upit,
-        &mut prec,
-        &mut trace,
-        group,
-        &mut out,
-    )
-}
-
-/// Repeats a run over the mine of files of settings, blocks and precedence, at a factor, from the file of its trace.
-pub fn replay_priced_files<'a, R: Files + Print + Eprint + Threads + Sync + AllocGlobal>(
-    rt: &'a R,
-    words: ReplayWords<'a>,
-    settings: &'a str,
-    blocks: &'a str,
-    factor: Factor,
-    group: Group,
-) -> Result<Verdict, EngineFault> {
-    let PricedFiles {
-        mut settings,
-        mut blocks,
-        mut prec,
-    } = open_prices(rt, words.verbose, words.prec, settings, blocks)?;
-    let mut trace = file(rt, words.verbose, words.trace)?;
-    let mut out = Counted::new(output(rt, words.verbose, None));
-    replay_priced_engine(
-        rt,
-        rt.alloc(),
-        &mut settings,
-        &mut blocks,
-        &mut prec,
-        &mut trace,
-        factor,
-        group,
-        &mut out,
-    )
+    replay_engine(rt, rt.alloc(), &mut mine, &mut trace, asked, &mut out)
 }
 
 /// Draws the shells of the mine of files of settings, blocks and precedence, or makes its bench table.
@@ -165,7 +95,9 @@ pub fn slopes_file<R: Files + Print + Eprint + AllocGlobal>(
 ) -> Result<Verdict, EngineFault>
     requires { IsChoice pattern }
 {
-    let mut blocks = file(rt, words.verbose, words.blocks)?;
+    let offsets = AtomicU64::new(offsets_of(rt.alloc(), pattern));
+    let bound = Heard::Blocks(PairsBound::new(&offsets));
+    let mut blocks = heard_file(rt, words.verbose, words.blocks, bound)?;
     let mut out = Counted::new(output(rt, words.verbose, None));
     let selection = selection_asked(words);
     slopes_engine(rt.alloc(), &mut blocks, pattern, up, selection, &mut out)
@@ -178,8 +110,11 @@ pub fn listed_slopes_files<R: Files + Print + Eprint + AllocGlobal>(
     settings: &str,
     up: Up,
 ) -> Result<Verdict, EngineFault> {
-    let mut settings = file(rt, words.verbose, settings)?;
-    let mut blocks = file(rt, words.verbose, words.blocks)?;
+    let offsets = AtomicU64::new(0);
+    let text = Heard::Settings(KeptText::new(rt.alloc(), Some(&offsets)));
+    let mut settings = heard_file(rt, words.verbose, settings, text)?;
+    let bound = Heard::Blocks(PairsBound::new(&offsets));
+    let mut blocks = heard_file(rt, words.verbose, words.blocks, bound)?;
     let mut out = Counted::new(output(rt, words.verbose, None));
     let selection = selection_asked(words);
     slopes_from_settings_engine(rt.alloc(), &mut settings, &mut blocks, up, selection, &mut out)

@@ -7,33 +7,34 @@
 mod advice;
 mod effort_words;
 mod files;
+mod heard;
 mod opened;
+mod pairs_bound;
 mod progress;
 mod reasons;
 mod replaced;
+mod settings_reasons;
 mod slopes_words;
 mod solve_options;
 mod solving;
 mod solving_asked;
 mod told;
 
+use advice::advise_on_workers;
 use command_line::{
-    Commanded, Declined, ModelWords, OffsetsWords, ReplayWords, Request, SeriesWords, SlopesWords,
-    SolveWords, WrongWord, declined_for, request_of,
+    Declined, OffsetsWords, ReplayWords, Request, SeriesWords, SlopesWords, SolveWords, WrongWord,
+    declined_for, request_of,
 };
 use effort_words::effort_for_series;
 use engines::{EngineFault, Unwatched, Verdict, status, stored_check, write_fault};
-use files::{
-    check_files, listed_slopes_files, replay_files, replay_priced_files, series_files, slopes_file,
-};
+use files::{check_files, listed_slopes_files, replay_files, series_files, slopes_file};
 use fixed_worth::Counted;
 use progress::Meter;
 use reasons::{tell_choice, tell_slope_reason};
-use shells::Factor;
 use slopes_words::{pattern_asked, up_asked};
-use solve_options::{factor_asked, group_asked};
-use solving::{solve_prices, solve_values};
-use solving_asked::{SolvingAsked, solving_asked};
+use solve_options::replay_asked;
+use solving::solve_files;
+use solving_asked::solving_asked;
 use std::process::ExitCode;
 use std::rt::{Clock, Env, Files};
 use std::sync::Wait;
@@ -77,7 +78,7 @@ fn run<R: Files + Print + Eprint + Env + Clock + Threads + Wait + Sync + AllocGl
     let words: Vec<String> = given.collect(rt.alloc())?;
     if words.len() <= 1 {
         let mut out = Counted::new(io::writer(rt));
-        return Ok(Ending::Answered(stored_check(rt.alloc(), &mut out)?));
+        return Ok(Ending::Answered(stored_check(rt, rt.alloc(), &mut out)?));
     }
     match request_of(rt.alloc(), words.as_slice()) {
         Ok(request) => answer(rt, request),
@@ -114,49 +115,13 @@ fn solve<R: Files + Print + Eprint + Clock + Threads + Wait + Sync + AllocGlobal
         words.method,
         words.steps,
     );
-    match words.model {
-        ModelWords::Values { upit } => {
-            Ok(Ending::Answered(values_solved(rt, words, upit, solving)?))
-        }
-        ModelWords::Prices { settings, blocks } => {
-            match factor_asked(Commanded::Solve, words.factor) {
-                Ok(factor) => Ok(Ending::Answered(prices_solved(
-                    rt, words, settings, blocks, factor, solving,
-                )?)),
-                Err(wrong) => refused(rt, wrong),
-            }
-        }
-    }
-}
-
-fn values_solved<R: Files + Print + Eprint + Clock + Threads + Wait + Sync + AllocGlobal>(
-    rt: &R,
-    words: SolveWords<'_>,
-    upit: &str,
-    solving: SolvingAsked<'_>,
-) -> Result<Verdict, EngineFault> {
-    if words.progress {
-        let meter = Meter::new(rt, solving.steps());
-        solve_values(rt, words, upit, solving, &meter)
+    advise_on_workers(rt, words.verbose, solving);
+    let verdict = if words.progress {
+        solve_files(rt, words, solving, &Meter::new(rt, solving.steps()))?
     } else {
-        solve_values(rt, words, upit, solving, &Unwatched)
-    }
-}
-
-fn prices_solved<R: Files + Print + Eprint + Clock + Threads + Wait + Sync + AllocGlobal>(
-    rt: &R,
-    words: SolveWords<'_>,
-    settings: &str,
-    blocks: &str,
-    factor: Factor,
-    solving: SolvingAsked<'_>,
-) -> Result<Verdict, EngineFault> {
-    if words.progress {
-        let meter = Meter::new(rt, solving.steps());
-        solve_prices(rt, words, settings, blocks, factor, solving, &meter)
-    } else {
-        solve_prices(rt, words, settings, blocks, factor, solving, &Unwatched)
-    }
+        solve_files(rt, words, solving, &Unwatched)?
+    };
+    Ok(Ending::Answered(verdict))
 }
 
 // Repeats a run over the mine of files from its trace.
@@ -164,21 +129,10 @@ fn replay<R: Files + Print + Eprint + Threads + Sync + AllocGlobal>(
     rt: &R,
     words: ReplayWords<'_>,
 ) -> Result<Ending, EngineFault> {
-    let group = match group_asked(Commanded::Replay, words.group) {
-        Ok(group) => group,
-        Err(wrong) => return refused(rt, wrong),
-    };
-    let verdict = match words.model {
-        ModelWords::Values { upit } => replay_files(rt, words, upit, group)?,
-        ModelWords::Prices { settings, blocks } => {
-            let factor = match factor_asked(Commanded::Replay, words.factor) {
-                Ok(factor) => factor,
-                Err(wrong) => return refused(rt, wrong),
-            };
-            replay_priced_files(rt, words, settings, blocks, factor, group)?
-        }
-    };
-    Ok(Ending::Answered(verdict))
+    match replay_asked(words) {
+        Ok(asked) => Ok(Ending::Answered(replay_files(rt, words, asked)?)),
+        Err(wrong) => refused(rt, wrong),
+    }
 }
 
 // Draws the shells of the mine of three files or makes its bench table, and tells how far it is where that is asked for.

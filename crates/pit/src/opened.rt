@@ -1,21 +1,16 @@
 //! The files of a mine, opened, with their failures counted.
 
 ghost use Rattle.std.specs.Prelude.{◌≡◌, IfOk};
+ghost use Rattle.engines.specs.MineInputs.{CanCount};
 
+use crate::heard::Heard;
 use crate::replaced::Replaced;
-use crate::told::{Told, made, opened};
-use engines::EngineFault;
+use crate::settings_reasons::KeptText;
+use crate::told::{Told, made, opened, opened_and_heard};
+use command_line::ModelWords;
+use engines::{EngineFault, MineInputs, WorthInputs};
 use fixed_worth::Counted;
 use std::rt::Files;
-
-/// The files of a mine whose blocks have values.
-#[derive(Drop)]
-pub struct ValueFiles<D> {
-    /// MineLib's `.upit`.
-    pub upit: Counted<D>,
-    /// MineLib's `.prec`.
-    pub prec: Counted<D>,
-}
 
 /// The files of a mine whose blocks have prices.
 #[derive(Drop)]
@@ -28,28 +23,42 @@ pub struct PricedFiles<D> {
     pub prec: Counted<D>,
 }
 
-/// Opens the files of a mine of values, that of the predecessors first.
+/// Opens the files of a mine, that of the predecessors first.
 ///
 /// # Errors
 /// `Device` where one can't be opened.
-pub fn open_values<'a, R: Files + Eprint>(
+pub fn open_mine<'a, R: Files + Eprint + AllocGlobal>(
     rt: &'a R,
     verbose: bool,
     prec: &'a str,
-    upit: &'a str,
-) -> Result<ValueFiles<Told<'a, R, R::File>>, EngineFault>
-    ensures { IfOk result (λ mine. (mine.prec.failures ≡ 0) × (mine.upit.failures ≡ 0)) }
+    model: ModelWords<'a>,
+) -> Result<MineInputs<Counted<Told<'a, R, R::File>>>, EngineFault>
+    ensures { IfOk result (λ mine. CanCount mine (λ device. device.failures)) }
 {
-    let prec = file(rt, verbose, prec)?;
-    let upit = file(rt, verbose, upit)?;
-    Ok(ValueFiles { upit, prec })
+    match model {
+        ModelWords::Values { upit } => {
+            let prec = file(rt, verbose, prec)?;
+            let upit = file(rt, verbose, upit)?;
+            let worths = WorthInputs::Values { upit };
+            Ok(MineInputs { worths, prec })
+        }
+        ModelWords::Prices { settings, blocks } => {
+            let PricedFiles {
+                settings,
+                blocks,
+                prec,
+            } = open_prices(rt, verbose, prec, settings, blocks)?;
+            let worths = WorthInputs::Prices { settings, blocks };
+            Ok(MineInputs { worths, prec })
+        }
+    }
 }
 
 /// Opens the files of a mine of prices, that of the predecessors first.
 ///
 /// # Errors
 /// `Device` where one can't be opened.
-pub fn open_prices<'a, R: Files + Eprint>(
+pub fn open_prices<'a, R: Files + Eprint + AllocGlobal>(
     rt: &'a R,
     verbose: bool,
     prec: &'a str,
@@ -60,7 +69,8 @@ pub fn open_prices<'a, R: Files + Eprint>(
         (mine.prec.failures ≡ 0) × (mine.settings.failures ≡ 0) × (mine.blocks.failures ≡ 0)) }
 {
     let prec = file(rt, verbose, prec)?;
-    let settings = file(rt, verbose, settings)?;
+    let heard = Heard::Settings(KeptText::new(rt.alloc(), None));
+    let settings = heard_file(rt, verbose, settings, heard)?;
     let blocks = file(rt, verbose, blocks)?;
     Ok(PricedFiles {
         settings,
@@ -81,6 +91,24 @@ pub fn file<'a, R: Files + Eprint>(
     ensures { IfOk result (λ counted. counted.failures ≡ 0) }
 {
     match opened(rt, verbose, name) {
+        Ok(file) => Ok(Counted::new(file)),
+        Err(_) => Err(EngineFault::Device),
+    }
+}
+
+/// Opens a file to be read of which there is something to tell at its end.
+///
+/// # Errors
+/// `Device` where it can't be opened.
+pub fn heard_file<'a, R: Files + Eprint>(
+    rt: &'a R,
+    verbose: bool,
+    name: &'a str,
+    heard: Heard<'a>,
+) -> Result<Counted<Told<'a, R, R::File>>, EngineFault>
+    ensures { IfOk result (λ counted. counted.failures ≡ 0) }
+{
+    match opened_and_heard(rt, verbose, name, heard) {
         Ok(file) => Ok(Counted::new(file)),
         Err(_) => Err(EngineFault::Device),
     }

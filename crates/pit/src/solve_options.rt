@@ -1,9 +1,10 @@
 //! What the words of `solve` and `replay` ask for, or the word that names nothing that there is.
 
 use audit_engines::room_named;
-use command_line::{Commanded, NamedOption, SolveWords, WrongWord};
+use command_line::{Commanded, ModelWords, NamedOption, ReplayWords, SolveWords, WrongWord};
 use engines::{Method, factor_named, group_named};
 use ordered_group::Group;
+use replay_engines::ReplayAsked;
 use shells::Factor;
 use word_engines::names_words;
 
@@ -24,17 +25,28 @@ pub fn asks_for_words(method: &str) -> bool {
     names_words(method.as_bytes())
 }
 
-/// The factor of a priced model.
+/// The factor at which the revenues of a mine of prices count. Of values none is asked for, and any does.
 pub fn factor_asked<'a>(
     command: Commanded,
+    model: ModelWords<'a>,
     word: Option<&'a str>,
 ) -> Result<Factor, WrongWord<'a>> {
-    let word = word.unwrap_or("");
+    let word = match model {
+        ModelWords::Values { .. } => "0",
+        ModelWords::Prices { .. } => word.unwrap_or(""),
+    };
     factor_named(word.as_bytes()).ok_or(WrongWord {
         command,
         option: NamedOption::Factor,
         word,
     })
+}
+
+/// What a replay is asked for.
+pub fn replay_asked<'a>(words: ReplayWords<'a>) -> Result<ReplayAsked, WrongWord<'a>> {
+    let group = group_asked(Commanded::Replay, words.group)?;
+    let factor = factor_asked(Commanded::Replay, words.model, words.factor)?;
+    Ok(ReplayAsked { factor, group })
 }
 
 // The most steps of a trace, where no word says.

@@ -1,4 +1,4 @@
--- How the engines of `replay` end, by the bytes of their inputs and of their output.
+-- How the engine of `replay` ends, by the bytes of their inputs and of their output.
 use Rattle.std.specs.Prelude.{◌≡◌, ℕ, ◌⊎◌, List, Option, Result, Ok, Err}
 use Rattle.std.specs.Io.KnownBytes.{Appends, Keeps}
 use Rattle.fixed_worth.specs.Device.{ReceivedPrefix}
@@ -9,7 +9,7 @@ use Rattle.trace_file.specs.Faults.{events_of}
 use Rattle.engines.specs.declared.judgement.Verdict.{Verdict}
 use Rattle.engines.specs.declared.engine_fault.EngineFault.{EngineFault}
 use Rattle.engines.specs.declared.engine_fault.EngineFault.TheVariants as engine
-use Rattle.engines.specs.FaultStands.{ValuesFail, SettingsFail, BlocksFail, TableFails, PrecedenceFails, ModelFails}
+use Rattle.engines.specs.FaultStands.{MineFails, ModelFails}
 use Rattle.engines.specs.Mines.{MineTexts, DenoteMine}
 use Rattle.engines.specs.Solving.{IsNetBy}
 use Rattle.replay_engines.specs.declared.outcome.Outcome.{Outcome}
@@ -33,18 +33,11 @@ NothingComes texts name (engine.Model fault) = (n : ℕ) × DenoteMine texts n �
 NothingComes texts name engine.Memory = Unit {0}
 NothingComes texts name _ = ⊥
 
--- Why an engine answers a fault: it stands, and none before it does. Want of memory and a failing device say nothing of the texts.
+-- Why the engine answers a fault: it is one of the texts; or, where they are read, one of the trace or of the mine's net.
 abbrev pub ReplayFails : MineTexts → Group → List ℕ → EngineFault → Type 0
-ReplayFails texts name trace (engine.Upit p) = ValuesFail texts p
-ReplayFails texts name trace (engine.Settings p) = SettingsFail texts p
-ReplayFails texts name trace (engine.Blocks p) = BlocksFail texts p
-ReplayFails texts name trace (engine.Prices fault) = TableFails texts fault
-ReplayFails texts name trace (engine.Prec p) = PrecedenceFails texts p
 ReplayFails texts name trace (engine.Trace p) = (n : ℕ) × DenoteMine texts n × TraceFails trace p
 ReplayFails texts name trace (engine.Model fault) = IsTrace trace × NothingComes texts name (engine.Model fault)
-ReplayFails texts name trace engine.Memory = Unit {0}
-ReplayFails texts name trace engine.Device = Unit {0}
-ReplayFails texts name trace _ = ⊥
+ReplayFails texts name trace fault = MineFails texts fault
 
 -- what is in the writer at a fault: what was there before, unless a device failed; then perhaps a prefix of an answer too
 abbrev pub WritesReplayPrefix : MineTexts → Group → List ℕ → Option (List ℕ) → Option (List ℕ) → Type 0

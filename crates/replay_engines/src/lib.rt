@@ -1,4 +1,4 @@
-//! The engines of `replay`: the steps of a trace are made one after the other over a mine, and the state that they lead
+//! The engine of `replay`: the steps of a trace are made one after the other over a mine, and the state that they lead
 //! to is told.
 //!
 //! Stands on `engines`, which reads the texts of a mine and says what a check's line means, on `trace_file`, which reads
@@ -11,10 +11,10 @@
 mod flow_judging;
 pub mod laws;
 mod outcome;
-mod priced_replaying;
+mod replay_asked;
 mod replaying;
 mod replaying_mine;
 mod trace_inputs;
 
-pub use priced_replaying::replay_priced_engine;
+pub use replay_asked::ReplayAsked;
 pub use replaying::replay_engine;

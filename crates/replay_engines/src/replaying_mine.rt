@@ -12,32 +12,31 @@ use crate::flow_judging::judge_flow;
 use crate::outcome::{Outcome, write_outcome};
 use async_step::{Event, ReplayFault, replay};
 use closure_net::{Net, laws};
+use engines::mine_inputs::MineToSolve;
 use engines::{EngineFault, Verdict};
 use fixed_worth::CountedWrite;
 use machine_law::laws as machine_laws;
 use ordered_group::{Group, OrderedGroup, Scaled, Worth, WorthSize};
-use prec_file::Rests;
 use std::alloc::{AllocError, Global};
 
-/// Makes the steps over the mine whose blocks are worth so many billionths, and writes what comes of them.
+/// Makes the steps over a mine that was read, and writes what comes of them.
 ///
 /// # Errors
 /// `Model` where an amount of the mine's net doesn't fit, `Memory` where memory is refused: then nothing was written. `Device`
 /// where a write fails: the writer then has a prefix.
 pub fn replay_mine<W: CountedWrite>(
     alloc: Global,
-    nanos: &[i128],
-    rests: Rests,
+    mine: MineToSolve,
     group: Group,
     events: &[Event],
     out: &mut W,
 ) -> Result<Verdict, EngineFault>
     requires { W.failed out.old < 2 ^ 64 - 1 }
-    ensures answer { (texts : MineTexts) (trace : List ℕ) → AreRead texts nanos.now rests → ReadsTrace trace events.now → Replays texts group trace (W.contents out.old) (W.contents out.new) result }
+    ensures answer { (texts : MineTexts) (trace : List ℕ) → AreRead texts mine.nanos.items mine.rests → ReadsTrace trace events.now → Replays texts group trace (W.contents out.old) (W.contents out.new) result }
     ensures device { IsErrOf result EngineFault.Device ↔ (W.failed out.new ≡ W.failed out.old + 1) }
     ensures kept { ¬ IsErrOf result EngineFault.Device → W.failed out.new ≡ W.failed out.old }
 {
-    let outcome = outcome_of(alloc, nanos, rests, group, events)?;
+    let outcome = outcome_of(alloc, mine, group, events)?;
     write_outcome(alloc, outcome, out)?;
     Ok(outcome.verdict())
 }
@@ -45,12 +44,11 @@ pub fn replay_mine<W: CountedWrite>(
 // What comes of the steps.
 fn outcome_of(
     alloc: Global,
-    nanos: &[i128],
-    rests: Rests,
+    mine: MineToSolve,
     group: Group,
     events: &[Event],
 ) -> Result<Outcome, EngineFault>
-    ensures comes { (texts : MineTexts) → AreRead texts nanos.now rests → MatchResult result (ComesOf texts group events.now) (NothingComes texts group) }
+    ensures comes { (texts : MineTexts) → AreRead texts mine.nanos.items mine.rests → MatchResult result (ComesOf texts group events.now) (NothingComes texts group) }
     ensures no_device { ¬ IsErrOf result EngineFault.Device }
 {
     // proof: a greatest set of the net is a pit that is worth most, and of amounts with sizes the best one
@@ -58,24 +56,24 @@ fn outcome_of(
     laws::greatest_set_is_best_pit::<WorthSize>();
     laws::greatest_set_is_best_pit::<Scaled>();
     match group {
-        Group::Worth => outcome_by::<Worth>(alloc, nanos, rests, events),
-        Group::Pair => outcome_by::<WorthSize>(alloc, nanos, rests, events),
-        Group::Scaled => outcome_by::<Scaled>(alloc, nanos, rests, events),
+        Group::Worth => outcome_by::<Worth>(alloc, mine, events),
+        Group::Pair => outcome_by::<WorthSize>(alloc, mine, events),
+        Group::Scaled => outcome_by::<Scaled>(alloc, mine, events),
     }
 }
 
 // The same in amounts of the group G.
 fn outcome_by<G: OrderedGroup>(
     alloc: Global,
-    nanos: &[i128],
-    rests: Rests,
+    mine: MineToSolve,
     events: &[Event],
 ) -> Result<Outcome, EngineFault>
-    ensures comes { (texts : MineTexts) → AreRead texts nanos.now rests → IsGroupNamed G.name G.block_parts G.counts
+    ensures comes { (texts : MineTexts) → AreRead texts mine.nanos.items mine.rests → IsGroupNamed G.name G.block_parts G.counts
         → MatchResult result (ComesOf texts G.name events.now) (NothingComes texts G.name) }
     ensures no_device { ¬ IsErrOf result EngineFault.Device }
 {
-    let net = Net::<G>::of_worths(alloc, rests, nanos)?;
+    let net = Net::<G>::of_worths(alloc, mine.rests, mine.nanos.as_slice())?;
+    drop(mine.nanos);
     // proof: what is known of every net, that its pairs are of its blocks and in order
     let _worths = net.worths();
     Ok(outcome_over(alloc, &net, events)?)

@@ -1,5 +1,5 @@
 -- From what is written for a net to what is written for the mine of texts, where a run is by words.
-use Rattle.std.proofs.Common.{◌≡◌, ◌≢◌, ℕ, ℤ, Bool, List, length, sym, subst, Option, Some, None, Result, Ok, Err, inl, inr, IfSome}
+use Rattle.std.proofs.Common.{◌≡◌, ℕ, ℤ, Bool, List, length, subst, Option, Result, Ok, Err, inl, inr}
 use Rattle.ordered_group.specs.Amount.{Amount}
 use Rattle.prec_file.specs.Rests.{RestsView}
 use Rattle.closure_net.specs.Network.{NetView}
@@ -11,14 +11,12 @@ use Rattle.engines.specs.declared.judgement.Verdict.{Verdict}
 use Rattle.engines.specs.declared.engine_fault.EngineFault.{EngineFault}
 use Rattle.engines.specs.declared.engine_fault.EngineFault.TheVariants as engine
 use Rattle.engines.specs.declared.method.Method.TheVariants.{PushRelabel}
-use Rattle.engines.specs.Inputs.{PricedMineFails, ValueMineFails}
+use Rattle.engines.specs.FaultStands.{MineFails}
 use Rattle.engines.specs.ReadMines.{AreRead, IsGroupNamed, of_model}
 use Rattle.engines.specs.Readings.{counts_by}
-use Rattle.engines.specs.Mines.{MineTexts, mine_texts, priced_texts, price_wanted}
+use Rattle.engines.specs.Mines.{MineTexts, price_wanted}
 use Rattle.engines.specs.Solving.{IsNetBy, SolveFails, Solves}
 use Rattle.engines.proofs.Answered.{keeps_self}
-use Rattle.engines.proofs.PricedAnswers.{under3, unread_to_solve}
-use Rattle.engines.proofs.ValueMines.{unsolved}
 use Rattle.engines.proofs.Solutions.{certificate_is, unmade}
 use Rattle.word_engines.specs.WordSolving.{word_group, FailsByWords, AtFaultByWords, SolvesByWords, SolvesNetByWords}
 
@@ -86,20 +84,6 @@ module _ (block : ℤ → ℕ → Amount) (texts : MineTexts) (net : NetView) (w
   solved_by_words (Err (engine.Settings q)) h = absurd h
   solved_by_words (Err (engine.Prices q)) h = absurd h
 
--- ---- where the readers tell their bytes
-
--- the texts of a mine of values were not read
-pub values_unread : (o r w : Option (List ℕ)) (workers limit : ℕ) (e : EngineFault) → IfSome o (λ u. IfSome r (λ p. ValueMineFails u p e)) → IfSome o (λ u. IfSome r (λ p. SolvesByWords (mine_texts u p) workers limit w w (Err e)))
-values_unread o r w workers limit e h = unsolved (λ texts. SolvesByWords texts workers limit w w (Err e)) o r w word_group PushRelabel limit e h (λ u p f s. as_locked (mine_texts u p) workers limit w e (λ i. absurd (subst (λ (x : EngineFault). ValueMineFails u p x) i f)) s)
-
--- the texts of a mine of prices were not read
-pub priced_unread : (o q r w : Option (List ℕ)) (k workers limit : ℕ) (e : EngineFault) → IfSome o (λ s. IfSome q (λ b. IfSome r (λ p. PricedMineFails s b p e))) → IfSome o (λ s. IfSome q (λ b. IfSome r (λ p. SolvesByWords (priced_texts s b p k) workers limit w w (Err e))))
-priced_unread o q r w k workers limit e h = under3 o q r (λ s b p. PricedMineFails s b p e) (λ s b p. SolvesByWords (priced_texts s b p k) workers limit w w (Err e)) h (λ s b p f.
-    as_locked (priced_texts s b p k) workers limit w e (λ i. absurd (subst (λ (x : EngineFault). PricedMineFails s b p x) i f)) (unread_to_solve s b p k word_group PushRelabel limit w e f))
-
--- memory was refused before there was a net
-pub priced_refused : (o q r w : Option (List ℕ)) (k workers limit : ℕ) → IfSome o (λ s. IfSome q (λ b. IfSome r (λ p. SolvesByWords (priced_texts s b p k) workers limit w w (Err engine.Memory))))
-priced_refused None q r w k workers limit = tt
-priced_refused (Some s) None r w k workers limit = tt
-priced_refused (Some s) (Some b) None w k workers limit = tt
-priced_refused (Some s) (Some b) (Some p) w k workers limit = (tt, keeps_self w)
+-- the texts of the mine were not read
+pub unread : (texts : MineTexts) (workers limit : ℕ) (w : Option (List ℕ)) (e : EngineFault) → MineFails texts e → Solves texts word_group PushRelabel limit w w (Err e) → SolvesByWords texts workers limit w w (Err e)
+unread texts workers limit w e f h = as_locked texts workers limit w e (λ i. absurd (subst (MineFails texts) i f)) h

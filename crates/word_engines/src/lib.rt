@@ -8,13 +8,13 @@
 
 pub mod laws;
 mod method_word;
-mod priced_words_solving;
 pub mod running;
 mod word_effort;
+mod words_asked;
 mod words_solving;
 
 pub use method_word::names_words;
-pub use priced_words_solving::solve_priced_words_engine;
 pub use running::by_words;
 pub use word_effort::WordEffort;
+pub use words_asked::WordsAsked;
 pub use words_solving::solve_words_engine;

@@ -1,12 +1,15 @@
 use Rattle.std.proofs.Common.{refl, subst}
 use Rattle.std.proofs.lemmas.Result.{err_from_is_err_and}
-use Rattle.ordered_group.specs.Block.{scaled_block}
+use Rattle.ordered_group.specs.Block.{scaled_block, scaled_worth}
 use Rattle.check_pit.specs.declared.header.Price.{Price}
+use Rattle.engines.specs.Certifying.{IsSolution}
 use Rattle.engines.specs.Readings.{counts_by}
 use Rattle.engines.specs.ReadMines.{IsGroupNamed}
+use Rattle.engines.proofs.Judged.{read_as}
 use Rattle.engines.proofs.Solutions.{net_by}
 use Rattle.word_engines.specs.WordSolving.{SolvesNetByWords, word_group}
 use Rattle.word_engines.proofs.MineAnswers.{solved_by_words, unmade_by_words}
+use Rattle.word_engines.proofs.WordAnswers.{answered}
 use Rattle.word_engines.proofs.words_solving.mine_by_words.Goals as goal
 
 pub returns-in_err-net-clause-answer : goal.returns-in_err-net-clause-answer
@@ -14,13 +17,16 @@ returns-in_err-net-clause-answer g c = λ texts read at.
     let named : IsGroupNamed word_group scaled_block (counts_by word_group) = record { block_is = refl; counts_is = refl; proves = c.greatest_set_is_best_pit.ensures } in
     let p = err_from_is_err_and c.from_residual.result c.from_residual.ensures.1 in
     rw (p.1, p.2)
-    (unmade_by_words scaled_block (counts_by word_group) texts c.args.rests c.args.nanos.now c.args.effort.workers c.args.effort.steps (g.W.Write.contents c.args.out.now) c.in_err-net.field-0.0 read named c.in_err-net.ensures)
+    (unmade_by_words scaled_block (counts_by word_group) texts c.args.mine.rests c.as_slice.result.now c.args.effort.workers c.args.effort.steps (g.W.Write.contents c.args.out.now) c.in_err-net.field-0.0 (read_as texts _ _ c.args.mine.rests c.as_slice.ensures.value read) named c.in_err-net.ensures)
 
 pub returns-clause-answer : goal.returns-clause-answer
 returns-clause-answer g c = λ texts read at.
     let named : IsGroupNamed word_group scaled_block (counts_by word_group) = record { block_is = refl; counts_is = refl; proves = c.greatest_set_is_best_pit.ensures } in
-    let by = net_by scaled_block (counts_by word_group) texts word_group c.args.rests c.args.nanos.now c.in_ok-net.net read named c.worths-worths.ensures.net c.in_ok-net.ensures.0 c.in_ok-net.ensures.1 in
+    let net = c.in_ok-net.net in
+    let effort = c.args.effort in
+    let by = net_by scaled_block (counts_by word_group) texts word_group c.args.mine.rests c.as_slice.result.now net (read_as texts _ _ c.args.mine.rests c.as_slice.ensures.value read) named c.worths-worths.ensures.net c.in_ok-net.ensures.0 c.in_ok-net.ensures.1 in
     let old = g.W.Write.contents c.args.out.now in
-    let new = g.W.Write.contents c.net_by_words.new.out in
-    let P : Price → Type 0 = λ p. SolvesNetByWords p c.in_ok-net.net c.args.effort.workers c.args.effort.steps old new c.net_by_words.result in
-    solved_by_words scaled_block texts c.in_ok-net.net c.args.effort.workers c.args.effort.steps named by old new c.net_by_words.result (subst P at c.net_by_words.ensures.answer)
+    let new = g.W.Write.contents c.write_answer.new.out in
+    let P : Price → Type 0 = λ p. SolvesNetByWords p net effort.workers effort.steps old new c.write_answer.result in
+    solved_by_words scaled_block texts net effort.workers effort.steps named by old new c.write_answer.result
+    (subst P at (answered c.args.mine.price net effort.workers effort.steps old new (λ s. s.flow) (λ s. s.pit) (λ s. IsSolution scaled_worth net s.flow s.pit s.count s.worth) c.by_words-found.result c.write_answer.result (λ s h. h.sound) c.by_words-found.ensures c.write_answer.ensures.answer))

@@ -1,0 +1,18 @@
+//! What a solve with a trace is asked for.
+
+use engines::Effort;
+use ordered_group::Group;
+use shells::Factor;
+
+/// What a solve with a trace is asked for.
+#[derive(Clone, Copy)]
+pub struct TracedAsked {
+    /// The factor at which revenues count. Of no effect where blocks have values.
+    pub factor: Factor,
+    /// What amounts count.
+    pub group: Group,
+    /// The workers of the run and its most steps, whatever its method.
+    pub effort: Effort,
+    /// The most steps of the trace.
+    pub room: u32,
+}
