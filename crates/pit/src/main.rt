@@ -29,7 +29,7 @@ use effort_words::effort_for_series;
 use engines::{EngineFault, Unwatched, Verdict, status, stored_check, write_fault};
 use files::{check_files, listed_slopes_files, replay_files, series_files, slopes_file};
 use fixed_worth::Counted;
-use progress::Meter;
+use progress::{Meter, PROGRESS_ALONE, Tells};
 use reasons::{tell_choice, tell_slope_reason};
 use slopes_words::{pattern_asked, up_asked};
 use solve_options::replay_asked;
@@ -116,8 +116,12 @@ fn solve<R: Files + Print + Eprint + Clock + Threads + Wait + Sync + AllocGlobal
         words.steps,
     );
     advise_on_workers(rt, words.verbose, solving);
-    let verdict = if words.progress {
-        solve_files(rt, words, solving, &Meter::new(rt, solving.steps()))?
+    let tells = Tells {
+        progress: words.progress,
+        outcome: words.verbose,
+    };
+    let verdict = if words.progress || words.verbose {
+        solve_files(rt, words, solving, &Meter::new(rt, solving.steps(), tells))?
     } else {
         solve_files(rt, words, solving, &Unwatched)?
     };
@@ -146,7 +150,12 @@ fn series<R: Files + Print + Eprint + Clock + Threads + Wait + Sync + AllocGloba
     };
     tell_choice(rt, words.verbose, words.method, words.steps);
     let verdict = if words.progress {
-        series_files(rt, words, effort, &Meter::new(rt, effort.steps))?
+        series_files(
+            rt,
+            words,
+            effort,
+            &Meter::new(rt, effort.steps, PROGRESS_ALONE),
+        )?
     } else {
         series_files(rt, words, effort, &Unwatched)?
     };

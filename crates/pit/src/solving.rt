@@ -6,7 +6,7 @@ use crate::solving_asked::SolvingAsked;
 use crate::told::output;
 use audit_engines::solve_traced_engine;
 use command_line::SolveWords;
-use engines::{EngineFault, Verdict, solve_engine};
+use engines::{EngineFault, Outcome, Verdict, solve_engine};
 use fixed_worth::Counted;
 use pseudoflow::Progress;
 use std::rt::Files;
@@ -19,7 +19,7 @@ use workers::Gate;
 pub fn solve_files<
     'a,
     R: Files + Print + Eprint + Threads + Wait + Sync + AllocGlobal,
-    T: Gate + Progress,
+    T: Gate + Progress + Outcome,
 >(
     rt: &'a R,
     words: SolveWords<'a>,
