@@ -2,6 +2,7 @@
 """What a study of risk costs by the size of its model: measured runs, a model of cost that is fitted to them, and its check on one more.
 
     bench/scale.py                     the figures of docs/SCALE.md, by the runs of bench/scale.csv: seconds
+    bench/scale.py --page              puts them into docs/SCALE.md, in place of those that stand there
     bench/scale.py --measure NAME ..   runs the models of these names (or all of `MODELS`), and puts them into bench/scale.csv
 
 Debian's own Python and the packages of python/packages; PIT or out/pit. Models are made once, from fixed seeds, in bench/out. A run
@@ -11,20 +12,22 @@ is a task in a process of its own: processor seconds of Python and of `pit`, byt
 from __future__ import annotations
 
 import argparse
+import io
 import json
 import os
+import re
 import resource
 import shutil
 import subprocess
 import sys
-from contextlib import contextmanager
+from contextlib import contextmanager, redirect_stdout
+from functools import cache
 from pathlib import Path
 
 PYTHON = "/usr/bin/python3"
 try:
     import numpy as np
     import pandas as pd
-    from scipy.optimize import nnls
 except ModuleNotFoundError:
     if sys.executable == PYTHON:
         raise
@@ -40,6 +43,7 @@ SLOPE = 36.87                                # of blocks of 20 x 20 x 15, that o
 QUANTITIES = ("python_s", "pit_s", "read_mb", "written_mb", "memory_mb", "scratch_mb")
 
 
+@cache
 def with_pitplan():
     """The package, and bench/pitplan.py, which makes the mines."""
     import pitplan as bench_pitplan
@@ -68,9 +72,12 @@ def built(name):
 
 @contextmanager
 def step(name, **more):
-    """What a step of this process costs, told in a line: what it used, and the most memory that it and a `pit` beneath it held."""
+    """What a step of this process costs, told in a line: what it used, and the most memory that it and a `pit` beneath it held. The
+    first one has the start of the process too."""
     Path("/proc/self/clear_refs").write_text("5")          # the most that is held is counted anew
     before, held, peaks = used(), status("VmRSS"), Path(os.environ["PEAKS"])
+    if name == "start":
+        before = dict.fromkeys(before, 0.0)
     peaks.write_text("")
     yield
     pit = max([float(line) * 1024 / 1e6 for line in peaks.read_text().split()], default=0.0)
@@ -188,6 +195,7 @@ def fitted(found, step, quantity):
     value = of[quantity].to_numpy()
     if not value.any():
         return np.zeros(3)
+    from scipy.optimize import nnls
     weight = 1 / np.maximum(value, value.max() / 1000)
     return nnls(known * weight[:, None], value * weight)[0]
 
@@ -306,6 +314,25 @@ def show_case(case):
            ["its memory, GB", f"{(case.cost('read', 'memory_mb') + (PITS - len(FACTORS)) * BLOCKS * 2 / 1e6) / 1000:.1f}"]])
 
 
+def show_limits(case):
+    """Where such a study meets a limit, the nearest first where that can be said."""
+    from pitplan.engines import Limits
+    from pitplan.offsets import PAIRS
+
+    from simulated_cluster import Cluster
+    node = Cluster()
+    room = node.memory_mb - node.system_mb
+    at_once = int(min(node.cores, room // case.asked_mb))
+    lines(["limit", "", "of"],
+          [["predecessors a block that fit into the pairs that pit takes", f"{case.pairs / BLOCKS:.1f}", f"{PAIRS / BLOCKS:.1f}"],
+           ["tasks at a time on a node, by memory, and its cores", f"{at_once}", f"{node.cores}"],
+           ["memory that such tasks hold, of a node's, GB", f"{at_once * case.held_mb / 1000:.0f}", f"{room / 1000:.0f}"],
+           ["what is left of it for the files that all tasks read, GB", f"{(room - at_once * case.held_mb) / 1000:.0f}", f"{(case.prec_mb + case.npz_mb) / 1000:.1f}"],
+           ["scratch on a node, GB", f"{at_once * case.scratch_mb / 1000:.0f}", ""],
+           ["a task's minutes, alone, and those that --minutes asks for", f"{(case.begin_s + PITS * case.pit_s) / 60:.0f}", f"{Limits().minutes}"],
+           ["pits that a node takes with it when it dies, at most", f"{at_once}", f"{at_once * PITS}"]])
+
+
 def show_clusters(case):
     """How long it takes on nodes, by simulation."""
     from dataclasses import replace
@@ -325,21 +352,36 @@ def show_clusters(case):
     lines(["", "tasks at once", "hours", "GB over the network", "pits lost"], rows)
 
 
+def show():
+    model = Model(pd.read_csv(ROWS))
+    case = Case(model)
+    for part, of in ((show_runs, model), (show_fit, model), (show_case, case), (show_clusters, case), (show_limits, case)):
+        part(of)
+
+
+def rewritten(page, printed):
+    """A page with the parts of what was printed in place of its indented blocks, one for one."""
+    parts = iter(re.sub(r"^", "    ", part, flags=re.M) + "\n" for part in printed.strip().split("\n\n"))
+    return re.sub(r"(?:^    .*\n)+", lambda block: next(parts), page, flags=re.M)
+
+
 def main():
     words = argparse.ArgumentParser(description=__doc__, formatter_class=argparse.RawDescriptionHelpFormatter)
     words.add_argument("--measure", nargs="*", metavar="NAME", help="of " + ", ".join(MODELS))
+    words.add_argument("--page", action="store_true")
     words.add_argument("--child", nargs="+", help=argparse.SUPPRESS)
     asked = words.parse_args()
     if asked.child:
         {"task": one_task, "tables": tables}[asked.child[0]](*asked.child[1:])
     elif asked.measure is not None:
         measure(asked.measure or list(MODELS))
+    elif asked.page:
+        page, printed = HERE.parent / "docs" / "SCALE.md", io.StringIO()
+        with redirect_stdout(printed):
+            show()
+        page.write_text(rewritten(page.read_text(), printed.getvalue()))
     else:
-        model = Model(pd.read_csv(ROWS))
-        show_runs(model)
-        show_fit(model)
-        show_case(Case(model))
-        show_clusters(Case(model))
+        show()
 
 
 if __name__ == "__main__":

@@ -114,8 +114,8 @@ def text_of(browser, name):
 
 
 def facts(browser):
-    names = [e.text for e in browser.find_elements(By.CSS_SELECTOR, "#facts dt")]
-    return dict(zip(names, (e.text for e in browser.find_elements(By.CSS_SELECTOR, "#facts dd"))))
+    names, values = browser.execute_script("return ['dt', 'dd'].map(tag => [...document.querySelectorAll('#facts ' + tag)].map(e => e.innerText.trim()))")
+    return dict(zip(names, values))
 
 
 def number(text):
@@ -138,8 +138,7 @@ def has(told, name, value):
 
 
 def rows_of(browser, table=0):
-    tables = [t for t in browser.find_elements(By.TAG_NAME, "table") if t.is_displayed()]
-    return [[c.text for c in row.find_elements(By.CSS_SELECTOR, "th, td")] for row in tables[table].find_elements(By.CSS_SELECTOR, "tbody tr")]
+    return browser.execute_script("const t = [...document.querySelectorAll('table')].filter(t => t.offsetParent); return [...t[arguments[0]].tBodies[0].rows].map(r => [...r.cells].map(c => c.innerText.trim()))", table)
 
 
 def test_it_opens_without_a_word_on_the_console(pits_view, shells):
@@ -174,7 +173,8 @@ def test_facts_are_those_of_the_table_and_of_pit(pits_view, shells, table):
         for name, column in (("Ore", "ore_t"), ("Waste", "waste_t"), ("Worth at factor 1", "worth_at_base"), ("Discounted, best case", "npv_best"), ("Discounted, worst case", "npv_worst")):
             assert has(told, name, row[column]), (name, told, row[column])
         assert abs(number(told["Strip ratio (t/t)"]) - row["strip"]) < 0.00501 and abs(number(told["Years"]) - row["years"]) < 0.0501
-        assert [c.text for c in pits_view.find_elements(By.CSS_SELECTOR, "tr[aria-current] td")] == list(told.values())
+        assert rows_of(pits_view)[i][1:] == list(told.values()) and text_of(pits_view, "step") == rows_of(pits_view)[i][0]
+        assert len(pits_view.find_elements(By.CSS_SELECTOR, "tr[aria-current]")) == 1
 
 
 def test_facts_of_a_pushback_are_its_own(phases_view, phases):
@@ -216,8 +216,8 @@ def test_the_heights_add_up_to_each_surface(all_views, shells, phases, compared)
         chosen(all_views, view)
         assert [all_views.execute_script(DUG, i + 1) for i in range(len(wanted))] == wanted
     ground = shells.study.model.blocks.groupby(["ix", "iy"])["iz"].max()
-    for (i, j), top in ground.items():
-        assert all_views.execute_script("return H[arguments[0] * NY + arguments[1]]", i, j) == top + 1
+    heights = np.array(all_views.execute_script("return [...H.subarray(0, N)]")).reshape(shells.study.model.grid.shape[:2])
+    assert all(heights[i, j] == top + 1 for (i, j), top in ground.items())
 
 
 PIXELS = """const g = document.getElementById("picture").getContext("webgl"), w = g.drawingBufferWidth, h = g.drawingBufferHeight, p = new Uint8Array(4 * w * h);

@@ -22,8 +22,8 @@ mod told;
 
 use advice::advise_on_workers;
 use command_line::{
-    Declined, OffsetsWords, ReplayWords, Request, SeriesWords, SlopesWords, SolveWords, WrongWord,
-    declined_for, request_of,
+    Commanded, Declined, OffsetsWords, ReplayWords, Request, SeriesWords, SlopesWords, SolveWords,
+    WrongWord, declined_for, request_of,
 };
 use effort_words::effort_for_series;
 use engines::{EngineFault, Unwatched, Verdict, status, stored_check, write_fault};
@@ -31,10 +31,11 @@ use files::{check_files, listed_slopes_files, replay_files, series_files, slopes
 use fixed_worth::Counted;
 use progress::Meter;
 use reasons::{tell_choice, tell_slope_reason};
+use shells::Factor;
 use slopes_words::{pattern_asked, up_asked};
-use solve_options::replay_asked;
+use solve_options::{factor_asked, replay_asked};
 use solving::solve_files;
-use solving_asked::solving_asked;
+use solving_asked::{SolvingAsked, solving_asked};
 use std::process::ExitCode;
 use std::rt::{Clock, Env, Files};
 use std::sync::Wait;
@@ -116,12 +117,24 @@ fn solve<R: Files + Print + Eprint + Clock + Threads + Wait + Sync + AllocGlobal
         words.steps,
     );
     advise_on_workers(rt, words.verbose, solving);
-    let verdict = if words.progress {
-        solve_files(rt, words, solving, &Meter::new(rt, solving.steps()))?
+    match factor_asked(Commanded::Solve, words.model, words.factor) {
+        Ok(factor) => Ok(Ending::Answered(solved(rt, words, solving, factor)?)),
+        Err(wrong) => refused(rt, wrong),
+    }
+}
+
+fn solved<R: Files + Print + Eprint + Clock + Threads + Wait + Sync + AllocGlobal>(
+    rt: &R,
+    words: SolveWords<'_>,
+    solving: SolvingAsked<'_>,
+    factor: Factor,
+) -> Result<Verdict, EngineFault> {
+    if words.progress {
+        let meter = Meter::new(rt, solving.steps());
+        solve_files(rt, words, solving, factor, &meter)
     } else {
-        solve_files(rt, words, solving, &Unwatched)?
-    };
-    Ok(Ending::Answered(verdict))
+        solve_files(rt, words, solving, factor, &Unwatched)
+    }
 }
 
 // Repeats a run over the mine of files from its trace.
