@@ -1,13 +1,11 @@
 #!/usr/bin/python3
-"""What tasks of pitplan cost by the size of a model, what the engine of this machine adds to them, and a risk study on it.
+"""What the engine of this machine adds to its tasks, and a risk study on it. What a task costs measures bench/scale.py.
 
-    bench/pitplan_risk.py cost [NX NY NZ]        one pit, and one realisation, each in a process of its own
     bench/pitplan_risk.py engine [FACTORS]       processor seconds of the engine itself beside those of its tasks, 500,000 blocks
     bench/pitplan_risk.py risk [REALISATIONS]    realisations of 80,000 blocks at one factor, four at a time
 
 Debian's own Python and the packages of python/packages; PIT or out/pit. Models are made once, from fixed seeds, in bench/out.
 """
-import json
 import os
 import resource
 import shutil
@@ -26,17 +24,8 @@ sys.modules.pop("pitplan")
 sys.path.insert(0, str(HERE.parent / "python"))
 import pitplan as pp  # noqa: E402
 from pitplan import local, risk  # noqa: E402
-from pitplan.task import Task, memory_of_task  # noqa: E402
+from pitplan.task import Task  # noqa: E402
 
-PYTHON = "/usr/bin/python3"
-ALONE = """import json, resource, sys
-sys.path.insert(0, {python!r})
-from pathlib import Path
-from pitplan.task import Tasks, task_of
-count = Tasks(Path({folder!r})).do(task_of({words!r}.split()))
-own, pit = resource.getrusage(resource.RUSAGE_SELF), resource.getrusage(resource.RUSAGE_CHILDREN)
-print(json.dumps([own.ru_utime + own.ru_stime, own.ru_maxrss * 1024 / 1e6, pit.ru_utime + pit.ru_stime, pit.ru_maxrss * 1024 / 1e6]))
-"""
 ECONOMICS = {"mining": 2.2, "processing": 9.0, "mill": ["OXI", "SUL"]}
 
 
@@ -56,18 +45,6 @@ def built(nx, ny, nz, count):
     risk.prepare(study, economics, folder / "sims.npy", [1000])
     shutil.rmtree(folder / "runs", ignore_errors=True)
     return study
-
-
-def cost(nx, ny, nz):
-    study = built(nx, ny, nz, 1)
-    print(f"## {study.manifest['blocks']:,} blocks, {study.manifest['pairs']:,} pairs: a task in a process of its own\n")
-    print(f"`pitplan submit` asks a scheduler for {1.3 * memory_of_task(study) / 1e6:,.0f} MB.\n\n| | Python, CPU s | Python, peak MB | `pit`, CPU s | `pit`, peak MB |\n|---|---|---|---|---|")
-    for words in ("run base 1000", "realisation 0 1000"):
-        text = ALONE.format(python=str(HERE.parent / "python"), folder=str(study.folder), words=words)
-        own, own_peak, pit, pit_peak = json.loads(subprocess.run([PYTHON, "-I", "-c", text], check=True, stdout=subprocess.PIPE, text=True).stdout)
-        print(f"| `{words}` | {own:.2f} | {own_peak:.0f} | {pit:.2f} | {pit_peak:.0f} |")
-    size = {name: os.path.getsize(study.where / name) / 1e6 for name in ("mine.blocks", "mine.prec", "blocks.npz")}
-    print("\nFiles, MB: " + ", ".join(f"`{name}` {value:.1f}" for name, value in size.items()) + "\n")
 
 
 def seconds_of(who):
@@ -107,9 +84,7 @@ def realisations(count):
 
 if __name__ == "__main__":
     kind, *rest = sys.argv[1:] or [""]
-    if kind == "cost":
-        cost(*(map(int, rest) if rest else (128, 112, 44)))
-    elif kind == "engine":
+    if kind == "engine":
         engine(int(rest[0]) if rest else 31)
     elif kind == "risk":
         realisations(int(rest[0]) if rest else 100)

@@ -3,9 +3,11 @@
 
     docs/make_pictures.py [FOLDER]
 
-writes hill-slopes.png, hill-pit-by-pit.png, hill-plan.png, hill-section.png and hill-page.png (the page in a headless
-Chromium) into FOLDER, docs/pictures unless told. Needs `pit` (PIT, or the repository's build) and the packages of python/packages.
+writes hill-slopes.png, hill-pit-by-pit.png, hill-plan.png, hill-section.png and hill-design.png, and of the page in a headless
+Chromium hill-page.png, hill-page-pushbacks.png, hill-page-design.png and hill-likelihood.png, into FOLDER, docs/pictures unless
+told. Needs `pit` (PIT, or the repository's build) and the packages of python/packages.
 """
+import base64
 import re
 import subprocess
 import sys
@@ -19,46 +21,75 @@ MOST = 150_000                       # bytes of a picture in the repository
 COLOURS = 96                         # enough for flat areas and lettering, a third of the bytes
 
 
-def study_text():
-    """The text that stands below `cat hill/study.toml` in PLANNING.md."""
+def text_of(name):
+    """The text that stands below `cat NAME` in PLANNING.md."""
     lines = (TOP / "docs/PLANNING.md").read_text().split("\n")
-    start = lines.index("    $ cat hill/study.toml") + 1
-    end = next(i for i in range(start, len(lines)) if lines[i] and not lines[i].startswith("    "))
+    start = lines.index(f"    $ cat {name}") + 1
+    end = next(i for i in range(start, len(lines)) if lines[i].startswith("    $ ") or lines[i] and not lines[i].startswith("    "))
     return "\n".join(line[4:] for line in lines[start:end])
 
 
-def pitplan(*words):
-    """Runs a command and gives the paths that it prints, by name."""
-    said = subprocess.run([str(TOP / "bin/pitplan"), *map(str, words)], check=True, stdout=subprocess.PIPE, text=True).stdout
-    return [Path(path) for path in re.findall(r"\S+\.(?:png|html)", said)]
+def pitplan(*words, may_refuse=False):
+    """Runs a command and gives the pictures and pages that it prints; one that compares may say no."""
+    ran = subprocess.run([str(TOP / "bin/pitplan"), *map(str, words)], stdout=subprocess.PIPE, text=True)
+    if ran.returncode > may_refuse:
+        sys.exit(f"pitplan {' '.join(map(str, words))} ended with status {ran.returncode}")
+    return [Path(path) for path in re.findall(r"\S+\.(?:png|html)", ran.stdout)]
 
 
-def photographed(page, target):
-    """The page as a browser shows it."""
-    sys.path.insert(0, str(TOP / "python/tests"))
-    from browsers import chromium, opened
-    browser = chromium(size="1180,1000")
-    try:
-        opened(browser, page)
-        browser.save_screenshot(str(target))
-    finally:
-        browser.quit()
+# What is done on a page before it is photographed, and which part of it is taken: all, or from one element down to the end of another.
+CHOOSE = "const box = document.getElementById('what'); box.value = arguments[0]; return choose(+arguments[0])"
+CUT = "const way = document.getElementById('way'); way.value = arguments[0]; way.onchange(); if (arguments[1] >= 0) { const at = document.getElementById('cut'); at.value = arguments[1]; at.oninput() }"
+HIDE = "document.getElementById('section').hidden = true; dispatchEvent(new Event('resize'))"
+PART = """const box = id => document.getElementById(id).getBoundingClientRect(), from = box(arguments[0]), to = box(arguments[1]);
+return [from.left + scrollX, from.top + scrollY, Math.max(from.right, to.right) - from.left, to.bottom - from.top]"""
+
+
+def photographed(browser, page, target, steps, part=None):
+    """A page as a browser shows it, after some steps."""
+    from browsers import opened
+    opened(browser, page)
+    for script, *words in steps:
+        browser.execute_script(script, *words)
+    clip = browser.execute_script(PART, *part) if part else browser.execute_script("return [0, 0, innerWidth, Math.min(document.documentElement.scrollHeight, 1000)]")
+    shot = browser.execute_cdp_cmd("Page.captureScreenshot", {"captureBeyondViewport": True, "clip": dict(zip(("x", "y", "width", "height"), clip), scale=1)})
+    target.write_bytes(base64.b64decode(shot["data"]))
+
+
+def walked(study):
+    """The walk of PLANNING.md as far as pictures need it: their paths by name, and the two pages."""
+    (study / "study.toml").write_text(text_of("hill/study.toml").replace("../examples", str(TOP / "examples")))
+    sims = text_of("sims.py").replace("examples/hill.csv", str(TOP / "examples/hill.csv")).replace("sims.npy", str(study / "sims.npy"))
+    subprocess.run(["/usr/bin/python3", "-c", sims], check=True)
+    for command in ("build", "slopes", "shells"):
+        pitplan(command, study)
+    graph, plan, section = pitplan("plot", study)
+    pitplan("compare", study, "--surface", TOP / "examples/hill-design.dxf", may_refuse=True)
+    design = next((study / "out/compare-hill-design").glob("plan-*.png"))
+    pages = pitplan("page", study, "--phases", "0.4,1.0", "--design", TOP / "examples/hill-design.dxf")
+    pitplan("risk", study, "--realisations", study / "sims.npy")
+    return {"slopes": study / "out/slopes.png", "pit-by-pit": graph, "plan": plan, "section": section, "design": design}, pages[0], study / "out/likelihood.html"
 
 
 def main():
     target = Path(sys.argv[1]) if len(sys.argv) > 1 else TOP / "docs/pictures"
     target.mkdir(parents=True, exist_ok=True)
+    sys.path.insert(0, str(TOP / "python/tests"))
+    from browsers import chromium
     with tempfile.TemporaryDirectory() as place:
         study = Path(place) / "hill"
         study.mkdir()
-        (study / "study.toml").write_text(study_text().replace("../examples", str(TOP / "examples")))
-        pitplan("build", study)
-        pitplan("slopes", study)
-        pitplan("shells", study)
-        graph, plan, section = pitplan("plot", study)
-        page = pitplan("page", study)[0]
-        photographed(page, study / "page.png")
-        for name, picture in (("slopes", study / "out/slopes.png"), ("pit-by-pit", graph), ("plan", plan), ("section", section), ("page", study / "page.png")):
+        pictures, page, likelihood = walked(study)
+        browser = chromium(size="1180,1000")
+        try:
+            for name, path, steps, part in (("page", page, [(HIDE,)], None), ("page-pushbacks", page, [(CHOOSE, "1")], ("section", "section")),
+                                            ("page-design", page, [(CHOOSE, "2"), (CUT, "z", -1)], ("section", "section")),
+                                            ("likelihood", likelihood, [], ("section", "section"))):
+                pictures[name] = study / f"{name}.png"
+                photographed(browser, path, pictures[name], steps, part)
+        finally:
+            browser.quit()
+        for name, picture in pictures.items():
             file = target / f"hill-{name}.png"
             Image.open(picture).convert("RGB").quantize(COLOURS, dither=Image.Dither.NONE).save(file, optimize=True)
             size = file.stat().st_size

@@ -1,4 +1,5 @@
 """Tests of ./build, ./install, ./run-example and ./release, in a tree of four small crates and with a stand-in for the kit."""
+import io
 import os
 import re
 import shutil
@@ -8,6 +9,7 @@ import sys
 import tempfile
 import time
 import traceback
+import zipfile
 from pathlib import Path
 
 from stand_in import MAIN, Tree
@@ -260,8 +262,55 @@ def an_unknown_word_is_refused(tree):
 
 def install_copies_the_program(tree):
     status, said = tree.ran("install", str(tree.room / "bin"))
-    done = subprocess.run([str(tree.room / "bin" / "pit")], stdout=subprocess.PIPE, text=True)
-    return status == 0 and done.stdout == "ACCEPTED 90 71040\n", said
+    other, more = tree.ran("install", str(tree.room / "elsewhere"))
+    programs = [tree.room / at for at in ("lib/pontihaw/pit", "elsewhere/lib/pontihaw/pit")]
+    (tree.room / "linked").symlink_to("bin/pit")
+    answers = [subprocess.run(words, cwd=tree.room / "bin", env=dict(os.environ, PATH="%s:%s" % (tree.room / "elsewhere", os.environ["PATH"])),
+                              stdout=subprocess.PIPE, text=True).stdout
+               for words in ([tree.room / "bin" / "pit"], ["./pit"], ["sh", "pit"], [tree.room / "linked"], ["pit"])]
+    well = (status, other) == (0, 0) and all(map(os.path.exists, programs)) and answers == ["ACCEPTED 90 71040\n"] * 5
+    programs[0].unlink()
+    lost = subprocess.run([tree.room / "bin" / "pit"], stdout=subprocess.PIPE, stderr=subprocess.STDOUT, text=True)
+    return well and lost.returncode == 4 and "lib/pontihaw/pit is neither beside" in lost.stdout, said + more + repr(answers) + lost.stdout
+
+
+def the_launcher_changes_nothing_else(tree):
+    """The words, the exit status, a signal that ends the program, and whether it ignores signals: XFSZ and no other."""
+    tree.crate("pit", MAIN.replace("//sh esac", "//sh esac\n//sh [ $# -gt 1 ] || exit 0\n//sh printf '<%s>' \"$@\"; grep SigIgn /proc/self/status; kill -$2 $$"))
+    status, said = tree.ran("install", str(tree.room / "bin"))
+    words = ["a b", "TERM", "", "*", "\u00e9", "$0"]
+    ran = [subprocess.run([str(tree.room / at), *words], stdout=subprocess.PIPE, text=True) for at in ("bin/pit", "lib/pontihaw/pit")]
+    ignored = [int(re.search(r"SigIgn:\s*(\w+)", it.stdout)[1], 16) for it in ran]
+    texts = [it.stdout.partition("SigIgn")[0] for it in ran]
+    well = texts[0] == texts[1] and "<a b><TERM><><*><\u00e9><$0>" in texts[0] and [it.returncode for it in ran] == [-signal.SIGTERM] * 2
+    return status == 0 and well and ignored[0] == ignored[1] | 1 << (signal.SIGXFSZ - 1), said + repr(ran)
+
+
+def install_brings_pitplan_where_its_packages_are(tree):
+    """The command works from anywhere, with its package beside the program; where packages are missing, pit alone is installed."""
+    shutil.copy(Path(__file__).resolve().parent.parent / "bin/pitplan", tree.top / "bin/pitplan")
+    tree.write("python/pitplan/cli.py", "def main():\n    print('planned by', __file__)\n")
+    tree.write("python/pitplan/left.html", "")
+    first = tree.ran("install", str(tree.room / "bin"))
+    (tree.top / "python/pitplan/left.html").unlink()
+    statuses = [first[0], tree.ran("install", str(tree.room / "bin"))[0], tree.ran("install", str(tree.room / "elsewhere"))[0]]
+    answers = [subprocess.run([str(tree.room / at / "pitplan")], cwd="/", stdout=subprocess.PIPE, text=True).stdout for at in ("bin", "elsewhere")]
+    wanted = ["planned by %s/pontihaw/pitplan/cli.py\n" % (tree.room.resolve() / at) for at in ("lib", "elsewhere/lib")]
+    share = ["share/man/man1/pit.1", "share/man/man1/pitplan.1", "share/bash-completion/completions/pit", "share/zsh/site-functions/_pitplan", "share/fish/vendor_completions.d/pit.fish"]
+    well = statuses == [0] * 3 and answers == wanted and all((tree.room / it).exists() for it in share) and not (tree.room / "lib/pontihaw/pitplan/left.html").exists()
+    tree.write("python/packages", "# the package itself\npython3\npython3-nowhere\nlibjs-three\n# its tests\npython3-more\n")
+    status, said = tree.ran("install", str(tree.room / "third"))
+    told = "sudo apt-get install --no-install-recommends python3 python3-nowhere libjs-three, and" in said
+    return well and status == 0 and told and (tree.room / "third/pit").exists() and not (tree.room / "third/pitplan").exists(), first[1] + repr(answers) + said
+
+
+def pitplan_names_the_packages_that_it_lacks(tree):
+    shutil.copy(Path(__file__).resolve().parent.parent / "bin/pitplan", tree.top / "bin/pitplan")
+    tree.write("python/pitplan/cli.py", "import nowhere\n")
+    ran = subprocess.run([str(tree.top / "bin/pitplan")], stdout=subprocess.PIPE, stderr=subprocess.STDOUT, text=True)
+    needed = [it for it in (tree.top / "python/packages").read_text().partition("# its tests")[0].splitlines() if it and it[0] != "#"]
+    wanted = "pitplan needs the Python package nowhere: sudo apt-get install --no-install-recommends %s\n" % " ".join(needed)
+    return ran.returncode == 1 and ran.stdout == wanted, ran.stdout
 
 
 def released(tree):
@@ -279,7 +328,7 @@ def two_folders_make_the_same_release(tree):
         os.utime(other.top / "README.md", (1, 1))
         (other.top / "LICENSE").chmod(0o600)
         second = other.ran("release"), {file.name: file.read_bytes() for file in (other.top / "dist").glob("*")}
-    names = ["BUILT.txt", "SHA256SUMS", "pit-0.1.0-x86_64-linux.tar.gz", "pit_0.1.0_amd64.deb"]
+    names = ["BUILT.txt", "SHA256SUMS", "pit-0.1.0-x86_64-linux.tar.gz", "pit_0.1.0_amd64.deb", "pitplan-0.1.0-py3-none-any.whl", "pitplan_0.1.0_amd64.deb"]
     sums = subprocess.run(["sha256sum", "-c", "SHA256SUMS"], cwd=tree.top / "dist", stdout=subprocess.PIPE, text=True)
     well = first[0] == 0 and sorted(first[2]) == names and first[2] == second[1] and sums.returncode == 0
     return well, first[1] + second[0][1] + sums.stdout
@@ -295,7 +344,8 @@ def a_release_holds_what_it_should(tree):
     answers = [subprocess.run([str(tree.room / at)], stdout=subprocess.PIPE, text=True).stdout
                for at in ("pit-0.1.0-x86_64-linux/pit", "installed/usr/bin/pit")]
     needs = re.search(r"^Depends: (.*)$", (tree.room / "control/control").read_text(), re.M)[1]
-    wanted = ["pit-0.1.0-x86_64-linux/" + it for it in ("LICENSE", "README.md", "pit.1", "examples/copper/copper.prec", "python/pitplan/offsets.py")]
+    wanted = ["pit-0.1.0-x86_64-linux/lib/pontihaw/pit", "installed/usr/lib/pontihaw/pit"]
+    wanted += ["pit-0.1.0-x86_64-linux/" + it for it in ("LICENSE", "README.md", "pit.1", "examples/copper/copper.prec", "python/pitplan/offsets.py")]
     wanted += ["installed/usr/share/man/man1/pit.1.gz", "installed/usr/share/doc/pit/examples/copper/copper.cert"]
     commit = subprocess.run(["git", "rev-parse", "HEAD"], cwd=tree.top, stdout=subprocess.PIPE, text=True).stdout.strip()
     about = files["BUILT.txt"].decode()
@@ -304,11 +354,33 @@ def a_release_holds_what_it_should(tree):
     return well and told and "root/root" in listed, said + listed + about
 
 
+def a_release_holds_pitplan(tree):
+    _, said, files = released(tree)
+    (tree.room / "a.deb").write_bytes(files["pitplan_0.1.0_amd64.deb"])
+    for words in (["dpkg-deb", "-x", "a.deb", "installed"], ["dpkg-deb", "-e", "a.deb", "control"]):
+        subprocess.run(words, cwd=tree.room, check=True)
+    control = dict(line.split(": ", 1) for line in (tree.room / "control/control").read_text().splitlines() if re.match(r"\w+: ", line))
+    own = [line for line in (tree.top / "python/packages").read_text().partition("# its tests")[0].splitlines() if line and line[0] != "#"]
+    needs = control["Depends"].split(", ")
+    share = "installed/usr/share/"
+    wanted = ["installed/usr/bin/pit", "installed/usr/bin/pitplan", "installed/usr/lib/python3/dist-packages/pitplan/offsets.py", share + "man/man1/pit.1.gz", share + "man/man1/pitplan.1.gz",
+              share + "doc/pitplan/examples/copper/copper.cert", share + "doc/pitplan/copyright"]
+    wanted += [share + path % name for name in ("pit", "pitplan") for path in ("bash-completion/completions/%s", "zsh/vendor-completions/_%s", "fish/vendor_completions.d/%s.fish")]
+    missing = [it for it in wanted if not (tree.room / it).exists()]
+    with zipfile.ZipFile(io.BytesIO(files["pitplan-0.1.0-py3-none-any.whl"])) as wheel:
+        held = {name: wheel.read(name).decode() for name in wheel.namelist()}
+    metadata = next(text for name, text in held.items() if name.endswith("METADATA"))
+    well = [it.partition(" ")[0] for it in needs] == ["libc6", *own] and len(own) > 10 and "python3 (>= 3.11)" in needs
+    well = well and (control["Package"], control["Provides"], control["Conflicts"], control["Replaces"]) == ("pitplan", "pit (= 0.1.0)", "pit", "pit")
+    well = well and not missing and "pitplan/offsets.py" in held and "\nVersion: 0.1.0\n" in metadata and "pitplan = pitplan.cli:main" in "".join(held.values())
+    return well, said + repr([missing, control, metadata])
+
+
 def a_release_is_compared_with_another_build(tree):
     released(tree)
     tree.log()
     status, said = tree.ran("release", "--check")
-    well = status == 0 and said.count("same   ") == 4 and "proved anew: pit; 3 libraries taken" in said and not tree.has("out/again")
+    well = status == 0 and said.count("same   ") == 6 and "proved anew: pit; 3 libraries taken" in said and not tree.has("out/again")
     anew, more = tree.ran("release", "--check", "--anew")
     return well and anew == 0 and "proved anew: " in more and "0 libraries taken" in more, said + more
 
@@ -332,17 +404,21 @@ def what_is_not_committed_is_not_released(tree):
 def the_manual_page_follows_the_help_texts(tree):
     help_text = ("Digs.\\n\\nUsage: pit <COMMAND>\\n\\nCommands:\\n  dig   Digs\\n  help  Print\\n\\nOptions:\\n  -h, --help  Print help\\n\\n"
                  "Exit status:\\n  0  done\\n")
-    of_dig = "Digs a .pit\\n\\nUsage: pit dig [OPTIONS]\\n\\nOptions:\\n      --deep <N>\\n          How deep: 3 by default\\n"
+    of_dig = "Digs a .pit\\n\\nUsage: pit dig [OPTIONS]\\n\\nOptions:\\n      --deep <N>\\n          How deep: 3 by default\\n\\n            far  to the end\\n"
     program = "#!/bin/sh\ncase \"$*\" in\n--version) echo pit 7.8.9;;\n--help) printf '%s';;\n'dig --help') printf '%s';;\nesac\n"
     tree.write("out/pit", program % (help_text, of_dig), 0o755)
     status, said = tree.ran("tools/man_page.py")
     page = (tree.top / "docs/pit.1").read_text()
     parts = ['.TH PIT 1 "" "pit 7.8.9"', ".SH NAME\npit \\- digs.", ".B pit dig [OPTIONS]", ".SS pit dig\nDigs a .pit\n",
-             ".TP\n.B \\-\\-deep <N>\nHow deep: 3 by default\n", ".SH EXIT STATUS\n.TP\n.B 0\ndone\n"]
+             ".TP\n.B \\-\\-deep <N>\nHow deep: 3 by default\n.br\nfar: to the end\n", ".SH EXIT STATUS\n.TP\n.B 0\ndone\n"]
     compared = [asked(tree, "manual(run.tree.PROGRAM)")]
     tree.write("out/pit", program % (help_text, of_dig.replace("3 by", "4 by")), 0o755)
     compared.append(asked(tree, "manual(run.tree.PROGRAM)"))
-    told = "docs/pit.1 isn't what the help texts of the program say" in compared[1] and "tools/man_page.py writes it anew" in compared[1]
+    fish = (tree.top / "completions/pit.fish").read_text()
+    (tree.top / "completions/pit.bash").write_text("older\n")
+    compared.append(asked(tree, "manual(run.tree.PROGRAM)"))
+    told = "docs/pit.1 isn't what the help texts of pit say" in compared[1] and "tools/man_page.py writes it anew" in compared[1] and "completions/pit.bash isn't" in compared[2]
+    told = told and "from dig' -l deep -x -d 'How deep'" in fish and "completions" not in compared[1]
     well = status == 0 and all(part in page for part in parts) and compared[0] == "(1, 0)\n" and compared[1].endswith("(0, 1)\n") and told
     return well, said + page + repr(compared)
 
@@ -354,7 +430,8 @@ CASES = [
     the_gate_tries_edits_over_its_own_libraries, what_is_proved_is_kept_where_one_fails, a_crate_of_few_functions_gets_one_process,
     limits_of_a_container_count, an_answer_comes_before_any_proof, quick_stops_after_the_first_answer, no_answer_without_proof_is_told,
     the_page_of_the_example_is_made,
-    an_unknown_word_is_refused, install_copies_the_program, two_folders_make_the_same_release, a_release_holds_what_it_should,
+    an_unknown_word_is_refused, install_copies_the_program, the_launcher_changes_nothing_else, install_brings_pitplan_where_its_packages_are, pitplan_names_the_packages_that_it_lacks,
+    two_folders_make_the_same_release, a_release_holds_what_it_should, a_release_holds_pitplan,
     a_release_is_compared_with_another_build, another_program_fails_the_comparison, what_is_not_committed_is_not_released,
     the_manual_page_follows_the_help_texts,
 ]

@@ -1,19 +1,20 @@
-"""The tests of pitplan, the planner's side in Python: python/tests, by Debian's own Python and packages."""
+"""The tests of pitplan, the planner's side in Python: python/tests, by Debian's own Python and packages, its Debian package in a
+fresh Debian, and damaged studies."""
 import os
 import re
 import subprocess
+import tempfile
+from concurrent.futures import ThreadPoolExecutor
 from pathlib import Path
+
+import debian
 
 PYTHON = "/usr/bin/python3"
 
 
-ENGINES = "# its tests on a cluster's engines"
-
-
-def packages(top, with_engines):
-    """Debian's packages that pitplan and its tests need, by python/packages; with those of a cluster's engines or without."""
-    text = (top / "python" / "packages").read_text()
-    lines = (text if with_engines else text.partition(ENGINES)[0]).splitlines()
+def packages(top):
+    """Debian's packages that pitplan and its tests need, by python/packages."""
+    lines = (top / "python" / "packages").read_text().splitlines()
     return [line.strip() for line in lines if line.strip() and not line.startswith("#")]
 
 
@@ -24,9 +25,9 @@ def missing(names):
     return [name for name in names if name not in there]
 
 
-def installed(top, with_engines):
+def installed(top):
     """Installs what is missing where that may be done, else says by which command; whether all is there."""
-    lacking = missing(packages(top, with_engines))
+    lacking = missing(packages(top))
     if not lacking:
         return True
     command = ["apt-get", "install", "-y", "--no-install-recommends", *lacking]
@@ -43,17 +44,35 @@ def installed(top, with_engines):
     return not lacking
 
 
-def try_all(top, pit, with_engines=False):
-    """Runs the tests, with those on a one-node Slurm, Snakemake and Dask or without, and gives how many passed and failed."""
+def try_all(top, pit):
+    """Runs the tests, with those on a one-node Slurm, Snakemake and Dask, and gives how many passed and failed. What they write is taken away."""
     if not os.access(pit, os.X_OK):
         print("no program at %s" % pit)
         return 0, 1
-    if not installed(top, with_engines):
+    if not installed(top):
         return 0, 1
-    words = [PYTHON, "-m", "pytest", "-q", "-p", "no:cacheprovider", *([] if with_engines else ["--ignore=tests/test_engines.py"]), "tests"]
-    ran = subprocess.run(words, cwd=top / "python", env={**os.environ, "PIT": str(pit)}, stdin=subprocess.DEVNULL, stdout=subprocess.PIPE, stderr=subprocess.STDOUT, text=True)
+    with tempfile.TemporaryDirectory(prefix="pitplan-tests.", ignore_cleanup_errors=True) as room:
+        words = [PYTHON, "-m", "pytest", "-q", "-p", "no:cacheprovider", "--basetemp=" + os.path.join(room, "t"), "tests"]
+        ran = subprocess.run(words, cwd=top / "python", env={**os.environ, "PIT": str(pit), "TMPDIR": room}, stdin=subprocess.DEVNULL, stdout=subprocess.PIPE, stderr=subprocess.STDOUT, text=True)
     counts = {word: int(number) for number, word in re.findall(r"(\d+) (passed|failed|error|errors)\b", ran.stdout.strip().rsplit("\n", 1)[-1])}
     passed, failed = counts.get("passed", 0), counts.get("failed", 0) + counts.get("error", 0) + counts.get("errors", 0)
     if ran.returncode:
         print(ran.stdout)
     return passed, max(failed, int(ran.returncode != 0))
+
+
+def try_packaged(top, pit):
+    """The same tests, and beside them, since it waits for downloads and disks, the Debian package in a fresh Debian."""
+    if not installed(top):                    # mmdebstrap is one of them
+        return 0, 1
+    with ThreadPoolExecutor(1) as beside:
+        packaged = beside.submit(debian.try_all, pit)
+        counts = [try_all(top, pit), packaged.result()]
+    return sum(passed for passed, _ in counts), sum(failed for _, failed in counts)
+
+
+def fuzz(top, minutes, seed):
+    """Throws damaged studies at pitplan for so many minutes: each is answered by a result or a message, never by a traceback."""
+    words = [PYTHON, "tests/fuzz_studies.py", str(10**9), str(60 * minutes), str(seed)]
+    well = subprocess.run(words, cwd=top / "python", stdin=subprocess.DEVNULL).returncode == 0
+    return int(well), int(not well)

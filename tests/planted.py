@@ -19,14 +19,27 @@ def edits_in(crate):
     return sorted((crate / "planted").glob("*.edit"))
 
 
-def copy_of(top, room):
-    """A copy of the tree in which the planted edits stand where the kit looks for edits."""
+def wanted_edits(top, names):
+    """The names of the edits to be tried, by crate: those of the crates CRATE, those named CRATE/EDIT, or all where no name is given."""
+    found = {crate.name: [edit.stem for edit in edits_in(crate)] for crate in sorted((top / "crates").iterdir())}
+    wanted = {}
+    for name in names or [crate for crate, edits in found.items() if edits]:
+        crate, _, edit = name.partition("/")
+        if crate not in found or edit and edit not in found[crate]:
+            sys.exit("no such %s: %s" % ("edit" if edit else "crate", name))
+        wanted.setdefault(crate, []).extend(it for it in ([edit] if edit else found[crate]) if it not in wanted.get(crate, []))
+    return {crate: edits for crate, edits in wanted.items() if edits}
+
+
+def copy_of(top, room, wanted):
+    """A copy of the tree in which the wanted edits stand where the kit looks for edits."""
     tree = Path(room) / "tree"
     shutil.copytree(top, tree, symlinks=True, ignore=shutil.ignore_patterns(".git", "__pycache__"))
     for crate in (tree / "crates").iterdir():
         shutil.rmtree(crate / "must-fail", ignore_errors=True)
-        if (crate / "planted").is_dir():
-            (crate / "planted").rename(crate / "must-fail")
+        for edit in wanted.get(crate.name, []):
+            (crate / "must-fail").mkdir(exist_ok=True)
+            (crate / "planted" / (edit + ".edit")).rename(crate / "must-fail" / (edit + ".edit"))
     # so that the build looks at each library: the gate leaves the program, and not what the libraries were built to
     (tree / "out" / "built-from").unlink(missing_ok=True)
     return tree
@@ -55,15 +68,11 @@ def tell(name, edit, found, said):
 
 
 def try_all(top, names):
-    """Tries the planted edits of the crates with these names, or of all, and gives how many were refused and how many not."""
-    crates = [crate for crate in sorted((top / "crates").iterdir()) if edits_in(crate)]
-    unknown = sorted(set(names) - {crate.name for crate in (top / "crates").iterdir()})
-    if unknown:
-        sys.exit("no such crate: %s" % " ".join(unknown))
-    wanted = {crate.name: [edit.stem for edit in edits_in(crate)] for crate in crates if not names or crate.name in names}
+    """Tries the planted edits of these names, CRATE or CRATE/EDIT, or all, and gives how many were refused and how many not."""
+    wanted = wanted_edits(top, names)
     passed = failed = 0
     with tempfile.TemporaryDirectory(prefix="pit-planted-") as room:
-        tree = copy_of(top, room)
+        tree = copy_of(top, room, wanted)
         # the libraries, before crates are tried side by side
         if subprocess.run([str(tree / "build")], stdin=subprocess.DEVNULL).returncode:
             return 0, 1

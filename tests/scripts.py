@@ -82,6 +82,13 @@ def an_accepted_edit_fails(tree):
     return status == 1 and is_told and said.endswith("1 passed, 2 failed\n"), said
 
 
+def named_edits_are_tried_alone(tree):
+    """Those of one name, over the edits of the tests above: harmless is accepted, and not tried here."""
+    status, said = ran(tree, "tests/run", "--planted", "small/the_number_itself")
+    unknown, told = ran(tree, "tests/run", "--planted", "small/nothing")
+    return (status, unknown) == (0, 1) and said.endswith("1 passed, 0 failed\n") and "no such edit: small/nothing" in told, said + told
+
+
 def edits_are_tried_by_their_function(tree):
     for name, text in {"of_next": NEXT + REFUSED, "of_another": SOME + REFUSED, "harmless": SOME + ACCEPTED, "unnamed": REFUSED,
                        "stale": NEXT + STALE, "unreadable": NEXT + REFUSED.replace("new:     n", "new:     nobody")}.items():
@@ -106,15 +113,16 @@ def a_failed_proof_fails_the_example(tree):
 
 
 def version_is_up_to_date(top):
-    """Whether `pit --version` tells the changelog's newest version and the logic of the kit that is installed."""
+    """Whether `pit --version` tells the changelog's newest version and the logic of the kit that is installed, and pitplan that version."""
     kit = subprocess.run(["rt", "version"], stdin=subprocess.DEVNULL, stdout=subprocess.PIPE, text=True).stdout
     logic = kit[kit.index("logic "):].strip()
     newest = re.search(r"^## (\S+)", (top / "CHANGELOG.md").read_text(), re.M)[1]
     told = re.search(r'VERSION: &str = "([^"]*)"', (top / "crates/command_line/src/version.rt").read_text())[1]
     wanted = "%s\n%s" % (newest, logic)
     case = (top / "tests/cases/usage/version/stdout").read_text()
-    well = told == wanted and case == "pit %s\n" % wanted and "`%s`" % logic in (top / "README.md").read_text()
-    return well, "version.rt has %r, usage/version has %r, wanted is %r, in README too" % (told, case, wanted)
+    planner = re.search(r'^__version__ = "([^"]*)"', (top / "python/pitplan/__init__.py").read_text(), re.M)[1]
+    well = told == wanted and planner == newest and case == "pit %s\n" % wanted and "`%s`" % logic in (top / "README.md").read_text()
+    return well, "version.rt has %r, pitplan %r, usage/version has %r, wanted is %r, in README too" % (told, planner, case, wanted)
 
 
 def pages_are_right(top):
@@ -205,20 +213,22 @@ def wrong_drawings_are_refused(top, folder):
 def installs_where_the_caller_stands(top, folder):
     """Whether ./install FOLDER, called from elsewhere, takes a folder of the caller's. Its build is one that does nothing."""
     tree, caller = folder / "tree", folder / "caller"
-    (tree / "out").mkdir(parents=True)
     caller.mkdir()
-    shutil.copy(top / "install", tree / "install")
-    for name, text in (("build", "#!/bin/sh\n"), ("out/pit", "the program")):
+    for name in ("install", "tools/launcher", "docs/pit.1", "completions/pit.bash", "completions/pit.zsh", "completions/pit.fish"):
+        (tree / name).parent.mkdir(parents=True, exist_ok=True)
+        shutil.copy(top / name, tree / name)
+    for name, text in (("build", "#!/bin/sh\n"), ("out/pit", "the program"), ("python/packages", "python3-nowhere\n")):
+        (tree / name).parent.mkdir(exist_ok=True)
         (tree / name).write_text(text)
         (tree / name).chmod(0o755)
     done = subprocess.run([str(tree / "install"), "bin"], cwd=caller, stdin=subprocess.DEVNULL, stdout=subprocess.PIPE,
                           stderr=subprocess.STDOUT, text=True)
-    well = (caller / "bin" / "pit").exists() and not (tree / "bin").exists() and done.stdout == "installed %s/bin/pit\n" % caller.resolve()
+    well = (caller / "bin" / "pit").exists() and not (tree / "bin").exists() and done.stdout.startswith("installed %s/bin/pit, which" % caller.resolve())
     return done.returncode == 0 and well, done.stdout
 
 
 # the build comes first: the copies in which edits are tried begin with what it made
-CASES = [a_build_says_what_it_proved, edits_are_tried_by_their_function, refused_edits_pass, an_accepted_edit_fails,
+CASES = [a_build_says_what_it_proved, edits_are_tried_by_their_function, refused_edits_pass, an_accepted_edit_fails, named_edits_are_tried_alone,
          a_failed_proof_fails_the_example, wrong_pages_are_told]
 
 

@@ -101,7 +101,7 @@ MAIN = """//! The program.
 //sh esac
 fn main() {}
 """
-FILES = ("build", "run-example", "install", "release", "tools/*.py", "tests/run", "tests/*.py")
+FILES = ("build", "run-example", "install", "release", "tools/*.py", "tools/launcher", "tests/run", "tests/*.py", "python/packages", "python/pyproject.toml")
 
 
 class Tree:
@@ -125,8 +125,11 @@ class Tree:
         self.write("../kit/toolchain/bin/clang", LLVM, 0o755)
         for name in ("copper.prec", "copper.upit", "copper.cert"):
             self.write("examples/copper/" + name, name)
-        for name in ("README.md", "CHANGELOG.md", "LICENSE", "docs/pit.1", "docs/GUIDE.md", "python/pitplan/offsets.py"):
-            self.write(name, "a text\n")
+        of_shells = ["completions/%s.%s" % (name, shell) for name in ("pit", "pitplan") for shell in ("bash", "zsh", "fish")]
+        for name in ("README.md", "CHANGELOG.md", "LICENSE", "docs/pit.1", "docs/pitplan.1", "docs/GUIDE.md", "python/pitplan/offsets.py", *of_shells):
+            self.write(name, "# a text\n")
+        self.write("python/pitplan/__init__.py", "__version__ = '0.1.0'\n")
+        self.write("bin/pitplan", "#!/bin/sh\n", 0o755)
         self.write(".gitignore", "out/\ndist/\n")
         self.around = dict(os.environ, PATH="%s:%s" % (self.kit / "bin", os.environ["PATH"]), GIT_CONFIG_GLOBAL=os.devnull)
 

@@ -1,10 +1,12 @@
-"""Runs the built program where a case's folder can't say what is wanted: on one processor, with outputs that are closed, on runs
-that are long enough to tell how far they are, and on mines whose size chooses the engine.
+"""Runs the built program where a case's folder can't say what is wanted: on one processor, with outputs that are closed, past the
+limit of a file's size, on blocks of too many pairs, on runs that are long enough to tell how far they are, and on mines whose size chooses the solver.
 
 What must come is worked out from FORMATS.md and the help texts, or is what the program answers without the surroundings.
 """
 import os
 import re
+import resource
+import shutil
 import subprocess
 import tempfile
 from pathlib import Path
@@ -55,6 +57,56 @@ def with_closed_outputs(program):
             yield None if status == wanted else "%s %s: status %d in place of %d" % (" ".join(words), redirection, status, wanted)
 
 
+LAUNCHER = Path(__file__).resolve().parent.parent / "tools" / "launcher"
+LIMIT = 1000
+
+
+def past_a_limit(program, words, folder):
+    """The exit status and the errors where no file may be longer than LIMIT bytes, and what came on standard output."""
+    out = Path(folder) / "out"
+    with open(out, "wb") as file:
+        done = subprocess.run([str(program), *words], cwd=folder, stdin=subprocess.DEVNULL, stdout=file, stderr=subprocess.PIPE, timeout=SECONDS,
+                              preexec_fn=lambda: resource.setrlimit(resource.RLIMIT_FSIZE, (LIMIT, LIMIT)))
+    return done.returncode, done.stderr, out.read_bytes()
+
+
+def with_files_of_a_limit(program):
+    """What is installed, the launcher over the program, says that a device failed where a file grows past its limit (`ulimit -f`): of the
+    output a front is there, and of a trace. The answer is the program's own where there is no limit."""
+    with room_with(chain(40, 40)) as room:
+        installed = Path(room) / "bin" / "pit"
+        (Path(room) / "lib" / "pontihaw").mkdir(parents=True)
+        (Path(room) / "lib" / "pontihaw" / "pit").symlink_to(Path(program).resolve())
+        installed.parent.mkdir()
+        shutil.copy(LAUNCHER, installed)
+        ample, same = run(program, ["solve", *VALUES], room), run(installed, ["solve", *VALUES], room)
+        yield None if ample == same and ample[0] == 0 and len(ample[1]) > LIMIT else "the launcher: %r in place of %r" % (same, ample)
+        status, errors, output = past_a_limit(installed, ["solve", *VALUES], room)
+        well = (status, errors) == (4, b"fault: device\n") and output == ample[1][:LIMIT]
+        yield None if well else "output past its limit: %r" % ((status, errors, output),)
+        status, errors, output = past_a_limit(installed, ["solve", *VALUES, "--trace", "t", "--verbose"], room)
+        told = [b"fault: device"] == errors.splitlines()[1:] and errors.startswith(b"reason: cannot write to t: ")
+        trace = (Path(room) / "t").read_bytes()
+        run(program, ["solve", *VALUES, "--trace", "t"], room)
+        well = (status, output) == (4, b"") and told and trace == (Path(room) / "t").read_bytes()[:LIMIT]
+        yield None if well else "a trace past its limit: %r" % ((status, errors, output),)
+
+
+def more_pairs_than_may_be(program):
+    """Once the blocks are read, and before pairs are looked for, --verbose tells how many there may be at most, where that is too many.
+    Here two blocks at one place end the run then."""
+    width, blocks = 35, 35_000
+    offsets = sum(x * x + y * y <= width * width for x in range(-width, width + 1) for y in range(-width, width + 1))
+    listed = [[x, y, 1] for x in range(64) for y in range(64)]
+    files = {"b": "".join("%d %d 0 0\n" % (b, 0 if b == blocks - 1 else 100 * b) for b in range(blocks)), "s": "offsets = %r\n" % listed}
+    by_list = ["--pattern", "settings", "--settings", "s"]
+    with room_with(files) as room:
+        for pattern, number in ((["--pattern", "cone:1:%d:1" % width], offsets), (by_list, len(listed)), (["--pattern", "nine"], None)):
+            said = run(program, ["slopes", "--blocks", "b", *pattern, "--verbose"], room)
+            note = b"note: %d offsets give at most %d pairs for %d blocks, and no more than 134217728 are written\n" % (number, number * blocks, blocks) if number else b""
+            yield None if said == (3, b"", note + b"fault: slope SamePlace(0, %d)\n" % (blocks - 1)) else "pairs of %s: %r" % (pattern, said)
+
+
 def first_lines_of_progress(program, words, folder):
     """What a run tells on standard error until its second line; then it is ended."""
     with subprocess.Popen([str(program), *words, "--progress"], cwd=folder, stdin=subprocess.DEVNULL, stdout=subprocess.DEVNULL,
@@ -73,7 +125,7 @@ def how_far_the_machine_is(program):
     yield None if well and int(told[0][3]) < int(told[1][3]) and int(told[0][1]) < int(told[1][1]) else "progress of the machine: %r" % (lines,)
 
 
-def the_engine_by_size(program):
+def the_solver_by_size(program):
     """Up to 1,000 blocks `auto` is the push-relabel machine, and beyond pseudoflow: the two find different flows here."""
     for blocks, method in ((1_000, "push-relabel"), (1_001, "pseudoflow")):
         upit = "NBLOCKS: %d\nOBJECTIVE_FUNCTION:\n0 -7\n1 4\n3 -3\n" % blocks
@@ -86,7 +138,7 @@ def the_engine_by_size(program):
 
 def try_all(program):
     """Tries all of it, and gives how many answers were as they must be and how many not."""
-    results = [line for tried in (on_one_processor, with_closed_outputs, how_far_the_machine_is, the_engine_by_size)
+    results = [line for tried in (on_one_processor, with_closed_outputs, with_files_of_a_limit, more_pairs_than_may_be, how_far_the_machine_is, the_solver_by_size)
                for line in tried(program)]
     wrong = [line for line in results if line]
     for line in wrong:

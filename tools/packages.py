@@ -10,12 +10,16 @@ import os
 import re
 import subprocess
 import tarfile
+import tempfile
 from collections import namedtuple
 from pathlib import Path
 
 import tree
 
 File = namedtuple("File", "data mode")
+OWN_PATHS = {shell: "completions/%s." + shell for shell in ("bash", "zsh", "fish")}
+# where Debian's shells look for what they complete, below /
+SHELLS_PATHS = {"bash": "usr/share/bash-completion/completions/%s", "zsh": "usr/share/zsh/vendor-completions/_%s", "fish": "usr/share/fish/vendor_completions.d/%s.fish"}
 DESCRIPTION = """finds and checks ultimate pits of open-pit mines, with proofs
  pit reads a block model and its slopes in MineLib's formats, finds the most
  valuable pit, and writes a certificate that shows that no pit is worth more.
@@ -37,10 +41,20 @@ def names_in(folder, pattern="*"):
     return sorted("%s/%s" % (folder, at.name) for at in (tree.TOP / folder).glob(pattern) if at.is_file())
 
 
+def programs(folder, library, program):
+    """The launcher in one folder and the program in another, by path: it finds it beside itself or one folder up."""
+    return {folder + "pit": File(read("tools/launcher"), 0o755), library + "lib/pontihaw/pit": File(program, 0o755)}
+
+
 def documents():
     """The texts that the README leads to, and the example that they type commands on."""
     return ["README.md", "CHANGELOG.md", "LICENSE", *names_in("docs", "*.md"), *names_in("docs/pictures"), *names_in("examples"), *names_in("examples/copper"),
             "python/pitplan/offsets.py"]  # which examples/offsets.py runs
+
+
+def completions(command, paths=None):
+    """What shells complete after a command, by its path in an archive, or by the paths for each shell that are given."""
+    return {(paths or OWN_PATHS)[shell] % command: file(OWN_PATHS[shell] % command) for shell in OWN_PATHS}
 
 
 def toolchain(tool, *words):
@@ -86,17 +100,18 @@ def tarred(files, time):
 
 def tarball(name, program, about, time):
     """The archive to unpack anywhere: the program, its manual page, the documents and the example, below a folder of this name."""
-    files = {"pit": File(program, 0o755), "pit.1": file("docs/pit.1"), "BUILT.txt": File(about, 0o644)}
+    files = {**programs("", "", program), "pit.1": file("docs/pit.1"), "BUILT.txt": File(about, 0o644), **completions("pit")}
     files.update({path: file(path) for path in documents()})
     return zipped(tarred({"%s/%s" % (name, path): its for path, its in files.items()}, time))
 
 
-def debian_files(program, about):
-    """What the Debian package of the program installs, by its path below /."""
-    own = "usr/share/doc/pit/"
+def debian_files(program, about, package="pit"):
+    """What the Debian package of the program installs, by its path below /; with its documents below the name of this package."""
+    own = "usr/share/doc/%s/" % package
     files = {
-        "usr/bin/pit": File(program, 0o755),
+        **programs("usr/bin/", "usr/", program),
         "usr/share/man/man1/pit.1.gz": File(zipped(read("docs/pit.1")), 0o644),
+        **completions("pit", SHELLS_PATHS),
         own + "BUILT.txt": File(about, 0o644),
         own + "copyright": file("LICENSE"),
         own + "changelog.gz": File(zipped(read("CHANGELOG.md")), 0o644),
@@ -105,19 +120,20 @@ def debian_files(program, about):
     return files
 
 
-def control(package, version, depends, files):
-    """The text of a Debian package's control file."""
+def control(package, version, depends, files, description=DESCRIPTION, more=""):
+    """The text of a Debian package's control file; `more` are lines of further fields."""
     size = sum(-(-len(its.data) // 1024) for its in files.values())
     return ("Package: %s\nVersion: %s\nArchitecture: amd64\nMaintainer: Pontihaw maintainers <maintainers@users.noreply.pontihaw.example>\n"
-            "Installed-Size: %d\nDepends: %s\nSection: science\nPriority: optional\nDescription: %s"
-            % (package, version, size, depends, DESCRIPTION)).encode()
+            "Installed-Size: %d\nDepends: %s\n%sSection: science\nPriority: optional\nDescription: %s"
+            % (package, version, size, depends, more, description)).encode()
 
 
-def debian(files, about_package, time, room):
-    """A Debian package of the files, with this control file."""
-    folder = Path(room) / "package"
+def debian(files, about_package, time, room, scripts={}):
+    """A Debian package of the files, with this control file, and scripts that are run as it is installed and removed."""
+    folder = Path(tempfile.mkdtemp(dir=room))
     sums = "".join("%s  %s\n" % (hashlib.md5(files[path].data).hexdigest(), path) for path in sorted(files))
     of_package = {"DEBIAN/control": File(about_package, 0o644), "DEBIAN/md5sums": File(sums.encode(), 0o644)}
+    of_package.update(("DEBIAN/" + name, its) for name, its in scripts.items())
     for path, its in {**of_package, **files}.items():
         to = folder / path
         to.parent.mkdir(parents=True, exist_ok=True)
@@ -127,7 +143,7 @@ def debian(files, about_package, time, room):
         if at.is_dir():
             at.chmod(0o755)
         os.utime(at, (time, time))
-    made = Path(room) / "made.deb"
+    made = folder.with_suffix(".deb")
     # gzip's bytes don't depend on the number of processors, as those of several threads of xz do
     subprocess.run(["dpkg-deb", "--root-owner-group", "-Zgzip", "-z9", "--build", str(folder), str(made)], check=True,
                    stdout=subprocess.DEVNULL, env=dict(os.environ, SOURCE_DATE_EPOCH=str(time), LC_ALL="C"))

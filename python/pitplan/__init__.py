@@ -14,7 +14,7 @@ from __future__ import annotations
 import importlib
 from typing import Any
 
-__version__ = "0.1"
+__version__ = "0.1.0"
 # Where each name is: they are imported when they are asked for, so that `pitplan --help` needs no pandas.
 WHERE = {"Economics": "economics", "Metal": "economics", "PlanError": "errors", "NotAccepted": "errors", "Disagreement": "errors", "MachineError": "errors",
          "Grid": "grid", "Model": "model", "read_table": "model", "Accepted": "program", "Pit": "program", "Shells": "shells", "factors": "shells",

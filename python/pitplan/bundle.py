@@ -16,6 +16,7 @@ from . import __version__
 from .amounts import THOUSAND
 from .csv_text import Dialect
 from .errors import PlanError
+from .next_command import command
 from .program import sha256
 from .study import COLUMNS, READ, made_whole
 
@@ -73,12 +74,14 @@ def write(shells: Shells, folder: str | Path, told: Path, dialect: Dialect, rate
     folder, study = Path(folder), shells.study
     if folder.exists():
         raise PlanError(f"{folder} is there already", try_this="another name, or take it away")
-    source = study.manifest["source"]
-    if not source or not Path(source["table"]).is_file() or sha256(Path(source["table"])) != source["sha256"]:
-        raise PlanError("the table that the study was built from isn't there any more", table=source and source["table"], try_this="pitplan build, pitplan shells")
+    table = study.table
+    if table is None or not table.is_file() or sha256(table) != study.manifest["source"]["sha256"]:
+        raise PlanError("the table that the study was built from isn't there any more", table=table, try_this=f"{command('build', study.named)} && {command('shells', study.named)}")
     with made_whole(folder) as work:
-        name = f"table/{plain_name(Path(source['table']).name)}"
-        copy_files(study, work, {told: "study.toml", Path(source["table"]): name})
+        name = f"table/{plain_name(table.name)}"
+        copy_files(study, work, {told: "study.toml", table: name})
+        manifest = study.manifest | {"source": study.manifest["source"] | {"table": name}}      # no path of the planner's machine
+        (work / "model" / "manifest.json").write_text(json.dumps(manifest, indent=1))
         write_certificates(shells, work)
         write_tables(shells, work, rates or {})
         (work / "facts.json").write_text(json.dumps(facts_of(study, name, dialect), indent=1))
@@ -103,7 +106,7 @@ def copy_files(study: Study, work: Path, more: dict[Path, str]) -> None:
         (work / part).mkdir()
     names: list[str] = [name for name in study.manifest["files"] if name in READ or name.endswith(".toml")]
     copies = dict(more)
-    for part in [*names, "manifest.json"]:
+    for part in names:
         copies[study.where / part] = f"model/{part}"
     for source, name in copies.items():
         shutil.copyfile(source, work / name)

@@ -2,12 +2,18 @@
 from __future__ import annotations
 
 from pathlib import Path
+from typing import TYPE_CHECKING
 
 from .amounts import THOUSAND
-from .console import opened
+from .console import err, opened
 from .errors import PlanError
-from .shells import Shells, series_of
+from .next_command import command
+from .shells import Shells, series_of, thousandths
 from .study import Study
+
+if TYPE_CHECKING:
+    from .compare import Comparison
+    from .design import Design
 
 
 def shares_of(text: str) -> list[int]:
@@ -45,12 +51,28 @@ def pits_at(folder: Path, series: list[int]) -> Shells:
     return Shells(study, series)
 
 
+def beside(study: Study, design: Design, factor: float) -> Comparison:
+    """A design beside the best pit at a factor, as a share of the price.
+
+    Raises
+    ------
+    PlanError
+        Where that pit hasn't been run.
+    """
+    from .compare import compare
+    wanted = thousandths(factor)
+    if not study.verdict(wanted):
+        raise not_run(study, wanted)
+    with err.status("pit check reads the design"):
+        return compare(study, design, wanted)
+
+
 def not_run(study: Study, factor: int) -> PlanError:
     """The error of a pit that isn't there."""
     there = [int(path.name[1:]) for path in sorted((study.folder / "runs" / "base").glob("f*")) if path.name[1:].isdigit()]
     there = [found for found in there if study.verdict(found)]
     near = sorted(sorted(there, key=lambda found: abs(found - factor))[:2])
     if not near:
-        return PlanError(f"the pit at factor {factor / THOUSAND:g} hasn't been run", try_this="pitplan shells")
+        return PlanError(f"the pit at factor {factor / THOUSAND:g} hasn't been run", try_this=command("shells", study.named))
     return PlanError(f"the pit at factor {factor / THOUSAND:g} hasn't been run; the nearest that have are " + ", ".join(f"{found / THOUSAND:g}" for found in near),
-                     try_this="one of these, or another [shells] factors in study.toml, and pitplan shells")
+                     try_this=f"one of these; or put it into factors in [shells] of study.toml, then: {command('shells', study.named)}")

@@ -3,18 +3,45 @@ from __future__ import annotations
 
 import errno
 import importlib
+import importlib.util
 import pkgutil
 import sys
+import threading
 from pathlib import Path
+from types import ModuleType
+from typing import Any
 
 import click
 from rich.markup import escape
 
+from . import older
 from .console import app, err
 from .errors import Disagreement, MachineError, NotAccepted, PlanError
+from .next_command import remember
 
 ORDER = ("init", "build", "slopes", "shells", "plot", "page", "phases", "export", "compare", "risk", "vary", "submit", "status", "task", "bundle", "doctor")  # of a working day, for --help
 NO, WRONG, MACHINE, STOPPED = 1, 3, 4, 130
+LOADING = threading.RLock()
+
+
+class Later(ModuleType):
+    """A module that is loaded when something of it is asked for."""
+
+    def __getattr__(self, name: str) -> Any:
+        with LOADING:
+            if sys.modules.get(self.__name__) is self:
+                del sys.modules[self.__name__]
+                self.__dict__.update(vars(importlib.import_module(self.__name__)))
+        return getattr(sys.modules[self.__name__], name)
+
+
+def lazily(name: str) -> None:
+    """Lets `import NAME` wait: pandas takes longer to load than many a command takes to run, and the first pits can be looked for
+    meanwhile."""
+    spec = importlib.util.find_spec(name)
+    if spec and name not in sys.modules:
+        sys.modules[name] = Later(name)
+        sys.modules[name].__spec__ = spec
 
 
 def load_commands() -> None:
@@ -41,9 +68,14 @@ def remedy(error: OSError) -> str:
 
 def main() -> None:
     """Runs a command. Exit status: 0 done, 1 no, 2 wrong words, 3 a file is wrong, 4 the machine, 130 stopped."""
+    remember(sys.argv[0])
+    lazily("pandas")
     load_commands()
     try:
-        status = app(prog_name="pitplan", standalone_mode=False)
+        try:
+            status = app(prog_name="pitplan", standalone_mode=False)
+        finally:
+            older.note()
         sys.exit(status if isinstance(status, int) else 0)
     except click.ClickException as error:
         error.show()

@@ -9,6 +9,7 @@ from rich.markup import escape
 
 from .console import STUDY, app, described, err, out, print_columns
 from .errors import PlanError
+from .next_command import command
 
 if TYPE_CHECKING:
     from .study import Study
@@ -22,13 +23,14 @@ def init(table: Path = typer.Argument(..., help="A table of blocks: CSV or CSV.g
          is_forced: bool = typer.Option(False, "--force", help="Write over a study.toml that is there.")) -> None:
     """Look at a table of blocks, and write a study.toml for it."""
     from .first_look import look_at, written
+    from .study import near
     look = look_at(table, dict(map(named, column)))
     folder = folder or Path(table.name.removesuffix(".gz").removesuffix(".csv"))
     path = folder / "study.toml"
     if path.exists() and not is_forced:
         raise PlanError(f"{path} is there already", try_this="--force writes over it, --study names another folder")
     folder.mkdir(parents=True, exist_ok=True)
-    path.write_text(written(look, relative(table, folder)))
+    path.write_text(written(look, near(table, folder)))
     out.print(f"{table}: {look.rows:,} rows")
     out.print("  columns: " + escape(", ".join(f"{key} = {name}" for key, name in look.names.items())))
     out.print(f"  grades: {escape(', '.join(look.grades)) or 'none found'}")
@@ -37,7 +39,7 @@ def init(table: Path = typer.Argument(..., help="A table of blocks: CSV or CSV.g
                   + (", with sub-blocks" if look.has_sub_blocks else ""))
     for note in look.notes:
         err.print("  [yellow]look:[/yellow] " + escape(note))
-    out.print(f"{path} is written: put your own prices, costs and slopes there, then: pitplan build{'' if folder == Path('.') else ' ' + str(folder)}")
+    out.print(escape(f"{path} is written: put your own prices, costs and slopes there, then: {command('build', folder)}"), soft_wrap=True)
 
 
 def named(said: str) -> tuple[str, str]:
@@ -48,17 +50,10 @@ def named(said: str) -> tuple[str, str]:
     return key.strip(), name.strip()
 
 
-def relative(table: Path, folder: Path) -> str:
-    """The table as study.toml names it: from its own folder where that is short, so that the two can be moved together."""
-    import os
-    near = os.path.relpath(table.resolve(), folder.resolve())
-    return near if near.count("..") <= 2 else str(table.resolve())
-
-
 @app.command()
 def build(folder: Path = STUDY) -> None:
     """Read the table, work out what each block brings and costs, and make the slopes."""
-    from .commands_slopes import print_patterns
+    from .commands_slopes import key_of, print_patterns
     from .study import Study
     told = described(folder)
     with err.status("reading the table"):
@@ -68,9 +63,22 @@ def build(folder: Path = STUDY) -> None:
         out.print("  " + escape(note))
     with err.status("prices and slopes"):
         study = Study.create(told.path.parent, model, told.economics, told.slopes, keys=told.digest)
+        study.named = folder
     print_tonnage(study)
     print_patterns(told.slopes, study.model.grid)
+    set_aside(study, key_of(told.slopes, study.model.grid))
     print_size(study, told)
+
+
+def set_aside(study: Study, walls: str) -> None:
+    """Puts the tables and pictures of the model before out of the way of the new one's, and says so."""
+    from . import older
+    folder = study.folder / "out"
+    moved, changed = older.set_aside(folder, {study.key, walls})
+    if moved:
+        out.print(escape(f"{folder / older.OLDER} has what was written of the model before: {', '.join(moved)}"), soft_wrap=True)
+    for name in changed:
+        err.print("[yellow]look:[/yellow] " + escape(f"{folder / name} is of the model before; it was changed since it was written, so it stays there"), soft_wrap=True)
 
 
 def print_tonnage(study: Study) -> None:
@@ -96,7 +104,7 @@ def print_size(study: Study, told: StudyFile) -> None:
     workers = workers_for(study)
     out.print(f"{guess.pairs:,} pairs of a block and a predecessor. A pit will take about {guess.memory / 1e6:,.0f} MB and {duration(guess.seconds)}; "
               f"all {count}, {workers} at a time, {duration(guess.seconds * count / workers)}")
-    out.print(f"built in {study.folder}; then: pitplan shells{'' if study.folder == Path('.') else ' ' + str(study.folder)}")
+    out.print(escape(f"built in {study.folder}; then: {command('shells', study.named)}"), soft_wrap=True)
 
 
 def duration(seconds: float) -> str:

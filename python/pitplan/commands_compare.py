@@ -9,7 +9,7 @@ from typing import TYPE_CHECKING, Any, List, Optional
 import typer
 from rich.markup import escape
 
-from .console import STUDY, app, err, opened, out, results
+from .console import STUDY, app, opened, out, results
 from .errors import PlanError
 
 if TYPE_CHECKING:
@@ -29,15 +29,9 @@ def compare(folder: Path = STUDY,
             factor: float = typer.Option(1.0, "--factor", help="The pit to compare with, by its factor of the price."),
             bench: List[float] = typer.Option([], "--bench", help="Draw the plan of the bench at this elevation; where the two differ most unless told.")) -> None:
     """Put a designed pit beside the proved best one: does it keep the slopes, what is it worth, how far from the bound. Status 1 where it breaks the slopes."""
-    from .chosen import not_run
-    from .compare import compare as compared
-    from .shells import thousandths
-    study, wanted = opened(folder), thousandths(factor)
-    if not study.verdict(wanted):
-        raise not_run(study, wanted)
-    design = design_of(study.model, ids, (column, value), (surface, layer))
-    with err.status("pit check reads the design"):
-        found = compared(study, design, wanted)
+    from .chosen import beside
+    study = opened(folder)
+    found = beside(study, design_of(study.model, ids, (column, value), (surface, layer)), factor)
     target = write(study, found, bench)
     tell(study, found)
     out.print(escape(f"{target}: summary.json, benches.csv" + ("" if found.is_closed else ", pairs.csv, walls.csv, repair.csv") + ", plans"), soft_wrap=True)
@@ -98,45 +92,13 @@ def summary(study: Study, found: Comparison) -> dict[str, Any]:
 
 def tell(study: Study, found: Comparison) -> None:
     """The comparison on the screen."""
+    from .compare_words import money, verdict_lines
     currency, held = study.manifest["currency"], found.design.held
     tonnes = study.model.blocks.tonnes.to_numpy(float)
     lines = [f"{found.design.name}: {int(held.sum()):,} blocks, {tonnes[held].sum() / 1e6:,.2f} Mt, worth {money(found.worth, currency)} at factor {found.factor / 1000:g}", *(f"  {note}" for note in found.design.notes),
              f"best pit: {int(found.optimum.sum()):,} blocks, {tonnes[found.optimum].sum() / 1e6:,.2f} Mt, worth {money(found.bound, currency)}: no pit that keeps the slopes is worth more",
-             f"pit check says of the design: {found.said}"]
-    lines += closed_lines(found, currency) if found.is_closed else broken_lines(found, currency)
+             *verdict_lines(found, currency)]
     b = found.benches
     lines.append(f"left by the design {b.left_t.sum() / 1e6:,.2f} Mt ({b.left_ore_t.sum() / 1e6:,.2f} Mt of ore), beyond the best pit {b.over_t.sum() / 1e6:,.2f} Mt ({b.over_ore_t.sum() / 1e6:,.2f} Mt of ore)")
     for line in lines:
         out.print(escape(line), soft_wrap=True)
-
-
-def closed_lines(found: Comparison, currency: str) -> list[str]:
-    """What is said of a design that keeps the slopes."""
-    if found.said.startswith("ACCEPTED"):
-        return ["the design is the best pit"]
-    return [f"the design keeps the slopes, and is {money(str(found.gap), currency)} ({found.share(str(found.gap)):.2%}) below the proved bound"]
-
-
-def broken_lines(found: Comparison, currency: str) -> list[str]:
-    """What is said of a design that breaks the slopes. How far it is from the bound is said of the mended design alone, since one
-    that breaks slopes may be worth more than any pit."""
-    assert found.repair
-    lines = [f"the design breaks the slopes at {len(found.pairs):,} pairs of a block and a predecessor that it leaves, on {found.pairs['bench'].nunique():,} benches"]
-    for wall in found.walls.head(3).to_dict("records"):
-        way = "straight above" if wall["bearing"] != wall["bearing"] else f"towards {wall['bearing']:05.1f}"
-        may = "" if wall["built"] != wall["built"] else f" where {wall['built']:.1f} may stand"
-        lines.append(f"  wall {way}: {wall['steepest']:.1f} degrees at worst{may}, {wall['height']:,.10g} m up over {wall['away']:,.1f} m, "
-                     f"from block {wall['id']} at ({wall['x']:,.1f}, {wall['y']:,.1f}), bench {wall['bench']:,.10g}; {wall['pairs']:,} pairs")
-    more = len(found.walls) - 3
-    lines += [f"  {more} more {'bearings' if more > 1 else 'bearing'} in walls.csv"] if more > 0 else []
-    gap = found.repair.gap
-    lines.append(f"to keep them it has to dig {found.repair.blocks:,} blocks more ({found.repair.tonnes / 1e6:,.2f} Mt); then it is worth {money(found.repair.worth, currency)}, "
-                 f"{money(gap, currency)} ({found.share(gap):.2%}) below the proved bound")
-    return lines
-
-
-def money(amount: str, currency: str) -> str:
-    """An exact amount with its thousands parted."""
-    whole, point, places = amount.partition(".")
-    sign, digits = ("-", whole[1:]) if whole.startswith("-") else ("", whole)
-    return f"{currency} {sign}{int(digits):,}{point}{places}"

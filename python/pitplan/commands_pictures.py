@@ -9,11 +9,13 @@ import typer
 from rich.markup import escape
 
 from .console import STUDY, app, out, results, shells_of
+from .errors import PlanError
 
 if TYPE_CHECKING:
     from matplotlib.figure import Figure
 
-    from .shells import Shells
+    from .design import Design
+    from .model import Model
 
 
 @app.command()
@@ -47,9 +49,28 @@ def plot(folder: Path = STUDY,
 
 
 @app.command()
-def page(folder: Path = STUDY, title: Optional[str] = typer.Option(None, help="The heading; the table's name unless told.")) -> None:
-    """Write one HTML file with the pits in three dimensions, a slider over the factors and the table. It needs no network."""
+def page(folder: Path = STUDY,
+         phases: Optional[str] = typer.Option(None, "--phases", show_default=False, help="Show pushbacks too: the factors of the pits that end them, ascending, as 0.5,0.75,1.0."),
+         design: Optional[Path] = typer.Option(None, "--design", show_default=False, help="Show a designed pit beside the best one too: a DXF with faces, a CSV of points x, y, z, or ids in a table or a text."),
+         layer: List[str] = typer.Option([], "--layer", help="With --design: a layer of the DXF; all unless told."),
+         column: Optional[str] = typer.Option(None, "--column", show_default=False, help="In place of --design: the column of the study's table that says which rows the design takes."),
+         value: Optional[str] = typer.Option(None, "--value", show_default=False, help="With --column: the cell of the rows that it takes; any number above 0, or yes, unless told."),
+         factor: float = typer.Option(1.0, "--factor", help="The pit that the design is compared with, by its factor of the price."),
+         title: Optional[str] = typer.Option(None, show_default=False, help="The heading; the table's name unless told.")) -> None:
+    """Write one HTML file with pits in three dimensions, sections, plans and tables: pits by factor, pushbacks, a design beside the best pit. It needs no network."""
     from . import page as pages
+    from .chosen import beside, pits_at, shares_of
+    from .phases import Phases
     shells, rates = shells_of(folder)
-    path = pages.write(shells, results(shells.study) / "pits.html", shells.table(1000, **rates), title)
+    cut = Phases(pits_at(folder, shares_of(phases))) if phases else None
+    if design and column:
+        raise PlanError("a design is given by one of --design FILE and --column NAME")
+    found = beside(shells.study, design_of(shells.study.model, design, (column, value), layer), factor) if design or column else None
+    path = pages.write(shells, results(shells.study) / "pits.html", shells.table(1000, **rates), title, cut, found)
     out.print(f"{escape(str(path))}: {path.stat().st_size / 1e6:.1f} MB, opens in any browser", soft_wrap=True)
+
+
+def design_of(model: Model, file: Path | None, column: tuple[str | None, str | None], layers: list[str]) -> Design:
+    """The design of a file or of a column."""
+    from .design import by_column, by_file
+    return by_file(model, file, layers) if file else by_column(model, str(column[0]), column[1])

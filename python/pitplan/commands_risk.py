@@ -10,6 +10,7 @@ import typer
 
 from .console import STUDY, app, described, err, opened, out, results
 from .errors import PlanError
+from .next_command import command
 
 if TYPE_CHECKING:
     from .local import Heard
@@ -37,9 +38,9 @@ def risk(folder: Path = STUDY,
         prepare(study, described(folder).economics, realisations, series, metal)
     setup = setup_of(study)
     if setup is None:
-        raise PlanError("no realisations were asked for over the model that stands there", try_this="pitplan risk --realisations FILE")
+        raise PlanError("no realisations were asked for over the model that stands there", try_this=command("risk", folder, "--realisations", "FILE"))
     if later:
-        out.print(f"{len(setup.digests)} realisations at {len(setup.factors)} factors; then: pitplan submit, and pitplan risk again for the tables", soft_wrap=True)
+        out.print(f"{len(setup.digests)} realisations at {len(setup.factors)} factors; then: {command('submit', folder)}, and {command('risk', folder)} for the tables", soft_wrap=True)
         return
     do_all(study, tasks(study), workers)
     write_risk(Risk(study))
@@ -73,9 +74,10 @@ def lines() -> Heard:
 
 
 def write_risk(found: Risk) -> None:
-    """The tables, a section by likelihood, and the table on the screen."""
+    """The tables, a section and a page by likelihood, and the table on the screen."""
     from rich.box import SIMPLE_HEAD
     from rich.table import Table
+    from . import page
     from .pictures import save
     from .risk import spelled_factor
     from .risk_pictures import section
@@ -87,6 +89,7 @@ def write_risk(found: Risk) -> None:
     pits = found.pits(factor)
     pits.to_csv(folder / "likelihood_pits.csv", index=False)
     save(section(found, factor), folder / "likelihood.png")
+    page.write_likelihood(found, factor, folder / "likelihood.html", pits)
     currency = found.study.manifest["currency"]
     shown = Table(title=f"{found.count} realisations, million {currency} and Mt; a tenth of them lies below p10", title_justify="left", box=SIMPLE_HEAD)
     for name in ("factor", "worth p10", "p50", "p90", "mean", "rock p10", "p50", "p90"):
@@ -97,4 +100,4 @@ def write_risk(found: Risk) -> None:
     most = pits.worth_mean.idxmax()
     out.print(f"at factor {spelled_factor(factor)}: the blocks of at least {pits.likelihood[most]:.0%} likelihood, {pits.blocks[most]:,}, are the fixed pit worth most on the mean, "
               f"{pits.worth_mean[most] / 1e6:,.2f} million; each realisation's own best pit, {pits.best_mean[most] / 1e6:,.2f}", soft_wrap=True)
-    out.print(f"{folder}: risk.csv, risk_runs.csv, likelihood.csv, likelihood_pits.csv, likelihood.png", soft_wrap=True)
+    out.print(f"{folder}: risk.csv, risk_runs.csv, likelihood.csv, likelihood_pits.csv, likelihood.png, likelihood.html", soft_wrap=True)

@@ -82,8 +82,7 @@ def write_tables(found: Shells, table: pd.DataFrame) -> None:
     folder = results(found.study)
     table.to_csv(folder / "pit_by_pit.csv", index=False)
     found.benches().to_csv(folder / "benches.csv", index=False)
-    source = found.study.manifest["source"]
-    name = Path(source["table"]).name if source else "blocks.csv"
+    name = found.study.table.name if found.study.table else "blocks.csv"
     try:
         rows = table_back.write(found, folder / name)
         out.print(f"{folder / name}: the table with a column more, pit_shell, that {rows:,} of its rows have")
@@ -107,10 +106,11 @@ def print_table(found: Shells, table: pd.DataFrame) -> None:
 
 
 def warn_of_edges(found: Shells) -> None:
-    """Says of the smallest pit that touches the model's side where that is."""
-    touching = [(i, n) for i in range(len(found.factors)) if (n := found.touches_edge(i))]
-    if touching:
-        i, n = touching[0]
-        err.print(f"[yellow]look:[/yellow] from factor {found.factors[i] / 1000:g} on a pit touches the side of the model ({n:,} blocks there, "
-                  f"{touching[-1][1]:,} at factor {found.factors[touching[-1][0]] / 1000:g}): a place that the slope asks for isn't in the model, so no wall is held there"
-                  "\n  try: a wider model, or widen in \\[model]", soft_wrap=True)
+    """Says of the smallest pit that touches the model's side, and of the smallest that reaches its floor, where that is."""
+    for count, what, hint in ((found.touches_edge, "touches the side of the model ({}): a place that the slope asks for isn't in the model, so no wall is held there", "a wider model, or widen in [model]"),
+                              (found.reaches_floor, "reaches the model's floor ({}): what lies deeper isn't in the model, so no pit can follow ore down there", "a model that goes deeper")):
+        first = next(((factor, n) for i, factor in enumerate(found.factors) if (n := count(i))), None)
+        if first:
+            last = count(len(found.factors) - 1)
+            blocks = f"{first[1]:,} {'block' if first[1] == 1 else 'blocks'} there" + (f", {last:,} at factor {found.factors[-1] / 1000:g}" if first[0] != found.factors[-1] else "")
+            err.print("[yellow]look:[/yellow] " + escape(f"from factor {first[0] / 1000:g} on a pit {what.format(blocks)}\n  try: {hint}"), soft_wrap=True)

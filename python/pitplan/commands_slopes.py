@@ -1,12 +1,14 @@
 """`pitplan slopes`: how steep the walls are that the offsets make."""
 from __future__ import annotations
 
+import hashlib
 from pathlib import Path
 from typing import TYPE_CHECKING, Any
 
 import typer
 from rich.markup import escape
 
+from . import older
 from .console import STUDY, app, described, err, out, print_columns
 from .errors import PlanError
 
@@ -14,6 +16,7 @@ if TYPE_CHECKING:
     import pandas as pd
 
     from .grid import Grid
+    from .offsets import Pattern
     from .slopes import Slopes
     from .study_file import StudyFile
 
@@ -31,9 +34,15 @@ def slopes(folder: Path = STUDY, every: int = EVERY) -> None:
     print_angles(table, every)
     folder = told.path.parent / "out"
     folder.mkdir(exist_ok=True)
+    older.watch(folder, key_of(told.slopes, grid))
     table.round(3).to_csv(folder / "slopes.csv", index=False)
     draw_rose(told.slopes, grid, folder / "slopes.png")
     out.print(f"{folder / 'slopes.png'}, {folder / 'slopes.csv'}")
+
+
+def key_of(slopes: Slopes, grid: Grid) -> str:
+    """What names the walls that are asked for and the blocks that they are built of."""
+    return hashlib.sha256(repr((slopes, grid.size, grid.rotation)).encode()).hexdigest()
 
 
 def grid_of(told: StudyFile) -> Grid:
@@ -48,13 +57,24 @@ def grid_of(told: StudyFile) -> Grid:
 
 
 def print_patterns(slopes: Slopes, grid: Grid) -> None:
-    """A line for each region, and a warning where the angles can't be held."""
-    from .offsets import MEAN, WORST
+    """A line for each region, and where the angles can't be held a warning that says what can."""
     for name, pattern in slopes.patterns(grid).items():
-        out.print(escape(f"{name}: {pattern}"))
+        out.print(escape(f"{name}: {pattern}"), soft_wrap=True)
         if not pattern.is_held:
-            err.print(f"  [yellow]look:[/yellow] {MEAN:g} degrees on average and {WORST:g} at the worst bearing can't be held with blocks of "
-                      f"{' x '.join(f'{side:g}' for side in grid.size)}" + (f" and levels = {slopes.levels}" if slopes.levels else ""))
+            err.print("  [yellow]look:[/yellow] " + escape(not_held(name, pattern, slopes.levels)), soft_wrap=True)
+
+
+def not_held(name: str, pattern: Pattern, levels: int | None) -> str:
+    """What is said where offsets don't hold the slopes of a region: what was asked for, what is built, what to try."""
+    from .offsets import MEAN, WORST, Outline
+    outline = Outline(pattern.wall, pattern.offsets)
+    bearing = max(range(360), key=lambda b: abs(outline.slope(b) - pattern.wall.slope(b)))
+    asked, built = pattern.wall.slope(bearing), outline.slope(bearing)
+    blocks = " x ".join(f"{side:g}" for side in pattern.wall.size)
+    told = (f"{name}: {MEAN:g} degrees on average and {WORST:g} at the worst bearing can't be held with blocks of {blocks}" + (f" and levels = {levels}" if levels else "")
+            + f"; the offsets that err least are taken, and err most at bearing {bearing}: {asked:.1f} degrees are asked for there, {built:.1f} are built")
+    hint = "more levels in [slopes], or none told" if levels else "angles that change less from bearing to bearing, or lower blocks"
+    return f"{told}\n  try: {hint}"
 
 
 def print_angles(table: pd.DataFrame, every: int) -> None:

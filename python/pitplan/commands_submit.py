@@ -1,6 +1,7 @@
 """`pitplan submit` and `pitplan status`."""
 from __future__ import annotations
 
+import shlex
 from pathlib import Path
 from typing import TYPE_CHECKING, Optional
 
@@ -9,8 +10,10 @@ from rich.markup import escape
 
 from .console import STUDY, app, described, err, opened, out
 from .errors import MachineError, PlanError
+from .next_command import command
 
 if TYPE_CHECKING:
+    from .engines import Handed
     from .study import Study
     from .task import Task
 
@@ -24,13 +27,14 @@ def submit(folder: Path = STUDY,
            dry: bool = typer.Option(False, "--dry", help="Show what would be handed in, and hand in nothing."),
            workers: Optional[int] = typer.Option(None, min=1, help="Of engine local: tasks at a time."),
            minutes: int = typer.Option(240, min=1, help="That a task may take, for the scheduler."),
-           at_once: int = typer.Option(200, min=1, help="Tasks of an array that may run at a time.")) -> None:
+           at_once: int = typer.Option(200, min=1, help="Tasks of an array that may run at a time."),
+           again: bool = typer.Option(False, "--again", help="Hand in too what seems to run on other machines, as where one of them died.")) -> None:
     """Hand in what isn't done yet of shells, realisations and what-ifs. What failed is handed in again, and nothing else."""
     from .engines import Limits
     if engine not in ENGINES:
         raise PlanError(f"--engine {engine}: there is none of that name", try_this=", ".join(ENGINES))
     study = opened(folder)
-    tasks = to_hand_in(study, described(folder).factors)
+    tasks = to_hand_in(study, described(folder).factors, again)
     if not tasks:
         out.print("nothing to hand in: every task is done or in hand")
     elif dry:
@@ -38,31 +42,40 @@ def submit(folder: Path = STUDY,
     elif engine == "local":
         from .commands_risk import do_all
         do_all(study, tasks, workers)
-        out.print(f"{len(tasks)} tasks done")
+        out.print(f"{counted(tasks)} done")
     elif engine == "slurm":
         from .engines import submit_slurm
-        out.print(f"{len(tasks)} tasks handed in as job {', '.join(submit_slurm(study, tasks, Limits(minutes, at_once)))}; then: pitplan status")
+        out.print(f"{counted(tasks)} handed in as job {', '.join(submit_slurm(study, tasks, Limits(minutes, at_once)))}; then: {command('status', folder)}", soft_wrap=True)
     else:
         from .engines import snakemake_lines, write_snakefile
         written = write_snakefile(study, tasks)
-        out.print(escape(f"{len(tasks)} tasks in {written / 'Snakefile'}; in the folder {study.folder}, on"), soft_wrap=True)
+        out.print(escape(f"{counted(tasks)} in {written / 'Snakefile'}; in the folder {study.folder}, on"), soft_wrap=True)
         for where, line in snakemake_lines(written).items():
             out.print(escape(f"  {where}: {line}"), soft_wrap=True)
 
 
-def to_hand_in(study: Study, factors: list[int]) -> list[Task]:
-    """The tasks that are neither done nor running nor waiting."""
-    from .status import FAILED, TO_DO, states
+def to_hand_in(study: Study, factors: list[int], again: bool) -> list[Task]:
+    """The tasks that are neither done nor running nor waiting; with `again` also those that seem to run on other machines."""
+    from .status import FAILED, RUNNING, TO_DO, states
+    from .study import host
     from .task import wanted
-    return [state.task for state in states(study, wanted(study, factors)) if state.state in (FAILED, TO_DO)]
+    found = states(study, wanted(study, factors))
+    elsewhere = [state for state in found if state.state == RUNNING and state.words.startswith("on ") and state.words != f"on {host()}"]
+    if elsewhere and not again:
+        err.print(f"[yellow]look:[/yellow] {counted([state.task for state in elsewhere])} running {escape(', '.join(sorted({state.words for state in elsewhere})))}; if that machine died: --again", soft_wrap=True)
+    return [state.task for state in found if state.state in (FAILED, TO_DO) or (again and state in elsewhere)]
+
+
+def counted(tasks: list[Task]) -> str:
+    return "1 task" if len(tasks) == 1 else f"{len(tasks):,} tasks"
 
 
 def show(study: Study, tasks: list[Task], engine: str, limits: object) -> None:
     """What would be handed in."""
     from .engines import Limits, megabytes, slurm_script
-    out.print(f"{len(tasks)} tasks of {megabytes(study):,} MB each would be handed in:")
+    out.print(f"{counted(tasks)} of {megabytes(study):,} MB each would be handed in:")
     for task in tasks:
-        out.print(f"  pitplan task {escape(str(study.folder))} {task}", soft_wrap=True)
+        out.print(f"  pitplan task {escape(shlex.quote(str(study.folder)))} {task}", soft_wrap=True)
     if engine == "slurm":
         assert isinstance(limits, Limits)
         out.print(escape(slurm_script(study, min(len(tasks), 1000), "submit/N", limits)), soft_wrap=True)
@@ -76,7 +89,7 @@ def status(folder: Path = STUDY) -> None:
     from .status import FAILED, RUNNING, STATES, seconds_left, states
     from .task import wanted
     study = opened(folder)
-    in_hand: dict[Task, str] = {}
+    in_hand: dict[Task, Handed] = {}
     try:
         in_hand = in_slurm(study)
     except MachineError as error:

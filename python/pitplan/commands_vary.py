@@ -8,6 +8,7 @@ import typer
 
 from .console import app, described, opened, out, results
 from .errors import PlanError
+from .next_command import command
 
 WORDS: Any = typer.Argument(None, metavar="[STUDY] [CHANGES]...", help="The folder of the study, this one unless told; and changes, as price=-20..20 recovery=-5..5 mining=-10..10 processing=-10..10 (percent of themselves) slope=-3..3 (degrees). Without changes those of before.")
 
@@ -27,9 +28,9 @@ def vary(words: List[str] = WORDS,
         told = described(folder)
         prepare(study, told.economics, told.slopes, changes_of(changes), thousandths(factor))
     if asked_of(study) is None:
-        raise PlanError("no what-ifs were asked for over the model that stands there", try_this="pitplan vary price=-20..20 recovery=-5..5 slope=-3..3")
+        raise PlanError("no what-ifs were asked for over the model that stands there", try_this=command("vary", folder, "price=-20..20", "recovery=-5..5", "slope=-3..3"))
     if later:
-        out.print(f"{len(tasks(study))} pits; then: pitplan submit, and pitplan vary again for the table", soft_wrap=True)
+        out.print(f"{len(tasks(study))} pits; then: {command('submit', folder)}, and {command('vary', folder)} for the table", soft_wrap=True)
         return
     do_all(study, list(dict.fromkeys(tasks(study))), workers)
     write_what_ifs(study)

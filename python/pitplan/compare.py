@@ -25,6 +25,7 @@ from . import walls
 from .amounts import THOUSAND, spelled
 from .design import Design
 from .errors import Disagreement, NotAccepted
+from .next_command import command
 from .program import hint_of
 from .resting import Resting
 
@@ -182,7 +183,7 @@ class Certificate:
                     new.write(line)
                     line = old.read(PIECE)
             if digest.hexdigest() != verdict["certificate"]:
-                raise Disagreement(f"{self.study.place(self.factor) / 'best.cert.gz'} isn't the certificate that was accepted", try_this=f"take {self.study.place(self.factor)} away, and pitplan shells again")
+                raise Disagreement(f"{self.study.place(self.factor) / 'best.cert.gz'} isn't the certificate that was accepted", try_this=f"take {self.study.place(self.factor)} away, then: {command('shells', self.study.named)}")
             return self.study.program.run(["check", *self.study.files.words(), "--verbose", path]).strip()
 
 

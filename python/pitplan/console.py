@@ -6,22 +6,47 @@ from collections.abc import Sequence
 from pathlib import Path
 from typing import TYPE_CHECKING, Any
 
+import click
 import typer
 from rich.console import Console
 from rich.markup import escape
+from typer.core import TyperGroup
 
+from . import __version__
 from .errors import PlanError
+from .next_command import command
 
 if TYPE_CHECKING:
     from .shells import Shells
     from .study import Study
     from .study_file import StudyFile
 
-app = typer.Typer(add_completion=True, no_args_is_help=True, pretty_exceptions_enable=False, rich_markup_mode=None, context_settings={"help_option_names": ["-h", "--help"]},
-                  help="From a planner's table of blocks to proved pits, tables and pictures. Every pit that it shows was accepted by `pit check`.")
+
+
+class InOrder(TyperGroup):
+    """The commands as they were registered, and not by the alphabet."""
+
+    def list_commands(self, ctx: click.Context) -> list[str]:
+        return list(self.commands)
+
+
+app = typer.Typer(cls=InOrder, add_completion=True, no_args_is_help=True, pretty_exceptions_enable=False, rich_markup_mode=None, context_settings={"help_option_names": ["-h", "--help"]},
+                  help="From a planner's table of blocks to proved pits, tables and pictures. Every pit that it shows was accepted by `pit check`.",
+                  epilog="Exit status: 0 done; 1 no, where pit check refuses or a check of pitplan fails; 2 wrong words; 3 a file is wrong; 4 the machine (memory, disk); 130 stopped.")
 out = Console(width=None if sys.stdout.isatty() else 160, soft_wrap=not sys.stdout.isatty(), highlight=False)
 err = Console(stderr=True, highlight=False)
 STUDY: Any = typer.Argument(Path("."), help="The folder of the study, with its study.toml.", show_default="this folder")
+
+
+def tell_version(is_asked: bool) -> None:
+    if is_asked:
+        out.print(f"pitplan {__version__}")
+        raise typer.Exit
+
+
+@app.callback()
+def before_any_command(version: bool = typer.Option(False, "--version", help="Print the version.", is_eager=True, callback=tell_version)) -> None:
+    """Options that need no command."""
 
 
 def print_columns(title: str, names: Sequence[str], rows: Sequence[Sequence[str]], words: int = 0) -> None:
@@ -56,12 +81,12 @@ def opened(folder: Path) -> Study:
     from .program import sha256
     from .study import Study
     told = described(folder)
-    study = Study(told.path.parent)
+    study = Study(told.path.parent, named=folder)
     if study.manifest["keys"] != told.digest:
-        raise PlanError(f"{told.path} has changed since the study was built", try_this="pitplan build")
+        raise PlanError(f"{told.path} has changed since the study was built", try_this=command("build", folder))
     source = study.manifest["source"]
     if source and told.table.is_file() and sha256(told.table) != source["sha256"]:
-        raise PlanError("the table has changed since the study was built", table=told.table, try_this="pitplan build")
+        raise PlanError("the table has changed since the study was built", table=told.table, try_this=command("build", folder))
     return study
 
 
@@ -78,12 +103,14 @@ def shells_of(folder: Path) -> tuple[Shells, dict[str, float]]:
     study = opened(folder)
     missing = [factor for factor in told.factors if not study.verdict(factor)]
     if missing:
-        raise PlanError(f"{len(missing)} of {len(told.factors)} pits haven't been run, the first at factor {missing[0] / 1000:g}", try_this="pitplan shells")
+        raise PlanError(f"{len(missing)} of {len(told.factors)} pits haven't been run, the first at factor {missing[0] / 1000:g}", try_this=command("shells", folder))
     return Shells(study, told.factors), told.rates
 
 
 def results(study: Study) -> Path:
-    """The folder for tables and pictures, made where it isn't there."""
+    """The folder for tables and pictures, made where it isn't there. What is written there from now on is noted as of this model."""
+    from . import older
     folder = study.folder / "out"
     folder.mkdir(exist_ok=True)
+    older.watch(folder, study.key)
     return folder

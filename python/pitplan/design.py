@@ -110,6 +110,27 @@ def by_ids_of(model: Model, path: Path) -> Design:
     return by_ids(model, ids, path.stem, path.name)
 
 
+def by_file(model: Model, path: Path, layers: Sequence[str] = ()) -> Design:
+    """The design of a file of any kind: a DXF or a table of points x, y and z as `by_surface`, ids as `by_ids_of`.
+
+    Raises
+    ------
+    PlanError
+        As these; and where a table has several columns, and neither ids nor all of x, y and z are known among them.
+    """
+    if path.suffix.lower() == ".dxf":
+        return by_surface(model, path, layers)
+    dialect = dialect_of(path)
+    names = names_of(head_of(path, dialect.encoding, 1)[0], dialect.separator)
+    folded = {name.lower() for name in names}
+    if model.columns.get("id", "") in names or len(names) == 1 or folded & set(USUAL["id"]):
+        return by_ids_of(model, path)
+    if not all(folded & set(USUAL[key]) for key in PLACES):
+        raise PlanError(f"is it ids of blocks or points of a surface? Its columns are {', '.join(names)}", table=path,
+                        try_this=f"call its column of ids {model.columns.get('id', 'id')}, or its columns of coordinates x, y and z")
+    return by_surface(model, path)
+
+
 def by_column(model: Model, column: str, value: str | None = None) -> Design:
     """The blocks that a column of the table says.
 

@@ -114,6 +114,7 @@ class Economics:
         """Tonnes that the mill gets for each tonne of ore in place."""
         return self.mining_recovery * (1 + self.dilution)
 
+    @np.errstate(over="ignore", invalid="ignore")        # in_whole refuses what is no number, with its row
     def priced(self, model: Model) -> Priced:
         """Revenue, processing and mining of each block, in whole multiples of `rounding`.
 

@@ -1,4 +1,5 @@
-"""Where a pit touches the side of the model: its slopes ask for places that the model doesn't have, so no wall is held there."""
+"""Where a pit touches the side of the model: its slopes ask for places that the model doesn't have, so no wall is held there. And where it
+reaches the model's floor: what lies below it, ore too, isn't in the model."""
 from __future__ import annotations
 
 from typing import TYPE_CHECKING
@@ -17,11 +18,12 @@ Ints = npt.NDArray[np.int64]
 
 
 def ground(model: Model) -> tuple[Ints, Ints]:
-    """The highest and the lowest level of each column, of shape (nx, ny); of a column without blocks, those of the nearest
-    column that has some, as far as one can tell by going along the axes."""
-    there = model.index >= 0
+    """The highest level of rock and the lowest level with a row of each column, of shape (nx, ny); of a column without rows, those of
+    the nearest column that has some, as far as one can tell by going along the axes. Rows of air, without tonnes, are no ground."""
+    index = model.index
+    there, rock = index >= 0, np.append(model.blocks["tonnes"].to_numpy() > 0, False)[index]      # the last is that of -1: no row
     has = there.any(axis=2)
-    top = np.where(has, there.shape[2] - 1 - there[:, :, ::-1].argmax(axis=2), -1)
+    top = np.where(rock.any(axis=2), there.shape[2] - 1 - rock[:, :, ::-1].argmax(axis=2), -1)
     low = np.where(has, there.argmax(axis=2), 0)
     while not has.all() and has.any():
         before = has.copy()
@@ -63,4 +65,17 @@ def touching(shells: Shells) -> Bools:
             rock = to[:, 2] <= top[near[:, 0], near[:, 1]]
             under = (to[:, 2] < low[near[:, 0], near[:, 1]]) & ~shaft[near[:, 0], near[:, 1]]
             found[at[(beyond & rock) | (~beyond & under)]] = True
+    return found
+
+
+def on_floor(model: Model) -> Bools:
+    """Which blocks are the lowest rock of their column: the model has no row below them.
+
+    Returns
+    -------
+    bool array of shape (blocks,)
+    """
+    b = model.blocks
+    _, low = ground(model)
+    found: Bools = (b.iz.to_numpy() == low[b.ix, b.iy]) & (b.tonnes.to_numpy() > 0)
     return found

@@ -143,21 +143,50 @@ def asked(words: Sequence[str], folder: Path) -> str:
     return ran.stdout
 
 
-def in_slurm(study: Study) -> dict[Task, str]:
-    """The tasks of a study that Slurm has in hand, and its word for each, as RUNNING or PENDING; none where there is no Slurm."""
+@dataclass(frozen=True)
+class Handed:
+    """What Slurm has of a task that was handed in.
+
+    Attributes
+    ----------
+    state : str
+        Its word, as RUNNING or PENDING; "" where it has the task no more.
+    log : Path
+        What the task wrote, or Slurm of it.
+    """
+
+    state: str
+    log: Path
+
+    def last_line(self) -> str:
+        """What stands last in the log, "" where there is none."""
+        try:
+            lines = self.log.read_text(errors="replace").split("\n")
+        except OSError:
+            return ""
+        return next((line.strip() for line in reversed(lines) if line.strip()), "")
+
+
+def in_slurm(study: Study) -> dict[Task, Handed]:
+    """The tasks of a study that were handed in to Slurm, and what it has of each; none where there were none.
+
+    Raises
+    ------
+    MachineError
+        Where Slurm can't be asked.
+    """
     lists = {}
-    for path in (study.folder / "submit").glob("*/submitted.json"):
+    for path in sorted((study.folder / "submit").glob("*/submitted.json"), key=lambda path: int(path.parent.name)):
         told = json.loads(path.read_text())
         if told["engine"] == "slurm":
             lists[told["job"]] = (path.parent / "tasks.txt").read_text().splitlines()
     if not lists:
         return {}
-    found = {}
+    states = {}
     for line in asked(["squeue", "--noheader", "--array", f"--name={job_name(study)}", "--format=%F %K %T"], study.folder).splitlines():
         job, index, state = line.split()[:3]
-        if job in lists and index.isdigit() and 0 < int(index) <= len(lists[job]):
-            found[task_in(lists[job][int(index) - 1])] = state
-    return found
+        states[job, index] = state
+    return {task_in(line): Handed(states.get((job, str(at)), ""), study.folder / "log" / f"{job}_{at}.log") for job, lines in lists.items() for at, line in enumerate(lines, 1)}
 
 
 def task_in(line: str) -> Task:

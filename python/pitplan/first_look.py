@@ -14,6 +14,7 @@ from .column_names import PLACES, SIZES, which_columns
 from .csv_text import Dialect, dialect_of, head_of, names_of, number_column, read_frame
 from .errors import PlanError
 from .grid import Floats, Grid
+from .next_command import command
 from .study_template import TEMPLATE
 
 MARKS = ("-99", "-999", "-9999", "-99.0", "-999.0", "-1", "-1.0", "-", "*", "N/A", "n/a", "NA", "absent", "null", "")
@@ -81,7 +82,7 @@ def look_at(table: Path, given: Mapping[str, str] | None = None) -> Look:
     """
     dialect = dialect_of(table)
     names = which_columns(names_of(head_of(table, dialect.encoding, 1)[0], dialect.separator), given or {}, table.name,
-                          f"pitplan init {table} --column x=... --column y=... --column z=...")
+                          command("init", ".", str(table), "--column", "x=...", "--column", "y=...", "--column", "z=..."))
     frame = read_frame(table, dialect, [names[key] for key in ("id", "rock") if key in names])
     look = Look(dialect, names, len(frame), columns=[str(name) for name in frame.columns])
     look.absent = marks_in(frame, names)

@@ -18,6 +18,7 @@ from .grid import Floats, Grid
 
 Ints = npt.NDArray[np.int64]
 OFF = 0.05                                   # of a block: how far a centre may be off the grid
+MOST_STEPS = 10 ** 9                         # blocks along an axis, so that their numbers are whole and fit
 SAMPLE = 50_000                              # centres, by which the grid that most are on is found
 OURS = ("id", "ix", "iy", "iz", "tonnes", "rock", "row")
 
@@ -267,7 +268,12 @@ class Axis:
 
 def along(values: Floats, length: float, axis: Axis) -> tuple[Ints, float]:
     """Whole indices along an axis, and the coordinate of index 0. The grid is where most centres are."""
-    steps = values / length
+    with np.errstate(over="ignore"):         # a length that is next to nothing
+        steps = values / length
+    far = int(np.argmax(np.abs(steps)))
+    if not abs(steps[far]) < MOST_STEPS:
+        raise PlanError(f"the centre is more than {MOST_STEPS:,} blocks of {length:g} away", table=axis.table, row=int(axis.rows[far]), column=axis.column,
+                        try_this=f"is a block {length:g} long? size in [model]")
     share = steps[::max(1, len(steps) // SAMPLE)] % 1.0
     counts = np.bincount(np.minimum((share * 200).astype(np.int64), 199), minlength=200)
     about = int(np.argmax(counts + np.roll(counts, 1))) / 200

@@ -27,6 +27,7 @@ Fits = Callable[[Sequence[Offset]], bool]
 PAIRS = 1 << 27                 # the most pairs of a block and a predecessor that `pit` takes
 OFFSETS = 4096                  # the most offsets
 MEAN, WORST, SIGNED = 0.5, 1.0, 0.25    # degrees that a wall may err by: on average, anywhere, on average with its sign
+TOO_STEEP = 1000                # how much a degree too steep weighs where no wall may be steeper
 SIDE = 0.25                     # the least share that the lesser of the errors to both sides has of the greater
 FLATTEST, STEEPEST = 5.0, 89.0  # degrees that may be asked for
 SLACK = 1e-9                    # relative: numbers so near to each other are one number, spelled in two ways
@@ -152,7 +153,7 @@ class Error:
 
     def bound(self, is_safe: bool) -> float:
         """What `badness` is at least, by the extremes alone."""
-        return self.worst / WORST + (1000 * self.steepest if is_safe and self.steepest > SLACK else 0)
+        return self.worst / WORST + (TOO_STEEP * self.steepest if is_safe and self.steepest > SLACK else 0)
 
     def __str__(self) -> str:
         """In words, with two decimals."""
@@ -211,7 +212,10 @@ class Outline:
         x, y, z = asked.size
         hull = (_chain(points)[:-1] + _chain(points[::-1])[:-1])[::-1]
         self.at = [(i, j, common) for i, j in hull]
-        corners = [asked.turned(i / common * x / z, j / common * y / z) for i, j in hull]
+        turn = math.radians(asked.rotation)
+        sin, cos = math.sin(turn), math.cos(turn)
+        flat = [(i / common * x / z, j / common * y / z) for i, j in hull]
+        corners = [(u * cos + v * sin, v * cos - u * sin) for u, v in flat]
         starts = [math.degrees(math.atan2(east, north)) % 360 for east, north in corners]
         first = starts.index(min(starts)) if starts else 0
         self.corners = tuple(corners[first:] + corners[:first])
@@ -227,10 +231,14 @@ class Outline:
         ahead = math.sin(math.radians(bearing)), math.cos(math.radians(bearing))
         return math.degrees(math.atan2(_cross((q[0] - p[0], q[1] - p[1]), ahead), _cross(q, p)))
 
-    def bends(self) -> list[float]:
-        """The bearings of its corners, and those at which an edge is nearest: there the wall is flattest and steepest."""
-        across = [(p[1] - q[1], q[0] - p[0]) for p, q in self._edges]
-        return self._starts + [math.degrees(math.atan2(east, north)) for east, north in across]
+    def corner_slopes(self) -> Iterator[tuple[float, float]]:
+        """The bearing and the degrees of the wall at each corner: there it is flattest."""
+        for start, (east, north) in zip(self._starts, self.corners):
+            yield start, math.degrees(math.atan2(1.0, math.hypot(east, north))) if self._is_open else 90.0
+
+    def nearest(self) -> list[float]:
+        """The bearings at which an edge is nearest: there the wall is steepest."""
+        return [math.degrees(math.atan2(p[1] - q[1], q[0] - p[0])) for p, q in self._edges]
 
 
 def _chain(points: Sequence[tuple[int, int]]) -> list[tuple[int, int]]:
@@ -266,9 +274,20 @@ def _by_degree(asked: Wall) -> list[float]:
     return [asked.slope(bearing) for bearing in range(360)]
 
 
-def _extremes(asked: Wall, outline: Outline) -> tuple[float, float]:
-    off = [outline.slope(b) - asked.slope(b) for b in [*outline.bends(), *(bearing for bearing, _ in asked.slopes)]]
-    return max(off), min(off)
+def _extremes(asked: Wall, outline: Outline, flat: float = math.inf, steep: float = math.inf) -> tuple[float, float]:
+    """The greatest and the least error; the looking ends at the first that is flatter or steeper by more than these."""
+    flattest = math.inf
+    for bearing, slope in outline.corner_slopes():
+        flattest = min(flattest, slope - asked.slope(bearing))
+        if flattest < -flat:
+            return -math.inf, flattest
+    steepest = -math.inf
+    for bearing in [*outline.nearest(), *(bearing for bearing, _ in asked.slopes)]:
+        off = outline.slope(bearing) - asked.slope(bearing)
+        steepest, flattest = max(steepest, off), min(flattest, off)
+        if off > steep or off < -flat:
+            break
+    return steepest, flattest
 
 
 class _Cones:
@@ -288,7 +307,7 @@ class _Cones:
         found = sorted((asked.stretch(i, j), i, j) for i in range(-across, across + 1) for j in range(-along, along + 1))
         self.found = [f for f in found if f[0] <= WIDEST * levels * (1 + SLACK)]
         self.far = [far for far, _, _ in self.found]
-        self.sets: dict[int, int] = {}
+        self.sets, self.counts = {0: 0}, [0]            # sets of the nearest columns by their count, and these counts ascending
 
     def level(self, k: int, stretch: float) -> int:
         """The columns of level k of the cone; of columns as far away as each other all or none."""
@@ -296,11 +315,13 @@ class _Cones:
         while 0 < count < len(self.far) and self.far[count] <= self.far[count - 1] * (1 + SLACK):
             count += 1
         if count not in self.sets:
+            near = self.counts[bisect.bisect_right(self.counts, count) - 1]      # its columns come first here too
             bits = bytearray(((2 * self.along + 1) * self.wide + 7) // 8)
-            for _, i, j in self.found[:count]:
+            for _, i, j in self.found[near:count]:
                 at = (j + self.along) * self.wide + i + self.across
                 bits[at >> 3] |= 1 << (at & 7)
-            self.sets[count] = int.from_bytes(bits, "little")
+            self.sets[count] = self.sets[near] | int.from_bytes(bits, "little")
+            bisect.insort(self.counts, count)
         return self.sets[count]
 
     def cuts(self, narrowest: float, most: int) -> list[float]:
@@ -403,7 +424,11 @@ def _best(cones: _Cones, asked: Wall, safe: bool, fits: Fits, stretches: Sequenc
             outline = Outline(asked, corners + offsets[count:])
             corners, count = outline.at or list(offsets), len(offsets)
             if outline.corners not in seen:             # None: the extremes alone are worse than the best
-                bound = Error(0, 0, *_extremes(asked, outline)).bound(safe)
+                flat = least * WORST
+                steepest, flattest = _extremes(asked, outline, flat, max(SLACK, least / TOO_STEEP) if safe else flat)
+                if -flattest > flat:                    # further levels make the wall flatter still
+                    break
+                bound = Error(0, 0, steepest, flattest).bound(safe)
                 seen[outline.corners] = error_of(asked, outline) if bound <= least else None
             error = seen[outline.corners]
             if error is None:

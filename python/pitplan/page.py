@@ -1,7 +1,6 @@
-"""One HTML file that opens anywhere without a network: the pit of each factor in three dimensions, with a slider and the table.
+"""One HTML file that opens anywhere without a network: pits in three dimensions and in sections, with a slider and tables.
 
-three.js (Debian's libjs-three) and the heights stand in the file. A block of a pit comes with all blocks straight above it,
-so that a pit's surface is one height for each column of the model.
+three.js (Debian's libjs-three) and the heights of `levels` stand in the file; `page_views` says what is shown.
 """
 from __future__ import annotations
 
@@ -11,124 +10,69 @@ import html
 import json
 import os
 import re
-import zlib
+from collections.abc import Mapping, Sequence
 from pathlib import Path
-from typing import Any, Mapping
+from typing import TYPE_CHECKING, Any
 
-import numpy as np
-import pandas as pd
-from numpy.typing import NDArray
-
+from . import page_views
 from .errors import PlanError
-from .shells import Shells
-from .units_shown import amount_text, factor_text, scale_of
+from .levels import packed
+from .page_views import PATTERNS, Table, View
+from .whole_file import whole_file
+
+if TYPE_CHECKING:
+    import pandas as pd
+
+    from .compare import Comparison
+    from .model import Model
+    from .phases import Phases
+    from .risk import Risk
+    from .shells import Shells
 
 THREE_JS = Path("/usr/share/javascript/three")
 LIBRARIES = {"three": "three.min.js", "orbit": "examples/js/controls/OrbitControls.js"}
-NO_COLUMN = 65535        # in `heights`: the model has no rock here
 PLACE = re.compile(r"\{\{(\w+)\}\}")
-NOTE = ("Each pit has a certificate that pit check has accepted: no pit that keeps the slopes is worth more at its factor. "
-        "Discounted: dug pit after pit (best case) or bench after bench (worst case). Model {key}.")
 
 
-def heights(shells: Shells) -> NDArray[np.uint16]:
-    """How many benches from the model's floor up are left standing.
-
-    Returns
-    -------
-    uint16 array of shape (pits + 1, columns along x, columns along y)
-        The ground as it is, then the surface of each pit; NO_COLUMN where the model has no rock.
-
-    Raises PlanError where a pit has a block and not all above it, since one height can't show that.
-    """
-    model, count = shells.study.model, len(shells.factors)
-    ix, iy, iz, rock = (model.blocks[c].to_numpy() for c in ("ix", "iy", "iz", "tonnes"))
-    solid = rock > 0 if (rock > 0).any() else np.ones(len(rock), bool)          # rows of air above the ground are no ground
-    level = np.full(model.grid.shape[:2], -1, np.int64)
-    np.maximum.at(level, (ix[solid], iy[solid]), iz[solid] + 1)
-    ground = level.copy()
-    out = np.empty((count + 1, *ground.shape), np.uint16)
-    out[0] = np.where(ground < 0, NO_COLUMN, ground)
-    for i in range(count):
-        new = shells.shell == i
-        np.minimum.at(level, (ix[new], iy[new]), iz[new])
-        out[i + 1] = np.where(ground < 0, NO_COLUMN, level)
-    below = iz < ground[ix, iy]
-    dug = np.bincount(shells.shell[below], minlength=count + 1)[:count].cumsum()
-    shown = [int((out[0].astype(np.int64) - h)[ground >= 0].sum()) for h in out[1:]]
-    if list(dug) != shown:
-        at = int(np.argmax(dug != np.array(shown)))
-        raise PlanError(f"the pit at factor {factor_text(shells.factors[at])} has blocks without all that is above them: its surface isn't one height for each column",
-                        try_this="pitplan plot, which draws sections and benches as they are")
-    return out
-
-
-def packed(levels: NDArray[np.uint16]) -> str:
-    """Heights as text: the ground, then how much lower each surface is than the one before, by zlib and base64."""
-    lower = np.concatenate([levels[:1], levels[:-1] - levels[1:]])
-    return base64.b64encode(zlib.compress(lower.astype("<u2").tobytes(), 9)).decode()
-
-
-def facts(shells: Shells, table: pd.DataFrame) -> tuple[list[str], list[list[str]]]:
-    """What is told of each pit: the names of the facts with their units, and their texts pit by pit."""
-    currency = str(shells.study.manifest.get("currency", "$"))
-    rock = scale_of(table["ore_t"] + table["waste_t"], "t")
-    money = scale_of(table["worth_at_base"], currency)
-    columns = [("Blocks", [f"{v:,}" for v in table["blocks"]]), (f"Worth at its own factor, proved ({currency})", [separated(str(v["worth"])) for v in shells.verdicts])]
-    for name, column, scale in ((f"Ore ({rock.unit})", "ore_t", rock), (f"Waste ({rock.unit})", "waste_t", rock)):
-        columns.append((name, [amount_text(v, scale) for v in table[column]]))
-    columns.append(("Strip ratio (t/t)", [f"{v:.2f}" if np.isfinite(v) else "-" for v in table["strip"]]))
-    for metal, units in shells.study.manifest["metals"].items():
-        got = scale_of(table[f"metal_{metal}"], units["price_unit"])
-        columns.append((f"Grade of ore, {metal} ({units['grade_unit']})", [f"{v:.4g}" if np.isfinite(v) else "-" for v in table[f"grade_{metal}"]]))
-        columns.append((f"Recovered {metal} ({got.unit})", [amount_text(v, got) for v in table[f"metal_{metal}"]]))
-    for name, column in (("Worth at factor 1", "worth_at_base"), ("Discounted, best case", "npv_best"), ("Discounted, worst case", "npv_worst")):
-        columns.append((f"{name} ({money.unit})", [amount_text(v, money) for v in table[column]]))
-    columns.append(("Years", [f"{v:.1f}" for v in table["years"]]))
-    return [name for name, _ in columns], [list(row) for row in zip(*(texts for _, texts in columns))]
-
-
-def separated(number: str) -> str:
-    """A number as `pit` prints it, with separators of thousands: every digit stays."""
-    whole, dot, places = number.partition(".")
-    return f"{int(whole):,}{dot}{places}" if whole not in ("-0",) else number
-
-
-def bottoms(shells: Shells, levels: NDArray[np.uint16]) -> list[str]:
-    """The toe of each pit's lowest bench, in metres; a dash where nothing is dug."""
-    grid = shells.study.model.grid
-    out = []
-    for surface in levels[1:]:
-        dug = surface < levels[0]
-        out.append(f"{grid.origin[2] + (int(surface[dug].min()) - 0.5) * grid.size[2]:,.10g}" if dug.any() else "-")
-    return out
-
-
-def data_of(shells: Shells, levels: NDArray[np.uint16], rows: list[list[str]], start: int) -> dict[str, Any]:
-    """What the page's script reads: the grid in the user's coordinates, the facts of each pit, the heights."""
-    grid = shells.study.model.grid
-    nx, ny, nz = grid.shape
+def data_of(model: Model, views: Sequence[View]) -> dict[str, Any]:
+    """What the page's script reads: the grid in the user's coordinates, and of each view what isn't in its table."""
+    grid = model.grid
+    nx, ny, _ = grid.shape
 
     def place(i: float, j: float) -> list[float]:
         east, north, _ = grid.world(i, j, 0)
         return [round(float(east), 3), round(float(north), 3)]
 
     corners = [place(i - 0.5, j - 0.5) for i, j in ((0, 0), (nx, 0), (nx, ny), (0, ny))]
-    return {"shape": [nx, ny, nz], "size": list(grid.size), "rotation": grid.rotation, "corners": corners, "centre": place(nx / 2 - 0.5, ny / 2 - 0.5),
-            "floor": grid.origin[2] - grid.size[2] / 2, "factors": ["0", *map(factor_text, shells.factors)],
-            "facts": [["-"] * len(rows[0]), *rows], "start": start, "middle": middle(levels, start), "heights": packed(levels)}
+    return {"shape": list(grid.shape), "size": list(grid.size), "rotation": grid.rotation, "corners": corners, "centre": place(nx / 2 - 0.5, ny / 2 - 0.5),
+            "floor": grid.origin[2] - grid.size[2] / 2, "views": [of_view(view) for view in views]}
 
 
-def middle(levels: NDArray[np.uint16], pit: int) -> list[int]:
-    """The row and the column of the model in which a pit has most blocks: where a section is first cut."""
-    dug = np.where(levels[0] == NO_COLUMN, 0, levels[0].astype(np.int64) - levels[pit])
-    return [int(dug.sum(axis=0).argmax()), int(dug.sum(axis=1).argmax())]
+def of_view(view: View) -> dict[str, Any]:
+    """A view as the script reads it."""
+    return {"name": view.name, "slider": view.slider, "steps": view.table.names, "labels": view.labels, "paint": view.paint, "beside": view.is_beside,
+            "patterns": len(view.labels) <= PATTERNS, "start": view.start, "middle": view.middle, "heights": packed(view.levels)}
 
 
-def table_html(headings: list[str], factors: list[int], rows: list[list[str]]) -> str:
-    head = "".join(f'<th scope="col">{html.escape(h)}</th>' for h in ["Factor", *headings])
-    body = "".join(f'<tr><th scope="row">{factor_text(k)}</th>' + "".join(f"<td>{html.escape(cell)}</td>" for cell in row) + "</tr>\n" for k, row in zip(factors, rows))
-    return f"<table><thead><tr>{head}</tr></thead>\n<tbody>\n{body}</tbody></table>"
+def table_html(table: Table) -> str:
+    """A table with its caption as HTML."""
+    head = "".join(f'<th scope="col">{html.escape(heading)}</th>' for heading in [table.first, *(heading for heading, _ in table.columns)])
+    rows = zip(*(texts for _, texts in table.columns))
+    body = "".join(f'<tr><th scope="row">{html.escape(name)}</th>' + "".join(f"<td>{html.escape(cell)}</td>" for cell in row) + "</tr>\n" for name, row in zip(table.names, rows))
+    caption = html.escape(table.caption)
+    return (f'<h2>{caption}</h2>\n<div class="scroll" tabindex="0" role="region" aria-label="{caption}"><table><thead><tr>{head}</tr></thead>\n<tbody>\n{body}</tbody></table></div>')
+
+
+def view_html(number: int, view: View, key: str) -> str:
+    """What stands below the pictures: the tables of a view and what they rest on."""
+    tables = "\n".join(map(table_html, (view.table, *view.more)))
+    said = "".join(f'<p class="said">{html.escape(line.strip())}</p>' for line in view.said)
+    return f'<section id="view-{number}" aria-label="{html.escape(view.name)}">\n{tables}\n{said}<p class="note">{html.escape(view.note)} Model {html.escape(key)}.</p>\n</section>'
+
+
+def facts_html(view: View) -> str:
+    """The facts of the surface that is shown first."""
+    return "".join(f"<dt>{html.escape(heading)}</dt><dd>{html.escape(texts[view.start - 1])}</dd>" for heading, texts in view.table.columns)
 
 
 def script_text(value: Any) -> str:
@@ -159,45 +103,75 @@ def library_texts() -> dict[str, str]:
         raise PlanError(f"three.js isn't installed: {missing.filename}", try_this="apt install libjs-three") from None
 
 
-def write(shells: Shells, path: str | os.PathLike[str], table: pd.DataFrame | None = None, title: str | None = None) -> Path:
-    """Writes the page of a series of pits.
+def write_views(path: str | os.PathLike[str], model: Model, views: Sequence[View], title: str, key: str) -> Path:
+    """Writes the page of some views.
+
+    Parameters
+    ----------
+    path : str or path
+        The file to write, whole or not at all.
+    views : sequence of View
+        The first is shown first.
+    title, key : str
+        The heading; and of which model the views are.
+
+    Raises
+    ------
+    PlanError
+        Where three.js isn't installed.
+    OSError
+        Where the file can't be written.
+    """
+    libraries, first = library_texts(), views[0]
+    template = (Path(__file__).parent / "page.html").read_text(encoding="utf-8")
+    places = {"title": html.escape(title), "slider": html.escape(first.slider), "steps": str(len(first.table.names)), "start": str(first.start),
+              "step": html.escape(first.table.names[first.start - 1]), "facts": facts_html(first), "tables": "\n".join(view_html(n, view, key) for n, view in enumerate(views)),
+              "data": script_text(data_of(model, views))}
+    with whole_file(path) as part:
+        part.write_text(filled(template, {**places, **libraries, "policy": policy(template, libraries)}), encoding="utf-8")
+    return Path(path)
+
+
+def write(shells: Shells, path: str | os.PathLike[str], table: pd.DataFrame | None = None, title: str | None = None, phases: Phases | None = None,
+          design: Comparison | None = None) -> Path:
+    """Writes the page of a series of pits, and where they are asked for of pushbacks and of a design beside the best pit.
 
     Parameters
     ----------
     shells : Shells
         The pits, each accepted by `pit check`.
     path : str or path
-        The file to write; it is written beside its place first and then renamed.
+        The file to write, whole or not at all.
     table : DataFrame or None
         `shells.table(..)` with the user's rates; None takes the usual ones.
     title : str or None
         The heading; None is the model's name.
+    phases : Phases or None
+    design : Comparison or None
 
     Raises
     ------
     PlanError
-        Where three.js isn't installed, or a pit's surface isn't one height for each column.
+        Where three.js isn't installed, or a surface isn't one height for each column.
     OSError
         Where the file can't be written.
     """
-    libraries = library_texts()
-    levels = heights(shells)
-    headings, rows = facts(shells, shells.table() if table is None else table)
-    headings.insert(1, "Toe of the lowest bench (m)")
-    for row, toe in zip(rows, bottoms(shells, levels)):
-        row.insert(1, toe)
-    start = 1 + (shells.factors.index(1000) if 1000 in shells.factors else len(shells.factors) - 1)
-    template = (Path(__file__).parent / "page.html").read_text(encoding="utf-8")
-    places = {"title": html.escape(title or shells.study.model.name), "pits": str(len(shells.factors)), "start": str(start), "start_factor": factor_text(shells.factors[start - 1]),
-              "facts": "".join(f"<dt>{html.escape(h)}</dt><dd>{html.escape(v)}</dd>" for h, v in zip(headings, rows[start - 1])),
-              "table": table_html(headings, shells.factors, rows), "note": html.escape(NOTE.format(key=shells.study.key)), "data": script_text(data_of(shells, levels, rows, start))}
-    text = filled(template, {**places, **libraries, "policy": policy(template, libraries)})
-    path = Path(path)
-    part = path.with_name(f".{path.name}.part")
-    path.parent.mkdir(parents=True, exist_ok=True)
-    try:
-        part.write_text(text, encoding="utf-8")
-        os.replace(part, path)
-    finally:
-        part.unlink(missing_ok=True)
-    return path
+    study = shells.study
+    views = [page_views.pits(shells, shells.table() if table is None else table)]
+    views += [page_views.phases(phases)] if phases else []
+    views += [page_views.design(study, design)] if design else []
+    return write_views(path, study.model, views, f"{title or study.model.name}: nested pits", study.key)
+
+
+def write_likelihood(found: Risk, factor: int, path: str | os.PathLike[str], pits: pd.DataFrame | None = None) -> Path:
+    """Writes the page of likelihood over realisations at a factor (in thousandths); `pits` as `Risk.pits` gives it.
+
+    Raises
+    ------
+    PlanError
+        Where three.js isn't installed, or no realisation was run at that factor.
+    OSError
+        Where the file can't be written.
+    """
+    view = page_views.likelihood(found, factor, found.pits(factor) if pits is None else pits)
+    return write_views(path, found.study.model, [view], f"{found.study.model.name}: likelihood over {found.count:,} realisations", found.study.key)

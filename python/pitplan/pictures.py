@@ -26,12 +26,14 @@ from numpy.typing import NDArray
 from . import plane as planes
 from .amounts import THOUSAND
 from .errors import PlanError, meant
+from .next_command import command
 from .plane import Plane
 from .shells import Shells
 from .units_shown import Scale, factor_text, scale_of
 
 ROCK_HATCH, ROCK_EDGE = "....", "#9a9a9a"
 CASING = [patheffects.withStroke(linewidth=3.6, foreground="white")]
+THIN_CASING = [patheffects.withStroke(linewidth=2.4, foreground="white")]           # black dots on the darkest colour need one too
 SEPARATED = FuncFormatter(lambda value, _: f"{value:,.10g}")
 MANY_WORDS = 8           # words of a text column that get a colour of their own
 
@@ -75,7 +77,7 @@ def pit_index(shells: Shells, factor: float | None) -> int:
     if factor is None:
         return len(shells.factors) - 1
     known = ", ".join(factor_text(k) for k in shells.factors)
-    raise PlanError(f"there is no pit at factor {factor:g}", try_this=f"one of {known}, or add it to factors in [shells] and run pitplan shells")
+    raise PlanError(f"there is no pit at factor {factor:g}", try_this=f"one of {known}; or put it into factors in [shells] of study.toml, then: {command('shells', shells.study.named)}")
 
 
 def paint(shells: Shells, colour: str) -> Paint:
@@ -227,7 +229,7 @@ def add_outlines(axes: Any, shells: Shells, cut: Plane, chosen: int) -> list[Any
         inside = there & (shells.shell[cut.number] <= i)
         label = f"{word} at factor {factor_text(shells.factors[i])}" + ("" if inside.any() else ": not here")
         if word == "Pit" or (i != chosen and inside.any()):
-            axes.plot(*planes.borders(inside, cut), color="black", linewidth=width, linestyle=stroke, path_effects=CASING if word == "Pit" else None)
+            axes.plot(*planes.borders(inside, cut), color="black", linewidth=width, linestyle=stroke, path_effects=CASING if word == "Pit" else THIN_CASING, zorder=3 if word == "Pit" else 2.5)
             handles.append(Line2D([], [], color="black", linewidth=width, linestyle=stroke, label=label))
     return handles
 

@@ -8,6 +8,7 @@ from numpy.typing import NDArray
 
 from .errors import PlanError
 from .model import Model
+from .outlines import outline, rings
 
 
 @dataclass(frozen=True)
@@ -112,12 +113,12 @@ def ends(model: Model, axis: str, index: int) -> str:
 
 
 def borders(inside: NDArray[np.bool_], plane: Plane) -> tuple[NDArray[np.float64], NDArray[np.float64]]:
-    """The border of a set of cells as one line with gaps (nan), which matplotlib draws at once."""
-    pad = np.pad(inside, 1)
-    pieces: list[tuple[NDArray[np.float64], ...]] = []
-    for turn in (False, True):
-        cells, xs, ys = (pad.T, plane.across.T, plane.up.T) if turn else (pad, plane.across, plane.up)
-        j, i = np.nonzero(cells[1:-1, 1:] != cells[1:-1, :-1])
-        gap = np.full(len(i), np.nan)
-        pieces.append((np.stack([xs[j, i], xs[j + 1, i], gap], axis=1).ravel(), np.stack([ys[j, i], ys[j + 1, i], gap], axis=1).ravel()))
-    return np.concatenate([p[0] for p in pieces]), np.concatenate([p[1] for p in pieces])
+    """The border of a set of cells as one line with gaps (nan), which matplotlib draws at once: a closed ring for each outline and
+    hole, so that dashes run on round the corners of small cells."""
+    gap = np.full(1, np.nan)
+    xs, ys = [gap[:0]], [gap[:0]]
+    for ring, _ in rings(outline(inside.T)):
+        i, j = np.rint(np.concatenate([ring, ring[:1]]) + 0.5).astype(int).T
+        xs += [plane.across[j, i], gap]
+        ys += [plane.up[j, i], gap]
+    return np.concatenate(xs), np.concatenate(ys)

@@ -8,8 +8,10 @@ import re
 import shutil
 import signal
 import subprocess
+import sys
 import threading
 from collections.abc import Callable, Iterable, Iterator, Sequence
+from contextlib import contextmanager, nullcontext
 from dataclasses import InitVar, dataclass
 from pathlib import Path
 from typing import Union
@@ -85,7 +87,7 @@ class Files:
 
 
 def found_program() -> str:
-    """Where `pit` is: as PIT in the environment says, on the path, or where this repository builds it.
+    """Where `pit` is: as PIT in the environment says, on the path, where this repository builds it, or beside the command.
 
     Raises
     ------
@@ -98,7 +100,8 @@ def found_program() -> str:
         if not where:
             raise PlanError(f"PIT in the environment is {named!r}, and there is no such program")
         return str(Path(where).resolve())
-    where = shutil.which("pit") or next((str(path) for path in BUILT if os.access(path, os.X_OK)), None)
+    beside = Path(sys.argv[0]).resolve().parent / "pit"
+    where = shutil.which("pit") or next((str(path) for path in (*BUILT, beside) if os.access(path, os.X_OK)), None)
     if not where:
         raise PlanError("the program pit isn't there", try_this="./install in the repository, or PIT=/path/to/pit")
     return where
@@ -139,7 +142,7 @@ class Pit:
         """Writes the predecessors of each block, by the offsets that `settings` lists."""
         self.run(["slopes", "--blocks", blocks, "--pattern", "settings", "--settings", settings, "--verbose"], out)
 
-    def best(self, files: Files, factor: int, certificate: Path, progress: Progress | None = None) -> Accepted:
+    def best(self, files: Files, factor: int, certificate: Path, progress: Progress | None = None, keeps: bool = True) -> Accepted:
         """The best pit at a factor: its certificate is written, then checked as the file that was written, and kept packed.
 
         Parameters
@@ -150,6 +153,8 @@ class Pit:
             The file to write; when it is done, it lies packed at the same name with ``.gz`` behind.
         progress : function, optional
             Is told how many blocks of how many are settled.
+        keeps : bool
+            Whether the certificate is kept; otherwise only its digest is.
 
         Raises
         ------
@@ -160,7 +165,7 @@ class Pit:
         said = self.run(["solve", *files.words(), "--factor", factor, "--verbose", *more], certificate, progress)
         if said:
             raise NotAccepted(f"pit solve at factor {factor / 1000:g}: {said.strip()}", try_this=hint_of(said))
-        with open(certificate.with_name(certificate.name + ".gz"), "wb") as target, gzip.GzipFile("", "wb", 1, target, mtime=0) as kept:
+        with packed(certificate) if keeps else nullcontext() as kept:
             found = self.check(files, certificate, kept)
         certificate.unlink()
         return found
@@ -274,6 +279,13 @@ class Pit:
         hint = "fewer --workers: memory was short, or somebody ended it" if status == -signal.SIGKILL else hint_of(fault)
         kind = MachineError if status < 0 or status == 4 else PlanError
         return kind(f"pit {command} {how}" + (f": {fault}" if fault else ""), try_this=hint)
+
+
+@contextmanager
+def packed(certificate: Path) -> Iterator[gzip.GzipFile]:
+    """The packed file beside a certificate, for its bytes."""
+    with open(certificate.with_name(certificate.name + ".gz"), "wb") as target, gzip.GzipFile("", "wb", 1, target, mtime=0) as kept:
+        yield kept
 
 
 def ended_now(run: subprocess.Popen[bytes]) -> None:

@@ -10,6 +10,7 @@ from __future__ import annotations
 
 import hashlib
 import json
+import re
 import tempfile
 from collections.abc import Iterator, Sequence
 from contextlib import contextmanager
@@ -25,10 +26,11 @@ import pandas as pd
 from . import store
 from .amounts import THOUSAND, Priced, spelled
 from .economics import Economics
-from .errors import PlanError
+from .errors import MachineError, PlanError
 from .grid import Grid
 from .model import Model
-from .study import Study, Told, Verdict, made_whole, write_blocks
+from .next_command import command
+from .study import FULL, Study, Told, Verdict, made_whole, mark, sweep, write_blocks
 from .study_file import economics_of
 from .task import Task
 
@@ -39,6 +41,9 @@ Bools = npt.NDArray[np.bool_]
 Floats = npt.NDArray[np.float32]
 TENTHS = tuple(tenth / 10 for tenth in range(1, 10))
 SPREAD = (0.1, 0.5, 0.9)
+ASKED = ("ix", "iy", "iz", "row", "tonnes", "rock")      # columns that pricing and `.blocks` ask for, beside those that [economics] names
+SCRATCH = "pitplan."                         # folders of `.blocks` and certificates, in TMPDIR
+ROOM = "TMPDIR=/a/larger/disk: a realisation's blocks and certificate are written there"
 
 
 @dataclass(frozen=True)
@@ -80,7 +85,7 @@ def setup_of(study: Study) -> Setup | None:
     except FileNotFoundError:
         return None
     except (TypeError, json.JSONDecodeError):
-        raise PlanError(f"{folder_of(study) / 'risk.json'} is damaged", try_this="pitplan risk --realisations FILE") from None
+        raise PlanError(f"{folder_of(study) / 'risk.json'} is damaged", try_this=command("risk", study.named, "--realisations", "FILE")) from None
     return found if found.study == study.key else None
 
 
@@ -172,17 +177,29 @@ def digest_of(grades: npt.NDArray[Any]) -> str:
     return hashlib.sha256(np.ascontiguousarray(grades, np.float32).tobytes()).hexdigest()
 
 
+def words_in(value: Any) -> list[str]:
+    """The words among the values of what was read from JSON: columns and formulas are there."""
+    if isinstance(value, dict):
+        return [word for of in value.values() for word in words_in(of)]
+    if isinstance(value, (list, tuple)):
+        return [word for of in value for word in words_in(of)]
+    return [value] if isinstance(value, str) else []
+
+
 def lean_model(study: Study, economics: dict[str, Any]) -> Model:
-    """The study's model without the words that pricing doesn't ask for: the planner's names of 10,000,000 blocks take a gigabyte."""
-    said = json.dumps(economics)
+    """The study's model without the columns that pricing doesn't ask for: the planner's names of 10,000,000 blocks take a gigabyte."""
+    said = "\n".join(words_in(economics))
     with np.load(study.where / "blocks.npz", allow_pickle=False) as file:
         told = store.told_of(file)
         columns: dict[str, Any] = {}
         for name in told["order"]:
+            if name not in ASKED and not re.search(rf"(?<!\w){re.escape(name)}(?!\w)", said) and not set("'\"\\") & set(name):
+                continue                     # a name with quotes may stand there in another spelling
             if store.COLUMN + name in file.files:
                 columns[name] = file[store.COLUMN + name]
-            elif name == "rock" or name in said:
-                columns[name] = store.bytes_as_words(file[store.WORDS + name], told["blocks"])
+            else:                            # each word once, however many blocks have it
+                codes, words = pd.factorize(store.bytes_as_words(file[store.WORDS + name], told["blocks"]))
+                columns[name] = words[codes]
         grid = Grid(store.three(told["origin"]), store.three(told["size"]), store.three(told["shape"]), told["rotation"])
         return Model(pd.DataFrame(columns), grid, told["name"], told["notes"], told["columns"], file["row_block"], told["depth"])
 
@@ -201,7 +218,7 @@ class Realisation(Study):
     """
 
     def __init__(self, base: Study, setup: Setup, number: int, model: Model | None = None) -> None:
-        super().__init__(base.folder, base.given)
+        super().__init__(base.folder, base.given, base.named)
         self.base, self.setup, self.number, self.shared = base, setup, number, model
         named = [base.key, base.manifest["files"]["blocks.npz"], json.dumps(setup.economics, sort_keys=True), setup.column, setup.digests[number]]
         self.key = hashlib.sha256("\n".join(named).encode()).hexdigest()
@@ -243,14 +260,20 @@ class Realisation(Study):
         try:
             found: Floats = np.ascontiguousarray(np.load(path, mmap_mode="r", allow_pickle=False)[self.number], np.float32)
         except (FileNotFoundError, IndexError, ValueError) as error:
-            raise PlanError(f"realisation {self.number} can't be read: {error}", table=path, try_this="pitplan risk --realisations FILE") from None
+            raise PlanError(f"realisation {self.number} can't be read: {error}", table=path, try_this=command("risk", self.base.named, "--realisations", "FILE")) from None
         if digest_of(found) != self.setup.digests[self.number]:
-            raise PlanError(f"realisation {self.number} has changed since pitplan risk looked through it", table=path, try_this="pitplan risk --realisations FILE")
+            raise PlanError(f"realisation {self.number} has changed since pitplan risk looked through it", table=path, try_this=command("risk", self.base.named, "--realisations", "FILE"))
         return found
 
     def place(self, factor: int) -> Path:
         """The folder of a factor's result (in thousandths)."""
         return self.folder / "runs" / f"r{self.number:04d}" / f"f{factor:05d}"
+
+    keeps = False                            # its digest is kept
+
+    def room(self, work: Path) -> Path:
+        """The certificate is written in this machine's scratch, and never goes over the network."""
+        return self.made.parent if self.made else work
 
     def run(self, factor: int, told: Told | None = None) -> Verdict:
         """One pit of this realisation, as `Study.run`; the certificate isn't kept, its digest is."""
@@ -258,21 +281,28 @@ class Realisation(Study):
         if done:
             return done
         with self.written():
-            done = super().run(factor, told)
-        (self.place(factor) / "best.cert.gz").unlink(missing_ok=True)
-        return done
+            return super().run(factor, told)
 
     @contextmanager
     def written(self) -> Iterator[Files]:
-        """The files of this realisation, for the time of a run or a series of runs."""
+        """The files of this realisation, for the time of a run or a series of runs.
+
+        Raises
+        ------
+        MachineError
+            Where there is no room for them.
+        """
         if self.made:
             yield self.files
             return
-        with tempfile.TemporaryDirectory(prefix="pitplan.", ignore_cleanup_errors=True) as scratch:
+        sweep(Path(tempfile.gettempdir()), SCRATCH + "*")
+        with tempfile.TemporaryDirectory(prefix=SCRATCH + mark(), ignore_cleanup_errors=True) as scratch:
             self.made = Path(scratch) / "mine.blocks"
             try:
                 write_blocks(self.made, self.model, self.priced)
                 yield self.files
+            except OSError as error:
+                raise MachineError(f"{error.filename or scratch}: {error.strerror}", try_this=ROOM if error.errno in FULL else None) from error
             finally:
                 self.made = None
 
@@ -287,7 +317,7 @@ def realisation(base: Study, number: int) -> Realisation:
     """
     setup = setup_of(base)
     if setup is None:
-        raise PlanError("no realisations were asked for over the model that stands there", try_this="pitplan risk --realisations FILE")
+        raise PlanError("no realisations were asked for over the model that stands there", try_this=command("risk", base.named, "--realisations", "FILE"))
     if not 0 <= number < len(setup.digests):
         raise PlanError(f"there is no realisation {number}: they are 0 to {len(setup.digests) - 1}")
     return Realisation(base, setup, number)
@@ -326,7 +356,7 @@ class Risk:
     def __init__(self, study: Study) -> None:
         setup = setup_of(study)
         if setup is None:
-            raise PlanError("no realisations were asked for over the model that stands there", try_this="pitplan risk --realisations FILE")
+            raise PlanError("no realisations were asked for over the model that stands there", try_this=command("risk", study.named, "--realisations", "FILE"))
         study.verify()
         self.study, self.setup, self.factors, self.count = study, setup, setup.factors, len(setup.digests)
         self.hits: npt.NDArray[np.uint16] = np.zeros((len(self.factors), study.manifest["blocks"]), np.uint16)

@@ -136,6 +136,15 @@ class Shells:
         """How many blocks of pit i have a slope that asks for a place outside the model. See `edges.touching`."""
         return int(np.count_nonzero(self.touching & self.holds(i)))
 
+    def reaches_floor(self, i: int) -> int:
+        """How many blocks of pit i are the lowest of their column in the model. See `edges.on_floor`."""
+        return int(np.count_nonzero(self.floor & self.holds(i)))
+
+    @cached_property
+    def floor(self) -> Bools:
+        """Whether a block is the lowest of its column, of shape (blocks,)."""
+        return edges.on_floor(self.study.model)
+
     @cached_property
     def touching(self) -> Bools:
         """Whether a block of the largest pit has such a slope, of shape (blocks,); those of a smaller pit are among them."""

@@ -5,6 +5,7 @@ is run over the whole model, and each block's line is taken from the run of its 
 """
 from __future__ import annotations
 
+import functools
 from collections.abc import Mapping, Sequence
 from contextlib import ExitStack
 from dataclasses import dataclass, field
@@ -92,7 +93,7 @@ class Slopes:
         key = (grid.size, grid.rotation, self.levels)
         if key not in self._found:
             walls = {name: self.wall(name, grid.size, grid.rotation) for name in self.names}
-            self._found[key] = {name: search.search(wall, safe=self.safe, levels=self.levels) for name, wall in walls.items()}
+            self._found[key] = {name: searched(wall, self.safe, self.levels) for name, wall in walls.items()}
         return self._found[key]
 
     def offsets_by_region(self, grid: Grid) -> dict[str, list[Offset]]:
@@ -135,6 +136,12 @@ class Slopes:
         index = {name: i for i, name in enumerate(self.names) if i}
         of_code = np.array([*(index.get(text, 0) for text in texts), 0], np.int64)       # the last is that of an empty cell, whose code is -1
         return cast(Ints, of_code[codes])
+
+
+@functools.lru_cache(maxsize=64)
+def searched(wall: search.Wall, safe: bool, levels: int | None) -> Pattern:
+    """As `offsets.search`; a wall that was asked for before, as by what-ifs over the same slopes, isn't searched again."""
+    return search.search(wall, safe=safe, levels=levels)
 
 
 def _are_angles(angles: Any) -> bool:
@@ -188,7 +195,7 @@ def check_limits(slopes: Slopes, model: Model) -> None:
         count = _over(model, pattern)
         if not count:
             continue
-        fewer = [search.search(pattern.wall, safe=slopes.safe, levels=levels) for levels in range(pattern.levels - 1, 0, -1)]
+        fewer = [searched(pattern.wall, slopes.safe, levels) for levels in range(pattern.levels - 1, 0, -1)]
         fitting = [(levels, tried) for levels, tried in zip(range(pattern.levels - 1, 0, -1), fewer) if not _over(model, tried)]
         told = f"[slopes] {name}: {len(pattern.offsets)} offsets make {count:,} pairs over {len(model):,} blocks, and pit takes {search.PAIRS:,}"
         if not fitting:

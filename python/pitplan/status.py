@@ -9,7 +9,7 @@ from pathlib import Path
 
 import numpy as np
 
-from .engines import in_slurm
+from .engines import Handed, in_slurm
 from .study import Study, host
 from .task import Task, Tasks
 
@@ -39,13 +39,13 @@ class State:
     missing: int = 0
 
 
-def states(study: Study, tasks: Sequence[Task], in_hand: Mapping[Task, str] | None = None) -> list[State]:
+def states(study: Study, tasks: Sequence[Task], in_hand: Mapping[Task, Handed] | None = None) -> list[State]:
     """Where each task is.
 
     Parameters
     ----------
     in_hand : mapping, optional
-        What the scheduler has, as `engines.in_slurm` says, which is asked unless told.
+        What Slurm has, as `engines.in_slurm` says, which is asked unless told.
 
     Raises
     ------
@@ -56,26 +56,29 @@ def states(study: Study, tasks: Sequence[Task], in_hand: Mapping[Task, str] | No
     return [state_of(of, task, slurm.get(task)) for task in dict.fromkeys(tasks)]
 
 
-def state_of(of: Tasks, task: Task, in_hand: str | None) -> State:
-    """Where a task is: by its verdicts, by the scheduler, by what is half done, and by the words that it left."""
+def state_of(of: Tasks, task: Task, handed: Handed | None) -> State:
+    """Where a task is: by its verdicts, by Slurm, by what is half done, and by the words that it left."""
     missing = of.missing(task)
     if not missing:
         return State(task, DONE)
-    if in_hand == "PENDING":
+    if handed and handed.state == "PENDING":
         return State(task, WAITING, "in Slurm's queue", len(missing))
-    where, dead = half_done(of.study(task).place(missing[0]).parent, missing)
-    if in_hand or where:
-        return State(task, RUNNING, where or f"Slurm says {in_hand}", len(missing))
+    at, is_dead = half_done(of.study(task).place(missing[0]).parent, missing)
+    if handed and not handed.state and at - {host()}:
+        at, is_dead = at & {host()}, True    # it was another machine's, and Slurm has it no more
+    if at or (handed and handed.state):
+        return State(task, RUNNING, f"on {', '.join(sorted(at))}" if at else f"Slurm says {handed.state if handed else ''}", len(missing))
     try:
         return State(task, FAILED, str(json.loads(of.note(task).read_text())["words"]), len(missing))
     except (FileNotFoundError, json.JSONDecodeError, KeyError):
-        return State(task, FAILED, ENDED, len(missing)) if dead else State(task, TO_DO, "", len(missing))
+        last = handed.last_line() if handed else ""
+        return State(task, FAILED, ENDED + (f": {last}" if last else ""), len(missing)) if is_dead or last else State(task, TO_DO, "", len(missing))
 
 
-def half_done(folder: Path, missing: Sequence[int]) -> tuple[str, bool]:
-    """On which machines somebody works at one of these factors, "" where nobody; and whether a process of this machine that is no
-    more has left something half done. What a process of another machine has left can't be told from what it is at."""
-    at, dead = set(), False
+def half_done(folder: Path, missing: Sequence[int]) -> tuple[set[str], bool]:
+    """On which machines somebody works at one of these factors, and whether a process of this machine that is no more has left
+    something half done. What a process of another machine has left can't be told from what it is at."""
+    at, is_dead = set(), False
     names = {f".f{factor:05d}" for factor in missing}
     for path in folder.glob(".f*"):
         parts = path.name.removesuffix(".old").rsplit(".", 3)
@@ -84,8 +87,8 @@ def half_done(folder: Path, missing: Sequence[int]) -> tuple[str, bool]:
         if parts[1] != host() or os.path.exists(f"/proc/{parts[2]}"):
             at.add(parts[1])
         else:
-            dead = True
-    return ", ".join(sorted(at)), dead
+            is_dead = True
+    return at, is_dead
 
 
 def seconds_left(study: Study, found: Sequence[State]) -> float | None:

@@ -17,6 +17,7 @@ from .amounts import Priced, rounding_of
 from .errors import PlanError
 from .grid import Grid
 from .model import Model
+from .next_command import command
 
 Array = npt.NDArray[Any]
 COLUMN, WORDS, METAL, GRADE = "column ", "words ", "metal ", "grade "
@@ -59,7 +60,7 @@ def opened(path: Path) -> Iterator[Any]:
         with np.load(path, allow_pickle=False) as file:
             yield file
     except (ValueError, KeyError, TypeError, IndexError, EOFError, zipfile.BadZipFile, zlib.error):
-        raise PlanError("isn't a model that pitplan wrote", table=path, try_this="pitplan build") from None
+        raise PlanError("isn't a model that pitplan wrote", table=path, try_this=command("build", path.parent.parent)) from None
 
 
 def told_of(file: Any) -> dict[str, Any]:

@@ -33,6 +33,7 @@ from .amounts import THOUSAND, Priced, as_text
 from .economics import Economics
 from .errors import Disagreement, MachineError, PlanError
 from .model import Model
+from .next_command import command
 from .program import Accepted, Files, Pit, sha256
 
 if TYPE_CHECKING:
@@ -43,6 +44,7 @@ Bools = npt.NDArray[np.bool_]
 Told = Callable[[int, str, float], None]     # a factor, what is done for it, and how far that is, from 0 to 1
 COLUMNS = ("revenue", "processing", "mining", "tonnes")
 READ = ("mine.blocks", "mine.prec", "settings.toml")
+FULL = (errno.ENOSPC, errno.EDQUOT)          # a disk has no room, or its user's share of it
 
 
 class Verdict(TypedDict):
@@ -67,12 +69,14 @@ class Study:
     folder : str or Path
     program : Pit, optional
         Found as `program.found_program` says unless given.
+    named : Path, optional
+        How the user named the study, for the commands that a message names: its folder, or its study.toml.
 
     Attributes
     ----------
     manifest : dict
         ``key`` (of the three files that `pit` reads), ``files`` (sha256 by name), ``blocks``, ``pairs``, ``offsets`` by region,
-        ``metals``, ``currency``, ``source`` (the table and its sha256), ``keys`` (the digest of study.toml), ``pit``.
+        ``metals``, ``currency``, ``source`` (the table, as `near` has it, and its sha256), ``keys`` (the digest of study.toml), ``pit``.
 
     Raises
     ------
@@ -80,21 +84,33 @@ class Study:
         Where the folder is no study, or its making was cut off.
     """
 
-    def __init__(self, folder: str | Path, program: Pit | None = None) -> None:
-        self.folder = Path(folder)
+    def __init__(self, folder: str | Path, program: Pit | None = None, named: Path | None = None) -> None:
+        self.folder, self.named = Path(folder), named or Path(folder)
         self.where = self.folder / "model"
         try:
             self.manifest: dict[str, Any] = json.loads((self.where / "manifest.json").read_text())
         except (FileNotFoundError, NotADirectoryError):
-            raise PlanError(f"{self.folder} is no study, or was never built", try_this="pitplan build") from None
+            raise PlanError(f"{self.folder} is no study, or was never built", try_this=command("build", self.named)) from None
         except json.JSONDecodeError:
-            raise PlanError(f"{self.where / 'manifest.json'} is damaged", try_this="pitplan build") from None
+            raise PlanError(f"{self.where / 'manifest.json'} is damaged", try_this=command("build", self.named)) from None
         self.key: str = self.manifest["key"]
         self.given = program
+
+    keeps = True                             # the certificate of each pit, packed, beside it
+
+    def room(self, work: Path) -> Path:
+        """The folder in which a certificate is written while it is checked: beside the result, unless told otherwise."""
+        return work
 
     @cached_property
     def program(self) -> Pit:
         return self.given or Pit()
+
+    @property
+    def table(self) -> Path | None:
+        """The table that the study was built from; None where it was made of no file."""
+        source = self.manifest["source"]
+        return self.folder / source["table"] if source else None
 
     @property
     def blocks_file(self) -> Path:
@@ -124,6 +140,10 @@ class Study:
     def region(self) -> npt.NDArray[np.int64]:
         """The region of slopes of each block, of shape (blocks,): an index into ``manifest["offsets"]``."""
         return store.load_region(self.where / "blocks.npz")
+
+    def read_ahead(self) -> None:
+        """Reads what the tables of a series will need, while its first pits are looked for."""
+        self.model, self.priced, self.region
 
     @classmethod
     def create(cls, folder: str | Path, model: Model, economics: Economics, slopes: Slopes, program: Pit | None = None, keys: str = "") -> Study:
@@ -156,7 +176,7 @@ class Study:
             store.save(work / "blocks.npz", model, priced, region)
             files = {path.name: sha256(path) for path in sorted(work.iterdir())}
             manifest = {"key": key_of(files), "files": files, "blocks": len(model), "pairs": count_pairs(slopes, model), "pit": pit.version(), "keys": keys, "notes": model.notes,
-                        "source": {"table": str(model.source), "sha256": sha256(model.source)} if model.source else None,
+                        "source": {"table": near(model.source, folder), "sha256": sha256(model.source)} if model.source else None,
                         "offsets": {name: [list(map(int, o)) for o in found] for name, found in offsets.items()}, "currency": economics.currency,
                         "metals": {m.name: {"grade": m.grade, "grade_unit": m.grade_unit, "price_unit": m.price_unit} for m in economics.metals}}
             (work / "manifest.json").write_text(json.dumps(manifest, indent=1))
@@ -173,7 +193,7 @@ class Study:
         for name, digest in self.manifest["files"].items():
             path = self.where / name
             if not path.is_file() or sha256(path) != digest:
-                raise PlanError(f"{path} isn't the file that the build made" if path.is_file() else f"{path} is gone", try_this="pitplan build")
+                raise PlanError(f"{path} isn't the file that the build made" if path.is_file() else f"{path} is gone", try_this=command("build", self.named))
 
     def place(self, factor: int) -> Path:
         """The folder of a factor's result (in thousandths)."""
@@ -209,7 +229,7 @@ class Study:
             return done
         began, place = time.time(), self.place(factor)
         with made_whole(place) as work:
-            found = self.program.best(self.files, factor, work / "best.cert", solving(told, factor))
+            found = self.program.best(self.files, factor, self.room(work) / "best.cert", solving(told, factor), self.keeps)
             self.agree(found, factor)
             bits = np.packbits(found.mask)
             np.savez_compressed(work / "pit.npz", bits=bits)
@@ -244,11 +264,11 @@ class Study:
         """
         done = self.verdict(factor)
         if not done:
-            raise PlanError(f"the pit at factor {factor / THOUSAND:g} hasn't been run over this model", try_this="pitplan shells")
+            raise PlanError(f"the pit at factor {factor / THOUSAND:g} hasn't been run over this model", try_this=command("shells", self.named))
         with np.load(self.place(factor) / "pit.npz", allow_pickle=False) as file:
             bits = file["bits"]
         if hashlib.sha256(bits.tobytes()).hexdigest() != done["bits"]:
-            raise Disagreement(f"{self.place(factor) / 'pit.npz'} isn't what was accepted", try_this=f"take {self.place(factor)} away, and pitplan shells again")
+            raise Disagreement(f"{self.place(factor) / 'pit.npz'} isn't what was accepted", try_this=f"take {self.place(factor)} away, then: {command('shells', self.named)}")
         mask: Bools = np.unpackbits(bits, count=self.manifest["blocks"]).astype(bool)
         self.adds_up(mask, done["count"], done["worth"], factor)
         return mask
@@ -297,6 +317,13 @@ def solving(told: Told | None, factor: int) -> Callable[[int, int], None] | None
     return lambda settled, of: listener(factor, "solving", settled / of if of else 0.0)
 
 
+def near(table: Path, folder: Path) -> str:
+    """How a file in a study's folder names the table: from that folder where it is near, so that the two can be moved together and
+    used from anywhere; else by its whole path."""
+    found = os.path.relpath(table.resolve(), folder.resolve())
+    return found if found.count("..") <= 2 else str(table.resolve())
+
+
 def key_of(files: dict[str, str]) -> str:
     """What names a model: the digest of the digests of the three files that `pit` reads."""
     return hashlib.sha256("".join(files[name] for name in READ).encode()).hexdigest()
@@ -317,7 +344,7 @@ def made_whole(place: Path) -> Iterator[Path]:
     Its name says the host and the process, for `sweep`.
     """
     place.parent.mkdir(parents=True, exist_ok=True)
-    work = Path(tempfile.mkdtemp(prefix=f".{place.name}.{host()}.{os.getpid()}.", dir=place.parent))
+    work = Path(tempfile.mkdtemp(prefix=f".{place.name}.{mark()}", dir=place.parent))
     work.chmod(place.parent.stat().st_mode & 0o777)       # mkdtemp makes it for one's own eyes
     try:
         yield work
@@ -328,7 +355,7 @@ def made_whole(place: Path) -> Iterator[Path]:
         shutil.rmtree(older, ignore_errors=True)
     except OSError as error:
         shutil.rmtree(work, ignore_errors=True)
-        hint = "make room on the disk, and start the same command again: what is done is kept" if error.errno in (errno.ENOSPC, errno.EDQUOT) else None
+        hint = "make room on the disk, and start the same command again: what is done is kept" if error.errno in FULL else None
         raise MachineError(f"{error.filename or place}: {error.strerror}", try_this=hint) from error
     except BaseException:
         shutil.rmtree(work, ignore_errors=True)
@@ -340,9 +367,14 @@ def host() -> str:
     return os.uname().nodename.replace(".", "_")
 
 
-def sweep(folder: Path) -> None:
+def mark() -> str:
+    """What names a folder of this process, for `sweep`."""
+    return f"{host()}.{os.getpid()}."
+
+
+def sweep(folder: Path, names: str = ".f*") -> None:
     """Takes away what processes of this machine that are no more have left half done."""
-    for half in folder.glob(".f*"):
+    for half in folder.glob(names):
         parts = half.name.removesuffix(".old").rsplit(".", 3)
         if len(parts) == 4 and parts[1] == host() and not os.path.exists(f"/proc/{parts[2]}"):
             shutil.rmtree(half, ignore_errors=True)

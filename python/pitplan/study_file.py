@@ -13,6 +13,7 @@ from typing import Any
 from .economics import Economics, Metal
 from .errors import PlanError, meant
 from .model import Model, TableKeys, read_with
+from .next_command import command
 from .pit_by_pit import Rates
 from .shells import factors, series_of
 from .slopes import Slopes
@@ -83,9 +84,9 @@ def read_study_file(study: Path) -> StudyFile:
         text = path.read_text("utf-8-sig")
         told = tomllib.loads(text)
     except NotADirectoryError:
-        raise PlanError(f"{study} is a file, and a study is a folder", try_this=f"pitplan init {study}, if it is a table") from None
+        raise PlanError(f"{study} is a file, and a study is a folder", try_this=f"{command('init', study)}, if it is a table") from None
     except FileNotFoundError:
-        raise PlanError(f"{path} isn't there", try_this="the folder of a study, or pitplan init TABLE.csv to begin one") from None
+        raise PlanError(f"{path} isn't there", try_this=f"the folder of a study, or {command('init', '.', 'TABLE.csv')} to begin one") from None
     except UnicodeDecodeError as error:
         raise PlanError(f"isn't TOML: {error}", table=path) from None
     except tomllib.TOMLDecodeError as error:
@@ -109,7 +110,7 @@ def checked(path: Path, told: Mapping[str, Any]) -> StudyFile:
     known("the file", told, SECTIONS)
     for name in SECTIONS[:3]:
         if name not in told:
-            raise PlanError(f"there is no section [{name}]", try_this="pitplan init TABLE.csv writes all of them")
+            raise PlanError(f"there is no section [{name}]", try_this=f"{command('init', '.', 'TABLE.csv')} writes all of them")
     for name, section in told.items():
         if not isinstance(section, dict):
             raise PlanError(f"{name} has to be a section: [{name}] in a line of its own")

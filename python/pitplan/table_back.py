@@ -14,6 +14,7 @@ import numpy.typing as npt
 from .amounts import THOUSAND
 from .csv_text import head_of, names_of, opened, separator_of
 from .errors import PlanError
+from .next_command import command
 from .program import sha256
 
 if TYPE_CHECKING:
@@ -61,12 +62,11 @@ def write(shells: Shells, target: Path) -> int:
         Where the table isn't there any more, or isn't the one that the study was built from.
     """
     study = shells.study
-    source = study.manifest["source"]
-    if not source:
+    path = study.table
+    if path is None:
         raise PlanError("the study was made of no file", try_this="shells.of_blocks()")
-    path = Path(source["table"])
-    if not path.is_file() or sha256(path) != source["sha256"]:
-        raise PlanError("isn't the table that the study was built from" if path.is_file() else "the study's table is gone", table=path, try_this="pitplan build")
+    if not path.is_file() or sha256(path) != study.manifest["source"]["sha256"]:
+        raise PlanError("isn't the table that the study was built from" if path.is_file() else "the study's table is gone", table=path, try_this=command("build", study.named))
     header = head_of(path, "latin-1", 1)[0]
     mark = separator_of(header)
     name = free_name(names_of(header, mark))

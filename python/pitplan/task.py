@@ -159,8 +159,12 @@ class Tasks:
 
 def memory_of_task(study: Study) -> int:
     """Bytes of memory that a task over a study takes at most, about."""
-    blocks, pairs = study.manifest["blocks"], study.manifest["pairs"]
-    return PROCESS + memory_of(int(blocks), int(pairs)) + int(blocks) * MADE
+    return memory_by_size(int(study.manifest["blocks"]), int(study.manifest["pairs"]))
+
+
+def memory_by_size(blocks: int, pairs: int) -> int:
+    """Bytes of memory that a task over a model of that size takes at most, about."""
+    return PROCESS + memory_of(blocks, pairs) + blocks * MADE
 
 
 def wanted(study: Study, factors: Sequence[int]) -> list[Task]:

@@ -39,3 +39,14 @@ def amount_text(value: float, scale: Scale) -> str:
 def factor_text(thousandths: int) -> str:
     """A factor as a share of the price: 850 is 0.85, 875 is 0.875."""
     return f"{thousandths / 1000:.3f}" if thousandths % 10 else f"{thousandths / 1000:.2f}"
+
+
+def separated(number: str) -> str:
+    """A number as `pit` prints it, with separators of thousands: every digit stays.
+
+    >>> separated("-1234567.5"), separated("-0.25")
+    ('-1,234,567.5', '-0.25')
+    """
+    whole, point, places = number.partition(".")
+    sign, digits = ("-", whole[1:]) if whole.startswith("-") else ("", whole)
+    return f"{sign}{int(digits):,}{point}{places}"

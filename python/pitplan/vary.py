@@ -18,6 +18,7 @@ from .amounts import THOUSAND
 from .economics import Amount, Economics
 from .errors import PlanError, meant
 from .model import Model
+from .next_command import command
 from .shells import thousandths
 from .slopes import Slopes
 from .study import Study
@@ -160,7 +161,7 @@ def asked_of(study: Study) -> Asked | None:
     except FileNotFoundError:
         return None
     except (TypeError, json.JSONDecodeError):
-        raise PlanError(f"{path} is damaged", try_this="pitplan vary") from None
+        raise PlanError(f"{path} is damaged", try_this=command("vary", study.named, "price=-20..20")) from None
     return found if found.study == study.key else None
 
 
@@ -169,7 +170,7 @@ def scenario(base: Study, name: str) -> Study:
     asked = asked_of(base)
     names = [change.name for change in asked.each() if change.what != "price"] if asked else []
     if name not in names:
-        raise PlanError(f"there is no scenario {name!r} of the model that stands there{meant(name, names)}", try_this="pitplan vary")
+        raise PlanError(f"there is no scenario {name!r} of the model that stands there{meant(name, names)}", try_this=command("vary", base.named, "price=-20..20"))
     return Study(place(base, name), base.given)
 
 
@@ -204,7 +205,7 @@ def table(study: Study) -> pd.DataFrame:
     """
     asked = asked_of(study)
     if asked is None:
-        raise PlanError("no what-ifs were asked for over the model that stands there", try_this="pitplan vary price=-20..20")
+        raise PlanError("no what-ifs were asked for over the model that stands there", try_this=command("vary", study.named, "price=-20..20"))
     tonnes, rows = study.model.blocks.tonnes.to_numpy(float), []
     for change in (None, *asked.each()):
         of = task(asked, change)

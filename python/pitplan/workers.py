@@ -93,6 +93,7 @@ def at_once(study: Study, factors: Sequence[int], workers: int, told: Told | Non
     with ThreadPoolExecutor(workers) as pool:
         running: dict[Future[Verdict], int] = {pool.submit(one, study, factor, told): factor for factor in factors}
         try:
+            study.read_ahead()
             while running:
                 for future in wait(running, return_when=FIRST_COMPLETED).done:
                     factor = running.pop(future)

@@ -1,13 +1,15 @@
-"""A one-node Slurm on loopback, with a key, ports and a folder of its own, without systemd."""
+"""A one-node Slurm on loopback, with a key, ports and a folder of its own, without systemd; a keeper ends all of it."""
 import os
 import shutil
-import signal
 import socket
-import subprocess
 import time
 from pathlib import Path
 
-NEEDED = ("munged", "slurmctld", "slurmd", "sbatch", "squeue", "scontrol")
+from keeper import Keeper
+from processes import kill_all
+
+NEEDED = ("munged", "slurmctld", "slurmd", "sbatch", "squeue", "scontrol", "sinfo")
+PATH = os.environ["PATH"] + ":/usr/sbin:/sbin"
 HOST = os.uname().nodename
 CONF = """ClusterName=trial
 SlurmctldHost={host}(127.0.0.1)
@@ -29,20 +31,23 @@ MpiDefault=none
 SelectType=select/cons_tres
 SelectTypeParameters=CR_Core_Memory
 ReturnToService=2
-SchedulerParameters=sched_interval=2,bf_interval=5
+SchedulerParameters=sched_interval=1,bf_interval=1
 JobRequeue=1
-SlurmdTimeout=30
-NodeName={host} NodeAddr=127.0.0.1 CPUs=2 RealMemory=1500 State=UNKNOWN
+MessageTimeout=60
+SlurmdTimeout=120
+SlurmdParameters=config_overrides
+NodeName={host} NodeAddr=127.0.0.1 CPUs={at_once} RealMemory=4000 State=UNKNOWN
 PartitionName=day Nodes={host} Default=YES MaxTime=INFINITE State=UP
 """
 
 
 def why_not():
-    """Why no Slurm can be started here, None where it can."""
+    """Why no Slurm can be started here, None where it can. Raises where what it needs isn't installed."""
     if os.geteuid() != 0:
         return "a Slurm of one's own is started by root alone"
-    lacking = [name for name in NEEDED if shutil.which(name, path=os.environ["PATH"] + ":/usr/sbin:/sbin") is None]
-    return f"not installed: {', '.join(lacking)}" if lacking else None
+    lacking = [name for name in NEEDED if shutil.which(name, path=PATH) is None]
+    assert not lacking, f"not installed: {', '.join(lacking)}; python/packages has what these tests need"
+    return None
 
 
 def free_port():
@@ -52,90 +57,71 @@ def free_port():
 
 
 class Slurm:
-    def __init__(self, folder):
+    """A Slurm of one node that runs so many tasks at a time.
+
+    Attributes
+    ----------
+    env : dict
+        The environment of its commands.
+    """
+
+    def __init__(self, folder, at_once=2):
         self.folder = Path(folder)
-        for name in ("state", "spool"):
+        for name in ("state", "spool", "tmp"):
             (self.folder / name).mkdir(parents=True)
         self.folder.chmod(0o755)
         (self.folder / "munge.key").write_bytes(os.urandom(1024))
         (self.folder / "munge.key").chmod(0o400)
         self.conf = self.folder / "slurm.conf"
-        self.conf.write_text(CONF.format(host=HOST, folder=self.folder, port1=free_port(), port2=free_port()))
-        self.env = {**os.environ, "SLURM_CONF": str(self.conf), "PATH": os.environ["PATH"] + ":/usr/sbin:/sbin", "TMPDIR": "/tmp"}
+        self.conf.write_text(CONF.format(host=HOST, folder=self.folder, port1=free_port(), port2=free_port(), at_once=at_once))
+        self.env = {**os.environ, "SLURM_CONF": str(self.conf), "PATH": PATH, "TMPDIR": str(self.folder / "tmp")}
+        self.keeper = Keeper(self.folder)
         f = self.folder
-        self.run("munged", f"--key-file={f}/munge.key", f"--socket={f}/munge.socket", f"--pid-file={f}/munged.pid", f"--log-file={f}/munged.log", f"--seed-file={f}/munge.seed", "--force")
-        self.run("slurmctld", "-f", self.conf)
-        self.start_node()
-        self.until(lambda: "idle" in self.said("sinfo", "-h", "-o", "%T"), "the node never came up")
+        try:
+            self.run("munged", f"--key-file={f}/munge.key", f"--socket={f}/munge.socket", f"--pid-file={f}/munged.pid", f"--log-file={f}/munged.log", f"--seed-file={f}/munge.seed", "--force")
+            self.run("slurmctld", "-f", self.conf)
+            self.start_node()
+            self.until(lambda: "idle" in self.said("sinfo", "-h", "-o", "%T"), "the node never came up")
+        except BaseException:
+            self.stop()
+            raise
 
     def run(self, *words):
-        ran = subprocess.run(list(map(str, words)), env=self.env, capture_output=True, text=True, cwd=self.folder)
-        assert ran.returncode == 0, (words, ran.stderr)
-        return ran.stdout
+        return self.keeper.done(*words, env=self.env)
 
     def said(self, *words):
-        return subprocess.run(list(map(str, words)), env=self.env, capture_output=True, text=True, cwd=self.folder).stdout
+        return self.keeper.said(*words, env=self.env)[1]
 
     def start_node(self):
         self.run("slurmd", "-f", self.conf, "-N", HOST)
 
-    def until(self, is_so, words, seconds=120):
+    def until(self, is_so, words, seconds=600):
         for _ in range(seconds * 4):
             if is_so():
                 return
             time.sleep(0.25)
         raise AssertionError(words + "\n" + self.said("squeue") + self.said("sinfo") + (self.folder / "slurmctld.log").read_text()[-3000:])
 
+    def is_empty(self):
+        """Whether no job is left; those that wait because they were requeued are started now, which Slurm lets wait for two minutes."""
+        for index in self.said("squeue", "-h", "-r", "-t", "PENDING", "-o", "%F_%K %r").splitlines():
+            if index.split()[-1] == "BeginTime":
+                self.said("scontrol", "update", f"JobId={index.split()[0]}", "StartTime=now")
+        status, out, _ = self.keeper.said("squeue", "-h", env=self.env)
+        return status == 0 and not out.strip()
+
     def pid(self, name):
-        try:
-            return int((self.folder / f"{name}.pid").read_text())
-        except (FileNotFoundError, ValueError):
-            return None
-
-    def below(self):
-        """The processes that this cluster's jobs have started: those that carry its configuration, but for its own daemons."""
-        mark, own = f"SLURM_CONF={self.conf}".encode(), {self.pid(name) for name in ("munged", "slurmctld", "slurmd")}
-        found = []
-        for path in Path("/proc").iterdir():
-            try:
-                if path.name.isdigit() and int(path.name) not in own and (mark in (path / "environ").read_bytes().split(b"\0")) and b"SLURM_JOB_ID=" in (path / "environ").read_bytes():
-                    found.append(int(path.name))
-            except OSError:
-                pass
-        return found
-
-    def steps(self):
-        """The processes that watch over jobs: children of the node's daemon, which may have no parent by now."""
-        found = []
-        for path in Path("/proc").iterdir():
-            try:
-                if path.name.isdigit() and (path / "comm").read_text().strip() == "slurmstepd" and f"SLURM_CONF={self.conf}".encode() in (path / "environ").read_bytes().split(b"\0"):
-                    found.append(int(path.name))
-            except OSError:
-                pass
-        return found
+        return int((self.folder / f"{name}.pid").read_text())
 
     def kill_node(self):
         """All of the node at once: its daemon, the watchers, the tasks."""
-        for pid in [self.pid("slurmd"), *self.steps(), *self.below()]:
-            end(pid, signal.SIGKILL)
+        kill_all(self.keeper.pid, but=(self.pid("munged"), self.pid("slurmctld")))
         (self.folder / "slurmd.pid").unlink(missing_ok=True)
+        self.run("scontrol", "update", f"NodeName={HOST}", "State=DOWN", "Reason=trial")
+
+    def bring_node_back(self):
+        self.start_node()
+        self.said("scontrol", "update", f"NodeName={HOST}", "State=RESUME")
 
     def stop(self):
-        self.kill_node()
-        for name in ("slurmctld", "munged"):
-            end(self.pid(name), signal.SIGTERM)
-        for _ in range(40):
-            if not any(pid and os.path.exists(f"/proc/{pid}") for pid in map(self.pid, ("slurmctld", "munged"))):
-                return
-            time.sleep(0.25)
-        for name in ("slurmctld", "munged"):
-            end(self.pid(name), signal.SIGKILL)
-
-
-def end(pid, how):
-    if pid:
-        try:
-            os.kill(pid, how)
-        except ProcessLookupError:
-            pass
+        self.keeper.end()

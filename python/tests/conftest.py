@@ -21,3 +21,23 @@ def program():
     from pitplan.program import found_program
     os.environ["PIT"] = found_program()
     return os.environ["PIT"]
+
+
+@pytest.fixture(autouse=True)
+def no_process_is_left():
+    """Ends what a test has started, also where it fails."""
+    yield
+    from processes import end_started
+    end_started()
+
+
+@pytest.fixture
+def small_disks(tmp_path):
+    """A keeper whose own processes alone see the small disks that it mounts."""
+    from keeper import Keeper
+    if os.geteuid() != 0:
+        pytest.skip("only root mounts a small disk")
+    with Keeper(tmp_path / "keeper") as keeper:
+        if not keeper.mounts:
+            pytest.skip("this container mounts nothing")
+        yield keeper

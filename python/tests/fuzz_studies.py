@@ -1,5 +1,5 @@
 #!/usr/bin/python3
-"""Throws damaged studies at pitplan: each is answered by a result or by one message, never by a traceback.
+"""Throws damaged studies at pitplan: each is answered by a result or by one message, never by a traceback or a library's warning.
 
     python3 python/tests/fuzz_studies.py [SAMPLES [SECONDS [SEED]]]
 
@@ -15,6 +15,7 @@ import sys
 import tempfile
 import time
 import traceback
+import warnings
 from collections import Counter
 from pathlib import Path
 
@@ -169,7 +170,8 @@ def fuzzed(words):
     """Samples of one process: counts of the answers, and the first sample that wasn't answered."""
     first, step, samples, until, seed = words
     found = Counter()
-    with tempfile.TemporaryDirectory() as room:
+    with tempfile.TemporaryDirectory() as room, warnings.catch_warnings():
+        warnings.simplefilter("error")       # a planner would see them beside the message
         for number in itertools.count(first, step):
             if number >= samples or time.time() > until:
                 return found, None

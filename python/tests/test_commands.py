@@ -1,8 +1,9 @@
 """The command line, as a planner uses it."""
 import json
 import os
+import re
+import shlex
 import subprocess
-from pathlib import Path
 
 import numpy as np
 import pandas as pd
@@ -11,12 +12,12 @@ import pytest
 from mines import STUDY_TOML, table, written_study
 from pitplan import first_look
 from pitplan.study_file import read_study_file
+from served import PITPLAN, linked, pitplan
 
-PITPLAN = Path(__file__).resolve().parents[2] / "bin" / "pitplan"
 
-
-def pitplan(*words, cwd=None, **env):
-    return subprocess.run([str(PITPLAN), *map(str, words)], capture_output=True, text=True, cwd=cwd, env={**os.environ, **env})
+def hinted(ran):
+    """The words of the command that an error says to try."""
+    return shlex.split(ran.stderr.rsplit("try: ", 1)[1])
 
 
 def test_from_a_table_to_shells(tmp_path):
@@ -41,7 +42,7 @@ def test_from_a_table_to_shells(tmp_path):
     # what was built counts only as long as study.toml says the same
     (study / "study.toml").write_text(text.replace("mining = 2.50", "mining = 2.60"))
     stale = pitplan("shells", study)
-    assert stale.returncode == 3 and "has changed since the study was built" in stale.stderr and "try: pitplan build" in stale.stderr
+    assert stale.returncode == 3 and "has changed since the study was built" in stale.stderr and hinted(stale) == [PITPLAN, "build", str(study)]
     (study / "study.toml").write_text(text)
     f.assign(CU=f.CU + 1).to_csv(tmp_path / "mine.csv", index=False)
     assert "the table has changed" in pitplan("shells", study).stderr
@@ -58,11 +59,51 @@ def test_wrong_words_and_files_have_their_status(tmp_path, words, status, said):
 
 def test_shells_before_build_says_so(tmp_path):
     ran = pitplan("shells", written_study(tmp_path / "s"))
-    assert ran.returncode == 3 and "never built" in ran.stderr and "try: pitplan build" in ran.stderr
+    assert ran.returncode == 3 and "never built" in ran.stderr and hinted(ran) == [PITPLAN, "build", str(tmp_path / "s")]
+
+
+def test_each_hint_can_be_pasted(tmp_path):
+    """What an error says to try is typed as it stands, until pitplan has nothing more to say; also where the folder has a space, a
+    study.toml has another name, and the command is found on the path."""
+    written_study(tmp_path / "my mine").joinpath("study.toml").rename(tmp_path / "my mine" / "high price.toml")
+    path = f"{linked(tmp_path / 'bin')}:{os.environ['PATH']}"
+    typed, said = "pitplan phases 0.6,1 'my mine/high price.toml'", []
+    while typed and len(said) < 6:
+        ran = subprocess.run(["bash", "-c", typed], capture_output=True, text=True, cwd=tmp_path, env={**os.environ, "PATH": path})
+        said.append(typed)
+        typed = next(iter(re.findall(r"try: (.*)" if ran.returncode else r"then: (.*)", ran.stderr + ran.stdout)), "")
+    assert said == ["pitplan phases 0.6,1 'my mine/high price.toml'", "pitplan build 'my mine/high price.toml'", "pitplan shells 'my mine/high price.toml'"], ran.stderr
+
+
+def test_tables_of_the_model_before_are_set_aside(tmp_path):
+    """What pitplan wrote of another model goes to out/older; what is the user's stays, also a table that he wrote something into."""
+    study = written_study(tmp_path / "s")
+    text = (study / "study.toml").read_text()
+    for words in (("slopes",), ("build",), ("shells",), ("phases", "0.6,1"), ("compare", "--column", "CU")):
+        ran = pitplan(words[0], *words[1:2] if words[0] == "phases" else (), study, *words[1:] if words[0] == "compare" else ())
+        assert ran.returncode == (words[0] == "compare"), ran.stderr          # all that has copper is no pit
+    out = study / "out"
+    (out / "mine.txt").write_text("of my own")
+    (out / "benches.csv").write_text("a word of mine\n" + (out / "benches.csv").read_text())
+    before = {path.relative_to(out).as_posix(): path.read_bytes() for path in out.rglob("*") if path.is_file() and not path.name.startswith(".")}
+    assert {"pit_by_pit.csv", "t.csv", "phases.csv", "slopes.csv", "slopes.png", "compare-CU/summary.json"} <= set(before)
+
+    def files():
+        return {path.relative_to(out).as_posix(): path.read_bytes() for path in out.rglob("*") if path.is_file() and not path.name.startswith(".")}
+    again = pitplan("build", study)
+    assert again.returncode == 0 and files() == before and "model before" not in again.stdout + again.stderr     # the same model
+    (study / "study.toml").write_text(text.replace("mining = 2.0", "mining = 2.1"))
+    ran = pitplan("build", study)
+    stay = {"mine.txt", "benches.csv", "slopes.csv", "slopes.png"}
+    assert {name: data for name, data in files().items()} == {name if name in stay else f"older/{name}": data for name, data in before.items()}
+    assert ran.returncode == 0 and f"{out}/older has what was written of the model before" in ran.stdout and "pit_by_pit.csv" in ran.stdout
+    assert ran.stderr.count("model before") == 1 and f"{out}/benches.csv is of the model before" in ran.stderr
+    (study / "study.toml").write_text(text.replace("angles = 45", "angles = 44"))
+    assert "slopes.csv, slopes.png" in pitplan("build", study).stdout and stay - set(files()) == {"slopes.csv", "slopes.png"}
 
 
 def test_help_needs_no_study_and_no_pit(tmp_path):
-    ran = pitplan("--help", cwd=tmp_path, PIT="/nowhere")
+    ran = subprocess.run([PITPLAN, "--help"], cwd=tmp_path, capture_output=True, text=True, env={**os.environ, "PIT": "/nowhere"})      # no fork of the server: its own start
     assert ran.returncode == 0 and all(name in ran.stdout for name in ("init", "build", "shells"))
 
 

@@ -7,7 +7,8 @@ from pathlib import Path
 
 import pytest
 
-from pitplan import doctor
+from pitplan import doctor, program
+from pitplan.errors import PlanError
 
 TOP = Path(__file__).resolve().parents[2]
 
@@ -33,9 +34,24 @@ def test_a_program_that_is_not_there_is_told_with_what_to_do():
 
 
 def script(path, text):
+    path.parent.mkdir(exist_ok=True)
     path.write_text("#!/bin/sh\n" + text)
     path.chmod(path.stat().st_mode | stat.S_IXUSR)
     return str(path)
+
+
+def test_a_pit_beside_the_command_is_found_where_none_is_on_the_path(tmp_path, monkeypatch):
+    beside, on_path = script(tmp_path / "bin" / "pit", ""), script(tmp_path / "other" / "pit", "")
+    monkeypatch.delenv("PIT")
+    monkeypatch.setattr(sys, "argv", [str(tmp_path / "bin" / "pitplan")])
+    monkeypatch.setattr(program, "BUILT", ())
+    monkeypatch.setenv("PATH", str(tmp_path / "other"))
+    assert program.found_program() == on_path
+    monkeypatch.setenv("PATH", str(tmp_path))
+    assert program.found_program() == beside
+    Path(beside).unlink()
+    with pytest.raises(PlanError, match="the program pit isn't there"):
+        program.found_program()
 
 
 def test_another_program_of_this_name_is_told(tmp_path):

@@ -3,47 +3,69 @@ import os
 import shutil
 import signal
 import subprocess
-import time
-from pathlib import Path
+import threading
 
 import numpy as np
 import pytest
 
 import clusters
 import pitplan as pp
-from mines import STUDY_TOML, study_of, table, written_study
+from mines import STUDY_TOML, table, written_study
 from pitplan import engines, local, risk, status
-from pitplan.task import Task, Tasks, task_of, wanted
+from pitplan.task import Task, Tasks, wanted
+from processes import TOP, command, gone, parent, runs, said, started, waited_for
 from test_risk import grades_of, prepared
-from test_runs import command, runs, waited_for
 
-# pit, but a solve leaves a line of its process and its factor, and waits while a file is there (a minute at most)
-HELD = """#!/bin/sh
-case "$1" in solve) echo $$ >> {marks}; n=0; while [ -e {hold} ] && [ $n -lt 240 ]; do sleep 0.25; n=$((n+1)); done;; esac
+# pit, but a solve leaves a line of its process, and waits while a file is there, unless it is among as many as that file says
+HELD = r"""#!/bin/sh
+case "$1" in solve)
+    echo $$ >> {marks}
+    mine=$(grep -n "^$$\$" {marks} | tail -1 | cut -d: -f1)
+    while [ -e {hold} ] && [ "$mine" -gt "$(cat {hold})" ] 2> /dev/null; do sleep 0.25; done;;
+esac
 exec {pit} "$@"
 """
 
 
-def held_pit(folder, pit):
-    path, marks, hold = (folder / name for name in ("held-pit", "marks", "hold"))
-    path.write_text(HELD.format(marks=marks, hold=hold, pit=pit))
-    path.chmod(0o755)
-    hold.touch()
-    return path, marks, hold
+class Held:
+    """A `pit` whose solves are held after the first few, until they are let go."""
+
+    def __init__(self, folder, pit, first):
+        self.path, self.marks, self.hold = (folder / name for name in ("held-pit", "marks", "hold"))
+        self.path.write_text(HELD.format(marks=self.marks, hold=self.hold, pit=pit))
+        self.path.chmod(0o755)
+        self.hold.write_text(f"{first}\n")
+
+    def solvers(self, count=0):
+        """The processes that have begun to solve, once there are so many."""
+        return list(map(int, waited_for(self.marks, count)))
+
+    def let_go(self):
+        self.hold.unlink(missing_ok=True)
 
 
-def parent(pid):
-    return int(Path(f"/proc/{pid}/stat").read_text().rsplit(")", 1)[1].split()[1])
+@pytest.fixture
+def held(tmp_path, program):
+    made = []
+    yield lambda first=0: made.append(Held(tmp_path, program, first)) or made[-1]
+    for one in made:
+        one.let_go()
 
 
-def twelve(folder):
-    """A study with 12 tasks: its own pit, and 11 realisations; in a folder with a space."""
-    place = written_study(folder / "my mine", table(7, 6, 4, 3), STUDY_TOML.replace("[0.6, 1.0, 1.2]", "[1.0]"))
-    assert command("build", place).wait() == 0
+@pytest.fixture(scope="module")
+def asked_for(tmp_path_factory):
+    """A study for which 12 tasks are asked: its own pit, and 11 realisations."""
+    folder = tmp_path_factory.mktemp("asked")
+    place = written_study(folder / "mine", table(7, 6, 4, 3), STUDY_TOML.replace("[0.6, 1.0, 1.2]", "[1.0]"))
+    said("build", place)
     np.save(folder / "sims.npy", grades_of(table(7, 6, 4, 3), 11))
-    run = command("risk", place, "--realisations", folder / "sims.npy", "--later")
-    assert "11 realisations" in run.communicate(timeout=120)[0]
-    return pp.Study(place)
+    assert "11 realisations" in said("risk", place, "--realisations", folder / "sims.npy", "--later")
+    return place
+
+
+def twelve(asked_for, folder):
+    """A copy of that study, in a folder with a space."""
+    return pp.Study(shutil.copytree(asked_for, folder / "my mine"))
 
 
 def all_done(study):
@@ -58,103 +80,84 @@ def slurm(tmp_path_factory):
     reason = clusters.why_not()
     if reason:
         pytest.skip(reason)
-    cluster = None
-    folder = Path(tmp_path_factory.mktemp("slurm"))
-    try:
-        cluster = clusters.Slurm(folder)
-        yield cluster
-    finally:
-        if cluster:
-            cluster.stop()
+    cluster = clusters.Slurm(tmp_path_factory.mktemp("slurm"))
+    yield cluster
+    cluster.stop()
 
 
-def test_a_slurm_array_with_a_killed_task_and_a_killed_node(tmp_path, program, slurm):
-    study = twelve(tmp_path)
-    pit, marks, hold = held_pit(tmp_path, program)
-    env = {**slurm.env, "PIT": str(pit)}
-    said = command("submit", study.folder, "--engine", "slurm", env=env).communicate(timeout=120)
-    assert "12 tasks handed in as job" in said[0], said
-    job = said[0].split("job ")[1].split(";")[0]
-    solvers = waited_for(marks, 2, 120)
-    killed = parent(int(solvers[0]))
-    os.kill(killed, signal.SIGKILL)              # one task, as the system does where memory is short
-    waited_for(marks, 3, 120)
-    assert not runs(solvers[0])
-    at_work = sum(map(runs, waited_for(marks, 3)))
-    assert at_work == 2
-    said = command("status", study.folder, env=env).communicate(timeout=120)[0]
-    assert "1 failed, of 12 tasks" in said and "2 running, 9 waiting" in said and status.ENDED in said, said
-    assert "nothing" not in command("submit", study.folder, "--engine", "slurm", "--dry", env=env).communicate(timeout=120)[0]
+def test_a_slurm_array_with_a_killed_task_and_a_killed_node(tmp_path, asked_for, held, slurm):
+    study, pit = twelve(asked_for, tmp_path), held(first=3)
+    env = {**slurm.env, "PIT": str(pit.path)}
+    assert "12 tasks handed in as job" in said("submit", study.folder, "--engine", "slurm", env=env)
+    killed = pit.solvers(5)[3]                   # the first three are done, and two are held
+    os.kill(parent(killed), signal.SIGKILL)      # one task, as the system does where memory is short
+    at_work = [pid for pid in pit.solvers(6) if runs(pid)]
+    assert len(at_work) == 2 and not runs(killed)
+    shown = said("status", study.folder, env=env)
+    assert "3 done, 2 running, 6 waiting, 1 failed, of 12 tasks" in shown and status.ENDED in shown, shown
+    shown = said("submit", study.folder, "--engine", "slurm", "--dry", env=env)
+    assert "1 task of" in shown and shown.count("\n  pitplan task") == 1, shown
     slurm.kill_node()
-    assert not any(map(runs, marks.read_text().split()))
-    slurm.run("scontrol", "update", f"NodeName={clusters.HOST}", "State=DOWN", "Reason=trial")
-    hold.unlink()
-    slurm.start_node()
-    slurm.said("scontrol", "update", f"NodeName={clusters.HOST}", "State=RESUME")
-    slurm.until(lambda: "PENDING" in slurm.said("squeue", "-h", "-r", "-o", "%T"), "nothing was requeued")
-    for index in slurm.said("squeue", "-h", "-r", "-o", "%F_%K").split():
-        slurm.said("scontrol", "update", f"JobId={index}", "StartTime=now")      # Slurm lets a requeued task wait for two minutes
-    slurm.until(lambda: not slurm.said("squeue", "-h").strip(), "the array never ended", 240)
-    said = command("submit", study.folder, "--engine", "slurm", env=env).communicate(timeout=120)[0]
-    assert "1 tasks handed in" in said, said     # what was killed, and nothing else
-    slurm.until(lambda: not slurm.said("squeue", "-h").strip(), "the last task never ended")
+    assert gone(at_work)
+    pit.let_go()
+    slurm.bring_node_back()
+    slurm.until(slurm.is_empty, "the array never ended")
+    assert "11 done, 1 failed, of 12 tasks" in said("status", study.folder, env=env)
+    shown = said("submit", study.folder, "--engine", "slurm", env=env)
+    assert "1 task handed in" in shown, shown   # what was killed, and nothing else
+    slurm.until(slurm.is_empty, "the last task never ended")
     all_done(study)
-    assert len(marks.read_text().split()) == 12 + 1 + at_work, job       # nothing that was done ran twice
-    said = command("submit", study.folder, "--engine", "slurm", env=env).communicate(timeout=120)[0]
-    assert "nothing to hand in" in said and "12 done, of 12" in command("status", study.folder, env=env).communicate(timeout=120)[0]
+    assert len(pit.solvers()) == 12 + 1 + 2      # nothing that was done ran twice
+    assert "nothing to hand in" in said("submit", study.folder, "--engine", "slurm", env=env) and "12 done, of 12" in said("status", study.folder, env=env)
 
 
-def test_snakemake_over_slurm_starts_a_killed_job_again(tmp_path, program, slurm):
-    if shutil.which("snakemake") is None:
-        pytest.skip("not installed: snakemake")
-    study = prepared(tmp_path, 3, table(7, 6, 4, 3), factors=(1000,))
-    pit, marks, hold = held_pit(tmp_path, program)
+def test_snakemake_over_slurm_starts_a_killed_job_again(tmp_path, held, slurm):
+    assert shutil.which("snakemake"), "not installed: snakemake"
+    study, pit = prepared(tmp_path, 4, table(7, 6, 4, 3), factors=(1000,)), held(first=1)
     written = engines.write_snakefile(study, risk.tasks(study))
-    line = engines.snakemake_lines(written)["Slurm"] + " --latency-wait 10 --max-status-checks-per-second 2"
-    env = {**slurm.env, "PIT": str(pit), "HOME": str(tmp_path), "XDG_CACHE_HOME": str(tmp_path / "cache")}
-    run = subprocess.Popen(["bash", "-c", line], cwd=study.folder, env=env, stdout=subprocess.PIPE, stderr=subprocess.STDOUT, text=True)
-    solver = waited_for(marks, 1, 180)[0]
-    os.kill(parent(int(solver)), signal.SIGKILL)
-    hold.unlink()
-    said = run.communicate(timeout=400)[0]
-    assert run.returncode == 0, said
-    assert not Tasks(study.folder).left(risk.tasks(study)) and len(marks.read_text().split()) == 4, said
+    line = engines.snakemake_lines(written)["Slurm"] + " --latency-wait 60"
+    env = {**slurm.env, "PIT": str(pit.path), "HOME": str(tmp_path), "XDG_CACHE_HOME": str(tmp_path / "cache"), "CI": "true"}      # then it looks each second
+    run = started(["bash", "-c", line], cwd=study.folder, env=env, stderr=subprocess.STDOUT)
+    os.kill(parent(pit.solvers(2)[1]), signal.SIGKILL)
+    pit.let_go()
+    shown = run.communicate(timeout=1200)[0]
+    assert run.returncode == 0, shown
+    assert not Tasks(study.folder).left(risk.tasks(study)) and len(pit.solvers()) == 4 + 1, shown
 
 
-def test_dask_with_a_killed_worker(tmp_path, program):
-    distributed = pytest.importorskip("distributed")
-    study = prepared(tmp_path, 8, table(7, 6, 4, 3), factors=(1000,))
-    pit, marks, hold = held_pit(tmp_path, program)
-    study = pp.Study(study.folder, pp.Pit(pit))
+def in_background(work, *words):
+    """A thread that works, and a list that gets what comes of it."""
+    found = []
+    thread = threading.Thread(target=lambda: found.append(work(*words)), daemon=True)
+    thread.start()
+    return thread, found
+
+
+def test_dask_with_a_killed_worker(tmp_path, held):
+    import distributed
+    study, pit = prepared(tmp_path, 8, table(7, 6, 4, 3), factors=(1000,)), held(first=2)
+    done = []
     with distributed.LocalCluster(n_workers=3, threads_per_worker=1, processes=True, dashboard_address=None, host="127.0.0.1", memory_limit=0, local_directory=str(tmp_path)) as cluster, \
             distributed.Client(cluster) as client:
         client.wait_for_workers(3)
-        import threading
-        done = []
-        run = threading.Thread(target=lambda: engines.run_dask(study, risk.tasks(study), client, lambda task, n, of: done.append(task)))
-        run.start()
-        solver = waited_for(marks, 3, 120)[0]
-        os.kill(parent(int(solver)), signal.SIGKILL)
-        hold.unlink()
-        run.join(200)
+        run, _ = in_background(engines.run_dask, pp.Study(study.folder, pp.Pit(pit.path)), risk.tasks(study), client, lambda task, n, of: done.append(task))
+        killed = pit.solvers(3)[2]
+        os.kill(parent(killed), signal.SIGKILL)
+        pit.let_go()
+        run.join(600)
         assert not run.is_alive() and len(done) == 8
-    assert not Tasks(study.folder).left(risk.tasks(study)) and not runs(solver)
-    assert len(marks.read_text().split()) == 9
+    assert not Tasks(study.folder).left(risk.tasks(study)) and not runs(killed)
+    assert len(pit.solvers()) == 8 + 1
 
 
-def test_a_killed_process_of_this_machine_is_started_again(tmp_path, program):
-    study = prepared(tmp_path, 6, table(7, 6, 4, 3), factors=(1000,))
-    pit, marks, hold = held_pit(tmp_path, program)
-    study = pp.Study(study.folder, pp.Pit(pit))
-    import threading
-    deaths = []
-    run = threading.Thread(target=lambda: deaths.append(local.run_local(study, risk.tasks(study), 2)))
-    run.start()
-    solver = waited_for(marks, 2, 120)[0]
-    os.kill(parent(int(solver)), signal.SIGKILL)
-    hold.unlink()
-    run.join(200)
-    assert deaths == [1] and not runs(solver) and len(marks.read_text().split()) == 7
+def test_a_killed_process_of_this_machine_is_started_again(tmp_path, held):
+    study, pit = prepared(tmp_path, 6, table(7, 6, 4, 3), factors=(1000,)), held(first=1)
+    run, deaths = in_background(local.run_local, pp.Study(study.folder, pp.Pit(pit.path)), risk.tasks(study), 2)
+    killed = pit.solvers(3)[1]
+    os.kill(parent(killed), signal.SIGKILL)
+    pit.let_go()
+    run.join(600)
+    assert deaths == [1] and not runs(killed) and len(pit.solvers()) == 6 + 1
     assert not Tasks(study.folder).left(risk.tasks(study)) and not list(study.folder.glob("runs/*/.*"))
 
 
@@ -168,53 +171,51 @@ def test_a_task_whose_process_dies_each_time_is_told(tmp_path):
 
 
 @pytest.mark.parametrize("how", [signal.SIGINT, signal.SIGKILL])
-def test_ctrl_c_in_the_middle_leaves_nothing_and_goes_on(tmp_path, program, how):
-    study = twelve(tmp_path)
-    pit, marks, hold = held_pit(tmp_path, program)
+def test_ctrl_c_in_the_middle_leaves_nothing_and_goes_on(tmp_path, asked_for, held, how):
+    study, pit = twelve(asked_for, tmp_path), held(first=1)
     scratch = tmp_path / "scratch"
     scratch.mkdir()
     heard = lambda: signal.signal(signal.SIGINT, signal.SIG_DFL)      # a shell lets what it starts behind its back ignore ctrl-C  # noqa: E731
-    run = command("submit", study.folder, "--workers", 2, env={**os.environ, "PIT": str(pit), "TMPDIR": str(scratch)}, preexec_fn=heard)
-    solvers = waited_for(marks, 2, 120)
-    helpers = [parent(int(pid)) for pid in solvers]
+    run = command("submit", study.folder, "--workers", 2, env={**os.environ, "PIT": str(pit.path), "TMPDIR": str(scratch)}, preexec_fn=heard)
+    solvers = pit.solvers(3)
+    helpers = [parent(pid) for pid in solvers[1:]]
     run.send_signal(how)
-    said = run.communicate(timeout=120)[1]
-    assert run.returncode == (130 if how == signal.SIGINT else -9) and said.count("goes on from there") == (how == signal.SIGINT), said
-    for _ in range(400):
-        if not any(map(runs, [*solvers, *helpers])):
-            break
-        time.sleep(0.05)
-    assert not any(map(runs, [*solvers, *helpers]))
-    assert not list(study.folder.glob("runs/*/*")) + list(study.folder.glob("runs/*/.*")) + list(scratch.iterdir())
-    hold.unlink()
-    run = command("submit", study.folder, "--workers", 2)
-    assert "12 tasks done" in run.communicate(timeout=300)[0] and run.returncode == 0
+    shown = run.communicate(timeout=600)[1]
+    assert run.returncode == (130 if how == signal.SIGINT else -9) and shown.count("goes on from there") == (how == signal.SIGINT), shown
+    assert gone([*solvers, *helpers])
+    left = [path for pattern in ("runs/*/*", "runs/*/.*") for path in study.folder.glob(pattern)]
+    assert len(left) == 1 and (left[0] / "verdict.json").is_file() and not list(scratch.iterdir())
+    pit.let_go()
+    assert "11 tasks done" in said("submit", study.folder, "--workers", 2, env={**os.environ, "PIT": str(pit.path)})
     all_done(study)
+    assert len(pit.solvers()) == 12 + 2          # what was done did not run again
 
 
-@pytest.mark.skipif(os.geteuid() != 0, reason="only root mounts a small disk")
-def test_a_full_disk_is_told_and_what_is_done_is_kept(tmp_path, program):
-    study = prepared(tmp_path, 4, table(7, 6, 4, 3), factors=(1000,))
-    runs_folder = study.folder / "runs"
-    runs_folder.mkdir()
-    if subprocess.run(["mount", "-t", "tmpfs", "-o", "size=64k", "tmpfs", str(runs_folder)], capture_output=True).returncode:
-        pytest.skip("this container mounts nothing")
-    try:
-        tasks = risk.tasks(study)
-        local.run_local(study, tasks[:1], 1)
-        with open(runs_folder / "ballast", "wb", 0) as ballast, pytest.raises(OSError):
-            while True:
-                ballast.write(b"x" * 4096)
-        with pytest.raises(pp.MachineError, match="No space left|disk"):
-            local.run_local(study, tasks[1:], 2)
-        assert [task.name for task in Tasks(study.folder).left(tasks)] == ["1", "2", "3"]
-        assert "No space left" in status.states(study, tasks)[1].words
-        subprocess.run(["mount", "-o", "remount,size=8m", str(runs_folder)], check=True)
-        (runs_folder / "ballast").unlink()
-        local.run_local(study, Tasks(study.folder).left(tasks), 2)
-        assert not Tasks(study.folder).left(tasks)
-    finally:
-        subprocess.run(["umount", "-l", str(runs_folder)], check=True)
+def test_a_full_disk_is_told_and_what_is_done_is_kept(tmp_path, asked_for, small_disks):
+    study, pitplan = twelve(asked_for, tmp_path), TOP / "bin/pitplan"
+    place = study.folder / "runs"
+    small_disks.mount(place, 64)
+    small_disks.done(pitplan, "task", study.folder, "realisation", 0, 1000)
+    small_disks.fill(place)
+    code, _, errors = small_disks.said(pitplan, "submit", study.folder, "--workers", 2)
+    assert code == 4 and "No space left on device" in errors and "make room on the disk" in errors, errors
+    shown = small_disks.done(pitplan, "status", study.folder)
+    assert "1 done, " in shown and "failed: " in shown and "No space left on device" in shown, shown
+    small_disks.widen(place)
+    assert "11 tasks done" in small_disks.done(pitplan, "submit", study.folder, "--workers", 2)
+    assert "12 done, of 12" in small_disks.done(pitplan, "status", study.folder)
+
+
+def test_a_full_scratch_is_told(tmp_path, asked_for, small_disks):
+    study, scratch = twelve(asked_for, tmp_path), tmp_path / "scratch"
+    small_disks.mount(scratch, 4)                # Python would take another folder for one that is full to the brim
+    env = {**os.environ, "TMPDIR": str(scratch)}
+    code, _, errors = small_disks.said(TOP / "bin/pitplan", "task", study.folder, "realisation", 3, 1000, env=env)
+    assert code == 4 and "No space left on device" in errors and "TMPDIR=" in errors, errors
+    assert "No space left on device" in said("status", study.folder)
+    small_disks.widen(scratch)
+    small_disks.done(TOP / "bin/pitplan", "task", study.folder, "realisation", 3, 1000, env=env)
+    assert not small_disks.done("ls", "-A", scratch)
 
 
 def test_a_pit_without_memory_is_told_in_its_own_words(tmp_path, program):
@@ -233,15 +234,44 @@ def test_a_pit_without_memory_is_told_in_its_own_words(tmp_path, program):
 
 def test_a_slurm_that_cant_be_asked(tmp_path, program):
     folder = written_study(tmp_path / "s", table(6, 5, 4, 3))
-    assert command("build", folder).wait() == 0
+    said("build", folder)
     (folder / "submit/1").mkdir(parents=True)
     (folder / "submit/1/tasks.txt").write_text("run base 600\n")
     (folder / "submit/1/submitted.json").write_text('{"engine": "slurm", "job": "7", "host": "head"}')
     env = {**os.environ, "PIT": program, "PATH": "/nowhere"}
-    said = command("status", folder, env=env).communicate(timeout=120)
-    assert "squeue isn't there" in said[1] and "3 to do, of 3 tasks" in said[0]
+    shown = command("status", folder, env=env).communicate(timeout=600)
+    assert "squeue isn't there" in shown[1] and "3 to do, of 3 tasks" in shown[0]
     run = command("submit", folder, env=env)
-    assert "squeue isn't there" in run.communicate(timeout=120)[1] and run.returncode == 4
+    assert "squeue isn't there" in run.communicate(timeout=600)[1] and run.returncode == 4
+
+
+def test_what_another_machine_left_half_done(tmp_path, asked_for):
+    """A process of another machine can't be looked for: its task runs, as far as is known, unless Slurm has it no more."""
+    study, task, log = twelve(asked_for, tmp_path), Task("realisation", "3", (1000,)), tmp_path / "log"
+    (study.folder / "runs/r0003/.f01000.node7.1.xyz").mkdir(parents=True)
+    state = lambda handed: status.states(study, [task], handed)[0]      # noqa: E731
+    assert (state({}).state, state({}).words) == (status.RUNNING, "on node7")
+    assert state({task: engines.Handed("RUNNING", log)}).state == status.RUNNING
+    assert state({task: engines.Handed("PENDING", log)}).state == status.WAITING
+    log.write_text("realisation 3\nslurmstepd: error: *** JOB 7 CANCELLED DUE TO TIME LIMIT ***\n\n")
+    found = state({task: engines.Handed("", log)})
+    assert found.state == status.FAILED and found.words.startswith(status.ENDED) and found.words.endswith("DUE TO TIME LIMIT ***")
+    run = command("submit", study.folder, "--dry")
+    shown, look = run.communicate(timeout=600)
+    assert "11 tasks of" in shown and "realisation 3 1000" not in shown and "1 task running on node7" in look and "--again" in look, (shown, look)
+    assert "12 tasks of" in said("submit", study.folder, "--dry", "--again")
+
+
+def test_scratch_of_a_process_that_is_no_more_is_taken_away(tmp_path, monkeypatch):
+    study = prepared(tmp_path, 1, table(6, 5, 4, 3), factors=(1000,))
+    scratch = tmp_path / "scratch"
+    names = {f"pitplan.{status.host()}.{pid}.abc": pid for pid in (os.getpid(), 999_999_999)} | {"pitplan.node7.999999999.abc": 0, "pitplan.toml": 0}
+    for name in names:
+        (scratch / name).mkdir(parents=True)
+    monkeypatch.setattr("tempfile.tempdir", str(scratch))
+    with risk.realisation(study, 0).written() as files:
+        assert files.blocks.parent.parent == scratch and files.blocks.is_file()
+    assert sorted(path.name for path in scratch.iterdir()) == sorted(name for name in names if names[name] != 999_999_999)
 
 
 def test_memory_is_asked_by_the_size_of_the_model(tmp_path):

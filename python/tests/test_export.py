@@ -245,7 +245,7 @@ def test_the_command(tmp_path):
     assert pitplan("export", study).returncode == 3
     assert pitplan("build", study).returncode == 0
     early = pitplan("export", study)
-    assert early.returncode == 3 and "haven't been run" in early.stderr and "try: pitplan shells" in early.stderr
+    assert early.returncode == 3 and "haven't been run" in early.stderr and "pitplan shells " in early.stderr
     assert pitplan("shells", study).returncode == 0
     ran = pitplan("export", study, "--to", "dxf,vtu,csv,gpkg", "--columns", "CU,ROCK")
     assert ran.returncode == 0, ran.stderr

@@ -185,3 +185,19 @@ def test_the_cones_that_the_guide_names_hold_their_slopes():
                 assert len(offsets) == int(count) and error.mean <= 0.5 and error.worst <= 1 and error.flattest < 0 < error.steepest, (block, slope, pattern, str(error))
                 tried += 1
     assert tried >= 11
+
+
+@pytest.mark.parametrize("angles", [45, BY_BEARING, [(0, 35), (45, 50), (90, 35), (180, 45)]])
+@pytest.mark.parametrize("safe", [False, True])
+def test_nothing_better_is_passed_over(angles, safe):
+    """What the search leaves out unlooked at, since it can't be better, isn't: all cones and levels are judged one by one."""
+    asked = search.wall((20, 20, 10), angles, 30)
+    cones = search._Cones(asked, 7)
+    stretches = cones.cuts(search.NARROWEST, 40)
+    found = search._best(cones, asked, safe, search.within(0), stretches)
+    every = []
+    for stretch in stretches:
+        for offsets in cones.needed(stretch):
+            error = search.error_of(asked, search.Outline(asked, offsets))
+            every.append(search._rank(search.Pattern(asked, tuple(offsets), offsets[-1][2], error, error.badness(safe) <= 1 + search.SLACK), safe))
+    assert search._rank(found, safe) == pytest.approx(min(every), rel=1e-9)

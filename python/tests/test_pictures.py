@@ -1,6 +1,5 @@
 """Pictures: where each block is drawn, which colour it gets, what the axes say; without looking at pixels."""
 import copy
-import subprocess
 from pathlib import Path
 
 import matplotlib.image
@@ -16,8 +15,8 @@ from pitplan import pictures, plane
 from pitplan.grid import Grid
 from pitplan.model import Model
 from pitplan.pictures import Style
+from served import pitplan
 
-PITPLAN = Path(__file__).resolve().parents[2] / "bin/pitplan"
 
 
 @pytest.fixture(scope="module")
@@ -93,7 +92,7 @@ def test_borders_are_those_that_shapely_finds(seed, rotation):
     cut = plane.bench(model, 0)
     inside = r.random((4, 5)) < 0.5
     x, y = plane.borders(inside, cut)
-    drawn = np.nansum(np.hypot(x[1::3] - x[::3], y[1::3] - y[::3]))
+    drawn = np.nansum(np.hypot(np.diff(x), np.diff(y)))
     cells = [Polygon([(cut.across[c], cut.up[c]) for c in ((j, i), (j, i + 1), (j + 1, i + 1), (j + 1, i))]) for j, i in zip(*np.nonzero(inside))]
     assert abs(drawn - (unary_union([c.buffer(1e-7, join_style=2) for c in cells]).length if cells else 0)) < 1e-4
 
@@ -269,19 +268,15 @@ def test_pits_that_dont_pay_are_drawn_as_none(shells):
 
 def test_plot_and_page_write_what_they_name(tmp_path):
     folder = written_study(tmp_path / "s")
-
-    def run(*words):
-        return subprocess.run([str(PITPLAN), *words], capture_output=True, text=True)
-
-    assert run("build", folder).returncode == 0 == run("shells", folder).returncode
-    told = run("plot", folder)
+    assert pitplan("build", folder).returncode == 0 == pitplan("shells", folder).returncode
+    told = pitplan("plot", folder)
     names = sorted(line.rsplit("/", 1)[1] for line in told.stdout.splitlines())
     assert told.returncode == 0 and len(names) == 3
     assert names[0] == "pit-by-pit.png" and names[1].startswith("plan-") and names[2].startswith("section-row-")
-    told = run("plot", folder, "--bench", "100", "--bench", "115", "--north", "9020", "--east", "5020", "--column", "2", "--colour", "CU", "--pit", "0.6")
+    told = pitplan("plot", folder, "--bench", "100", "--bench", "115", "--north", "9020", "--east", "5020", "--column", "2", "--colour", "CU", "--pit", "0.6")
     paths = told.stdout.splitlines()
     assert told.returncode == 0 and len(paths) == 5 and all(p.endswith("-CU.png") and Path(p).is_file() for p in paths)
-    assert run("page", folder, "--title", "North pit").returncode == 0
+    assert pitplan("page", folder, "--title", "North pit").returncode == 0
     assert "<title>North pit: nested pits</title>" in (folder / "out/pits.html").read_text()
-    refused = run("plot", folder, "--bench", "5000")
+    refused = pitplan("plot", folder, "--bench", "5000")
     assert refused.returncode == 3 and "no bench at elevation 5,000" in refused.stderr and not list((folder / "out").glob("*5000*"))

@@ -14,6 +14,8 @@ import sys
 import tempfile
 from pathlib import Path
 
+import served
+
 TOP = Path(__file__).resolve().parents[2]
 DOCUMENT = TOP / "docs" / "PLANNING.md"
 OWN = ("study.toml", ".py")                  # files that the walk writes with `cat`
@@ -61,8 +63,9 @@ def agrees(shown, said):
 
 def workplace(folder):
     """A folder in which the document's paths are those of the repository."""
-    for name in ("bin", "examples", "python", "docs"):
+    for name in ("examples", "python", "docs"):
         (folder / name).symlink_to(TOP / name)
+    served.linked(folder / "bin")
     return folder
 
 

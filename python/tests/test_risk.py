@@ -1,11 +1,11 @@
 """The unit of work, and risk over realisations: pits of a likelihood are closed by pit's own word, and nested."""
+import dataclasses
 import gzip
 import json
 import os
 import re
 import signal
 import subprocess
-import time
 from pathlib import Path
 
 import numpy as np
@@ -16,7 +16,8 @@ import pitplan as pp
 from mines import SIZE, costs, study_of, table, written_study
 from pitplan import local, risk
 from pitplan.task import Task, Tasks, task_of, wanted
-from test_runs import command, runs, slow_pit, waited_for
+from processes import command, gone, waited_for
+from test_runs import slow_pit
 
 FACTORS = (800, 1000)
 
@@ -94,6 +95,19 @@ def test_each_realisation_is_the_study_with_its_grades(tmp_path):
             assert (risk.realisation(study, r).mask(factor) == pit.mask).all()
     likely = sum(risk.realisation(study, r).mask(1000).astype(int) for r in range(3)) / 3
     assert (found.likelihood(1000) == likely).all()
+
+
+def test_the_lean_model_has_what_pricing_asks_for(tmp_path):
+    frame = table(6, 5, 4, 3).rename(columns={"AU": "ley é", "TONNES": "T"})
+    frame = frame.assign(**{"it's": 1.5, "spare": 1.0})
+    economics = costs(mining="2 + 0.01 * (160 - ZC) + column('ley é')", processing={"OXI": 7.5, "SUL": 9.0}, forbid=["SECTOR == 'WEST' and column(\"it's\") > 2"])
+    study = study_of(tmp_path, frame, economics=economics, columns={"tonnes": "T"})
+    lean = risk.lean_model(study, dataclasses.asdict(economics))
+    assert {"ZC", "ley é", "SECTOR", "it's", "CU", "rock"} <= set(lean.blocks.columns) and not {"spare", "id", "IJK", "T", "XC"} & set(lean.blocks.columns)
+    assert lean.blocks.rock.tolist() == study.model.blocks.rock.tolist()
+    ours = economics.priced(lean)
+    for name in ("revenue", "processing", "mining"):
+        assert (getattr(ours, name) == getattr(study.priced, name)).all()
 
 
 def test_what_risk_says_is_added_up_by_pandas(tmp_path):
@@ -214,11 +228,7 @@ def test_a_killed_task_leaves_no_pit_and_goes_on(tmp_path, program, how):
     solver = waited_for(marks, 1)[0]
     run.send_signal(how)
     run.communicate(timeout=60)
-    for _ in range(200):
-        if not runs(solver):
-            break
-        time.sleep(0.05)
-    assert not runs(solver)
+    assert gone([solver])
     if how == signal.SIGTERM:
         assert run.returncode == 130 and not list((study.folder / "runs/r0001").iterdir()) and not list(scratch.iterdir())
     assert Tasks(study.folder).do(task_of(["realisation", "1", "1000"])) == 1

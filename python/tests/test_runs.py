@@ -6,8 +6,6 @@ import os
 import shutil
 import signal
 import subprocess
-import sys
-import time
 from pathlib import Path
 
 import numpy as np
@@ -18,8 +16,7 @@ import pitplan as pp
 from mines import SIZE, costs, shells_of, study_of, table, written_study
 from pitplan import program as programs, store, workers
 from pitplan.program import Accepted, Pit, PitLines
-
-TOP = Path(__file__).resolve().parents[2]
+from processes import TOP, command, gone, waited_for
 
 
 def test_nobody_but_the_check_makes_an_accepted():
@@ -182,25 +179,6 @@ def slow_pit(folder, wait, pit):
     return path, marks
 
 
-def command(*words, **more):
-    return subprocess.Popen([str(TOP / "bin/pitplan"), *map(str, words)], stdout=subprocess.PIPE, stderr=subprocess.PIPE, text=True, **more)
-
-
-def waited_for(path, lines, seconds=60):
-    for _ in range(seconds * 20):
-        if path.exists() and len(path.read_text().split()) >= lines:
-            return path.read_text().split()
-        time.sleep(0.05)
-    raise AssertionError(f"{path} never had {lines} lines")
-
-
-def runs(pid):
-    try:
-        return Path(f"/proc/{pid}/stat").read_text().split(")")[1].split()[0] != "Z"
-    except OSError:
-        return False
-
-
 @pytest.mark.parametrize("how", [signal.SIGINT, signal.SIGKILL])
 def test_a_run_that_was_stopped_leaves_no_solver_and_goes_on(tmp_path, program, how):
     folder = written_study(tmp_path / "s")
@@ -212,11 +190,7 @@ def test_a_run_that_was_stopped_leaves_no_solver_and_goes_on(tmp_path, program, 
     said = run.communicate(timeout=60)[1]
     assert run.returncode == (130 if how == signal.SIGINT else -9)
     assert how == signal.SIGKILL or "goes on from there" in said
-    for _ in range(100):
-        if not any(runs(pid) for pid in solvers):
-            break
-        time.sleep(0.05)
-    assert not any(runs(pid) for pid in solvers)
+    assert gone(solvers)
     left = list((folder / "runs/base").iterdir())
     assert how == signal.SIGKILL or not left
     again = command("shells", folder, env={**os.environ, "PIT": program})
@@ -238,28 +212,19 @@ def test_a_killed_solver_is_started_once_more(tmp_path, program):
         pp.Study(study.folder, Pit(tmp_path / "pit")).shells([700])
 
 
-@pytest.mark.skipif(os.geteuid() != 0, reason="only root mounts a small disk")
-def test_a_full_disk_is_told_and_the_run_goes_on(tmp_path):
-    study = study_of(tmp_path, table(9, 8, 5, 5))
-    study.run(600)
-    place = study.folder / "runs"
-    kept = tmp_path / "kept"
-    shutil.move(place, kept)
-    place.mkdir()
-    if subprocess.run(["mount", "-t", "tmpfs", "-o", "size=48k", "tmpfs", str(place)], capture_output=True).returncode:
-        pytest.skip("this container mounts nothing")
-    try:
-        shutil.copytree(kept, place, dirs_exist_ok=True)
-        with open(place / "ballast", "wb", 0) as ballast, pytest.raises(OSError):
-            while True:
-                ballast.write(b"x" * 4096)
-        with pytest.raises(pp.MachineError, match="disk"):
-            study.shells([600, 1000], 1)
-        assert [p.name for p in (place / "base").iterdir()] == ["f00600"]
-        subprocess.run(["mount", "-o", "remount,size=4m", str(place)], check=True)
-        assert len(study.shells([600, 1000], 1).verdicts) == 2
-    finally:
-        subprocess.run(["umount", "-l", str(place)], check=True)
+def test_a_full_disk_is_told_and_the_run_goes_on(tmp_path, small_disks):
+    folder, pitplan = written_study(tmp_path / "s", table(9, 8, 5, 5)), TOP / "bin/pitplan"
+    assert command("build", folder).wait() == 0
+    place = folder / "runs"
+    small_disks.mount(place, 48)
+    small_disks.done(pitplan, "task", folder, "run", "base", 600)
+    small_disks.fill(place)
+    code, _, errors = small_disks.said(pitplan, "shells", folder, "--workers", 1)
+    assert code == 4 and "disk" in errors, errors
+    assert small_disks.done("ls", "-A", place / "base").split() == ["f00600"]
+    small_disks.widen(place)
+    small_disks.done(pitplan, "shells", folder, "--workers", 1)
+    assert small_disks.done("ls", "-A", place / "base").split() == ["f00600", "f01000", "f01200"]
 
 
 def test_workers_go_by_free_memory(tmp_path, monkeypatch):

@@ -6,7 +6,6 @@ import hashlib
 import json
 import os
 import re
-import subprocess
 from pathlib import Path
 
 import numpy as np
@@ -15,6 +14,7 @@ import pytest
 
 import mines
 import pitplan as pp
+import served
 from pitplan import commands_shells, export_csv, recheck, store
 from pitplan.errors import PlanError
 from pitplan.formula import worked_out
@@ -133,7 +133,7 @@ def strange_mine():
 
 
 def pitplan(*words):
-    ran = subprocess.run([str(TOP / "bin" / "pitplan"), *map(str, words)], capture_output=True, text=True)
+    ran = served.pitplan(*words)
     assert ran.returncode == 0 and "Traceback" not in ran.stderr, ran.stderr
     return ran.stdout
 

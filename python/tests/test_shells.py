@@ -8,7 +8,7 @@ import pytest
 
 import pitplan as pp
 from mines import SIZE, costs, shells_of, study_of, table
-from pitplan import pit_by_pit, table_back
+from pitplan import commands_shells, pit_by_pit, table_back
 
 GOLD = pp.Metal("gold", "AU", price=60, grade_unit="g/t", price_unit="g", recovery=0.7)
 
@@ -188,3 +188,40 @@ def test_a_notch_in_the_side_and_low_ground_beside_a_pit(tmp_path):
     assert study_of(tmp_path, valley).shells([1000]).touches_edge(0) == 0
     bottom = f[~((f.XC <= 100) & (f.ZC < 50))]        # no rows below: a wall would need them
     assert study_of(tmp_path, bottom).shells([1000]).touches_edge(0) > 0
+
+
+def with_air(f, levels):
+    """A flat model with rows of air on top, as packages export a whole box."""
+    top = f[f.ZC == f.ZC.max()]
+    return pd.concat([f, *(top.assign(ZC=top.ZC + 15.0 * (k + 1), TONNES=0.0, CU=0.0, ROCK="AIR") for k in range(levels))], ignore_index=True)
+
+
+def test_rows_of_air_are_no_ground_beyond_the_side(tmp_path):
+    """The pit comes to the side on the highest bench: its slope asks for places of air there, with rows of air in the table or without."""
+    costs_of_rock = costs(processing={"SUL": 9.0, "AIR": 0.0})
+    for x, touches in ((3, False), (2, True)):
+        bare = flat(13, 13, 5, (x, 6, 0))
+        places = []
+        for frame in (bare, with_air(bare, 3)):
+            shells = study_of(tmp_path, frame, economics=costs_of_rock if len(frame) > len(bare) else None).shells([1000])
+            b = shells.study.model.blocks
+            places.append(set(map(tuple, b[shells.touching][["ix", "iy", "iz"]].to_numpy())))
+        assert places[0] == places[1] and (len(places[0]) > 0) == touches, x
+
+
+def test_where_a_pit_reaches_the_floor_of_the_model(tmp_path):
+    f = flat(13, 13, 5, (6, 6, 1))
+    below = (f.XC == 120) & (f.YC == 120) & (f.ZC == 0)
+    for name, frame, count in (("a level above", f, 0), ("the lowest level", f.assign(CU=np.where(below, 90.0, 0.0)), 1),
+                               ("no row below", f[~below], 1), ("air below", f.assign(TONNES=np.where(below, 0.0, f.TONNES)), 0)):
+        shells = study_of(tmp_path, frame).shells([0, 1000])
+        assert shells.holds(1).sum() > 1 and [shells.reaches_floor(i) for i in (0, 1)] == [0, count], name
+
+
+def test_what_is_said_of_the_side_and_of_the_floor(tmp_path, capsys):
+    for rich, words in (((6, 6, 1), []), ((6, 6, 0), ["reaches the model's floor (1 block there)"]), ((1, 6, 1), ["touches the side of the model ("]),
+                        ((1, 6, 0), ["touches the side of the model (", "reaches the model's floor (1 block there, 1 at factor 1.2)"])):
+        found = study_of(tmp_path, flat(13, 13, 5, rich)).shells([0, 1000, 1200] if len(words) > 1 else [0, 1000])
+        commands_shells.warn_of_edges(found)
+        said = capsys.readouterr().err
+        assert said.count("look: from factor 1 on") == len(words) and all(word in said for word in words), (rich, said)

@@ -1,5 +1,6 @@
 """Slopes by region: the pairs against a plain search, limits before `pit` runs, what a planner is told."""
 import math
+import re
 
 import numpy as np
 import pandas as pd
@@ -131,8 +132,15 @@ def test_the_command_shows_and_draws(tmp_path):
     from matplotlib import image
     picture = image.imread(study / "out/slopes.png")
     assert len(np.unique(picture.reshape(-1, picture.shape[-1]), axis=0)) > 20
-    cannot = written_study(tmp_path / "t", text=STUDY_TOML.replace("angles = 45", "angles = 45\nlevels = 1"))
-    assert "can't be held" in pitplan("slopes", cannot).stderr
+    said = {}
+    for name, angles in (("few", "45\nlevels = 1"), ("dent", "[[0, 35], [45, 55], [90, 35], [180, 45], [270, 55]]")):
+        cannot = written_study(tmp_path / name, text=STUDY_TOML.replace("angles = 45", f"angles = {angles}"))
+        told = [pitplan(word, cannot) for word in ("slopes", "build")]                # the build says it too, and goes on
+        assert told[0].stderr == told[1].stderr and [ran.returncode for ran in told] == [0, 0]
+        said[name] = told[0].stderr
+    assert "default: 0.5 degrees on average and 1 at the worst bearing can't be held with blocks of 20 x 20 x 15 and levels = 1;" in said["few"] and "try: more levels" in said["few"]
+    bearing, asked, built = map(float, re.search(r"err most at bearing (\d+): ([\d.]+) degrees are asked for there, ([\d.]+) are built", said["dent"]).groups())
+    assert bearing == 45 and asked == 55 and built < 50 and "try: angles that change less" in said["dent"]             # between two flat walls
     wrong = written_study(tmp_path / "u", text=STUDY_TOML.replace("angles = 45", "angles = 450"))
     ran = pitplan("slopes", wrong)
     assert ran.returncode == 3 and "from 5 to 89 degrees" in ran.stderr and "Traceback" not in ran.stderr

@@ -9,7 +9,7 @@ from mines import COPPER, costs, study_of, table, written_study
 from pitplan import vary
 from pitplan.task import Tasks
 from pitplan.vary import Change, changes_of
-from test_runs import command
+from processes import command
 
 FRAME = table(8, 7, 5, 5)
 

@@ -1,5 +1,7 @@
 -- What is held of a text, and the pieces of the whole text, whatever follows.
-use Rattle.std.proofs.Common.{◌≡◌, ℕ, zero, suc, get_or, ◌+◌, ◌<◌, ◌≤◌, Bool, true, false, eqb, ltb, List, [], ◌∷◌, ◌++◌, length, take, drop, Option, Some, None, refl, sym, ap, ◌∙◌, subst, arith}
+use Rattle.std.proofs.Common.{◌≡◌, ℕ, zero, suc, get_or, ◌+◌, ◌<◌, ◌≤◌, Bool, true, false, eqb, ltb, List, [], ◌∷◌, ◌++◌, length, take, drop, Option, Some, None, refl, sym, ap, ◌∙◌, subst, arith, append_assoc}
+use Rattle.std.proofs.KnownBytes.{Consumes-trans}
+use Rattle.std.proofs.lemmas.List.{length-append}
 use Rattle.std.specs.Prelude.{position, unwrap_or}
 use Rattle.std.specs.List.{position_or_len}
 use Rattle.fixed_worth.proofs.Cuts.{position_none}
@@ -8,6 +10,8 @@ use Rattle.std.proofs.lemmas.Bool.Decides.{nat_tests}
 use Rattle.fixed_worth.specs.declared.limits.TheConstants.{LINE_BYTES}
 use Rattle.check_pit.specs.declared.cert_fault.CertFault.TheVariants as fault
 use Rattle.check_pit.specs.Pieces.{Piece, onto_piece, pieces_of, piece_at, no_line}
+use Rattle.check_pit.specs.StreamView.{LineView}
+use Rattle.check_pit.specs.StreamLines.{Reads}
 use Rattle.check_pit.proofs.Splits.{cut_off}
 
 onto_text : (b : ℕ) (ps : List Piece) → (piece_at (onto_piece b ps) 0).text ≡ b ∷ (piece_at ps 0).text
@@ -61,6 +65,28 @@ held_cut_off bs later seen o u number same kept e none f h =
 
 pub line_inside : (bs seen : List ℕ) (j : ℕ) → seen ≡ bs → position (λ b. eqb b 10) seen ≡ Some j → j < length bs
 line_inside bs seen j same e = let q = position-Some (λ b. eqb b 10) seen j 0 e in omega (arith, q.0, ap length same)
+
+-- what was read in two parts was read
+pub reads_twice : {R : Type 0} (remaining : R → Option (List ℕ)) (start now later : LineView R) → Reads remaining start now → Reads remaining now later → Reads remaining start later
+reads_twice remaining start now later (xs, a) (ys, b) =
+    let size = length-append xs ys in
+    let s = a.taken in
+    let t = b.taken in (
+      xs ++ ys,
+      record {
+        given = Consumes-trans (remaining start.from) (remaining now.from) (remaining later.from) xs ys a.given b.given;
+        held = b.held ∙ ap (λ (zs : List ℕ). zs ++ ys) a.held ∙ append_assoc start.held xs ys;
+        taken = omega (arith, size, s, t);
+        number = b.number ∙ a.number;
+      },
+    )
+
+-- nothing is read where a line feed was held at the start: a read follows only where none is held
+pub read_without_feed : {R : Type 0} (start now later : LineView R) (seen : List ℕ) (o : Option ℕ) → ((count : ℕ) → position (λ b. eqb b 10) start.held ≡ Some count → now ≡ start)
+    → seen ≡ now.held → o ≡ position (λ b. eqb b 10) seen → o ≡ None → (count : ℕ) → position (λ b. eqb b 10) start.held ≡ Some count → later ≡ start
+read_without_feed start now later seen o still same e none count found =
+    let here : position (λ b. eqb b 10) seen ≡ Some count = ap (position (λ b. eqb b 10)) (same ∙ ap (λ v. v.held) (still count found)) ∙ found in
+    absurd (let bad : None ≡ Some count = sym none ∙ e ∙ here in cc)
 
 -- what is held begins with a line, and behind it stands the rest
 first_of_held : (bs future : List ℕ) (j : ℕ) → j < length bs → eqb (get_or bs j 0) 10 ≡ true → ((i : ℕ) → i < j → eqb (get_or bs i 0) 10 ≡ false)

@@ -3,7 +3,7 @@
 //! A line is taken in three steps, so that no borrow of it is held while the device is read: [`StreamLines::next_length`]
 //! reads until it is held whole, [`StreamLines::front`] lends it, and [`StreamLines::pass`] goes behind it.
 
-ghost use Rattle.std.specs.Prelude.{◌≡◌, ℕ, ◌+◌, ◌^◌, ◌-◌, ◌<◌, ◌≤◌, [], length, drop, take, IfOk, IfErr, IsErrOf, MatchResult};
+ghost use Rattle.std.specs.Prelude.{◌≡◌, ℕ, ◌+◌, ◌^◌, ◌-◌, ◌<◌, ◌≤◌, ◌==◌, [], length, drop, take, position, Some, IfOk, IfErr, IsErrOf, MatchResult};
 ghost use Rattle.fixed_worth.specs.declared.limits.TheConstants.{LINE_BYTES, MOST_BYTES};
 ghost use Rattle.check_pit.specs.StreamLines.{Reads, IsLine, NoLine, MoreOrEnd, DoneOrNot, NotDone};
 
@@ -124,11 +124,13 @@ impl<R: CountedRead> StreamLines<R> {
         Ok(read > 0)
     }
 
-    /// The length of the next line without its line feed, which is read until it is held whole.
+    /// The length of the next line without its line feed, which is read until it is held whole: nothing is read where a
+    /// line feed is held.
     #[tactic(auto, using(crate::proofs::HeldLines::line_inside))]
     pub fn next_length(&mut self) -> Result<usize, StreamFault>
         requires { R.failed self.old.from < 2 ^ 64 - 1 }
         ensures reads { Reads R.remaining self.old self.new }
+        ensures still { (count : ℕ) → position (λ b. b == 10) self.old.held ≡ Some count → self.new ≡ self.old }
         ensures line { MatchResult result (λ count. IsLine self.new.held count) (λ e. NoLine (R.remaining self.new.from) self.new e) }
         ensures device { IsErrOf result StreamFault.Device → R.failed self.new.from ≡ R.failed self.old.from + 1 }
         ensures kept { ¬ IsErrOf result StreamFault.Device → R.failed self.new.from ≡ R.failed self.old.from }

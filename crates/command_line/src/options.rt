@@ -175,7 +175,7 @@ pub fn group_option<'a>(alloc: Global) -> Arg<'a> {
     )
 }
 
-/// The option that names the engine which makes the flow.
+/// The option that names the solver which computes the flow.
 pub fn method_option<'a>(alloc: Global, help: &'a str) -> Arg<'a> {
     named_option(alloc, "method", "METHOD", help)
 }

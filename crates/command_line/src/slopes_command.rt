@@ -1,7 +1,7 @@
 //! The command `slopes`.
 
 use crate::options::{STATUSES, file_option, named_option, text_of, verbose_option, with_options};
-use clap::{Arg, ArgMatches, Command};
+use clap::{Arg, ArgAction, ArgMatches, Command};
 use std::alloc::{AllocError, Global};
 
 const ABOUT: &str = "Writes the predecessors of each block, by a slope pattern";
@@ -29,6 +29,9 @@ const UP_HELP: &str = "Which way is up: plus, where a greater z is higher (the d
 const SETTINGS_HELP: &str =
     "The file that lists the offsets, a TOML text: needed for --pattern settings, not opened with another pattern";
 
+const REDUCE_HELP: &str =
+    "Leaves out each predecessor that others imply: of the pattern's two offsets lead to it, and the block between is there. Pits and shells stay the same";
+
 /// What says which blocks above a block are its predecessors.
 #[derive(Clone, Copy)]
 pub enum OffsetsWords<'a> {
@@ -39,12 +42,13 @@ pub enum OffsetsWords<'a> {
 }
 
 /// The words of a slope request: the file of blocks, what says the offsets and, where it was given, the direction's
-/// name, and whether it is told why a file failed.
+/// name, whether implied pairs are left out, and whether it is told why a file failed.
 #[derive(Clone, Copy)]
 pub struct SlopesWords<'a> {
     pub blocks: &'a str,
     pub offsets: OffsetsWords<'a>,
     pub up: Option<&'a str>,
+    pub reduce: bool,
     pub verbose: bool,
 }
 
@@ -67,8 +71,17 @@ fn slope_options<'a>(alloc: Global) -> Result<Vec<Arg<'a>>, AllocError> {
         pattern.required(true),
         named_option(alloc, "up", "WAY", UP_HELP),
         settings,
+        reduce_option(alloc),
         verbose_option(alloc),
     ]?)
+}
+
+// The option that leaves out the pairs that others imply.
+fn reduce_option<'a>(alloc: Global) -> Arg<'a> {
+    Arg::new(alloc, "reduce")
+        .long("reduce")
+        .action(ArgAction::SetTrue)
+        .help(REDUCE_HELP)
 }
 
 /// The words that were given.
@@ -77,6 +90,7 @@ pub fn slopes_words<'a>(words: &ArgMatches<'a>) -> SlopesWords<'a> {
         blocks: text_of(words, "blocks"),
         offsets: offsets_words(words),
         up: words.get_str("up"),
+        reduce: words.get_flag("reduce"),
         verbose: words.get_flag("verbose"),
     }
 }

@@ -23,3 +23,4 @@ pub mod HeaderAnswers
 pub mod Streamed
 pub mod SoundLines
 pub mod StreamAnswers
+pub mod Reduced

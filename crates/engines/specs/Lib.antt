@@ -25,3 +25,4 @@ pub mod Solving
 pub mod OptionWords
 pub mod Certifying
 pub mod Methods
+pub mod Reduced

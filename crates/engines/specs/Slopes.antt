@@ -15,6 +15,7 @@ use Rattle.slope.specs.Offsets.{Offset, AreOffsets}
 use Rattle.slope.specs.Patterns.{five_offsets, nine_offsets, IsInCone, ListFaultStands}
 use Rattle.slope.specs.Slopes.{AreSlopes, SlopeFaultStands}
 use Rattle.slope.specs.declared.up.Up.{Up}
+use Rattle.slope.specs.declared.selection.Selection.{Selection}
 use Rattle.slope.specs.declared.pattern_fault.PatternFault.{PatternFault}
 use Rattle.slope.specs.declared.pattern_fault.PatternFault.TheVariants as pattern
 use Rattle.slope.specs.declared.slope_fault.SlopeFault.{SlopeFault}
@@ -95,55 +96,55 @@ PatternFails (listed settings) fault = ListFails (listed_offsets (settings_of se
 -- ---- the pairs
 
 -- The source is read, and the pairs are those that its offsets give of the blocks of a text.
-pub record AreSlopesBy (source : OffsetsSource) (text : List ℕ) (up : Up) (rests : RestsView) : Type 0 where
+pub record AreSlopesBy (source : OffsetsSource) (text : List ℕ) (up : Up) (selection : Selection) (rests : RestsView) : Type 0 where
   pub source_read : IsSourceRead source
   pub model : BlocksView
   pub read : ReadsBlocks [] text model
   pub offsets : List Offset
   pub are : AreOffsetsOf source offsets
-  pub slopes : AreSlopes model offsets up rests
+  pub slopes : AreSlopes model offsets up selection rests
 
 -- the offsets give no pairs; want of memory isn't a fault of theirs
-abbrev pub PairsFail : BlocksView → List Offset → Up → SlopeFault → Type 0
-PairsFail m offsets up slope.NoMemory = ⊥
-PairsFail m offsets up fault = SlopeFaultStands m offsets up fault
+abbrev pub PairsFail : BlocksView → List Offset → Up → Selection → SlopeFault → Type 0
+PairsFail m offsets up selection slope.NoMemory = ⊥
+PairsFail m offsets up selection fault = SlopeFaultStands m offsets up selection fault
 
 -- a source gives no pairs of a model: it gives no pattern, or its offsets give none
-abbrev pub SlopeFails : OffsetsSource → BlocksView → Up → SlopeProblem → Type 0
-SlopeFails source m up (of.Pattern fault) = PatternFails source fault
-SlopeFails source m up (of.Pairs fault) = (offsets : List Offset) × AreOffsetsOf source offsets × PairsFail m offsets up fault
+abbrev pub SlopeFails : OffsetsSource → BlocksView → Up → Selection → SlopeProblem → Type 0
+SlopeFails source m up selection (of.Pattern fault) = PatternFails source fault
+SlopeFails source m up selection (of.Pairs fault) = (offsets : List Offset) × AreOffsetsOf source offsets × PairsFail m offsets up selection fault
 
 -- ---- the engines
 
 -- Why an engine answers a fault: it stands, and none before it does. Want of memory and a failing device say nothing of the texts.
-abbrev pub SlopesFail : OffsetsSource → List ℕ → Up → EngineFault → Type 0
-SlopesFail source text up (engine.Settings p) = SourceFails source p
-SlopesFail source text up (engine.Blocks p) = IsSourceRead source × BlocksFails [] text p
-SlopesFail source text up (engine.Slope p) = IsSourceRead source × ((m : BlocksView) × ReadsBlocks [] text m × SlopeFails source m up p)
-SlopesFail source text up engine.Memory = Unit {0}
-SlopesFail source text up engine.Device = Unit {0}
-SlopesFail source text up _ = ⊥
+abbrev pub SlopesFail : OffsetsSource → List ℕ → Up → Selection → EngineFault → Type 0
+SlopesFail source text up selection (engine.Settings p) = SourceFails source p
+SlopesFail source text up selection (engine.Blocks p) = IsSourceRead source × BlocksFails [] text p
+SlopesFail source text up selection (engine.Slope p) = IsSourceRead source × ((m : BlocksView) × ReadsBlocks [] text m × SlopeFails source m up selection p)
+SlopesFail source text up selection engine.Memory = Unit {0}
+SlopesFail source text up selection engine.Device = Unit {0}
+SlopesFail source text up selection _ = ⊥
 
 -- It wrote the precedence file of the pairs.
-pub record WritesSlopes (source : OffsetsSource) (text : List ℕ) (up : Up) (old new : Option (List ℕ)) : Type 0 where
+pub record WritesSlopes (source : OffsetsSource) (text : List ℕ) (up : Up) (selection : Selection) (old new : Option (List ℕ)) : Type 0 where
   pub rests : RestsView
-  pub slopes : AreSlopesBy source text up rests
+  pub slopes : AreSlopesBy source text up selection rests
   pub written : Appends old new (prec_text rests)
 
 -- nothing was written, or a front of that file
-abbrev pub WritesSlopesFront : OffsetsSource → List ℕ → Up → Option (List ℕ) → Option (List ℕ) → Type 0
-WritesSlopesFront source text up old new = Keeps old new ⊎ ((rests : RestsView) × AreSlopesBy source text up rests × ReceivedPrefix old new (prec_text rests))
+abbrev pub WritesSlopesFront : OffsetsSource → List ℕ → Up → Selection → Option (List ℕ) → Option (List ℕ) → Type 0
+WritesSlopesFront source text up selection old new = Keeps old new ⊎ ((rests : RestsView) × AreSlopesBy source text up selection rests × ReceivedPrefix old new (prec_text rests))
 
 -- what is in the writer at a fault: what was there before, unless a device failed
-abbrev pub SlopesAtFault : OffsetsSource → List ℕ → Up → Option (List ℕ) → Option (List ℕ) → EngineFault → Type 0
-SlopesAtFault source text up old new engine.Device = WritesSlopesFront source text up old new
-SlopesAtFault source text up old new _ = Keeps old new
+abbrev pub SlopesAtFault : OffsetsSource → List ℕ → Up → Selection → Option (List ℕ) → Option (List ℕ) → EngineFault → Type 0
+SlopesAtFault source text up selection old new engine.Device = WritesSlopesFront source text up selection old new
+SlopesAtFault source text up selection old new _ = Keeps old new
 
 -- the answer, and what was written with it
-abbrev pub GivesSlopes : OffsetsSource → List ℕ → Up → Option (List ℕ) → Option (List ℕ) → Result Verdict EngineFault → Type 0
-GivesSlopes source text up old new (Ok Done) = WritesSlopes source text up old new
-GivesSlopes source text up old new (Ok No) = ⊥
-GivesSlopes source text up old new (Err fault) = SlopesFail source text up fault × SlopesAtFault source text up old new fault
+abbrev pub GivesSlopes : OffsetsSource → List ℕ → Up → Selection → Option (List ℕ) → Option (List ℕ) → Result Verdict EngineFault → Type 0
+GivesSlopes source text up selection old new (Ok Done) = WritesSlopes source text up selection old new
+GivesSlopes source text up selection old new (Ok No) = ⊥
+GivesSlopes source text up selection old new (Err fault) = SlopesFail source text up selection fault × SlopesAtFault source text up selection old new fault
 
 -- ---- their parts
 
@@ -154,7 +155,7 @@ PatternMakingFails Refused engine.Memory = Unit {0}
 PatternMakingFails Refused _ = ⊥
 
 -- how making the pairs of offsets fails
-abbrev pub PairsMakingFail : BlocksView → List Offset → Up → EngineFault → Type 0
-PairsMakingFail m offsets up (engine.Slope (of.Pairs fault)) = PairsFail m offsets up fault
-PairsMakingFail m offsets up engine.Memory = Unit {0}
-PairsMakingFail m offsets up _ = ⊥
+abbrev pub PairsMakingFail : BlocksView → List Offset → Up → Selection → EngineFault → Type 0
+PairsMakingFail m offsets up selection (engine.Slope (of.Pairs fault)) = PairsFail m offsets up selection fault
+PairsMakingFail m offsets up selection engine.Memory = Unit {0}
+PairsMakingFail m offsets up selection _ = ⊥

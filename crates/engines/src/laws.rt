@@ -1,9 +1,16 @@
-//! The law of accepted pits over prices, the contract of a function that does nothing.
+//! Laws of accepted pits and of slopes, each the contract of a function that does nothing.
 
 ghost use Rattle.engines.specs.Nested.{AcceptedAreNested};
+ghost use Rattle.engines.specs.Reduced.{ReducedPairsDecide};
 
 /// Of two pits that [`check_engine`](crate::check_engine) accepts over one price table, in amounts with
 /// sizes, the one at the lower factor lies within the other.
 pub fn accepted_pits_are_nested()
     ensures { AcceptedAreNested }
+{}
+
+/// Of the pairs that a pattern gives the reduced ones decide as every one does: a set is the best pit by them exactly where
+/// it is the best pit by all.
+pub fn reduced_pairs_decide()
+    ensures { ReducedPairsDecide }
 {}

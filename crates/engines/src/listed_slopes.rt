@@ -12,18 +12,19 @@ use crate::priced_inputs::{missing, settings_from};
 use crate::slope_pairs::{pattern_listed, slopes_of, write_slopes};
 use fixed_worth::{CountedRead, CountedWrite};
 use settings_file::{Key, Settings};
-use slope::Up;
+use slope::{Selection, Up};
 use std::alloc::Global;
 
 /// Writes what each block of a text rests on by the offsets that settings list, as a precedence file: a line for each
 /// block.
 ///
-/// It answers `Done`, never `No`. Where `up` is `MinusZ`, a smaller z is higher. The settings are read to their end, then
+/// It answers `Done`, never `No`. Where `up` is `MinusZ`, a smaller z is higher; of the reduced pairs those are left out
+/// that lead over a third block. The settings are read to their end, then
 /// the blocks; then the pattern is made, then the pairs, and nothing is written before all are known.
 ///
 /// # Errors
 /// In this order: `Settings` for a fault of this text, or where it lists no offsets; `Blocks`; `Slope` for the first
-/// offset that doesn't lead up, for more than 4,096 offsets, for two blocks at one place, or for more than 2^27 pairs.
+/// offset that doesn't lead up, for more than 4,096 offsets, for two blocks at one place, or for more than 2^27 of these pairs.
 /// `Memory` where memory is refused, `Device` where a read or a write fails: the writer has then received a front of the
 /// text, and at every other fault nothing.
 ///
@@ -33,6 +34,7 @@ pub fn slopes_from_settings_engine<S: CountedRead, B: CountedRead, W: CountedWri
     settings: &mut S,
     blocks: &mut B,
     up: Up,
+    selection: Selection,
     out: &mut W,
 ) -> Result<Verdict, EngineFault>
     requires settings_room { S.failed settings.old < 2 ^ 64 - 1 }
@@ -41,7 +43,7 @@ pub fn slopes_from_settings_engine<S: CountedRead, B: CountedRead, W: CountedWri
 
     // What it answers and writes, where the readers tell their bytes.
     ensures answer { IfSome (S.remaining settings.old) (λ s. IfSome (B.remaining blocks.old) (λ text.
-        GivesSlopes (listed s) text up (W.contents out.old) (W.contents out.new) result)) }
+        GivesSlopes (listed s) text up selection (W.contents out.old) (W.contents out.new) result)) }
 
     // A device is named exactly where one failed.
     ensures device { IsErrOf result EngineFault.Device → S.failed settings.new + B.failed blocks.new + W.failed out.new ≡ S.failed settings.old + B.failed blocks.old + W.failed out.old + 1 }
@@ -51,7 +53,7 @@ pub fn slopes_from_settings_engine<S: CountedRead, B: CountedRead, W: CountedWri
     let offsets = offsets_in(&settings)?;
     let model = blocks_from(alloc, blocks, &[])?;
     let pattern = pattern_listed(alloc, offsets)?;
-    let rests = slopes_of(alloc, &model, &pattern, up)?;
+    let rests = slopes_of(alloc, &model, &pattern, up, selection)?;
     write_slopes(&rests, out)?;
     Ok(Verdict::Done)
 }

@@ -13,7 +13,7 @@ use crate::pattern_choice::PatternChoice;
 use blocks_file::BlockModel;
 use fixed_worth::CountedWrite;
 use prec_file::{PrecWriteFault, Predecessors, write_predecessors};
-use slope::{Pattern, Up, laws, predecessors_of};
+use slope::{Pattern, Selection, Up, laws, predecessors_of};
 use std::alloc::Global;
 
 /// The pattern that is chosen.
@@ -45,23 +45,24 @@ pub fn pattern_listed(alloc: Global, listed: &[(i32, i32, i32)]) -> Result<Patte
     Ok(Pattern::custom(alloc, listed)?)
 }
 
-/// Who rests on whom among the blocks of a model, by a pattern.
+/// Who rests on whom among the blocks of a model, by a pattern: every pair, or the reduced ones.
 ///
 /// # Errors
-/// `Slope` for two blocks at one place, or for more than 2^27 pairs. `Memory` where memory is refused.
+/// `Slope` for two blocks at one place, or for more than 2^27 of the selected pairs. `Memory` where memory is refused.
 pub fn slopes_of(
     alloc: Global,
     model: &BlockModel,
     pattern: &Pattern,
     up: Up,
+    selection: Selection,
 ) -> Result<Predecessors, EngineFault>
-    ensures made { MatchResult result (AreSlopes model.now pattern.now up) (PairsMakingFail model.now pattern.now up) }
+    ensures made { MatchResult result (AreSlopes model.now pattern.now up selection) (PairsMakingFail model.now pattern.now up selection) }
     ensures narrow { IfOk result AreNarrow }
     ensures no_device { ¬ IsErrOf result EngineFault.Device }
 {
     // proof: a block has no more predecessors than a pattern has offsets
     laws::slopes_are_narrow(pattern);
-    match predecessors_of(alloc, model, pattern, up) {
+    match predecessors_of(alloc, model, pattern, up, selection) {
         Ok(rests) => Ok(rests),
         Err(fault) => Err(EngineFault::from(fault)),
     }

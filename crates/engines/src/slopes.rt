@@ -9,17 +9,18 @@ use crate::judgement::Verdict;
 use crate::pattern_choice::PatternChoice;
 use crate::slope_pairs::{pattern_for, slopes_of, write_slopes};
 use fixed_worth::{CountedRead, CountedWrite};
-use slope::Up;
+use slope::{Selection, Up};
 use std::alloc::Global;
 
 /// Writes what each block of a text rests on by a pattern, as a precedence file: a line for each block.
 ///
-/// It answers `Done`, never `No`. Where `up` is `MinusZ`, a smaller z is higher. The input is read to its end, then the
+/// It answers `Done`, never `No`. Where `up` is `MinusZ`, a smaller z is higher; of the reduced pairs those are left out
+/// that lead over a third block. The input is read to its end, then the
 /// pattern is made, then the pairs, and nothing is written before all are known.
 ///
 /// # Errors
 /// In this order: `Blocks` for a fault of the text; `Slope` for a cone of more than 4,096 offsets, for two blocks at one
-/// place, or for more than 2^27 pairs. `Memory` where memory is refused, `Device` where a read or a write fails: the
+/// place, or for more than 2^27 of these pairs. `Memory` where memory is refused, `Device` where a read or a write fails: the
 /// writer has then received a front of the text, and at every other fault nothing.
 ///
 /// Each device must have counted fewer than 2^64 - 1 failures, so that one more can be counted.
@@ -28,6 +29,7 @@ pub fn slopes_engine<B: CountedRead, W: CountedWrite>(
     blocks: &mut B,
     pattern: PatternChoice,
     up: Up,
+    selection: Selection,
     out: &mut W,
 ) -> Result<Verdict, EngineFault>
     requires choice { IsChoice pattern }
@@ -35,7 +37,7 @@ pub fn slopes_engine<B: CountedRead, W: CountedWrite>(
     requires out_room { W.failed out.old < 2 ^ 64 - 1 }
 
     // What it answers and writes, where the reader tells its bytes.
-    ensures answer { IfSome (B.remaining blocks.old) (λ text. GivesSlopes (named pattern) text up (W.contents out.old) (W.contents out.new) result) }
+    ensures answer { IfSome (B.remaining blocks.old) (λ text. GivesSlopes (named pattern) text up selection (W.contents out.old) (W.contents out.new) result) }
 
     // A device is named exactly where one failed.
     ensures device { IsErrOf result EngineFault.Device → B.failed blocks.new + W.failed out.new ≡ B.failed blocks.old + W.failed out.old + 1 }
@@ -43,7 +45,7 @@ pub fn slopes_engine<B: CountedRead, W: CountedWrite>(
 {
     let model = blocks_from(alloc, blocks, &[])?;
     let pattern = pattern_for(alloc, pattern)?;
-    let rests = slopes_of(alloc, &model, &pattern, up)?;
+    let rests = slopes_of(alloc, &model, &pattern, up, selection)?;
     write_slopes(&rests, out)?;
     Ok(Verdict::Done)
 }

@@ -1,6 +1,6 @@
 use blocks_file::{BlockModel, Place, read_blocks};
 use prec_file::Rests;
-use slope::{Pattern, PatternFault, SlopeFault, Up, predecessors_of, rests_of};
+use slope::{Pattern, PatternFault, Selection, SlopeFault, Up, predecessors_of, rests_of};
 use std::alloc::Global;
 use std::fmt::{Debug, Display};
 use std::process::Abort;
@@ -111,9 +111,45 @@ fn pairs_by_filter(
     Ok(pairs)
 }
 
-fn agrees(alloc: Global, model: &BlockModel, pattern: &Pattern, up: Up) -> Result<bool, Fail> {
-    let rests = rests_of(alloc, model, pattern, up)?;
+// Whether a block of these pairs rests on a third one that rests on the other.
+fn leads_over(pairs: &[(u32, u32)], pair: (u32, u32)) -> bool {
+    for first in pairs {
+        if first.0 == pair.0 && pairs.contains(&(first.1, pair.1)) {
+            return true;
+        }
+    }
+    false
+}
+
+// The reduced pairs by the definition.
+fn reduced_by_filter(
+    alloc: Global,
+    model: &BlockModel,
+    pattern: &Pattern,
+    up: Up,
+) -> Result<Vec<(u32, u32)>, Fail> {
     let pairs = pairs_by_filter(alloc, model, pattern, up)?;
+    let mut left = Vec::new(alloc);
+    for pair in &pairs {
+        if !leads_over(&pairs, *pair) {
+            left.push(*pair)?;
+        }
+    }
+    Ok(left)
+}
+
+fn agrees(
+    alloc: Global,
+    model: &BlockModel,
+    pattern: &Pattern,
+    up: Up,
+    selection: Selection,
+) -> Result<bool, Fail> {
+    let rests = rests_of(alloc, model, pattern, up, selection)?;
+    let pairs = match selection {
+        Selection::Every => pairs_by_filter(alloc, model, pattern, up)?,
+        Selection::Reduced => reduced_by_filter(alloc, model, pattern, up)?,
+    };
     if rests.pairs() as usize != pairs.len() {
         return Ok(false);
     }
@@ -225,7 +261,7 @@ fn pairs_of(
 ) -> Result<Rests, Fail> {
     let pattern = pattern?;
     let model = model(alloc, text)?;
-    Ok(rests_of(alloc, &model, &pattern, up)?)
+    Ok(rests_of(alloc, &model, &pattern, up, Selection::Every)?)
 }
 
 #[test]
@@ -268,19 +304,21 @@ fn agree(
     alloc: Global,
     text: &[u8],
     pattern: Result<Pattern, PatternFault>,
+    selection: Selection,
 ) -> Result<(bool, bool), Fail> {
     let pattern = pattern?;
     let model = model(alloc, text)?;
-    agree_both_ways(alloc, &model, &pattern)
+    agree_both_ways(alloc, &model, &pattern, selection)
 }
 
 fn agree_both_ways(
     alloc: Global,
     model: &BlockModel,
     pattern: &Pattern,
+    selection: Selection,
 ) -> Result<(bool, bool), Fail> {
-    let up = agrees(alloc, model, pattern, Up::PlusZ)?;
-    let down = agrees(alloc, model, pattern, Up::MinusZ)?;
+    let up = agrees(alloc, model, pattern, Up::PlusZ, selection)?;
+    let down = agrees(alloc, model, pattern, Up::MinusZ, selection)?;
     Ok((up, down))
 }
 
@@ -289,11 +327,37 @@ fn pairs_are_those_of_the_definition(rt: HostRuntime) -> Result<(), Fail> {
     let alloc: Global = rt.alloc();
     // no order, gaps, and heights of two kinds
     let scattered = b"3 5 -2 7\n0 4 -2 6\n4 5 -3 8\n1 5 -2 8\n2 4 -3 7\n";
-    let of_cone = agree(alloc, scattered, Pattern::cone(alloc, 2, 3, 2))?;
+    let of_cone = agree(
+        alloc,
+        scattered,
+        Pattern::cone(alloc, 2, 3, 2),
+        Selection::Every,
+    )?;
     equal(&rt, of_cone, (true, true));
     let lopsided = Pattern::custom(alloc, &[(1, 0, 1), (-2, 1, 1)]);
-    let of_cube = agree(alloc, CUBE, lopsided)?;
+    let of_cube = agree(alloc, CUBE, lopsided, Selection::Every)?;
     equal(&rt, of_cube, (true, true));
+    Ok(())
+}
+
+// A wall three blocks long and four high, in which (1, 1) and (0, 2) are missing.
+const CLIFF: &[u8] =
+    b"0 0 0 0\n1 1 0 0\n2 2 0 0\n3 0 0 1\n4 2 0 1\n5 1 0 2\n6 2 0 2\n7 0 0 3\n8 1 0 3\n9 2 0 3\n";
+
+#[test]
+fn reduced_pairs_are_those_of_the_definition(rt: HostRuntime) -> Result<(), Fail> {
+    let alloc: Global = rt.alloc();
+    let of_cone = agree(
+        alloc,
+        CLIFF,
+        Pattern::cone(alloc, 3, 1, 1),
+        Selection::Reduced,
+    )?;
+    equal(&rt, of_cone, (true, true));
+    // two of the offsets make a third, and others make none
+    let listed = Pattern::custom(alloc, &[(0, 0, 1), (1, 0, 1), (1, 0, 2), (0, 0, 3)]);
+    let of_list = agree(alloc, CLIFF, listed, Selection::Reduced)?;
+    equal(&rt, of_list, (true, true));
     Ok(())
 }
 
@@ -322,7 +386,7 @@ fn predecessors_alone(rt: HostRuntime) -> Result<(), Fail> {
     let alloc: Global = rt.alloc();
     let five = Pattern::five(alloc)?;
     let cube = model(alloc, CUBE)?;
-    let predecessors = predecessors_of(alloc, &cube, &five, Up::PlusZ)?;
+    let predecessors = predecessors_of(alloc, &cube, &five, Up::PlusZ, Selection::Every)?;
     equal(&rt, predecessors.len(), 18);
     let lent = predecessors.lent();
     if lent.len() == 18 {
@@ -339,7 +403,13 @@ fn predecessors_alone(rt: HostRuntime) -> Result<(), Fail> {
 // Whether two blocks of a text, the first two that are met, are at one place.
 fn at_one_place(alloc: Global, text: &[u8], first: u32, second: u32) -> Result<bool, Fail> {
     let five = Pattern::five(alloc)?;
-    let answer = rests_of(alloc, &model(alloc, text)?, &five, Up::PlusZ);
+    let answer = rests_of(
+        alloc,
+        &model(alloc, text)?,
+        &five,
+        Up::PlusZ,
+        Selection::Every,
+    );
     Ok(answer.err() == Some(SlopeFault::SamePlace(first, second)))
 }
 

@@ -1,6 +1,8 @@
-//! What to try where no pit is proved.
+//! What to try where no pit is proved, and which words have no effect.
 
+use crate::solving_asked::SolvingAsked;
 use command_line::{SeriesWords, SolveWords};
+use engines::Method;
 
 /// What to try where a command answers that no pit is proved.
 #[derive(Clone, Copy)]
@@ -41,6 +43,17 @@ pub fn advice_to_solve(words: SolveWords<'_>) -> Advice {
 /// What to try where `shells` or `report` proves no pit at some factor: all their amounts are of one group.
 pub fn advice_for_series(words: SeriesWords<'_>) -> Advice {
     advice_by(words.method, words.steps, MACHINE)
+}
+
+/// Tells that further workers have no effect where pseudoflow alone is to solve.
+pub fn advise_on_workers<R: Eprint>(rt: &R, is_asked: bool, solving: SolvingAsked<'_>) {
+    if let SolvingAsked::ByMethod { effort, .. } = solving {
+        if is_asked && effort.workers > 1 && effort.method == Method::Pseudoflow {
+            let _ = rt.eprintln(
+                "advice: --workers has no effect with --method pseudoflow, which has one thread",
+            );
+        }
+    }
 }
 
 impl Advice {

@@ -3,7 +3,11 @@
 ghost use Rattle.engines.specs.Slopes.{IsChoice};
 
 use crate::advice::advice_for_series;
-use crate::opened::{PricedFiles, file, open_mine, open_prices};
+use crate::heard::Heard;
+use crate::opened::{PricedFiles, file, heard_file, open_mine, open_prices};
+use crate::pairs_bound::{PairsBound, offsets_of};
+use crate::settings_reasons::KeptText;
+use crate::slopes_words::selection_asked;
 use crate::told::output;
 use command_line::{CheckWords, ReplayWords, SeriesCommand, SeriesWords, SlopesWords};
 use engines::{
@@ -18,6 +22,7 @@ use shell_engines::{SeriesProgress, shells_engine};
 use slope::Up;
 use std::rt::Files;
 use std::sync::Wait;
+use std::sync::atomic::AtomicU64;
 use std::thread::Threads;
 use workers::Gate;
 
@@ -90,9 +95,12 @@ pub fn slopes_file<R: Files + Print + Eprint + AllocGlobal>(
 ) -> Result<Verdict, EngineFault>
     requires { IsChoice pattern }
 {
-    let mut blocks = file(rt, words.verbose, words.blocks)?;
+    let offsets = AtomicU64::new(offsets_of(rt.alloc(), pattern));
+    let bound = Heard::Blocks(PairsBound::new(&offsets));
+    let mut blocks = heard_file(rt, words.verbose, words.blocks, bound)?;
     let mut out = Counted::new(output(rt, words.verbose, None));
-    slopes_engine(rt.alloc(), &mut blocks, pattern, up, &mut out)
+    let selection = selection_asked(words);
+    slopes_engine(rt.alloc(), &mut blocks, pattern, up, selection, &mut out)
 }
 
 /// Writes the predecessors of each block of a file, by the offsets that a file of settings lists.
@@ -102,8 +110,19 @@ pub fn listed_slopes_files<R: Files + Print + Eprint + AllocGlobal>(
     settings: &str,
     up: Up,
 ) -> Result<Verdict, EngineFault> {
-    let mut settings = file(rt, words.verbose, settings)?;
-    let mut blocks = file(rt, words.verbose, words.blocks)?;
+    let offsets = AtomicU64::new(0);
+    let text = Heard::Settings(KeptText::new(rt.alloc(), Some(&offsets)));
+    let mut settings = heard_file(rt, words.verbose, settings, text)?;
+    let bound = Heard::Blocks(PairsBound::new(&offsets));
+    let mut blocks = heard_file(rt, words.verbose, words.blocks, bound)?;
     let mut out = Counted::new(output(rt, words.verbose, None));
-    slopes_from_settings_engine(rt.alloc(), &mut settings, &mut blocks, up, &mut out)
+    let selection = selection_asked(words);
+    slopes_from_settings_engine(
+        rt.alloc(),
+        &mut settings,
+        &mut blocks,
+        up,
+        selection,
+        &mut out,
+    )
 }

@@ -7,16 +7,20 @@
 mod advice;
 mod effort_words;
 mod files;
+mod heard;
 mod opened;
+mod pairs_bound;
 mod progress;
 mod reasons;
 mod replaced;
+mod settings_reasons;
 mod slopes_words;
 mod solve_options;
 mod solving;
 mod solving_asked;
 mod told;
 
+use advice::advise_on_workers;
 use command_line::{
     Commanded, Declined, OffsetsWords, ReplayWords, Request, SeriesWords, SlopesWords, SolveWords,
     WrongWord, declined_for, request_of,
@@ -112,6 +116,7 @@ fn solve<R: Files + Print + Eprint + Clock + Threads + Wait + Sync + AllocGlobal
         words.method,
         words.steps,
     );
+    advise_on_workers(rt, words.verbose, solving);
     match factor_asked(Commanded::Solve, words.model, words.factor) {
         Ok(factor) => Ok(Ending::Answered(solved(rt, words, solving, factor)?)),
         Err(wrong) => refused(rt, wrong),

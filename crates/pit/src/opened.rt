@@ -3,8 +3,10 @@
 ghost use Rattle.std.specs.Prelude.{◌≡◌, IfOk};
 ghost use Rattle.engines.specs.MineInputs.{CanCount};
 
+use crate::heard::Heard;
 use crate::replaced::Replaced;
-use crate::told::{Told, made, opened};
+use crate::settings_reasons::KeptText;
+use crate::told::{Told, made, opened, opened_and_heard};
 use command_line::ModelWords;
 use engines::{EngineFault, MineInputs, WorthInputs};
 use fixed_worth::Counted;
@@ -25,7 +27,7 @@ pub struct PricedFiles<D> {
 ///
 /// # Errors
 /// `Device` where one can't be opened.
-pub fn open_mine<'a, R: Files + Eprint>(
+pub fn open_mine<'a, R: Files + Eprint + AllocGlobal>(
     rt: &'a R,
     verbose: bool,
     prec: &'a str,
@@ -56,7 +58,7 @@ pub fn open_mine<'a, R: Files + Eprint>(
 ///
 /// # Errors
 /// `Device` where one can't be opened.
-pub fn open_prices<'a, R: Files + Eprint>(
+pub fn open_prices<'a, R: Files + Eprint + AllocGlobal>(
     rt: &'a R,
     verbose: bool,
     prec: &'a str,
@@ -67,7 +69,8 @@ pub fn open_prices<'a, R: Files + Eprint>(
         (mine.prec.failures ≡ 0) × (mine.settings.failures ≡ 0) × (mine.blocks.failures ≡ 0)) }
 {
     let prec = file(rt, verbose, prec)?;
-    let settings = file(rt, verbose, settings)?;
+    let heard = Heard::Settings(KeptText::new(rt.alloc(), None));
+    let settings = heard_file(rt, verbose, settings, heard)?;
     let blocks = file(rt, verbose, blocks)?;
     Ok(PricedFiles {
         settings,
@@ -88,6 +91,24 @@ pub fn file<'a, R: Files + Eprint>(
     ensures { IfOk result (λ counted. counted.failures ≡ 0) }
 {
     match opened(rt, verbose, name) {
+        Ok(file) => Ok(Counted::new(file)),
+        Err(_) => Err(EngineFault::Device),
+    }
+}
+
+/// Opens a file to be read of which there is something to tell at its end.
+///
+/// # Errors
+/// `Device` where it can't be opened.
+pub fn heard_file<'a, R: Files + Eprint>(
+    rt: &'a R,
+    verbose: bool,
+    name: &'a str,
+    heard: Heard<'a>,
+) -> Result<Counted<Told<'a, R, R::File>>, EngineFault>
+    ensures { IfOk result (λ counted. counted.failures ≡ 0) }
+{
+    match opened_and_heard(rt, verbose, name, heard) {
         Ok(file) => Ok(Counted::new(file)),
         Err(_) => Err(EngineFault::Device),
     }

@@ -3,11 +3,11 @@
 use engines::{EngineFault, SlopeProblem};
 use slope::{PatternFault, SlopeFault};
 
-/// Tells that steps have chosen the push-relabel machine, where no method is given beside them.
+/// Tells that steps have chosen push-relabel, where no method is given beside them.
 pub fn tell_choice<R: Eprint>(rt: &R, is_asked: bool, method: Option<&str>, steps: Option<&str>) {
     if is_asked && steps.is_some() && method.unwrap_or("auto") == "auto" {
         let _ = rt.eprintln(
-            "note: --steps without --method chooses the push-relabel machine, which is slow beyond some thousand blocks",
+            "note: --steps without --method chooses push-relabel, which is slow above a few thousand blocks",
         );
     }
 }

@@ -5,7 +5,7 @@ ghost use Rattle.engines.specs.Slopes.{IsChoice};
 
 use command_line::{Commanded, NamedOption, SlopesWords, WrongWord};
 use engines::{PatternChoice, pattern_named, up_named};
-use slope::Up;
+use slope::{Selection, Up};
 
 /// Which blocks above a block are its predecessors, by a word that names a pattern.
 pub fn pattern_asked<'a>(word: &'a str) -> Result<PatternChoice, WrongWord<'a>>
@@ -27,5 +27,14 @@ pub fn up_asked<'a>(words: SlopesWords<'a>) -> Result<Up, WrongWord<'a>> {
             word,
         }),
         None => Ok(Up::PlusZ),
+    }
+}
+
+/// Which pairs are wanted: every one, where no word says.
+pub fn selection_asked(words: SlopesWords<'_>) -> Selection {
+    if words.reduce {
+        Selection::Reduced
+    } else {
+        Selection::Every
     }
 }

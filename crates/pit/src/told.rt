@@ -1,6 +1,7 @@
 //! Files and the output, which tell why they failed where that is asked for.
 
 use crate::advice::Advice;
+use crate::heard::Heard;
 use crate::replaced::{Replaced, open_replaced};
 use command_line::Escaped;
 use std::fs::File;
@@ -20,6 +21,8 @@ pub struct Told<'a, R, D> {
     device: D,
     // whether something was read
     is_begun: bool,
+    // what is told at the end of what is read
+    heard: Option<Heard<'a>>,
 }
 
 // What some programs put at the head of a text in UTF-8.
@@ -41,6 +44,23 @@ pub fn opened<'a, R: Files + Eprint>(
             Err(error)
         }
     }
+}
+
+/// Opens a file to be read of which there is something to tell at its end.
+///
+/// # Errors
+/// That of the system, of which it tells.
+pub fn opened_and_heard<'a, R: Files + Eprint>(
+    rt: &'a R,
+    verbose: bool,
+    name: &'a str,
+    heard: Heard<'a>,
+) -> io::Result<Told<'a, R, R::File>> {
+    let mut told = opened(rt, verbose, name)?;
+    if verbose {
+        told.heard = Some(heard);
+    }
+    Ok(told)
 }
 
 /// Opens a file to be replaced at the first write, or makes one.
@@ -80,10 +100,11 @@ fn told_by<'a, R, D>(rt: &'a R, verbose: bool, name: &'a str, device: D) -> Told
         advice: None,
         device,
         is_begun: false,
+        heard: None,
     }
 }
 
-impl<R: Eprint, D: Read> Read for Told<'_, R, D> {
+impl<R: Eprint + AllocGlobal, D: Read> Read for Told<'_, R, D> {
     fn read(&mut self, buf: &mut [u8]) -> io::Result<usize> {
         match self.device.read(buf) {
             Ok(count) => {
@@ -92,12 +113,26 @@ impl<R: Eprint, D: Read> Read for Told<'_, R, D> {
                     let begins_with_mark = count >= MARK.len() && buf.starts_with(MARK);
                     tell_mark(self.rt, self.verbose && begins_with_mark, self.name);
                 }
+                self.hear(&buf[..count]);
                 Ok(count)
             }
             Err(error) => {
                 tell(self.rt, self.verbose, "read", self.name, error);
                 Err(error)
             }
+        }
+    }
+}
+
+impl<R: Eprint + AllocGlobal, D> Told<'_, R, D> {
+    // Takes in what was read, and tells at its end what there is to tell.
+    fn hear(&mut self, read: &[u8]) {
+        if !read.is_empty() {
+            if let Some(heard) = &mut self.heard {
+                heard.hear(read);
+            }
+        } else if let Some(heard) = self.heard.take() {
+            heard.tell(self.rt, self.name);
         }
     }
 }

@@ -11,7 +11,7 @@ use Rattle.engines.specs.declared.engine_fault.EngineFault.TheVariants as engine
 use Rattle.engines.specs.declared.judgement.Verdict.{Verdict}
 use Rattle.engines.specs.declared.effort.Effort.{Effort}
 use Rattle.engines.specs.declared.priced_inputs.ChargeColumns.{ChargeColumns}
-use Rattle.shell_engines.specs.Shells.{NoNetAt}
+use Rattle.shell_engines.specs.Shells.{DenoteSeries, NoNetAt}
 use Rattle.shell_engines.proofs.Answering.{texts_unread, unanswered, answered, cut_short}
 use Rattle.report_engines.specs.ReportTexts.{ReportBlocksRead, ReportMineFails}
 use Rattle.report_engines.specs.Reports.{AnswersReport, ReportFails, Reports}
@@ -19,7 +19,7 @@ use Rattle.report_engines.specs.Internal.{IsReportRead}
 
 -- the texts were not read
 pub mine_unread : (o q r w : Option (List ℕ)) (effort : Effort) (e : EngineFault) → IfSome o (λ s. IfSome q (λ b. IfSome r (λ p. ReportMineFails s b p e))) → IfSome o (λ s. IfSome q (λ b. IfSome r (λ p. Reports s b p effort w w (Err e))))
-mine_unread o q r w effort e h = texts_unread o q r (λ s b p. AnswersReport s b p effort) ReportMineFails (λ s b p k. ReportBlocksRead s b × NoNetAt s b p k) (λ s b p k f. absurd f) w e h
+mine_unread o q r w effort e h = texts_unread o q r (λ s b p. AnswersReport s b p effort) ReportMineFails (λ s b p. ReportBlocksRead s b × DenoteSeries s b p) (λ s b p k. ReportBlocksRead s b × NoNetAt s b p k) (λ s b p k f. absurd f) (λ s b p f. absurd f) (λ s b p f. absurd f) w e h
 
 module _ (o q r : Option (List ℕ)) (prices : PricesView) (rests : RestsView) (factors : List ℕ) (m : BlocksView) (charges : ChargeColumns) (factor : ℕ) (effort : Effort) (h : IfSome o (λ s. IfSome q (λ b. IfSome r (λ p. IsReportRead s b p prices rests factors m charges factor)))) where
   -- there is no answer

@@ -33,8 +33,8 @@ use Rattle.shell_engines.specs.ShellTable.{IsLineOf}
 use Rattle.shell_engines.specs.SeriesTexts.{factors_said}
 use Rattle.shell_engines.specs.Settling.{IsSettled, NoSeriesStands}
 use Rattle.shell_engines.specs.Internal.{IsWant}
-use Rattle.shell_engines.specs.Shells.{mine_at_factor, ShellsFail}
-use Rattle.shell_engines.proofs.Lifted.{of_want, mine_is, nested, is_no_table, no_net_answer}
+use Rattle.shell_engines.specs.Shells.{mine_at_factor, DenoteSeries, ShellsFail}
+use Rattle.shell_engines.proofs.Lifted.{of_want, mine_is, nested, denoted, is_no_table, no_net_answer}
 use Rattle.report_engines.specs.ReportTexts.{ReportBlocksRead, report_factor, report_blocks}
 use Rattle.report_engines.specs.Reports.{IsReport, AnswersReport, ReportFails}
 use Rattle.report_engines.specs.Internal.{IsReportRead, TellsWhy, IsFaultOf, verdict_of, text_of}
@@ -119,7 +119,9 @@ module _ (s t p : List ℕ) (prices : PricesView) (rests : RestsView) (factors :
   none_answer : (effort : Effort) (k : ℕ) (why : Unsolved) (answer : Result Outcome EngineFault) → NoSeriesStands scaled_block rests prices factors effort (none.Unsolved k why) → MatchResult answer (λ o. (verdict_of o ≡ No) × IsLineOf k why (text_of o)) (IsWant why)
       → MatchResult answer (λ o. AnswersReport s t p effort (verdict_of o) (text_of o)) (ReportFails s t p)
   none_answer effort k why (Ok o) h line = subst (λ (v : Verdict). AnswersReport s t p effort v (text_of o)) (sym line.0) (is_none effort k why (text_of o) h line.1)
-  none_answer effort k why (Err e) h want = of_want (ReportFails s t p) tt tt tt why e want
+  none_answer effort k why (Err e) h want =
+      let both : ReportBlocksRead s t × DenoteSeries s t p = (blocks_read, denoted s t p prices rests factors read.series) in
+      of_want (ReportFails s t p) tt both both why e want
 
   net_fails : (fault : NetFault) → ShellsFail s t p (of_model fault) → ReportFails s t p (of_model fault)
   net_fails net_fault.WrongLength h = (blocks_read, h)

@@ -11,7 +11,7 @@ use Rattle.engines.specs.declared.effort.Effort.{Effort}
 use Rattle.engines.specs.Mines.{priced_texts, DenoteMine}
 use Rattle.shell_engines.specs.SeriesTexts.{factors_said}
 use Rattle.shell_engines.specs.Answering.{FailsBy, Ends}
-use Rattle.shell_engines.specs.Shells.{mine_at_factor, AreNested, IsNoTable, NoNetAt}
+use Rattle.shell_engines.specs.Shells.{mine_at_factor, AreNested, DenoteSeries, IsNoTable, NoNetAt}
 use Rattle.report_engines.specs.ReportTexts.{ReportBlocksRead, report_blocks, ReportMineFails}
 
 -- The texts denote a mine at each factor, the pits at the factors of the settings are the best ones, each of them lies
@@ -34,7 +34,8 @@ AnswersReport settings blocks precedence effort No text = ReportBlocksRead setti
 
 -- why the engine answers a fault: it stands, and none before it does
 abbrev pub ReportFails : List ℕ → List ℕ → List ℕ → EngineFault → Type 0
-ReportFails settings blocks precedence = FailsBy (ReportMineFails settings blocks precedence) (λ fault. ReportBlocksRead settings blocks × NoNetAt settings blocks precedence fault)
+ReportFails settings blocks precedence = FailsBy (ReportMineFails settings blocks precedence) (ReportBlocksRead settings blocks × DenoteSeries settings blocks precedence)
+    (λ fault. ReportBlocksRead settings blocks × NoNetAt settings blocks precedence fault)
 
 -- the answer, and what was written with it
 abbrev pub Reports : List ℕ → List ℕ → List ℕ → Effort → Option (List ℕ) → Option (List ℕ) → Result Verdict EngineFault → Type 0

@@ -26,27 +26,30 @@ unwritten Answers w engine.Thread = keeps_self w
 unwritten Answers w engine.Stranger = keeps_self w
 unwritten Answers w engine.Device = inl (keeps_self w)
 
--- a fault of the reading is one of the engine
-unread : (Unread : EngineFault → Type 0) (NoNet : NetFault → Type 0) → ((q : NetFault) → Unread (engine.Model q) → NoNet q) → (e : EngineFault) → Unread e → FailsBy Unread NoNet e
-unread Unread NoNet none (engine.Settings q) h = h
-unread Unread NoNet none (engine.Blocks q) h = h
-unread Unread NoNet none (engine.Prices q) h = h
-unread Unread NoNet none (engine.Prec q) h = h
-unread Unread NoNet none (engine.Upit q) h = h
-unread Unread NoNet none (engine.Slope q) h = h
-unread Unread NoNet none (engine.Model q) h = none q h
-unread Unread NoNet none (engine.Certificate q) h = h
-unread Unread NoNet none (engine.Trace q) h = h
-unread Unread NoNet none engine.Memory h = h
-unread Unread NoNet none engine.Thread h = tt
-unread Unread NoNet none engine.Stranger h = tt
-unread Unread NoNet none engine.Device h = h
+-- a fault of the reading is one of the engine: it names no thread and no board
+unread : (Unread : EngineFault → Type 0) (Denoted : Type 0) (NoNet : NetFault → Type 0) → ((q : NetFault) → Unread (engine.Model q) → NoNet q) → (Unread engine.Thread → Denoted) → (Unread engine.Stranger → Denoted)
+    → (e : EngineFault) → Unread e → FailsBy Unread Denoted NoNet e
+unread Unread Denoted NoNet none thread stranger (engine.Settings q) h = h
+unread Unread Denoted NoNet none thread stranger (engine.Blocks q) h = h
+unread Unread Denoted NoNet none thread stranger (engine.Prices q) h = h
+unread Unread Denoted NoNet none thread stranger (engine.Prec q) h = h
+unread Unread Denoted NoNet none thread stranger (engine.Upit q) h = h
+unread Unread Denoted NoNet none thread stranger (engine.Slope q) h = h
+unread Unread Denoted NoNet none thread stranger (engine.Model q) h = none q h
+unread Unread Denoted NoNet none thread stranger (engine.Certificate q) h = h
+unread Unread Denoted NoNet none thread stranger (engine.Trace q) h = h
+unread Unread Denoted NoNet none thread stranger engine.Memory h = h
+unread Unread Denoted NoNet none thread stranger engine.Thread h = thread h
+unread Unread Denoted NoNet none thread stranger engine.Stranger h = stranger h
+unread Unread Denoted NoNet none thread stranger engine.Device h = h
 
 module _ (o q r : Option (List ℕ)) (Answers : List ℕ → List ℕ → List ℕ → Verdict → List ℕ → Type 0) where
   -- the texts were not read
-  pub texts_unread : (Unread : List ℕ → List ℕ → List ℕ → EngineFault → Type 0) (NoNet : List ℕ → List ℕ → List ℕ → NetFault → Type 0) → ((s b p : List ℕ) (k : NetFault) → Unread s b p (engine.Model k) → NoNet s b p k)
-      → (w : Option (List ℕ)) (e : EngineFault) → IfSome o (λ s. IfSome q (λ b. IfSome r (λ p. Unread s b p e))) → IfSome o (λ s. IfSome q (λ b. IfSome r (λ p. Ends (Answers s b p) (FailsBy (Unread s b p) (NoNet s b p)) w w (Err e))))
-  texts_unread Unread NoNet none w e h = under3 o q r (λ s b p. Unread s b p e) (λ s b p. Ends (Answers s b p) (FailsBy (Unread s b p) (NoNet s b p)) w w (Err e)) h (λ s b p f. (unread (Unread s b p) (NoNet s b p) (none s b p) e f, unwritten (Answers s b p) w e))
+  pub texts_unread : (Unread : List ℕ → List ℕ → List ℕ → EngineFault → Type 0) (Denoted : List ℕ → List ℕ → List ℕ → Type 0) (NoNet : List ℕ → List ℕ → List ℕ → NetFault → Type 0) → ((s b p : List ℕ) (k : NetFault) → Unread s b p (engine.Model k) → NoNet s b p k)
+      → ((s b p : List ℕ) → Unread s b p engine.Thread → Denoted s b p) → ((s b p : List ℕ) → Unread s b p engine.Stranger → Denoted s b p)
+      → (w : Option (List ℕ)) (e : EngineFault) → IfSome o (λ s. IfSome q (λ b. IfSome r (λ p. Unread s b p e))) → IfSome o (λ s. IfSome q (λ b. IfSome r (λ p. Ends (Answers s b p) (FailsBy (Unread s b p) (Denoted s b p) (NoNet s b p)) w w (Err e))))
+  texts_unread Unread Denoted NoNet none thread stranger w e h = under3 o q r (λ s b p. Unread s b p e) (λ s b p. Ends (Answers s b p) (FailsBy (Unread s b p) (Denoted s b p) (NoNet s b p)) w w (Err e)) h
+      (λ s b p f. (unread (Unread s b p) (Denoted s b p) (NoNet s b p) (none s b p) (thread s b p) (stranger s b p) e f, unwritten (Answers s b p) w e))
 
   module _ (Fails : List ℕ → List ℕ → List ℕ → EngineFault → Type 0) (Read : List ℕ → List ℕ → List ℕ → Type 0) (h : IfSome o (λ s. IfSome q (λ b. IfSome r (λ p. Read s b p)))) where
     -- there is no answer

@@ -3,9 +3,9 @@ use Rattle.std.proofs.Common.{ℕ, List, Option, Err, IfSome}
 use Rattle.engines.specs.declared.engine_fault.EngineFault.{EngineFault}
 use Rattle.engines.specs.declared.effort.Effort.{Effort}
 use Rattle.shell_engines.specs.SeriesTexts.{SeriesMineFails}
-use Rattle.shell_engines.specs.Shells.{AnswersShells, NoNetAt, Shells}
+use Rattle.shell_engines.specs.Shells.{AnswersShells, DenoteSeries, NoNetAt, Shells}
 use Rattle.shell_engines.proofs.Answering.{texts_unread}
 
 -- the texts were not read
 pub mine_unread : (o q r w : Option (List ℕ)) (effort : Effort) (e : EngineFault) → IfSome o (λ s. IfSome q (λ b. IfSome r (λ p. SeriesMineFails s b p e))) → IfSome o (λ s. IfSome q (λ b. IfSome r (λ p. Shells s b p effort w w (Err e))))
-mine_unread o q r w effort e h = texts_unread o q r (λ s b p. AnswersShells s b p effort) SeriesMineFails NoNetAt (λ s b p k f. absurd f) w e h
+mine_unread o q r w effort e h = texts_unread o q r (λ s b p. AnswersShells s b p effort) SeriesMineFails DenoteSeries NoNetAt (λ s b p k f. absurd f) (λ s b p f. absurd f) (λ s b p f. absurd f) w e h

@@ -33,7 +33,7 @@ use Rattle.shell_engines.specs.Settling.{IsNetAt, NotSolvedStands, NoSeriesStand
 use Rattle.shell_engines.specs.Internal.{IsWant}
 use Rattle.shell_engines.specs.declared.no_series.NoSeries.TheVariants as none
 use Rattle.shell_engines.specs.declared.series_engine.Answer.{Answer}
-use Rattle.shell_engines.specs.Shells.{shell_group, mine_at_factor, AreNested, IsShellTable, IsNoTable, NoNetAt, AnswersShells, ShellsFail}
+use Rattle.shell_engines.specs.Shells.{shell_group, mine_at_factor, AreNested, DenoteSeries, IsShellTable, IsNoTable, NoNetAt, AnswersShells, ShellsFail}
 
 -- what holds of each fault that a reason can make holds of the one that it makes
 pub of_want : (F : EngineFault → Type 0) → F engine.Memory → F engine.Thread → F engine.Stranger → (why : Unsolved) (e : EngineFault) → IsWant why e → F e
@@ -95,6 +95,9 @@ module _ (s t p : List ℕ) (table : PricesView) (rests : RestsView) (factors : 
     spelled = spelled;
   }
 
+  pub denoted : DenoteSeries s t p
+  denoted = record { size = rests.blocks; mine = read.mine.mine; keys = read.keys }
+
   said : (k : ℕ) → Contains factors k → Contains (factors_said s) k
   said k c = subst (λ (fs : List ℕ). Contains fs k) read.factors_are c
 
@@ -114,7 +117,7 @@ module _ (s t p : List ℕ) (table : PricesView) (rests : RestsView) (factors : 
       → MatchResult answer (λ a. AnswersShells s t p effort a.verdict a.text.items) (ShellsFail s t p)
   no_pit_answer effort factor why (Ok a) h line =
       subst (λ (v : Verdict). AnswersShells s t p effort v a.text.items) (sym line.0) (is_no_table effort factor why h.1.0 a.text.items h.0 h.1.1 h.1.2 line.1)
-  no_pit_answer effort factor why (Err e) h is = of_want (ShellsFail s t p) tt tt tt why e is
+  no_pit_answer effort factor why (Err e) h is = of_want (ShellsFail s t p) tt denoted denoted why e is
 
   -- an amount of the mine doesn't fit at a factor
   no_net : (factor : ℕ) (fault : NetFault) → Contains factors factor → ModelFails (priced_texts s t p factor) rests.blocks shell_group fault → NoNetAt s t p fault

@@ -7,13 +7,14 @@ use Rattle.engines.specs.declared.judgement.Verdict.{Verdict}
 use Rattle.engines.specs.declared.engine_fault.EngineFault.{EngineFault}
 use Rattle.engines.specs.declared.engine_fault.EngineFault.TheVariants as engine
 
--- Why a fault is answered, from what is so where the texts denote no mine and where an amount of the mine's overflows.
--- Want of memory, of a thread, a failing device and a board that comes back as another's say nothing of the texts.
-abbrev pub FailsBy : (EngineFault → Type 0) → (NetFault → Type 0) → EngineFault → Type 0
-FailsBy Unread NoNet (engine.Model fault) = NoNet fault
-FailsBy Unread NoNet engine.Thread = Unit {0}
-FailsBy Unread NoNet engine.Stranger = Unit {0}
-FailsBy Unread NoNet fault = Unread fault
+-- Why a fault is answered, from what is so where the texts denote no mine, where they denote one, and where an amount of the mine's
+-- overflows. Want of memory and a failing device say nothing of the texts; want of a thread and a board that comes back as another's,
+-- that they denote a mine, of which a run was begun.
+abbrev pub FailsBy : (EngineFault → Type 0) → Type 0 → (NetFault → Type 0) → EngineFault → Type 0
+FailsBy Unread Denoted NoNet (engine.Model fault) = NoNet fault
+FailsBy Unread Denoted NoNet engine.Thread = Denoted
+FailsBy Unread Denoted NoNet engine.Stranger = Denoted
+FailsBy Unread Denoted NoNet fault = Unread fault
 
 -- what is in the writer at a fault: what was there before, unless a device failed; then perhaps a prefix of an answer too
 abbrev pub WritesAtFault : (Verdict → List ℕ → Type 0) → Option (List ℕ) → Option (List ℕ) → EngineFault → Type 0

@@ -31,6 +31,12 @@ mine_at_factor n settings blocks precedence factor = mine_of n (priced_texts set
 abbrev pub AreNested : (ℕ → Mine) → Type 0
 AreNested mine = (j k : ℕ) (e c : ℕ → Bool) → j ≤ k → IsBest (mine j) e → IsBest (mine k) c → LiesWithin (mine j) e c
 
+-- The texts denote a mine at each factor, and the settings name those of the shells.
+pub record DenoteSeries (settings blocks precedence : List ℕ) : Type 0 where
+  pub size : ℕ
+  pub mine : (factor : ℕ) → DenoteMine (priced_texts settings blocks precedence factor) size
+  pub keys : KeysKnown settings
+
 -- The texts denote a mine at each of the factors of the settings, and this one the table of its best pits, each of which
 -- lies within the next.
 pub record IsShellTable (settings blocks precedence text : List ℕ) : Type 0 where
@@ -67,7 +73,7 @@ pub record NoNetAt (settings blocks precedence : List ℕ) (fault : NetFault) : 
 
 -- why the engine answers a fault: it stands, and none before it does
 abbrev pub ShellsFail : List ℕ → List ℕ → List ℕ → EngineFault → Type 0
-ShellsFail settings blocks precedence = FailsBy (SeriesMineFails settings blocks precedence) (NoNetAt settings blocks precedence)
+ShellsFail settings blocks precedence = FailsBy (SeriesMineFails settings blocks precedence) (DenoteSeries settings blocks precedence) (NoNetAt settings blocks precedence)
 
 -- the answer, and what was written with it
 abbrev pub Shells : List ℕ → List ℕ → List ℕ → Effort → Option (List ℕ) → Option (List ℕ) → Result Verdict EngineFault → Type 0

@@ -5,3 +5,7 @@ pub mod ConeSteps
 pub mod Finding
 pub mod PairSteps
 pub mod Narrow
+pub mod OffsetFinding
+pub mod TwoSteps
+pub mod Reduction
+pub mod Seeing

@@ -10,7 +10,9 @@ use Rattle.slope.specs.Offsets.{Offset, IsPattern}
 use Rattle.slope.specs.Places.{place_of}
 use Rattle.slope.specs.Slopes.{offset_between, IsSlopePair, AreSlopes}
 use Rattle.slope.specs.declared.up.Up.{Up}
+use Rattle.slope.specs.declared.selection.Selection.{Selection}
 use Rattle.slope.proofs.Finding.{one_place}
+use Rattle.slope.proofs.PairSteps.{slope_of}
 
 -- a number, with another in the place of k
 moved : ℕ → ℕ → ℕ → ℕ
@@ -37,7 +39,7 @@ at_most (suc k) (suc n) f below apart =
     (λ i j l h r. moved_apart k last (f i (up i l)) (f j (up j h)) (apart i j (up i l) (up j h) r) (apart i n (up i l) here l) (apart j n (up j h) here h)) in
     omega (arith, fewer)
 
-module _ (m : BlocksView) (os : List Offset) (up : Up) (rests : RestsView) (s : AreSlopes m os up rests) (b : ℕ) where
+module _ (m : BlocksView) (os : List Offset) (up : Up) (selection : Selection) (rests : RestsView) (s : AreSlopes m os up selection rests) (b : ℕ) where
   above : ℕ → ℕ
   above i = get_or (above_of rests.pairs b) i 0
 
@@ -45,7 +47,7 @@ module _ (m : BlocksView) (os : List Offset) (up : Up) (rests : RestsView) (s : 
   unfolding above
   pair_of i l =
       let at = above_at rests.pairs s.rising b i l in
-      s.only (b, above i) (first_of rests.pairs b + i, at.0, get_or_default rests.pairs (first_of rests.pairs b + i) (b, above i) (0, 0) at.0 ∙ at.1)
+      slope_of selection m os up (b, above i) (s.only (b, above i) (first_of rests.pairs b + i, at.0, get_or_default rests.pairs (first_of rests.pairs b + i) (b, above i) (0, 0) at.0 ∙ at.1))
 
   -- the same offset leads to no two of them
   offsets_apart : (i j : ℕ) (l : i < length (above_of rests.pairs b)) (h : j < length (above_of rests.pairs b)) → i < j → (pair_of i l).offset.0 ≢ (pair_of j h).offset.0
@@ -61,5 +63,5 @@ module _ (m : BlocksView) (os : List Offset) (up : Up) (rests : RestsView) (s : 
   pub above_most : length (above_of rests.pairs b) ≤ length os
   above_most = at_most (length os) (length (above_of rests.pairs b)) (λ i l. (pair_of i l).offset.0) (λ i l. (pair_of i l).offset.1) offsets_apart
 
-pub slopes_narrow : (m : BlocksView) (os : List Offset) (up : Up) (rests : RestsView) → IsPattern os → AreSlopes m os up rests → AreNarrow rests
-slopes_narrow m os up rests p s b l = omega (arith, above_most m os up rests s b, p.few)
+pub slopes_narrow : (m : BlocksView) (os : List Offset) (up : Up) (selection : Selection) (rests : RestsView) → IsPattern os → AreSlopes m os up selection rests → AreNarrow rests
+slopes_narrow m os up selection rests p s b l = omega (arith, above_most m os up selection rests s b, p.few)

@@ -10,7 +10,9 @@ use Rattle.blocks_file.specs.Denotes.{BlocksView}
 use Rattle.prec_file.specs.Rests.{RestsView, IsKnown, ArePairsOf}
 use Rattle.slope.specs.Offsets.{Offset, IsPattern, IsRising, IsUpward, Before}
 use Rattle.slope.specs.Places.{place_of, AreApartBelow}
-use Rattle.slope.specs.Slopes.{upward, offset_between, IsSlopePair, AreSlopes, SlopeFaultStands}
+use Rattle.slope.specs.Slopes.{upward, offset_between, IsSlopePair, IsSelected, AreSlopes, SlopeFaultStands}
+use Rattle.slope.specs.declared.selection.Selection.{Selection}
+use Rattle.slope.specs.declared.selection.Selection.TheVariants.{Every, Reduced}
 use Rattle.slope.specs.Internal.{AreListed, Collects, IsPairBelow, IsPairUpTo, PairFaultStands, PairRefusalStands}
 use Rattle.slope.specs.declared.up.Up.{Up}
 use Rattle.slope.specs.declared.up.Up.TheVariants.{PlusZ, MinusZ}
@@ -33,62 +35,75 @@ fresh os r i d l (k, m, e) =
     let same : get_or os k d ≡ x = get_or_default os k d x (omega arith) ∙ sym (get_or-take i os k x below) ∙ e in
     not_itself x (subst (λ y. Before y x) same (r.rises k i d below l))
 
-module _ (m : BlocksView) (os : List Offset) (up : Up) (b : ℕ) (ps : List (ℕ × ℕ)) where
-  pub block_begun : Collects (IsPairBelow m os up b) ps → Collects (IsPairUpTo m os up b 0) ps
+-- selected pairs are slope pairs
+pub slope_of : (s : Selection) (m : BlocksView) (os : List Offset) (up : Up) (q : ℕ × ℕ) → IsSelected s m os up q → IsSlopePair m os up q
+slope_of Every m os up q h = h
+slope_of Reduced m os up q h = h.0
+
+-- a block and the one at an offset of the pattern are a slope pair
+pub slope_at : (m : BlocksView) (os : List Offset) (up : Up) (b p i : ℕ) (d : Offset) → i < length os → b < m.blocks → p < m.blocks → offset_between up (place_of m b) (place_of m p) ≡ get_or os i d → IsSlopePair m os up (b, p)
+slope_at m os up b p i d l known top at = record { bottom = known; top = top; offset = subst (Contains os) (sym at) (i, l, get_or_default os i _ d l) }
+
+module _ (m : BlocksView) (os : List Offset) (up : Up) (s : Selection) (b : ℕ) (ps : List (ℕ × ℕ)) where
+  pub block_begun : Collects (IsPairBelow m os up s b) ps → Collects (IsPairUpTo m os up s b 0) ps
   block_begun c = collected_same _ _ ps c
-      (λ q h. record { slope = h.slope; below = inl h.below })
-      (λ q h. record { slope = h.slope; below = elim h.below [ inl l ↦ l | inr k ↦ let n = k.1 in absurd (nothing n) ] })
+      (λ q h. record { selected = h.selected; below = inl h.below })
+      (λ q h. record { selected = h.selected; below = elim h.below [ inl l ↦ l | inr k ↦ let n = k.1 in absurd (nothing n) ] })
     where
       nothing : {x : Offset} → Contains (take 0 os) x → ⊥
       nothing k = omega (arith, k.1)
 
-  pub block_ended : (i : ℕ) → i ≡ length os → Collects (IsPairUpTo m os up b i) ps → Collects (IsPairBelow m os up (b + 1)) ps
+  pub block_ended : (i : ℕ) → i ≡ length os → Collects (IsPairUpTo m os up s b i) ps → Collects (IsPairBelow m os up s (b + 1)) ps
   block_ended i e c = collected_same _ _ ps c
-      (λ q h. record { slope = h.slope; below = elim h.below [ inl l ↦ omega (arith, l) | inr k ↦ let f = k.0 in omega (arith, f) ] })
+      (λ q h. record { selected = h.selected; below = elim h.below [ inl l ↦ omega (arith, l) | inr k ↦ let f = k.0 in omega (arith, f) ] })
       (λ q h. record {
-        slope = h.slope;
+        selected = h.selected;
         below = elim (cases_lt q.0 b) [
           | inl l ↦ inl l
           | inr g ↦
               let f : q.0 ≡ b = (let l = h.below in omega (arith, l, g)) in
               let whole : take i os ≡ os = ap (λ j. take j os) e ∙ take-length os in
-              let at : Contains os (offset_between up (place_of m b) (place_of m q.1)) = subst (λ k. Contains os (offset_between up (place_of m k) (place_of m q.1))) f h.slope.offset in
+              let at : Contains os (offset_between up (place_of m b) (place_of m q.1)) = subst (λ k. Contains os (offset_between up (place_of m k) (place_of m q.1))) f (slope_of s m os up q h.selected).offset in
               inr (f, subst (λ xs. Contains xs (offset_between up (place_of m b) (place_of m q.1))) (sym whole) at)
         ];
       })
 
-module _ (m : BlocksView) (os : List Offset) (up : Up) (b i : ℕ) (ps : List (ℕ × ℕ)) (d : Offset) (l : i < length os) (c : Collects (IsPairUpTo m os up b i) ps) where
+module _ (m : BlocksView) (os : List Offset) (up : Up) (s : Selection) (b i : ℕ) (ps : List (ℕ × ℕ)) (d : Offset) (l : i < length os) (c : Collects (IsPairUpTo m os up s b i) ps) where
   longer : take (i + 1) os ≡ take i os ++ get_or os i d ∷ []
   longer = take_more os i d l
 
   kept : (x : Offset) → Contains (take i os) x → Contains (take (i + 1) os) x
   kept x k = subst (λ xs. Contains xs x) (sym longer) (Contains-append_left (take i os) (get_or os i d ∷ []) x k)
 
-  still : (q : ℕ × ℕ) → IsPairUpTo m os up b i q → IsPairUpTo m os up b (i + 1) q
-  still q h = record { slope = h.slope; below = elim h.below [ inl f ↦ inl f | inr k ↦ inr (k.0, kept _ k.1) ] }
+  still : (q : ℕ × ℕ) → IsPairUpTo m os up s b i q → IsPairUpTo m os up s b (i + 1) q
+  still q h = record { selected = h.selected; below = elim h.below [ inl f ↦ inl f | inr k ↦ inr (k.0, kept _ k.1) ] }
 
-  -- no block stands at the offset
-  pub offset_passed : ((p : ℕ) → p < m.blocks → offset_between up (place_of m b) (place_of m p) ≢ get_or os i d) → Collects (IsPairUpTo m os up b (i + 1)) ps
+  -- a pair of this block
+  here : (q : ℕ × ℕ) → IsSelected s m os up q → q.0 ≡ b → IsSelected s m os up (b, q.1)
+  here q h e = subst (λ k. IsSelected s m os up (k, q.1)) e h
+
+  -- no pair is selected at the offset
+  pub offset_passed : ((p : ℕ) → IsSelected s m os up (b, p) → offset_between up (place_of m b) (place_of m p) ≢ get_or os i d) → Collects (IsPairUpTo m os up s b (i + 1)) ps
   offset_passed n = collected_same _ _ ps c still (λ q h. record {
-    slope = h.slope;
+    selected = h.selected;
     below = elim h.below [
       | inl f ↦ inl f
       | inr k ↦ elim (Contains-push_cases (take i os) (get_or os i d) _ (subst (λ xs. Contains xs (offset_between up (place_of m b) (place_of m q.1))) longer k.1)) [
         | inl f ↦ inr (k.0, f)
-        | inr e ↦ absurd (n q.1 h.slope.top (sym e))
+        | inr e ↦ absurd (n q.1 (here q h.selected k.0) (sym e))
       ]
     ];
   })
 
-  module _ (r : IsRising os) (apart : AreApartBelow m m.blocks) (p : ℕ) (known : b < m.blocks) (top : p < m.blocks) (at : offset_between up (place_of m b) (place_of m p) ≡ get_or os i d) where
-    not_yet : IsPairUpTo m os up b i (b, p) → ⊥
+  module _ (r : IsRising os) (apart : AreApartBelow m m.blocks) (p : ℕ) (selected : IsSelected s m os up (b, p)) (at : offset_between up (place_of m b) (place_of m p) ≡ get_or os i d) where
+    not_yet : IsPairUpTo m os up s b i (b, p) → ⊥
     not_yet h = elim (h.below) [
       | inl f ↦ omega (arith, f)
       | inr k ↦ fresh os r i d l (subst (Contains (take i os)) at k.1)
     ]
 
-    slope : IsSlopePair m os up (b, p)
-    slope = record { bottom = known; top = top; offset = subst (Contains os) (sym at) (i, l, get_or_default os i _ d l) }
+    top : p < m.blocks
+    top = (slope_of s m os up (b, p) selected).top
 
     one_block : (q : ℕ) → q < m.blocks → place_of m p ≡ place_of m q → p ≡ q
     one_block q k e = elim (cases_order p q) [
@@ -96,31 +111,31 @@ module _ (m : BlocksView) (os : List Offset) (up : Up) (b i : ℕ) (ps : List (�
       | inr w ↦ elim w [ inl below ↦ absurd (apart p q below k e) | inr above ↦ absurd (apart q p above top (sym e)) ]
     ]
 
-    before_or_here : (q : ℕ × ℕ) → IsPairUpTo m os up b (i + 1) q → IsPairUpTo m os up b i q ⊎ ((b, p) ≡ q)
+    before_or_here : (q : ℕ × ℕ) → IsPairUpTo m os up s b (i + 1) q → IsPairUpTo m os up s b i q ⊎ ((b, p) ≡ q)
     before_or_here q h = elim h.below [
-      | inl f ↦ inl (record { slope = h.slope; below = inl f })
+      | inl f ↦ inl (record { selected = h.selected; below = inl f })
       | inr k ↦ elim (Contains-push_cases (take i os) (get_or os i d) _ (subst (λ xs. Contains xs (offset_between up (place_of m b) (place_of m q.1))) longer k.1)) [
-        | inl f ↦ inl (record { slope = h.slope; below = inr (k.0, f) })
+        | inl f ↦ inl (record { selected = h.selected; below = inr (k.0, f) })
         | inr e ↦
             let u = sym k.0 in
-            let v = one_block q.1 h.slope.top (one_place up (place_of m b) (place_of m p) (place_of m q.1) (at ∙ e)) in
+            let v = one_block q.1 (slope_of s m os up q h.selected).top (one_place up (place_of m b) (place_of m p) (place_of m q.1) (at ∙ e)) in
             inr (λ j. (u j, v j))
       ]
     ]
 
-    pub offset_taken : Collects (IsPairUpTo m os up b (i + 1)) (ps ++ (b, p) ∷ [])
+    pub offset_taken : Collects (IsPairUpTo m os up s b (i + 1)) (ps ++ (b, p) ∷ [])
     offset_taken = collected_more _ _ ps c (b, p) not_yet
-        (record { slope = slope; below = inr (refl, subst (λ xs. Contains xs (offset_between up (place_of m b) (place_of m p))) (sym longer) (subst (Contains (take i os ++ get_or os i d ∷ [])) (sym at) (Contains-push (take i os) (get_or os i d)))) })
+        (record { selected = selected; below = inr (refl, subst (λ xs. Contains xs (offset_between up (place_of m b) (place_of m p))) (sym longer) (subst (Contains (take i os ++ get_or os i d ∷ [])) (sym at) (Contains-push (take i os) (get_or os i d)))) })
         still before_or_here
 
     -- why the pair wasn't added
-    pub refused : (e : SlopeFault) → PairRefusalStands ps e → PairFaultStands m os up e
+    pub refused : (e : SlopeFault) → PairRefusalStands ps e → PairFaultStands m os up s e
     refused (SamePlace x y) h = h
-    refused TooMany h = too_many _ _ ps c MOST_PAIRS (b, p) not_yet slope (λ q f. f.slope) h
+    refused TooMany h = too_many _ _ ps c MOST_PAIRS (b, p) not_yet selected (λ q f. f.selected) h
     refused NoMemory h = tt
 
-pub pairs_ended : (m : BlocksView) (os : List Offset) (up : Up) (ps : List (ℕ × ℕ)) → Collects (IsPairBelow m os up m.blocks) ps → Collects (IsSlopePair m os up) ps
-pairs_ended m os up ps c = collected_same _ _ ps c (λ q h. h.slope) (λ q h. record { slope = h; below = h.bottom })
+pub pairs_ended : (m : BlocksView) (os : List Offset) (up : Up) (s : Selection) (ps : List (ℕ × ℕ)) → Collects (IsPairBelow m os up s m.blocks) ps → Collects (IsSelected s m os up) ps
+pairs_ended m os up s ps c = collected_same _ _ ps c (λ q h. h.selected) (λ q h. record { selected = h; below = (slope_of s m os up q h).bottom })
 
 level_height : (up : Up) (x : ℤ) → upward up (x -ℤ x) ≡ pos 0
 level_height PlusZ x = omega (arith, ints)
@@ -136,21 +151,21 @@ no_loop m os up pattern q h e =
     omega (arith, ints, high, flat)
 
 -- the pairs that are gathered are of known blocks
-pub all_known : (m : BlocksView) (os : List Offset) (up : Up) (ps : List (ℕ × ℕ)) → Collects (IsSlopePair m os up) ps → All (IsKnown m.blocks) ps
-all_known m os up ps c = All-weaker (Contains ps) (IsKnown m.blocks) (λ q k. let h = c.only q k in (h.bottom, h.top)) ps (All-contains_itself ps)
+pub all_known : (m : BlocksView) (os : List Offset) (up : Up) (s : Selection) (ps : List (ℕ × ℕ)) → Collects (IsSelected s m os up) ps → All (IsKnown m.blocks) ps
+all_known m os up s ps c = All-weaker (Contains ps) (IsKnown m.blocks) (λ q k. let h = slope_of s m os up q (c.only q k) in (h.bottom, h.top)) ps (All-contains_itself ps)
 
 -- the pairs of a list of slope pairs are the slope pairs
-pub slopes_are : (m : BlocksView) (os : List Offset) (up : Up) (listed rests : RestsView) → AreListed m os up listed → rests.blocks ≡ listed.blocks → ArePairsOf listed.pairs rests.pairs → AreSlopes m os up rests
-slopes_are m os up listed rests l e h = record {
+pub slopes_are : (m : BlocksView) (os : List Offset) (up : Up) (s : Selection) (listed rests : RestsView) → AreListed m os up s listed → rests.blocks ≡ listed.blocks → ArePairsOf listed.pairs rests.pairs → AreSlopes m os up s rests
+slopes_are m os up s listed rests l e h = record {
   apart = l.apart;
   blocks = e ∙ l.blocks;
   rising = h.rising;
-  held = λ q s. h.held q (l.pairs.held q s) (no_loop m os up l.pattern q s);
+  held = λ q k. h.held q (l.pairs.held q k) (no_loop m os up l.pattern q (slope_of s m os up q k));
   only = λ q k. l.pairs.only q ((h.only q k).0);
 }
 
 -- the fault of the pairs is the fault of the slopes, where the places are apart
-pub slope_fault : (m : BlocksView) (os : List Offset) (up : Up) (e : SlopeFault) → AreApartBelow m m.blocks → PairFaultStands m os up e → SlopeFaultStands m os up e
-slope_fault m os up (SamePlace b c) apart h = absurd h
-slope_fault m os up TooMany apart h = (apart, h)
-slope_fault m os up NoMemory apart h = tt
+pub slope_fault : (m : BlocksView) (os : List Offset) (up : Up) (s : Selection) (e : SlopeFault) → AreApartBelow m m.blocks → PairFaultStands m os up s e → SlopeFaultStands m os up s e
+slope_fault m os up s (SamePlace b c) apart h = absurd h
+slope_fault m os up s TooMany apart h = (apart, h)
+slope_fault m os up s NoMemory apart h = tt

@@ -7,6 +7,8 @@ use Rattle.prec_file.specs.Rests.{RestsView, IsRising}
 use Rattle.slope.specs.Lists.{AreMoreThan}
 use Rattle.slope.specs.Offsets.{Offset}
 use Rattle.slope.specs.Places.{place_of, AreApartBelow}
+use Rattle.slope.specs.declared.selection.Selection.{Selection}
+use Rattle.slope.specs.declared.selection.Selection.TheVariants.{Every, Reduced}
 use Rattle.slope.specs.declared.up.Up.{Up}
 use Rattle.slope.specs.declared.up.Up.TheVariants.{PlusZ, MinusZ}
 use Rattle.slope.specs.declared.slope_fault.SlopeFault.{SlopeFault}
@@ -27,13 +29,24 @@ pub record IsSlopePair (m : BlocksView) (offsets : List Offset) (up : Up) (pair 
   pub top : pair.1 < m.blocks
   pub offset : Contains offsets (offset_between up (place_of m pair.0) (place_of m pair.1))
 
--- The blocks have places of their own, and the pairs are the slope pairs, each once and in order.
-pub record AreSlopes (m : BlocksView) (offsets : List Offset) (up : Up) (rests : RestsView) : Type 0 where
+-- In the pair (b, p), p stands at an offset from a third block, which stands at an offset from b.
+pub record LeadsOver (m : BlocksView) (offsets : List Offset) (up : Up) (pair : ℕ × ℕ) : Type 0 where
+  pub over : ℕ
+  pub first : IsSlopePair m offsets up (pair.0, over)
+  pub second : IsSlopePair m offsets up (over, pair.1)
+
+-- The selection has the pair: of every slope pair each, and of the reduced ones those that lead over no third block.
+abbrev pub IsSelected : Selection → BlocksView → List Offset → Up → ℕ × ℕ → Type 0
+IsSelected Every m offsets up pair = IsSlopePair m offsets up pair
+IsSelected Reduced m offsets up pair = IsSlopePair m offsets up pair × (LeadsOver m offsets up pair → ⊥)
+
+-- The blocks have places of their own, and the pairs are the selected slope pairs, each once and in order.
+pub record AreSlopes (m : BlocksView) (offsets : List Offset) (up : Up) (selection : Selection) (rests : RestsView) : Type 0 where
   pub apart : AreApartBelow m m.blocks
   pub blocks : rests.blocks ≡ m.blocks
   pub rising : IsRising rests.pairs
-  pub held : (pair : ℕ × ℕ) → IsSlopePair m offsets up pair → Contains rests.pairs pair
-  pub only : (pair : ℕ × ℕ) → Contains rests.pairs pair → IsSlopePair m offsets up pair
+  pub held : (pair : ℕ × ℕ) → IsSelected selection m offsets up pair → Contains rests.pairs pair
+  pub only : (pair : ℕ × ℕ) → Contains rests.pairs pair → IsSelected selection m offsets up pair
 
 -- c is the first block that has an earlier block's place, and b is that block.
 pub record IsFirstRepeat (m : BlocksView) (b c : ℕ) : Type 0 where
@@ -43,7 +56,7 @@ pub record IsFirstRepeat (m : BlocksView) (b c : ℕ) : Type 0 where
   pub first : AreApartBelow m c
 
 -- The fault stands, and none that comes before it.
-abbrev pub SlopeFaultStands : BlocksView → List Offset → Up → SlopeFault → Type 0
-SlopeFaultStands m offsets up (SamePlace b c) = IsFirstRepeat m b c
-SlopeFaultStands m offsets up TooMany = AreApartBelow m m.blocks × AreMoreThan MOST_PAIRS (IsSlopePair m offsets up)
-SlopeFaultStands m offsets up NoMemory = Unit {0}
+abbrev pub SlopeFaultStands : BlocksView → List Offset → Up → Selection → SlopeFault → Type 0
+SlopeFaultStands m offsets up selection (SamePlace b c) = IsFirstRepeat m b c
+SlopeFaultStands m offsets up selection TooMany = AreApartBelow m m.blocks × AreMoreThan MOST_PAIRS (IsSelected selection m offsets up)
+SlopeFaultStands m offsets up selection NoMemory = Unit {0}

@@ -1,21 +1,32 @@
-//! What follows of the pairs that a pattern gives, as a law of their definition.
+//! What follows of the pairs that a pattern gives, as laws of their definition.
 //!
-//! The function does nothing. A caller names it where its own proof needs the law.
+//! The functions do nothing. A caller names one where its own proof needs the law.
 
-ghost use Rattle.std.specs.Prelude.{ℕ, ◌≤◌, length};
+ghost use Rattle.std.specs.Prelude.{◌↔◌, ℕ, ◌≤◌, Bool, Contains, length};
 ghost use Rattle.blocks_file.specs.Denotes.{BlocksView};
 ghost use Rattle.prec_file.specs.Rests.{RestsView, above_of};
 ghost use Rattle.prec_file.specs.Written.{AreNarrow};
+ghost use Rattle.slope.specs.declared.selection.Selection as selected;
+ghost use Rattle.slope.specs.declared.selection.Selection.TheVariants.{Reduced};
 ghost use Rattle.slope.specs.declared.up.Up as declared;
-ghost use Rattle.slope.specs.Slopes.{AreSlopes};
+ghost use Rattle.slope.specs.Slopes.{AreSlopes, IsSlopePair};
+ghost use Rattle.slope.specs.Closing.{IsClosedBy};
 
 use crate::Pattern;
 
 /// A block rests on at most as many blocks as the pattern has offsets, so that the pairs can be written as a file.
 pub fn slopes_are_narrow(pattern: &Pattern)
-    ensures each { (m : BlocksView) (up : declared.Up) (rests : RestsView) → AreSlopes m pattern.now up rests → (b : ℕ) → length (above_of rests.pairs b) ≤ length pattern.now }
-    ensures narrow { (m : BlocksView) (up : declared.Up) (rests : RestsView) → AreSlopes m pattern.now up rests → AreNarrow rests }
+    ensures each { (m : BlocksView) (up : declared.Up) (selection : selected.Selection) (rests : RestsView) → AreSlopes m pattern.now up selection rests → (b : ℕ) → length (above_of rests.pairs b) ≤ length pattern.now }
+    ensures narrow { (m : BlocksView) (up : declared.Up) (selection : selected.Selection) (rests : RestsView) → AreSlopes m pattern.now up selection rests → AreNarrow rests }
 {
     // proof: the offsets are few, each once and in order
+    let _ = pattern.offsets();
+}
+
+/// The reduced pairs mean the same as every pair: a set of blocks is closed by those exactly where it is closed by these.
+pub fn reduced_pairs_close(pattern: &Pattern)
+    ensures { (m : BlocksView) (up : declared.Up) (rests : RestsView) (e : ℕ → Bool) → AreSlopes m pattern.now up Reduced rests → IsClosedBy (Contains rests.pairs) e ↔ IsClosedBy (IsSlopePair m pattern.now up) e }
+{
+    // proof: each offset leads up
     let _ = pattern.offsets();
 }

@@ -8,7 +8,8 @@
 //!
 //! Above it, callers may count on this: a pattern holds exactly the offsets of its definition, each once and in order;
 //! the pairs are exactly those of all pairs of blocks whose places differ by an offset, over whole numbers without
-//! bound; each fault is answered exactly where it stands. The time is that of a lookup for each block and each offset.
+//! bound, and the reduced pairs exactly those of them that lead over no third block; each fault is answered exactly where
+//! it stands. The time is that of a lookup for each block and each offset, and for reduced pairs of far fewer.
 #![tactic(auto)]
 
 mod cone;
@@ -18,12 +19,18 @@ mod offset_places;
 mod pattern;
 mod pattern_fault;
 mod place_index;
+mod reducing;
+mod selection;
+mod sight;
 mod slope_fault;
 mod slope_pairs;
+mod surroundings;
+mod two_steps;
 mod up;
 
 pub use pattern::{MOST_CONE_NUMBER, MOST_OFFSETS, Pattern};
 pub use pattern_fault::PatternFault;
+pub use selection::Selection;
 pub use slope_fault::SlopeFault;
 pub use slope_pairs::{predecessors_of, rests_of};
 pub use up::Up;

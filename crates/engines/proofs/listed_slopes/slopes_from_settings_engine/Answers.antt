@@ -5,34 +5,34 @@ use Rattle.engines.proofs.listed_slopes.slopes_from_settings_engine.Goals as goa
 pub returns-in_err-offsets-clause-answer : goal.returns-in_err-offsets-clause-answer
 returns-in_err-offsets-clause-answer g c =
     let p = err_from_is_err_and c.from_residual-in_err-offsets.result c.from_residual-in_err-offsets.ensures.1 in
-    rw (p.1, p.2) (missing_answer (g.S.Read.remaining c.args.settings.now) (g.B.Read.remaining c.args.blocks.now) c.args.up c.in_ok-settings.settings c.in_ok-settings.ensures.read (g.W.Write.contents c.args.out.now) c.in_err-offsets.field-0.0 c.in_err-offsets.ensures.offsets)
+    rw (p.1, p.2) (missing_answer (g.S.Read.remaining c.args.settings.now) (g.B.Read.remaining c.args.blocks.now) c.args.up c.args.selection c.in_ok-settings.settings c.in_ok-settings.ensures.read (g.W.Write.contents c.args.out.now) c.in_err-offsets.field-0.0 c.in_err-offsets.ensures.offsets)
 
 pub returns-in_err-model-clause-answer : goal.returns-in_err-model-clause-answer
 returns-in_err-model-clause-answer g c =
     let p = err_from_is_err_and c.from_residual-in_err-model.result c.from_residual-in_err-model.ensures.1 in
-    rw (p.1, p.2) (blocks_answer (g.S.Read.remaining c.args.settings.now) (g.B.Read.remaining c.args.blocks.now) c.args.up c.in_ok-settings.settings c.in_ok-settings.ensures.read c.in_ok-offsets.offsets.now c.in_ok-offsets.ensures.offsets
+    rw (p.1, p.2) (blocks_answer (g.S.Read.remaining c.args.settings.now) (g.B.Read.remaining c.args.blocks.now) c.args.up c.args.selection c.in_ok-settings.settings c.in_ok-settings.ensures.read c.in_ok-offsets.offsets.now c.in_ok-offsets.ensures.offsets
     (g.W.Write.contents c.args.out.now) c.in_err-model.field-0.0 c.in_err-model.ensures.read)
 
 pub returns-in_err-pattern-clause-answer : goal.returns-in_err-pattern-clause-answer
 returns-in_err-pattern-clause-answer g c =
     let p = err_from_is_err_and c.from_residual-in_err-pattern.result c.from_residual-in_err-pattern.ensures.1 in
-    rw (p.1, p.2) (pattern_answer (g.S.Read.remaining c.args.settings.now) (g.B.Read.remaining c.args.blocks.now) c.args.up c.in_ok-settings.settings c.in_ok-settings.ensures.read c.in_ok-offsets.offsets.now c.in_ok-offsets.ensures.offsets
+    rw (p.1, p.2) (pattern_answer (g.S.Read.remaining c.args.settings.now) (g.B.Read.remaining c.args.blocks.now) c.args.up c.args.selection c.in_ok-settings.settings c.in_ok-settings.ensures.read c.in_ok-offsets.offsets.now c.in_ok-offsets.ensures.offsets
     c.in_ok-model.model c.in_ok-model.ensures.read (g.W.Write.contents c.args.out.now) c.in_err-pattern.field-0.0 c.in_err-pattern.ensures.made)
 
 pub returns-in_err-rests-clause-answer : goal.returns-in_err-rests-clause-answer
 returns-in_err-rests-clause-answer g c =
     let p = err_from_is_err_and c.from_residual-in_err-rests.result c.from_residual-in_err-rests.ensures.1 in
-    rw (p.1, p.2) (pairs_answer (g.S.Read.remaining c.args.settings.now) (g.B.Read.remaining c.args.blocks.now) c.args.up c.in_ok-settings.settings c.in_ok-settings.ensures.read c.in_ok-offsets.offsets.now c.in_ok-offsets.ensures.offsets
+    rw (p.1, p.2) (pairs_answer (g.S.Read.remaining c.args.settings.now) (g.B.Read.remaining c.args.blocks.now) c.args.up c.args.selection c.in_ok-settings.settings c.in_ok-settings.ensures.read c.in_ok-offsets.offsets.now c.in_ok-offsets.ensures.offsets
     c.in_ok-model.model c.in_ok-model.ensures.read c.in_ok-pattern.pattern c.in_ok-pattern.ensures.made (g.W.Write.contents c.args.out.now) c.in_err-rests.field-0.0 c.in_err-rests.ensures.made)
 
 pub returns-in_err-write_slopes-clause-answer : goal.returns-in_err-write_slopes-clause-answer
 returns-in_err-write_slopes-clause-answer g c =
     let p = err_from_is_err_and c.from_residual-in_err-write_slopes.result c.from_residual-in_err-write_slopes.ensures.1 in
-    rw (p.1, p.2) (cut_short (g.S.Read.remaining c.args.settings.now) (g.B.Read.remaining c.args.blocks.now) c.args.up c.in_ok-settings.settings c.in_ok-settings.ensures.read c.in_ok-offsets.offsets.now c.in_ok-offsets.ensures.offsets
+    rw (p.1, p.2) (cut_short (g.S.Read.remaining c.args.settings.now) (g.B.Read.remaining c.args.blocks.now) c.args.up c.args.selection c.in_ok-settings.settings c.in_ok-settings.ensures.read c.in_ok-offsets.offsets.now c.in_ok-offsets.ensures.offsets
     c.in_ok-model.model c.in_ok-model.ensures.read c.in_ok-pattern.pattern c.in_ok-pattern.ensures.made (g.W.Write.contents c.args.out.now) (g.W.Write.contents c.write_slopes.new.out) c.in_ok-rests.rests c.in_err-write_slopes.field-0.0 c.in_err-write_slopes.ensures.fault
     c.in_ok-rests.ensures.made c.in_err-write_slopes.ensures.prefix)
 
 pub returns-clause-answer : goal.returns-clause-answer
 returns-clause-answer g c =
-    written_answer (g.S.Read.remaining c.args.settings.now) (g.B.Read.remaining c.args.blocks.now) c.args.up c.in_ok-settings.settings c.in_ok-settings.ensures.read c.in_ok-offsets.offsets.now c.in_ok-offsets.ensures.offsets
+    written_answer (g.S.Read.remaining c.args.settings.now) (g.B.Read.remaining c.args.blocks.now) c.args.up c.args.selection c.in_ok-settings.settings c.in_ok-settings.ensures.read c.in_ok-offsets.offsets.now c.in_ok-offsets.ensures.offsets
     c.in_ok-model.model c.in_ok-model.ensures.read c.in_ok-pattern.pattern c.in_ok-pattern.ensures.made (g.W.Write.contents c.args.out.now) (g.W.Write.contents c.write_slopes.new.out) c.in_ok-rests.rests c.in_ok-rests.ensures.made c.in_ok-write_slopes.ensures.sent

@@ -2,7 +2,7 @@ use Rattle.slope.proofs.Narrow.{above_most, slopes_narrow}
 use Rattle.slope.proofs.laws.slopes_are_narrow.Goals as goal
 
 pub returns-clause-each : goal.returns-clause-each
-returns-clause-each c = λ m up rests s b. above_most m c.args.pattern.now up rests s b
+returns-clause-each c = λ m up selection rests s b. above_most m c.args.pattern.now up selection rests s b
 
 pub returns-clause-narrow : goal.returns-clause-narrow
-returns-clause-narrow c = λ m up rests s. slopes_narrow m c.args.pattern.now up rests c.offsets.ensures.all s
+returns-clause-narrow c = λ m up selection rests s. slopes_narrow m c.args.pattern.now up selection rests c.offsets.ensures.all s

@@ -1,0 +1,75 @@
+#compdef pit
+# Completion of pit for zsh. Written by tools/man_page.py from the help texts: change those, not this file.
+_pit() {
+    local -a commands
+    commands=(
+        'check:Checks a certificate'
+        'slopes:Writes the predecessors of each block, by a slope pattern'
+        'solve:Finds the best pit and writes its certificate'
+        'shells:Finds the shells'
+        'report:Prints the bench table'
+        'replay:Repeats a run of push-relabel step by step from its trace'
+    )
+    if (( CURRENT == 2 )); then
+        [[ $words[2] == -* ]] && _arguments -S '-h[Print help]' '--help[Print help]' '-V[Print version]' '--version[Print version]' || _describe -t commands command commands
+        return
+    fi
+    local command=$words[2]
+    shift words
+    (( CURRENT-- ))
+    case $command in
+        check) _arguments '--prec[The predecessors of each block]:prec:_files' \
+            '--upit[What each block is worth]:upit:_files' \
+            '--blocks[The blocks with columns of revenues and costs, or of a mill'\''s charges]:blocks:_files' \
+            '--settings[The columns of revenues and costs, or of a mill'\''s charges instead of costs, and the factors of the shells]:settings:_files' \
+            '--verbose[Reports on standard error which file failed, and the system'\''s reason]' \
+            '-h[Print help (see a summary with '\''-h'\'')]' '--help[Print help (see a summary with '\''-h'\'')]' '*:file:_files' ;;
+        slopes) _arguments '--blocks[Where the blocks are]:blocks:_files' \
+            '--pattern[Which blocks above a block are its predecessors]:pattern:(five nine cone\: settings)' \
+            '--up[Which way is up]:up:(plus minus)' \
+            '--settings[The file that lists the offsets, a TOML text]:settings:_files' \
+            '--verbose[Reports on standard error which file failed, and the system'\''s reason]' \
+            '-h[Print help (see a summary with '\''-h'\'')]' '--help[Print help (see a summary with '\''-h'\'')]' ;;
+        solve) _arguments '--prec[The predecessors of each block]:prec:_files' \
+            '--upit[What each block is worth]:upit:_files' \
+            '--blocks[The blocks with columns of revenues and costs, or of a mill'\''s charges]:blocks:_files' \
+            '--settings[The columns of revenues and costs, or of a mill'\''s charges instead of costs, and the factors of the shells]:settings:_files' \
+            '--factor[The share of the revenues that counts, in thousandths, from 0 to 10000]:factor: ' \
+            '--method[Which solver computes the flow]:method:(auto pseudoflow push-relabel words)' \
+            '--group[What the flow counts]:group:(pair scaled worth)' \
+            '--steps[The most steps of push-relabel, or turns of pseudoflow, from 1 to 1099511627776 (by default 1000000000 steps and 1099511627776 turns); without --method it chooses push-relabel]:steps: ' \
+            '--workers[The threads of push-relabel, from 1 to 64 (1 by default), which share one lock]:workers: ' \
+            '--progress[Reports on standard error, once a second, how far the run is]' \
+            '--verbose[Reports on standard error which file failed, and the system'\''s reason]' \
+            '--trace[Writes each step of push-relabel'\''s run to this file, and replaces what is in it]:trace:_files' \
+            '--room[The most steps of a trace, from 1 to 16777216 (1048576 by default); no effect without --trace]:room: ' \
+            '-h[Print help (see a summary with '\''-h'\'')]' '--help[Print help (see a summary with '\''-h'\'')]' ;;
+        shells) _arguments '--prec[The predecessors of each block]:prec:_files' \
+            '--blocks[The blocks with columns of revenues and costs, or of a mill'\''s charges]:blocks:_files' \
+            '--settings[The columns of revenues and costs, or of a mill'\''s charges instead of costs, and the factors of the shells]:settings:_files' \
+            '--method[Which solver computes the flows]:method:(auto pseudoflow push-relabel)' \
+            '--steps[The most steps of push-relabel, or turns of pseudoflow, from 1 to 1099511627776 (by default 1000000000 steps and 1099511627776 turns); without --method it chooses push-relabel]:steps: ' \
+            '--workers[How many factors pseudoflow solves at a time, or the threads of push-relabel, from 1 to 64 (1 by default)]:workers: ' \
+            '--progress[Reports on standard error each factor at which a pit is proved, and how far a run of push-relabel is]' \
+            '--verbose[Reports on standard error which file failed, and the system'\''s reason]' \
+            '-h[Print help (see a summary with '\''-h'\'')]' '--help[Print help (see a summary with '\''-h'\'')]' ;;
+        report) _arguments '--prec[The predecessors of each block]:prec:_files' \
+            '--blocks[The blocks with columns of revenues and costs, or of a mill'\''s charges]:blocks:_files' \
+            '--settings[The columns of revenues, of costs or a mill'\''s charges, and of tonnes]:settings:_files' \
+            '--method[Which solver computes the flows]:method:(auto pseudoflow push-relabel)' \
+            '--steps[The most steps of push-relabel, or turns of pseudoflow, from 1 to 1099511627776 (by default 1000000000 steps and 1099511627776 turns); without --method it chooses push-relabel]:steps: ' \
+            '--workers[How many factors pseudoflow solves at a time, or the threads of push-relabel, from 1 to 64 (1 by default)]:workers: ' \
+            '--progress[Reports on standard error each factor at which a pit is proved, and how far a run of push-relabel is]' \
+            '--verbose[Reports on standard error which file failed, and the system'\''s reason]' \
+            '-h[Print help (see a summary with '\''-h'\'')]' '--help[Print help (see a summary with '\''-h'\'')]' ;;
+        replay) _arguments '--prec[The predecessors of each block]:prec:_files' \
+            '--upit[What each block is worth]:upit:_files' \
+            '--blocks[The blocks with columns of revenues and costs, or of a mill'\''s charges]:blocks:_files' \
+            '--settings[The columns of revenues and costs, or of a mill'\''s charges instead of costs, and the factors of the shells]:settings:_files' \
+            '--factor[The share of the revenues that counts, in thousandths, from 0 to 10000]:factor: ' \
+            '--group[What the flow counts]:group:(pair scaled worth)' \
+            '--verbose[Reports on standard error which file failed, and the system'\''s reason]' \
+            '-h[Print help (see a summary with '\''-h'\'')]' '--help[Print help (see a summary with '\''-h'\'')]' '*:file:_files' ;;
+    esac
+}
+_pit "$@"

@@ -1,0 +1,53 @@
+-- The reduced pairs of a pattern decide the same pits as every pair.
+use Rattle.std.proofs.Common.{◌≡◌, ◌↔◌, ℕ, ℤ, Bool, IsTrue, List, refl, subst}
+use Rattle.std.specs.Prelude.{◌==◌, ◌&&◌}
+use Rattle.std.specs.List.{Contains}
+use Rattle.std.proofs.lemmas.Bool.{eqb-true, eq-eqb, and_parts, and_from}
+use Rattle.std.proofs.lemmas.List.Folds.{Any-from_list_any, list_any-from_Any}
+use Rattle.blocks_file.specs.Denotes.{BlocksView}
+use Rattle.prec_file.specs.Rests.{RestsView, has_pair}
+use Rattle.slope.specs.Offsets.{Offset, IsPattern}
+use Rattle.slope.specs.Slopes.{IsSlopePair, AreSlopes}
+use Rattle.slope.specs.Closing.{IsClosedBy}
+use Rattle.slope.specs.declared.selection.Selection.TheVariants.{Every, Reduced}
+use Rattle.slope.specs.declared.up.Up.{Up}
+use Rattle.slope.proofs.Reduction.{closed_by_either}
+use Rattle.closure_net.specs.Mine.{IsPit, IsBest}
+use Rattle.engines.specs.Reduced.{mine_of_pairs, ReducedPairsDecide}
+
+rests_of_pair : (pairs : List (ℕ × ℕ)) (b p : ℕ) → Contains pairs (b, p) → IsTrue (has_pair pairs b p)
+rests_of_pair pairs b p c = list_any-from_Any (λ (q : ℕ × ℕ). (q.0 == b) && (q.1 == p)) pairs (c.0, (b, p), c.1, c.2, and_from (b == b) (p == p) (eq-eqb b b refl) (eq-eqb p p refl))
+
+pair_of_rests : (pairs : List (ℕ × ℕ)) (b p : ℕ) → IsTrue (has_pair pairs b p) → Contains pairs (b, p)
+pair_of_rests pairs b p held =
+    let some = Any-from_list_any (λ (q : ℕ × ℕ). (q.0 == b) && (q.1 == p)) pairs held in
+    let parts = and_parts (some.1.0 == b) (some.1.1 == p) some.4 in
+    let same : some.1 ≡ (b, p) = λ i. (eqb-true some.1.0 b parts.0 i, eqb-true some.1.1 p parts.1 i) in
+    subst (Contains pairs) same (some.0, some.2, some.3)
+
+-- a pit by listed pairs is closed by them
+closed_of_pit : (n : ℕ) (pairs : List (ℕ × ℕ)) (worth : ℕ → ℤ) (d : ℕ → Bool) → IsPit (mine_of_pairs n pairs worth) d → IsClosedBy (Contains pairs) d
+closed_of_pit n pairs worth d h q c held = h q.0 q.1 (rests_of_pair pairs q.0 q.1 c) held
+
+pit_of_closed : (n : ℕ) (pairs : List (ℕ × ℕ)) (worth : ℕ → ℤ) (d : ℕ → Bool) → IsClosedBy (Contains pairs) d → IsPit (mine_of_pairs n pairs worth) d
+pit_of_closed n pairs worth d h b p r held = h (b, p) (pair_of_rests pairs b p r) held
+
+-- the same pits make the same best pit
+best_moves : (n : ℕ) (from to : List (ℕ × ℕ)) (worth : ℕ → ℤ) (e : ℕ → Bool)
+    → ((d : ℕ → Bool) → IsPit (mine_of_pairs n from worth) d → IsPit (mine_of_pairs n to worth) d)
+    → ((d : ℕ → Bool) → IsPit (mine_of_pairs n to worth) d → IsPit (mine_of_pairs n from worth) d)
+    → IsBest (mine_of_pairs n from worth) e → IsBest (mine_of_pairs n to worth) e
+best_moves n from to worth e there back h = record {
+  is_pit = there e h.is_pit;
+  most = λ d p. h.most d (back d p);
+  fewest = λ d p. h.fewest d (back d p);
+}
+
+pub reduced_decide : ReducedPairsDecide
+reduced_decide m offsets up every reduced n worth e pattern all less =
+    let both = closed_by_either m offsets up reduced pattern less in
+    let there : (d : ℕ → Bool) → IsPit (mine_of_pairs n reduced.pairs worth) d → IsPit (mine_of_pairs n every.pairs worth) d
+    = λ d h. pit_of_closed n every.pairs worth d (λ q c. (both d).0 (closed_of_pit n reduced.pairs worth d h) q (all.only q c)) in
+    let back : (d : ℕ → Bool) → IsPit (mine_of_pairs n every.pairs worth) d → IsPit (mine_of_pairs n reduced.pairs worth) d
+    = λ d h. pit_of_closed n reduced.pairs worth d ((both d).1 (λ q s. closed_of_pit n every.pairs worth d h q (all.held q s))) in
+    (best_moves n reduced.pairs every.pairs worth e there back, best_moves n every.pairs reduced.pairs worth e back there)

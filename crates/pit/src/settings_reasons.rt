@@ -1,0 +1,116 @@
+//! Why settings are refused, told on standard error where the line of the fault doesn't say it.
+
+use command_line::Escaped;
+use settings_file::{Key, SettingsFault, read_settings};
+use std::alloc::Global;
+use std::sync::atomic::{AtomicU64, Ordering};
+use toml::Table;
+
+// The most bytes of settings that are kept: more are hardly written by hand.
+const MOST_KEPT: usize = 1 << 20;
+
+const KEYS: [Key; 8] = [
+    Key::Revenue,
+    Key::Cost,
+    Key::Tonnes,
+    Key::Factors,
+    Key::Report,
+    Key::Offsets,
+    Key::Processing,
+    Key::Mining,
+];
+
+/// What was read of settings so far, and where the number of offsets that they list is put.
+#[derive(Drop)]
+pub struct KeptText<'a> {
+    bytes: Vec<u8>,
+    is_whole: bool,
+    offsets: Option<&'a AtomicU64>,
+}
+
+impl<'a> KeptText<'a> {
+    /// Nothing was read.
+    pub fn new(alloc: Global, offsets: Option<&'a AtomicU64>) -> KeptText<'a> {
+        KeptText {
+            bytes: Vec::new(alloc),
+            is_whole: true,
+            offsets,
+        }
+    }
+
+    /// Keeps further bytes, if there is room and memory for them.
+    pub fn keep(&mut self, bytes: &[u8]) {
+        let is_kept = self.is_whole
+            && self.bytes.len() <= MOST_KEPT
+            && self.bytes.extend_from_slice(bytes).is_ok();
+        self.is_whole = is_kept;
+    }
+
+    /// Tells what is wrong with the whole text of the settings with this name, if it is no TOML text or has a key that
+    /// settings haven't. The engine meets the same fault, and answers it. Of settings that are right it notes the offsets.
+    pub fn tell<R: Eprint>(&self, rt: &R, alloc: Global, name: &str) {
+        if !self.is_whole {
+            return;
+        }
+        match read_settings(alloc, &self.bytes) {
+            Err(SettingsFault::NotToml) => tell_line(rt, alloc, name, &self.bytes),
+            Err(SettingsFault::UnknownKey) => tell_key(rt, alloc, name, &self.bytes),
+            Err(_) => {}
+            Ok(settings) => {
+                if let (Some(number), Some(listed)) = (self.offsets, settings.offsets()) {
+                    number.store(listed.len() as u64, Ordering::SeqCst);
+                }
+            }
+        }
+    }
+}
+
+// Tells in which line a text is no TOML.
+fn tell_line<R: Eprint>(rt: &R, alloc: Global, name: &str, text: &[u8]) {
+    let Err(error) = toml::table_from_slice(alloc, text) else {
+        return;
+    };
+    if let Some(place) = error.span() {
+        let mut line = 1u64;
+        for byte in text.iter().take(place.start) {
+            if *byte == b'\n' {
+                line = line.saturating_add(1);
+            }
+        }
+        let name = Escaped { word: name };
+        let why = error.message();
+        let _ = rt.eprintln(format_args!("reason: line {line} of {name} isn't TOML: {why}"));
+    }
+}
+
+// Tells the first name of a table that is no key of settings.
+fn tell_key<R: Eprint>(rt: &R, alloc: Global, name: &str, text: &[u8]) {
+    let Ok(table) = toml::table_from_slice(alloc, text) else {
+        return;
+    };
+    if let Some(key) = unknown_key(&table) {
+        let name = Escaped { word: name };
+        let key = Escaped { word: key };
+        let _ = rt.eprintln(format_args!(
+            "reason: {name} has the key {key}, and settings have revenue, cost, processing, mining, tonnes, factors, report and offsets"
+        ));
+    }
+}
+
+fn unknown_key(table: &Table) -> Option<&str> {
+    for name in table.keys() {
+        if !is_key(name.as_str()) {
+            return Some(name.as_str());
+        }
+    }
+    None
+}
+
+fn is_key(name: &str) -> bool {
+    for key in KEYS {
+        if name == key.name() {
+            return true;
+        }
+    }
+    false
+}

@@ -1,0 +1,62 @@
+-- The pairs that lead over no third block make the same closed sets as every pair.
+use Rattle.std.proofs.Common.{◌≡◌, ◌↔◌, ℕ, zero, suc, ℤ, pos, negsuc, ◌+ℤ◌, ◌-ℤ◌, ◌≤ℤ◌, ◌<ℤ◌, Bool, true, false, IsTrue, inl, inr, List, All, Contains, refl, arith}
+use Rattle.std.proofs.lemmas.Int.{ints}
+use Rattle.std.proofs.lemmas.List.Elements.{All-contains}
+use Rattle.blocks_file.specs.Denotes.{BlocksView}
+use Rattle.prec_file.specs.Rests.{RestsView}
+use Rattle.slope.specs.Offsets.{Offset, IsUpward, IsPattern}
+use Rattle.slope.specs.Places.{place_of}
+use Rattle.slope.specs.Slopes.{upward, offset_between, IsSlopePair, LeadsOver, AreSlopes}
+use Rattle.slope.specs.Closing.{IsClosedBy}
+use Rattle.slope.specs.declared.selection.Selection.TheVariants.{Reduced}
+use Rattle.slope.specs.declared.up.Up.{Up}
+use Rattle.slope.specs.declared.up.Up.TheVariants.{PlusZ, MinusZ}
+
+-- some natural number is no less
+above : ℤ → ℕ
+above (pos n) = n
+above (negsuc n) = zero
+
+is_above : (z : ℤ) → z ≤ℤ pos (above z)
+unfolding above
+is_above (pos n) = omega (arith, ints)
+is_above (negsuc n) = omega (arith, ints)
+
+climbs : (up : Up) (x y : ℤ) → pos 1 ≤ℤ upward up (y -ℤ x) → upward up x <ℤ upward up y
+climbs PlusZ x y h = omega (arith, ints, h)
+climbs MinusZ x y h = omega (arith, ints, h)
+
+-- a Boolean that can't be false is true
+stable : (t : Bool) → (t ≡ false → ⊥) → t ≡ true
+stable true never = refl
+stable false never = absurd (never refl)
+
+not_both : (t : Bool) → t ≡ true → t ≡ false → ⊥
+not_both true on off = absurd cc
+not_both false on off = absurd cc
+
+module _ (m : BlocksView) (offsets : List Offset) (up : Up) (rests : RestsView) (pattern : IsPattern offsets) (slopes : AreSlopes m offsets up Reduced rests) where
+  -- how high a block is
+  height : ℕ → ℤ
+  height b = upward up (place_of m b).z
+
+  rises : (b p : ℕ) → IsSlopePair m offsets up (b, p) → height b <ℤ height p
+  unfolding height
+  rises b p s = climbs up (place_of m b).z (place_of m p).z (All-contains IsUpward offsets (offset_between up (place_of m b) (place_of m p)) pattern.upward s.offset)
+
+  module _ (e : ℕ → Bool) (closed : IsClosedBy (Contains rests.pairs) e) where
+    -- over pairs that rise by at most k
+    closes_upto : (k b p : ℕ) → IsSlopePair m offsets up (b, p) → height p ≤ℤ (height b +ℤ pos k) → IsTrue (e b) → IsTrue (e p)
+    closes_upto zero b p s low held = absurd (let r = rises b p s in omega (arith, ints, r, low))
+    closes_upto (suc k) b p s low held = stable (e p) (λ off.
+        let none : LeadsOver m offsets up (b, p) → ⊥ = (λ x.
+        let first = rises b x.over x.first in
+        let second = rises x.over p x.second in
+        not_both (e p) (closes_upto k x.over p x.second (omega (arith, ints, low, first, second)) (closes_upto k b x.over x.first (omega (arith, ints, low, first, second)) held)) off) in
+        not_both (e p) (closed (b, p) (slopes.held (b, p) (s, none)) held) off)
+
+    pub closed_by_every : IsClosedBy (IsSlopePair m offsets up) e
+    closed_by_every q s held = closes_upto (above (height q.1 -ℤ height q.0)) q.0 q.1 s (omega (arith, ints, is_above (height q.1 -ℤ height q.0))) held
+
+  pub closed_by_either : (e : ℕ → Bool) → IsClosedBy (Contains rests.pairs) e ↔ IsClosedBy (IsSlopePair m offsets up) e
+  closed_by_either e = (λ c. closed_by_every e c, λ c q k. c q (slopes.only q k).0)

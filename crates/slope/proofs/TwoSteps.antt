@@ -1,0 +1,142 @@
+-- Pairs that lead over a third block, and the steps of a pattern that add up to another.
+use Rattle.std.proofs.Common.{◌≡◌, ◌≢◌, ◌⊎◌, ℕ, ◌<◌, ℤ, ◌-ℤ◌, ◌+◌, List, [], ◌∷◌, ◌++◌, length, length-append, get_or, Contains, refl, sym, ap, subst, ◌∙◌, arith, inl, inr}
+use Rattle.std.proofs.lemmas.Int.{ints}
+use Rattle.std.proofs.lemmas.Bool.{cases_lt}
+use Rattle.std.proofs.lemmas.List.Elements.{Contains-append_left, Contains-push, Contains-push_cases}
+use Rattle.std.proofs.lemmas.List.{get_or_default, get_or_append_left}
+use Rattle.std.proofs.Math.Seq.{get_or-append_seam}
+use Rattle.std.specs.Global.{Vec}
+use Rattle.blocks_file.specs.declared.place.Place.{Place}
+use Rattle.blocks_file.specs.Denotes.{BlocksView}
+use Rattle.slope.specs.Offsets.{Offset}
+use Rattle.slope.specs.Places.{place_of}
+use Rattle.slope.specs.Slopes.{upward, offset_between, IsSlopePair, IsSelected, LeadsOver}
+use Rattle.slope.specs.declared.selection.Selection.TheVariants.{Reduced}
+use Rattle.slope.specs.Internal.{offset_at, rest_after, IsFirstStep, AreFirstSteps, AreStepsOfEach, SurroundingsView, ArePlacesOf, StandsAt, StandsNone, StandsAtSome, StandsAtNone}
+use Rattle.slope.specs.declared.up.Up.{Up}
+use Rattle.slope.specs.declared.up.Up.TheVariants.{PlusZ, MinusZ}
+use Rattle.slope.proofs.PairSteps.{slope_at}
+
+rest_of_height : (up : Up) (x y z : ℤ) → upward up (z -ℤ y) ≡ upward up (z -ℤ x) -ℤ upward up (y -ℤ x)
+rest_of_height PlusZ x y z = omega (arith, ints)
+rest_of_height MinusZ x y z = omega (arith, ints)
+
+-- from the place between the rest of the offset leads on
+pub rest_between : (up : Up) (from over to : Place) → offset_between up over to ≡ rest_after (offset_between up from over) (offset_between up from to)
+rest_between up from over to =
+    let a : to.x -ℤ over.x ≡ (to.x -ℤ from.x) -ℤ (over.x -ℤ from.x) = omega (arith, ints) in
+    let b : to.y -ℤ over.y ≡ (to.y -ℤ from.y) -ℤ (over.y -ℤ from.y) = omega (arith, ints) in
+    let d = rest_of_height up from.z over.z to.z in
+    λ i. (a i, b i, d i)
+
+module _ (v : SurroundingsView) (b : ℕ) (known : b < v.model.blocks) (from : v.from ≡ place_of v.model b) (i p : ℕ) (steps : List ℕ) (of : AreFirstSteps v.offsets (offset_at v.offsets i) (length v.offsets) steps) (stands : StandsAt v i p) where
+  -- from b
+  pub at_from : (a q : ℕ) → StandsAt v a q → offset_between v.up (place_of v.model b) (place_of v.model q) ≡ offset_at v.offsets a
+  at_from a q s = ap (λ (f : Place). offset_between v.up f (place_of v.model q)) (sym from) ∙ s.there
+
+  -- a block at a first step lies between
+  pub leads_over : StandsAtSome v steps → LeadsOver v.model v.offsets v.up (b, p)
+  leads_over s =
+      let step = of.only s.step s.among in
+      let first = at_from s.step s.block s.stands in
+      let whole = at_from i p stands in
+      let onward : offset_between v.up (place_of v.model s.block) (place_of v.model p) ≡ rest_after (offset_at v.offsets s.step) (offset_at v.offsets i)
+      = rest_between v.up (place_of v.model b) (place_of v.model s.block) (place_of v.model p) ∙ ap (λ o. rest_after o (offset_between v.up (place_of v.model b) (place_of v.model p))) first ∙ ap (rest_after (offset_at v.offsets s.step)) whole in
+      record {
+        over = s.block;
+        first = record { bottom = known; top = s.stands.known; offset = subst (Contains v.offsets) (sym first) (s.step, step.known, get_or_default v.offsets s.step _ _ step.known) };
+        second = record { bottom = s.stands.known; top = stands.known; offset = subst (Contains v.offsets) (sym onward) step.onward };
+      }
+
+  -- where no block stands at a first step, none lies between
+  pub leads_over_none : StandsAtNone v steps → LeadsOver v.model v.offsets v.up (b, p) → ⊥
+  leads_over_none none h =
+      let o = h.first.offset in
+      let at : offset_between v.up (place_of v.model b) (place_of v.model h.over) ≡ offset_at v.offsets o.0 = sym o.2 ∙ get_or_default v.offsets o.0 _ _ o.1 in
+      let whole = at_from i p stands in
+      let onward : offset_between v.up (place_of v.model h.over) (place_of v.model p) ≡ rest_after (offset_at v.offsets o.0) (offset_at v.offsets i)
+      = rest_between v.up (place_of v.model b) (place_of v.model h.over) (place_of v.model p) ∙ ap (λ x. rest_after x (offset_between v.up (place_of v.model b) (place_of v.model p))) at ∙ ap (rest_after (offset_at v.offsets o.0)) whole in
+      none o.0 (of.held o.0 o.1 (record { known = o.1; onward = subst (Contains v.offsets) onward h.second.offset }))
+      h.over (record { known = h.first.top; there = ap (λ (f : Place). offset_between v.up f (place_of v.model h.over)) from ∙ at })
+
+-- surroundings by their parts
+pub places_are : (v : SurroundingsView) (m : BlocksView) (os : List Offset) (up : Up) → ArePlacesOf v m os up → v ≡ record { model = m; offsets = os; up = up; from = v.from }
+places_are v m os up same = λ i. record { model = same.of_model i; offsets = same.of_offsets i; up = same.of_up i; from = v.from }
+
+module _ (v : SurroundingsView) (m : BlocksView) (os : List Offset) (up : Up) (same : ArePlacesOf v m os up) (b : ℕ) (known : b < m.blocks) (from : v.from ≡ place_of m b) (i : ℕ) (l : i < length os) (steps : List ℕ) (of : AreFirstSteps v.offsets (offset_at v.offsets i) (length v.offsets) steps) where
+  w : SurroundingsView
+  w = record { model = m; offsets = os; up = up; from = v.from }
+
+  steps_of : AreFirstSteps os (offset_at os i) (length os) steps
+  steps_of = subst (λ xs. AreFirstSteps xs (offset_at xs i) (length xs) steps) same.of_offsets of
+
+  -- a block that stands there, where none stands at a first step, makes a reduced pair
+  pub selected_at : (p : ℕ) → StandsAt v i p × StandsAtNone v steps → IsSelected Reduced m os up (b, p) × (offset_between up (place_of m b) (place_of m p) ≡ offset_at os i)
+  unfolding w
+  selected_at p h =
+      let e : v ≡ w = places_are v m os up same in
+      let stands : StandsAt w i p = subst (λ x. StandsAt x i p) e h.0 in
+      let none : StandsAtNone w steps = subst (λ x. StandsAtNone x steps) e h.1 in
+      let at = at_from w b known from i p steps steps_of stands i p stands in
+      ((slope_at m os up b p i _ l known stands.known at, leads_over_none w b known from i p steps steps_of stands none), at)
+
+  -- where a block stands at a first step, or none stands there, no pair is a reduced one
+  pub passed_at : StandsAtSome v steps ⊎ StandsNone v i → (p : ℕ) → IsSelected Reduced m os up (b, p) → offset_between up (place_of m b) (place_of m p) ≢ offset_at os i
+  unfolding w
+  passed_at h p selected at =
+      let e : v ≡ w = places_are v m os up same in
+      let stands : StandsAt w i p = record { known = selected.0.top; there = ap (λ (f : Place). offset_between up f (place_of m p)) from ∙ at } in
+      elim h [
+        | inl some ↦ selected.1 (leads_over w b known from i p steps steps_of stands (subst (λ x. StandsAtSome x steps) e some))
+        | inr none ↦ subst (λ x. StandsNone x i) e none p stands
+      ]
+
+-- ---- gathering the first steps
+
+-- none among no offsets
+pub no_steps : (os : List Offset) (whole : Offset) (steps : List ℕ) → steps ≡ [] → AreFirstSteps os whole 0 steps
+no_steps os whole steps e = record {
+  held = λ a l h. absurd (omega (arith, l));
+  only = λ a k. absurd (let n : Contains [] a = subst (λ xs. Contains xs a) e k in omega (arith, n.1));
+}
+
+module _ (os : List Offset) (whole : Offset) (k : ℕ) (steps : List ℕ) (h : AreFirstSteps os whole k steps) where
+  -- offset k is one
+  pub step_more : (d : Offset) → k < length os → Contains os (rest_after (get_or os k d) whole) → AreFirstSteps os whole (k + 1) (steps ++ k ∷ [])
+  step_more d l onward = record {
+    held = λ a b f. elim (cases_lt a k) [
+      | inl below ↦ Contains-append_left steps (k ∷ []) a (h.held a below f)
+      | inr least ↦ let e : k ≡ a = omega (arith, b, least) in subst (Contains (steps ++ k ∷ [])) e (Contains-push steps k)
+    ];
+    only = λ a c. elim (Contains-push_cases steps k a c) [
+      | inl before ↦ h.only a before
+      | inr e ↦ subst (IsFirstStep os whole) e (record { known = l; onward = subst (λ o. Contains os (rest_after o whole)) (get_or_default os k d _ l) onward })
+    ];
+  }
+
+  -- offset k is none
+  pub step_passed : (d : Offset) → k < length os → (Contains os (rest_after (get_or os k d) whole) → ⊥) → AreFirstSteps os whole (k + 1) steps
+  step_passed d l never = record {
+    held = λ a b f. elim (cases_lt a k) [
+      | inl below ↦ h.held a below f
+      | inr least ↦
+          let e : a ≡ k = omega (arith, b, least) in
+          let g = subst (IsFirstStep os whole) e f in
+          absurd (never (subst (λ o. Contains os (rest_after o whole)) (get_or_default os k _ d l) g.onward))
+    ];
+    only = h.only;
+  }
+
+-- the steps to one offset more
+pub each_more : (os : List Offset) (k : ℕ) (steps : List (Vec ℕ)) (one : Vec ℕ) → AreStepsOfEach os k steps → AreFirstSteps os (offset_at os k) (length os) one.items → AreStepsOfEach os (k + 1) (steps ++ one ∷ [])
+each_more os k steps one h f = record {
+  as_many = length-append steps (one ∷ []) ∙ ap (λ n. n + 1) h.as_many;
+  each = λ i d l. elim (cases_lt i k) [
+    | inl below ↦ subst (λ (v : Vec ℕ). AreFirstSteps os (offset_at os i) (length os) v.items) (sym (get_or_append_left steps (one ∷ []) d i (omega (arith, below, h.as_many)))) (h.each i d below)
+    | inr least ↦
+        let e : i ≡ length steps = omega (arith, l, least, h.as_many) in
+        let at : get_or (steps ++ one ∷ []) i d ≡ one = ap (λ j. get_or (steps ++ one ∷ []) j d) e ∙ get_or-append_seam steps one [] d in
+        let same : k ≡ i = omega (arith, l, least) in
+        subst (λ (v : Vec ℕ). AreFirstSteps os (offset_at os i) (length os) v.items) (sym at) (subst (λ j. AreFirstSteps os (offset_at os j) (length os) one.items) same f)
+  ];
+}

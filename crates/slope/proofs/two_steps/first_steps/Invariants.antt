@@ -1,0 +1,5 @@
+use Rattle.slope.specs.Internal.{AreStepsOfEach}
+use Rattle.slope.proofs.two_steps.first_steps.Given as goal
+
+abbrev pub invariant-loop-whole : goal.invariant-loop-whole
+invariant-loop-whole l = AreStepsOfEach l.offsets l.whole-index l.steps.items

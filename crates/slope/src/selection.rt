@@ -1,0 +1,11 @@
+//! Which slope pairs are wanted.
+
+/// Which of the pairs that a pattern gives are listed.
+#[derive(Clone, Copy, Debug, PartialEq, Eq)]
+pub enum Selection {
+    /// Each of them.
+    Every,
+    /// Those that lead over no third block, so that others imply the rest: a set of blocks is closed by these exactly where
+    /// it is closed by every pair.
+    Reduced,
+}
