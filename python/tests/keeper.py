@@ -89,6 +89,8 @@ def serve(folder):
         kill_all(os.getpid())
         reap()
         os.chdir("/")
+        for place in [line.split()[1] for line in Path("/proc/mounts").read_text().splitlines() if line.split()[1].startswith(f"{folder}/")]:
+            subprocess.run(["umount", "--lazy", place])      # else its folder can't be taken away
         shutil.rmtree(folder, ignore_errors=True)
 
 

@@ -6,6 +6,7 @@ import subprocess
 import threading
 
 import numpy as np
+import pandas as pd
 import pytest
 
 import clusters
@@ -277,7 +278,12 @@ def test_scratch_of_a_process_that_is_no_more_is_taken_away(tmp_path, monkeypatc
 def test_memory_is_asked_by_the_size_of_the_model(tmp_path):
     study = prepared(tmp_path, 2, table(6, 5, 4, 3))
     small = engines.megabytes(study)
+    measured = pd.read_csv(TOP / "bench/scale.csv")
+    assert set(measured.model) >= {"s50k", "s500k"}
+    for row in measured[measured.step == "pit"].itertuples():      # no less than it took, and no more than half as much again beyond a process alone
+        study.manifest |= {"blocks": row.blocks, "pairs": row.pairs}
+        assert row.memory_mb < engines.megabytes(study) / engines.SPARE < 1.5 * row.memory_mb + 200, row
     study.manifest |= {"blocks": 10_000_000, "pairs": 49_000_000}
-    assert small < 400 and engines.megabytes(study) == int(1.3 * (200_000_000 + 10_000_000 * (300 + 500) + 49_000_000 * 24) / 1e6) + 1
+    assert small < 400 and 7_000 < engines.megabytes(study) < 10_000
     script = engines.slurm_script(study, 12, "submit/1", engines.Limits(30, 5))
     assert f"--mem={engines.megabytes(study)}M" in script and "--array=1-12%5" in script and "--time=30" in script

@@ -97,6 +97,20 @@ def test_each_realisation_is_the_study_with_its_grades(tmp_path):
     assert (found.likelihood(1000) == likely).all()
 
 
+def test_a_certificate_of_a_realisation_is_written_into_scratch_and_not_packed(tmp_path, program, monkeypatch):
+    study = prepared(tmp_path, 1)
+    scratch, pit, places = tmp_path / "scratch", tmp_path / "pit", tmp_path / "places"
+    scratch.mkdir()
+    pit.write_text(f"#!/bin/sh\ncase $1 in solve) place=$(readlink /proc/$$/fd/1); echo \"$place\" >> {places};; esac\nexec {program} \"$@\"\n")
+    pit.chmod(0o755)
+    monkeypatch.setattr("tempfile.tempdir", str(scratch))
+    monkeypatch.setattr("pitplan.program.packed", None)      # it would be called
+    Tasks(study.folder, pp.Pit(pit)).do(risk.tasks(study)[0])
+    places = [Path(line) for line in places.read_text().splitlines()]
+    assert len(places) == len(FACTORS) and all(path.name == "best.cert" and path.parent.parent == scratch for path in places)
+    assert not list(scratch.iterdir())
+
+
 def test_the_lean_model_has_what_pricing_asks_for(tmp_path):
     frame = table(6, 5, 4, 3).rename(columns={"AU": "ley é", "TONNES": "T"})
     frame = frame.assign(**{"it's": 1.5, "spare": 1.0})
