@@ -18,7 +18,7 @@ from PIL import Image
 
 TOP = Path(__file__).resolve().parent.parent
 MOST = 150_000                       # bytes of a picture in the repository
-COLOURS = 96                         # enough for flat areas and lettering, a third of the bytes
+COLOURS = 160                        # enough for flat areas, small swatches and lettering, a third of the bytes
 
 
 def text_of(name):
@@ -92,7 +92,7 @@ def main():
             browser.quit()
         for name, picture in pictures.items():
             file = target / f"hill-{name}.png"
-            Image.open(picture).convert("RGB").quantize(COLOURS, dither=Image.Dither.NONE).save(file, optimize=True)
+            Image.open(picture).convert("RGB").quantize(COLOURS, method=Image.Quantize.MAXCOVERAGE, dither=Image.Dither.NONE).save(file, optimize=True)
             size = file.stat().st_size
             print(f"{file}: {size:,} bytes")
             if size > MOST:

@@ -13,20 +13,22 @@ import numpy as np
 import numpy.typing as npt
 
 from .errors import PlanError
+from .next_command import command
 
 if TYPE_CHECKING:
-    from .model import Model
+    from .study import Study
 
 Bools = npt.NDArray[np.bool_]
 Levels = npt.NDArray[np.uint16]
 NO_COLUMN = 65535        # the model has no rock here
 
 
-def surfaces(model: Model, pits: Iterable[tuple[str, Bools]]) -> Levels:
+def surfaces(study: Study, pits: Iterable[tuple[str, Bools]]) -> Levels:
     """How many benches from the model's floor up are left standing.
 
     Parameters
     ----------
+    study : Study
     pits : iterable of (str, bool array of shape (blocks,))
         Each by what an error calls it and its blocks.
 
@@ -40,7 +42,7 @@ def surfaces(model: Model, pits: Iterable[tuple[str, Bools]]) -> Levels:
     PlanError
         Where a pit has a block and not all above it, since one height can't show that.
     """
-    index, tonnes = model.index, model.blocks["tonnes"].to_numpy()
+    index, tonnes = study.model.index, study.model.blocks["tonnes"].to_numpy()
     solid = tonnes > 0 if (tonnes > 0).any() else np.ones(len(tonnes), bool)            # rows of air above the ground are no ground
     rock, high = placed(solid, index), index.shape[2]
     ground = np.where(rock.any(axis=2), high - rock[:, :, ::-1].argmax(axis=2), 0)
@@ -51,7 +53,7 @@ def surfaces(model: Model, pits: Iterable[tuple[str, Bools]]) -> Levels:
         level = np.where(dug.any(axis=2), dug.argmax(axis=2), ground)
         hung = dug.sum(axis=2) != ground - level
         if hung.any():
-            raise overhang(model, name, index[(*np.argwhere(hung)[0], level[hung][0])], int(hung.sum()))
+            raise overhang(study, name, index[(*np.argwhere(hung)[0], level[hung][0])], int(hung.sum()))
         out.append(level)
     return np.where(ground == 0, NO_COLUMN, np.stack(out)).astype(np.uint16)
 
@@ -62,11 +64,11 @@ def placed(held: Bools, index: npt.NDArray[np.int32]) -> Bools:
     return found
 
 
-def overhang(model: Model, name: str, block: int, count: int) -> PlanError:
+def overhang(study: Study, name: str, block: int, count: int) -> PlanError:
     """The error of a set that has a block without what is straight above it."""
     places = f"; {count:,} columns are so" if count > 1 else ""
-    return PlanError(f"{name} has block {model.blocks['id'].iloc[int(block)]} without all that is above it{places}: its surface isn't one height for each column",
-                     try_this="pitplan plot and pitplan compare, which draw sections and benches as they are")
+    return PlanError(f"{name} has block {study.model.blocks['id'].iloc[int(block)]} without all that is above it{places}: its surface isn't one height for each column",
+                     try_this=f"{command('plot', study.named)}, which draws sections and benches as they are")
 
 
 def packed(levels: Levels) -> str:

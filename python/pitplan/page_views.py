@@ -149,7 +149,7 @@ def pits(shells: Shells, table: pd.DataFrame) -> View:
     Raises PlanError where a pit's surface isn't one height for each column.
     """
     names = [factor_text(k) for k in shells.factors]
-    levels = surfaces(shells.study.model, ((f"the pit at factor {name}", shells.holds(i)) for i, name in enumerate(names)))
+    levels = surfaces(shells.study, ((f"the pit at factor {name}", shells.holds(i)) for i, name in enumerate(names)))
     currency = currency_of(shells.study)
     money = scale_of(table["worth_at_base"], currency)
     columns = [("Blocks", [f"{v:,}" for v in table["blocks"]]), ("Toe of the lowest bench (m)", bottoms(shells.study.model.grid, levels)),
@@ -173,7 +173,7 @@ def phases(found: Phases, table: pd.DataFrame | None = None) -> View:
     columns += [*rock_and_metal(table, study.manifest["metals"]), scaled("Worth at factor 1", table["worth"], scale_of(table["worth"], currency_of(study))),
                 ("Thinnest (m)", [f"{v:,.10g}" for v in table["width"]]), ("on the bench at (m)", [f"{v:,.10g}" for v in table["width_bench"]])]
     names = [str(k) for k in range(1, count + 1)]
-    return View("Pushbacks", "After pushback", Table("Pushbacks", "Pushback", names, columns), surfaces(study.model, pushed), "Pushback", PHASES, names, count)
+    return View("Pushbacks", "After pushback", Table("Pushbacks", "Pushback", names, columns), surfaces(study, pushed), "Pushback", PHASES, names, count)
 
 
 def design(study: Study, found: Comparison) -> View:
@@ -183,7 +183,7 @@ def design(study: Study, found: Comparison) -> View:
     """
     from .compare_words import verdict_lines
     held, best = found.design.held, found.optimum
-    levels = surfaces(study.model, ((f"the design {found.design.name}", held), ("the best pit", best)))
+    levels = surfaces(study, ((f"the design {found.design.name}", held), ("the best pit", best)))
     table, currency = amounts_of(study, (held, best), found.factor), currency_of(study)
     gap = (separated(found.gap), f"{found.share(found.gap):.2%}") if found.gap is not None else ("-", "-")
     columns = [("Blocks", [f"{v:,}" for v in table["blocks"]]), ("Toe of the lowest bench (m)", bottoms(study.model.grid, levels)),
@@ -221,7 +221,7 @@ def likelihood(found: Risk, factor: int, table: pd.DataFrame) -> View:
     table = table.sort_values("likelihood", ascending=False)
     shares = table["likelihood"].tolist()
     names = [f"{share:.0%}" for share in shares]
-    levels = surfaces(study.model, ((f"the pit of likelihood {name}", found.pit(share, factor)) for name, share in zip(names, shares)))
+    levels = surfaces(study, ((f"the pit of likelihood {name}", found.pit(share, factor)) for name, share in zip(names, shares)))
     money = scale_of(table[["worth_least", "worth_mean", "worth_most", "best_mean"]], currency)
     columns = [("Blocks", [f"{v:,}" for v in table["blocks"]]), ("Toe of the lowest bench (m)", bottoms(study.model.grid, levels)), scaled("Rock", table["rock_t"], scale_of(table["rock_t"], "t"))]
     columns += [scaled(name, table[column], money) for name, column in (("Worth, least", "worth_least"), ("Worth, mean", "worth_mean"), ("Worth, most", "worth_most"))]

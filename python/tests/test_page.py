@@ -647,7 +647,7 @@ def test_rows_of_air_are_no_ground(shells):
     model.blocks = model.blocks.copy()
     top = model.grid.shape[2] - 1
     model.blocks.loc[model.blocks["iz"] == top, "tonnes"] = 0.0
-    found = levels.surfaces(model, [("the pit", shells.holds(3))])
+    found = levels.surfaces(SimpleNamespace(model=model), [("the pit", shells.holds(3))])
     there = found[0] != levels.NO_COLUMN
     assert found[0][there].max() == top and (found[1][there] <= found[0][there]).all()
 

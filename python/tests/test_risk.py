@@ -266,6 +266,7 @@ def test_the_command_goes_on_and_its_tables(tmp_path, program):
         pd.testing.assert_frame_equal(pd.read_csv(folder / f"out/{name}.csv"), frame, check_dtype=False)
     assert f"{found.table().worth_p50.iloc[1] / 1e6:,.2f}" in said
     assert (folder / "out/likelihood.png").read_bytes().startswith(b"\x89PNG")
+    assert "<title>t: likelihood over 4 realisations</title>" in (folder / "out/likelihood.html").read_text()
 
 
 def test_a_section_has_the_likelihood_of_its_blocks(tmp_path):
