@@ -4,7 +4,7 @@
     bench/page.py [--columns N] [--levels N] [--pits N] [--rounds N]
 
 The model and its pits are made up (cones, one within the next), so that no `pit` is needed: 118 x 118 columns of 36 levels have
-501,264 blocks. Of the rounds the fewest seconds count; "ready" is by the page's own clock, from the opening to the first picture that is drawn.
+501,264 blocks. The page has the pits, three pushbacks, and a design beside the best pit. Of the rounds the fewest seconds count; "ready" is by the page's own clock, from the opening to the first picture that is drawn.
 """
 import argparse
 import os
@@ -24,7 +24,10 @@ from browsers import chromium, opened
 from pitplan import page
 from pitplan.economics import Economics, Metal
 from pitplan.grid import Grid
+from pitplan.compare import Comparison, by_bench
+from pitplan.design import Design
 from pitplan.model import Model
+from pitplan.phases import Phases
 from pitplan.shells import Shells
 
 
@@ -50,18 +53,39 @@ def made_up(columns, levels, pits):
     return shells
 
 
+def pushbacks(shells):
+    """Three of the pits as the ends of pushbacks."""
+    chosen = Shells.__new__(Shells)
+    chosen.__dict__.update(shells.__dict__)
+    ends = [len(shells.factors) // 4, len(shells.factors) // 2, len(shells.factors) - 1]
+    chosen.factors = [shells.factors[end] for end in ends]
+    chosen.shell = np.searchsorted(ends, shells.shell).astype(np.int16)
+    return Phases(chosen)
+
+
+def designed(shells):
+    """A smaller pit, moved east, beside the last but one."""
+    study, grid = shells.study, shells.study.model.grid
+    blocks, best = study.model.blocks, shells.holds(len(shells.factors) - 2)
+    out = np.hypot(blocks.ix - grid.shape[0] / 2 - 2, blocks.iy - grid.shape[1] / 2) + grid.shape[2] - 1 - blocks.iz
+    held = (out < 0.5 * grid.shape[0]).to_numpy()
+    worth, bound = study.priced.worth_of(held, 1000), study.priced.worth_of(best, 1000)
+    none = pd.DataFrame()
+    return Comparison(Design("design", held, np.zeros(len(held), bool)), 1000, "REFUSED NotTight", True, worth, bound, "0", None, best, none, none, by_bench(study, held, best, 1000))
+
+
 def main():
     words = argparse.ArgumentParser(description=__doc__.split("\n")[0])
     for name, usual in (("columns", 118), ("levels", 36), ("pits", 19), ("rounds", 3)):
         words.add_argument("--" + name, type=int, default=usual)
     asked = words.parse_args()
     shells = made_up(asked.columns, asked.levels, asked.pits)
-    table = shells.table()
+    table, phases, design = shells.table(), pushbacks(shells), designed(shells)
     with tempfile.TemporaryDirectory() as folder:
         wrote, ready = [], []
         for _ in range(asked.rounds):
             began = time.process_time()
-            file = page.write(shells, Path(folder) / "pits.html", table)
+            file = page.write(shells, Path(folder) / "pits.html", table, None, phases, design)
             wrote.append(time.process_time() - began)
             browser = chromium()
             try:

@@ -46,7 +46,7 @@ _pit() {
         *)
             case "${COMP_WORDS[1]}" in
             check) words="--prec --upit --blocks --settings --verbose -h --help" files=1 ;;
-            slopes) words="--blocks --pattern --up --settings --verbose -h --help" ;;
+            slopes) words="--blocks --pattern --up --settings --reduce --verbose -h --help" ;;
             solve) words="--prec --upit --blocks --settings --factor --method --group --steps --workers --progress --verbose --trace --room -h --help" ;;
             shells) words="--prec --blocks --settings --method --steps --workers --progress --verbose -h --help" ;;
             report) words="--prec --blocks --settings --method --steps --workers --progress --verbose -h --help" ;;

@@ -15,6 +15,7 @@ complete -c pit -n '__fish_seen_subcommand_from slopes' -l blocks -r -F -d 'Wher
 complete -c pit -n '__fish_seen_subcommand_from slopes' -l pattern -x -a 'five nine cone: settings' -d 'Which blocks above a block are its predecessors'
 complete -c pit -n '__fish_seen_subcommand_from slopes' -l up -x -a 'plus minus' -d 'Which way is up'
 complete -c pit -n '__fish_seen_subcommand_from slopes' -l settings -r -F -d 'The file that lists the offsets, a TOML text'
+complete -c pit -n '__fish_seen_subcommand_from slopes' -l reduce -d 'Leaves out each predecessor that others imply'
 complete -c pit -n '__fish_seen_subcommand_from slopes' -l verbose -d 'Reports on standard error which file failed, and the system\'s reason'
 complete -c pit -n '__fish_seen_subcommand_from slopes' -s h -l help -d 'Print help (see a summary with \'-h\')'
 complete -c pit -n __fish_use_subcommand -a solve -d 'Finds the best pit and writes its certificate'

@@ -28,6 +28,7 @@ _pit() {
             '--pattern[Which blocks above a block are its predecessors]:pattern:(five nine cone\: settings)' \
             '--up[Which way is up]:up:(plus minus)' \
             '--settings[The file that lists the offsets, a TOML text]:settings:_files' \
+            '--reduce[Leaves out each predecessor that others imply]' \
             '--verbose[Reports on standard error which file failed, and the system'\''s reason]' \
             '-h[Print help (see a summary with '\''-h'\'')]' '--help[Print help (see a summary with '\''-h'\'')]' ;;
         solve) _arguments '--prec[The predecessors of each block]:prec:_files' \

@@ -51,7 +51,7 @@ def photographed(browser, page, target, steps, part=None):
     opened(browser, page)
     for script, *words in steps:
         browser.execute_script(script, *words)
-    clip = browser.execute_script(PART, *part) if part else browser.execute_script("return [0, 0, innerWidth, Math.min(document.documentElement.scrollHeight, 1000)]")
+    clip = browser.execute_script(PART, *part) if part else browser.execute_script("return [0, 0, innerWidth, Math.min(document.documentElement.scrollHeight, 1200)]")
     shot = browser.execute_cdp_cmd("Page.captureScreenshot", {"captureBeyondViewport": True, "clip": dict(zip(("x", "y", "width", "height"), clip), scale=1)})
     target.write_bytes(base64.b64decode(shot["data"]))
 
@@ -82,10 +82,11 @@ def main():
         pictures, page, likelihood = walked(study)
         browser = chromium(size="1180,1000")
         try:
-            for name, path, steps, part in (("page", page, [(HIDE,)], None), ("page-pushbacks", page, [(CHOOSE, "1")], ("section", "section")),
-                                            ("page-design", page, [(CHOOSE, "2"), (CUT, "z", -1)], ("section", "section")),
-                                            ("likelihood", likelihood, [], ("section", "section"))):
+            for name, wide, path, steps, part in (("page", 1440, page, [(HIDE,)], None), ("page-pushbacks", 1180, page, [(CHOOSE, "1")], ("section", "section")),
+                                                  ("page-design", 1180, page, [(CHOOSE, "2"), (CUT, "z", -1)], ("section", "section")),
+                                                  ("likelihood", 1180, likelihood, [], ("section", "section"))):
                 pictures[name] = study / f"{name}.png"
+                browser.set_window_size(wide, 900)
                 photographed(browser, path, pictures[name], steps, part)
         finally:
             browser.quit()

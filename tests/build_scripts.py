@@ -441,7 +441,8 @@ def test(top):
     """Runs the tests, each in a tree of its own, and gives how many passed and failed."""
     passed = failed = 0
     for case in CASES:
-        with tempfile.TemporaryDirectory(prefix="pit-scripts-") as room:
+        # a process of a build that was killed may still end there
+        with tempfile.TemporaryDirectory(prefix="pit-scripts-", ignore_cleanup_errors=True) as room:
             try:
                 well, said = case(Tree(top, room))
             except Exception:  # a case that can't be played to its end has failed, and the others are still played

@@ -150,7 +150,7 @@ class Tree:
     def ran(self, *words):
         """Runs a script of the tree, and gives its exit status and what it printed."""
         process = self.starts(*words)
-        said, _ = process.communicate(timeout=60)
+        said, _ = process.communicate(timeout=300)
         return process.returncode, said
 
     def log(self):

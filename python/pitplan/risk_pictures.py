@@ -30,7 +30,8 @@ def section(found: Risk, factor: int = THOUSAND, row: int | None = None) -> Figu
     """
     from matplotlib import colormaps
     from matplotlib.lines import Line2D
-    from .pictures import sheet
+    from matplotlib.patches import Patch
+    from .pictures import CASING, ROCK_EDGE, ROCK_HATCH, SEPARATED, hatch, sheet
     likelihood, model = found.likelihood(factor), found.study.model
     if row is None:
         row = int(np.argmax(np.bincount(model.blocks.iy.to_numpy(), weights=likelihood, minlength=model.grid.shape[1])))
@@ -39,15 +40,19 @@ def section(found: Risk, factor: int = THOUSAND, row: int | None = None) -> Figu
     values = np.where(there, likelihood[cut.number], np.nan)
     figure, axes, beside = sheet(float(np.ptp(cut.across)), float(np.ptp(cut.up)))
     image = axes.pcolormesh(cut.across, cut.up, np.where(values > 0, values, np.nan), cmap=colormaps["cividis_r"], vmin=0, vmax=1)
+    hatch(axes, there & ~(values > 0), cut)
     axes.plot(*borders(there, cut), color="#555555", linewidth=0.6)
     handles = []
     for share, stroke in LINES:
-        axes.plot(*borders(there & found.pit(share, factor)[cut.number], cut), color="black", linewidth=1.4, linestyle=stroke)
+        axes.plot(*borders(there & found.pit(share, factor)[cut.number], cut), color="black", linewidth=1.4, linestyle=stroke, path_effects=CASING)
         handles.append(Line2D([], [], color="black", linestyle=stroke, label=f"Blocks of at least {share:.0%}"))
+    handles.append(Patch(facecolor="white", edgecolor=ROCK_EDGE, hatch=ROCK_HATCH, label="Rock in no pit"))
     figure.colorbar(image, cax=beside, label=f"Likelihood over {found.count} realisations")
     axes.set_aspect("equal")
-    axes.set_title(f"{model.name}: {cut.title}, likelihood at factor {factor / THOUSAND:g}", fontsize=12)
+    axes.set_title(f"{model.name}: {cut.title}, likelihood at factor {factor / THOUSAND:g}" + (f"\n{cut.note}" if cut.note else ""), fontsize=12)
+    for each in (axes.xaxis, axes.yaxis):
+        each.set_major_formatter(SEPARATED)
     axes.set_xlabel(cut.labels[0])
     axes.set_ylabel(cut.labels[1])
-    figure.legend(handles=handles, loc="lower center", ncol=3, frameon=False)
+    figure.legend(handles=handles, loc="lower center", ncol=4, frameon=False)
     return figure

@@ -13,10 +13,10 @@ from .errors import MachineError
 if TYPE_CHECKING:
     from .study import Study, Told, Verdict
 
-PER_BLOCK, PER_PAIR = 260, 24                # bytes of `pit solve`: a tenth more than was measured at 80,000 and 500,000 blocks
+PER_BLOCK, PER_PAIR = 350, 22                # bytes of `pit solve`: a tenth more than was measured at 84,000 blocks, 0.4 and 2.6 million pairs
 OWN = 40                                     # bytes a block of this process, for each pit at a time
 SHARE = 0.8                                  # of the free memory, that may be taken
-SECONDS_A_BLOCK, SECONDS_A_PAIR = 1e-6, 2.5e-7
+SECONDS_A_BLOCK, SECONDS_A_PAIR = 2.5e-6, 1.4e-7       # of `pit solve` and `pit check`, likewise
 
 
 @dataclass(frozen=True)

@@ -21,7 +21,9 @@ def chromium(*words, size="1300,900"):
     for word in ("--headless=new", "--no-sandbox", "--disable-dev-shm-usage", f"--window-size={size}", *(words or SOFTWARE)):
         options.add_argument(word)
     options.set_capability("goog:loggingPrefs", {"browser": "ALL"})
-    return webdriver.Chrome(service=Service("/usr/bin/chromedriver"), options=options)
+    driver = webdriver.Chrome(service=Service("/usr/bin/chromedriver"), options=options)
+    driver.set_script_timeout(PATIENCE)
+    return driver
 
 
 def opened(browser, path):

@@ -64,7 +64,6 @@ def answer(asked):
 def serve(path):
     """Serves until its standard input ends, which is when the tests do."""
     import select
-    import signal
     sys.path[:0] = [os.path.join(TOP, "python"), os.path.join(TOP, "python", "tests")]
     import pkgutil
     import importlib
@@ -79,17 +78,25 @@ def serve(path):
     from pitplan.offsets import wall
     from pitplan.slopes import searched
     searched(wall(SIZE, 45), False, None)                  # that of nearly all tests
-    signal.signal(signal.SIGCHLD, signal.SIG_IGN)          # forks are nobody's to wait for
     with socket.socket(socket.AF_UNIX) as door:
         door.bind(path)
         door.listen(64)
         while door in select.select([door, sys.stdin], [], [])[0]:
             asked, _ = door.accept()
             if os.fork() == 0:
-                signal.signal(signal.SIGCHLD, signal.SIG_DFL)
                 door.close()
                 answer(asked)
             asked.close()
+            for _ in iter(ended, 0):
+                pass
+
+
+def ended():
+    """A fork that has ended, 0 where none has."""
+    try:
+        return os.waitpid(-1, os.WNOHANG)[0]
+    except ChildProcessError:
+        return 0
 
 
 def server():

@@ -231,6 +231,19 @@ def test_bytes_for_a_terminal_are_not_printed(copy):
     assert ran.returncode == 1 and b"\x1b" not in ran.stdout
 
 
+def test_no_path_of_the_planner_s_machine_is_in_it(tmp_path):
+    """Where the table lies far from the study, the study names it by its whole path; the bundle, by its place in the bundle."""
+    (tmp_path / "data").mkdir()
+    mines.table(7, 6, 4, 3).to_csv(tmp_path / "data" / "t.csv", index=False)
+    folder = bundled(tmp_path / "a" / "b" / "c", mines.STUDY_TOML.replace('"t.csv"', f'"{tmp_path}/data/t.csv"'))
+    assert json.loads((folder.parent / "model" / "manifest.json").read_text())["source"]["table"] == f"{tmp_path}/data/t.csv"
+    files = [path for path in folder.rglob("*") if path.is_file() and path.name != "study.toml"]              # that one as the planner wrote it
+    assert len(files) > 10 and not [path for path in files if str(tmp_path) in path.read_text("latin-1")]
+    source = json.loads((folder / "model" / "manifest.json").read_text())["source"]
+    assert hashlib.sha256((folder / source["table"]).read_bytes()).hexdigest() == source["sha256"]
+    assert rechecked(folder)[1] == 0
+
+
 def test_a_folder_that_is_there_is_left_alone(whole, tmp_path):
     (tmp_path / "there").mkdir()
     told = read_study_file(whole.parent)

@@ -29,7 +29,7 @@ def test_from_a_table_to_shells(tmp_path):
     assert told.keys.size == [20, 20, 15] and [m.name for m in told.economics.metals] == ["copper", "gold"] and told.table.resolve() == tmp_path / "mine.csv"
     text = (study / "study.toml").read_text().replace("factors = { from = 0.30, to = 1.20, step = 0.05 }", "factors = [0.5, 1.0, 1.5]")
     (study / "study.toml").write_text(text)
-    built = pitplan("build", study)
+    built = pitplan("build", "mine", cwd=tmp_path)                       # the other commands name it from elsewhere
     assert built.returncode == 0 and "pairs" in built.stdout and "SUL" in built.stdout and "MB" in built.stdout
     ran = pitplan("shells", study)
     assert ran.returncode == 0 and "factor 1 done" in ran.stderr and "pit by pit" in ran.stdout, ran.stderr

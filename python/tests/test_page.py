@@ -114,8 +114,8 @@ def text_of(browser, name):
 
 
 def facts(browser):
-    names = [e.text for e in browser.find_elements(By.CSS_SELECTOR, "#facts dt")]
-    return dict(zip(names, (e.text for e in browser.find_elements(By.CSS_SELECTOR, "#facts dd"))))
+    names, values = browser.execute_script("return ['dt', 'dd'].map(tag => [...document.querySelectorAll('#facts ' + tag)].map(e => e.innerText.trim()))")
+    return dict(zip(names, values))
 
 
 def number(text):
@@ -138,8 +138,7 @@ def has(told, name, value):
 
 
 def rows_of(browser, table=0):
-    tables = [t for t in browser.find_elements(By.TAG_NAME, "table") if t.is_displayed()]
-    return [[c.text for c in row.find_elements(By.CSS_SELECTOR, "th, td")] for row in tables[table].find_elements(By.CSS_SELECTOR, "tbody tr")]
+    return browser.execute_script("const t = [...document.querySelectorAll('table')].filter(t => t.offsetParent); return [...t[arguments[0]].tBodies[0].rows].map(r => [...r.cells].map(c => c.innerText.trim()))", table)
 
 
 def test_it_opens_without_a_word_on_the_console(pits_view, shells):
@@ -174,7 +173,8 @@ def test_facts_are_those_of_the_table_and_of_pit(pits_view, shells, table):
         for name, column in (("Ore", "ore_t"), ("Waste", "waste_t"), ("Worth at factor 1", "worth_at_base"), ("Discounted, best case", "npv_best"), ("Discounted, worst case", "npv_worst")):
             assert has(told, name, row[column]), (name, told, row[column])
         assert abs(number(told["Strip ratio (t/t)"]) - row["strip"]) < 0.00501 and abs(number(told["Years"]) - row["years"]) < 0.0501
-        assert [c.text for c in pits_view.find_elements(By.CSS_SELECTOR, "tr[aria-current] td")] == list(told.values())
+        assert rows_of(pits_view)[i][1:] == list(told.values()) and text_of(pits_view, "step") == rows_of(pits_view)[i][0]
+        assert len(pits_view.find_elements(By.CSS_SELECTOR, "tr[aria-current]")) == 1
 
 
 def test_facts_of_a_pushback_are_its_own(phases_view, phases):
@@ -216,14 +216,14 @@ def test_the_heights_add_up_to_each_surface(all_views, shells, phases, compared)
         chosen(all_views, view)
         assert [all_views.execute_script(DUG, i + 1) for i in range(len(wanted))] == wanted
     ground = shells.study.model.blocks.groupby(["ix", "iy"])["iz"].max()
-    for (i, j), top in ground.items():
-        assert all_views.execute_script("return H[arguments[0] * NY + arguments[1]]", i, j) == top + 1
+    heights = np.array(all_views.execute_script("return [...H.subarray(0, N)]")).reshape(shells.study.model.grid.shape[:2])
+    assert all(heights[i, j] == top + 1 for (i, j), top in ground.items())
 
 
 PIXELS = """const g = document.getElementById("picture").getContext("webgl"), w = g.drawingBufferWidth, h = g.drawingBufferHeight, p = new Uint8Array(4 * w * h);
-g.readPixels(0, 0, w, h, g.RGBA, g.UNSIGNED_BYTE, p); const seen = new Map();
-for (let k = 0; k < p.length; k += 4) { const c = p[k] << 24 | p[k + 1] << 16 | p[k + 2] << 8 | p[k + 3]; seen.set(c, (seen.get(c) || 0) + 1); }
-return [seen.size, Math.max(...seen.values()) / (w * h), document.getElementById("picture").toDataURL()]"""
+g.readPixels(0, 0, w, h, g.RGBA, g.UNSIGNED_BYTE, p); const seen = new Map(), all = new Uint32Array(p.buffer); let sum = 7;
+for (let k = 0; k < all.length; k += 3) { seen.set(all[k], (seen.get(all[k]) || 0) + 3); sum = Math.imul(sum ^ all[k], 16777619); }
+return [seen.size, Math.max(...seen.values()) / (w * h), sum]"""
 
 
 def test_the_picture_isnt_blank_and_follows_the_slider_and_the_controls(pits_view, shells):
@@ -328,7 +328,7 @@ def test_sections_and_plans_show_what_each_block_is(all_views, shells, phases, c
             else:
                 assert colours[0][0] == key[kind], (way, at, kind)
     assert seen == set(kinds)
-    patterns(all_views, view != PITS)
+    patterns(all_views, True)
 
 
 def test_a_cut_goes_by_keys(pits_view):
@@ -373,7 +373,7 @@ def test_black_and_white_tells_kinds_apart(all_views, shells, phases, compared):
         keys = all_views.execute_script("return [...document.querySelectorAll('#key canvas')].map(c => c.toDataURL())")
         assert len(set(keys)) == len(keys)
     chosen(all_views, PITS)
-    assert not all_views.find_element(By.ID, "patterns").is_selected()
+    patterns(all_views, False)
     light = [luminance("#%02x%02x%02x" % tuple(colour[:3])) for colour in swatches(all_views)]
     assert (np.diff(light) > 0.01).all() and len(light) == len(shells.factors)
 
@@ -441,7 +441,7 @@ def test_from_above_each_column_has_the_colour_of_what_is_open(all_views, shells
     for at in range(model.grid.shape[1]):
         cut(all_views, "y", at)
         colours |= key_of(all_views)
-    surface = {PITS: shells.shell <= step - 1, PHASES: (phases.pushback > 0) & (phases.pushback <= step), DESIGN: (compared.design.held, compared.optimum)[step - 1]}[view]
+    surface = shells.shell <= step - 1 if view == PITS else (phases.pushback > 0) & (phases.pushback <= step)
     places, wanted = [], []
     for (ix, iy), blocks in model.blocks.groupby(["ix", "iy"]):
         dug = blocks[surface[blocks.index]]
@@ -457,7 +457,7 @@ def test_from_above_each_column_has_the_colour_of_what_is_open(all_views, shells
         true = np.array(colours[kind][:3] if kind else (184, 178, 168), float)
         assert np.abs(np.array(found[:3]) / max(sum(found[:3]), 1) - true / true.sum()).max() < 0.02, (kind, found, true)
     all_views.find_element(By.ID, "slant").click()
-    patterns(all_views, view != PITS)
+    patterns(all_views, True)
 
 
 # The page of likelihood, over a turned model.
@@ -475,6 +475,7 @@ def test_pits_by_likelihood(likelihood_view, risk):
     browser, hits, model = likelihood_view, shares_of(risk), risk.study.model
     assert browser.title == f"{model.name}: likelihood over 5 realisations" and browser.get_log("browser") == []
     assert text_of(browser, "step") == "50%" and not browser.find_element(By.ID, "which").is_displayed()
+    assert not browser.find_element(By.ID, "patterns").is_selected()             # nine patterns would tell less than they hide
     tenths = list(range(9, 0, -1))
     priced = [Realisation(risk.study, risk.setup, r).priced for r in range(risk.count)]
     slider(browser).send_keys(Keys.HOME)
@@ -614,7 +615,7 @@ def test_firefox(file, shells, compared):
         assert len(set(seen)) == 3
         assert firefox.execute_script("return document.querySelector('#facts dd').textContent") == f"{shells.verdicts[-1]['count']:,}"
         firefox.press("#what", "\ue010")
-        ready(lambda: firefox.execute_script("return V === D.views[2] && H === V.H"))
+        ready(lambda: firefox.execute_script("return document.getElementById('slides').textContent === 'Surface of'"))
         assert firefox.execute_script("return document.querySelector('#facts dd').textContent") == f"{compared.design.held.sum():,}"
         firefox.press("#way", "\ue010")
         assert firefox.execute_script("return document.getElementById('where').textContent").startswith("bench ")

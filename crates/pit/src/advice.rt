@@ -47,8 +47,7 @@ pub fn advice_for_series(words: SeriesWords<'_>) -> Advice {
 
 /// Tells that further workers have no effect where pseudoflow alone is to solve.
 pub fn advise_on_workers<R: Eprint>(rt: &R, is_asked: bool, solving: SolvingAsked<'_>) {
-    if let SolvingAsked::ByMethod(asked) = solving {
-        let effort = asked.effort;
+    if let SolvingAsked::ByMethod { effort, .. } = solving {
         if is_asked && effort.workers > 1 && effort.method == Method::Pseudoflow {
             let _ = rt.eprintln(
                 "advice: --workers has no effect with --method pseudoflow, which has one thread",

@@ -22,19 +22,20 @@ mod told;
 
 use advice::advise_on_workers;
 use command_line::{
-    Declined, OffsetsWords, ReplayWords, Request, SeriesWords, SlopesWords, SolveWords, WrongWord,
-    declined_for, request_of,
+    Commanded, Declined, OffsetsWords, ReplayWords, Request, SeriesWords, SlopesWords, SolveWords,
+    WrongWord, declined_for, request_of,
 };
 use effort_words::effort_for_series;
 use engines::{EngineFault, Unwatched, Verdict, status, stored_check, write_fault};
 use files::{check_files, listed_slopes_files, replay_files, series_files, slopes_file};
 use fixed_worth::Counted;
-use progress::Meter;
+use progress::{Meter, PROGRESS_ALONE, Tells};
 use reasons::{tell_choice, tell_slope_reason};
+use shells::Factor;
 use slopes_words::{pattern_asked, up_asked};
-use solve_options::replay_asked;
+use solve_options::{factor_asked, replay_asked};
 use solving::solve_files;
-use solving_asked::solving_asked;
+use solving_asked::{SolvingAsked, solving_asked};
 use std::process::ExitCode;
 use std::rt::{Clock, Env, Files};
 use std::sync::Wait;
@@ -116,12 +117,28 @@ fn solve<R: Files + Print + Eprint + Clock + Threads + Wait + Sync + AllocGlobal
         words.steps,
     );
     advise_on_workers(rt, words.verbose, solving);
-    let verdict = if words.progress {
-        solve_files(rt, words, solving, &Meter::new(rt, solving.steps()))?
-    } else {
-        solve_files(rt, words, solving, &Unwatched)?
+    match factor_asked(Commanded::Solve, words.model, words.factor) {
+        Ok(factor) => Ok(Ending::Answered(solved(rt, words, solving, factor)?)),
+        Err(wrong) => refused(rt, wrong),
+    }
+}
+
+fn solved<R: Files + Print + Eprint + Clock + Threads + Wait + Sync + AllocGlobal>(
+    rt: &R,
+    words: SolveWords<'_>,
+    solving: SolvingAsked<'_>,
+    factor: Factor,
+) -> Result<Verdict, EngineFault> {
+    let tells = Tells {
+        progress: words.progress,
+        outcome: words.verbose,
     };
-    Ok(Ending::Answered(verdict))
+    if words.progress || words.verbose {
+        let meter = Meter::new(rt, solving.steps(), tells);
+        solve_files(rt, words, solving, factor, &meter)
+    } else {
+        solve_files(rt, words, solving, factor, &Unwatched)
+    }
 }
 
 // Repeats a run over the mine of files from its trace.
@@ -146,7 +163,12 @@ fn series<R: Files + Print + Eprint + Clock + Threads + Wait + Sync + AllocGloba
     };
     tell_choice(rt, words.verbose, words.method, words.steps);
     let verdict = if words.progress {
-        series_files(rt, words, effort, &Meter::new(rt, effort.steps))?
+        series_files(
+            rt,
+            words,
+            effort,
+            &Meter::new(rt, effort.steps, PROGRESS_ALONE),
+        )?
     } else {
         series_files(rt, words, effort, &Unwatched)?
     };

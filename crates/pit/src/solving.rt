@@ -4,44 +4,101 @@ use crate::advice::advice_to_solve;
 use crate::opened::{made_file, open_mine};
 use crate::solving_asked::SolvingAsked;
 use crate::told::output;
-use audit_engines::solve_traced_engine;
+use audit_engines::{TracedAsked, solve_traced_engine};
 use command_line::SolveWords;
-use engines::{EngineFault, Verdict, solve_engine};
+use engines::{EngineFault, Outcome, SolveAsked, Verdict, solve_engine};
 use fixed_worth::Counted;
 use pseudoflow::Progress;
+use shells::Factor;
 use std::rt::Files;
 use std::sync::Wait;
 use std::thread::Threads;
-use word_engines::solve_words_engine;
+use word_engines::{WordsAsked, solve_words_engine};
 use workers::Gate;
 
-/// Solves the mine of files as it is asked for.
+/// Solves the mine of files as it is asked for, where its blocks have prices at a factor.
 pub fn solve_files<
+    R: Files + Print + Eprint + Threads + Wait + Sync + AllocGlobal,
+    T: Gate + Progress + Outcome,
+>(
+    rt: &R,
+    words: SolveWords<'_>,
+    solving: SolvingAsked<'_>,
+    factor: Factor,
+    watch: &T,
+) -> Result<Verdict, EngineFault> {
+    match solving {
+        SolvingAsked::ByWords(effort) => {
+            words_files(rt, words, WordsAsked { factor, effort }, watch)
+        }
+        SolvingAsked::ByMethod { group, effort } => {
+            let asked = SolveAsked {
+                factor,
+                group,
+                effort,
+            };
+            method_files(rt, words, asked, watch)
+        }
+        SolvingAsked::Traced {
+            group,
+            effort,
+            trace,
+        } => {
+            let asked = TracedAsked {
+                factor,
+                group,
+                effort,
+                room: trace.room,
+            };
+            trace_files(rt, words, asked, trace.file, watch)
+        }
+    }
+}
+
+// Solves it by a run without a lock.
+fn words_files<
     'a,
     R: Files + Print + Eprint + Threads + Wait + Sync + AllocGlobal,
-    T: Gate + Progress,
+    T: Gate + Outcome,
+>(rt: &'a R, words: SolveWords<'a>, asked: WordsAsked, watch: &T) -> Result<Verdict, EngineFault> {
+    let mut mine = open_mine(rt, words.verbose, words.prec, words.model)?;
+    let mut out = Counted::new(output(rt, words.verbose, Some(advice_to_solve(words))));
+    solve_words_engine(rt, rt.alloc(), &mut mine, asked, watch, &mut out)
+}
+
+// Solves it by the method of an effort.
+fn method_files<
+    'a,
+    R: Files + Print + Eprint + Threads + Wait + Sync + AllocGlobal,
+    T: Gate + Progress + Outcome,
+>(rt: &'a R, words: SolveWords<'a>, asked: SolveAsked, watch: &T) -> Result<Verdict, EngineFault> {
+    let mut mine = open_mine(rt, words.verbose, words.prec, words.model)?;
+    let mut out = Counted::new(output(rt, words.verbose, Some(advice_to_solve(words))));
+    solve_engine(rt, rt.alloc(), &mut mine, asked, watch, &mut out)
+}
+
+// Solves it by the push-relabel machine, and writes the trace of the run to a file.
+fn trace_files<
+    'a,
+    R: Files + Print + Eprint + Threads + Wait + Sync + AllocGlobal,
+    T: Gate + Outcome,
 >(
     rt: &'a R,
     words: SolveWords<'a>,
-    solving: SolvingAsked<'a>,
+    asked: TracedAsked,
+    file: &'a str,
     watch: &T,
 ) -> Result<Verdict, EngineFault> {
-    let alloc = rt.alloc();
     let mut mine = open_mine(rt, words.verbose, words.prec, words.model)?;
-    let advice = Some(advice_to_solve(words));
-    match solving {
-        SolvingAsked::ByWords(asked) => {
-            let mut out = Counted::new(output(rt, words.verbose, advice));
-            solve_words_engine(rt, alloc, &mut mine, asked, watch, &mut out)
-        }
-        SolvingAsked::ByMethod(asked) => {
-            let mut out = Counted::new(output(rt, words.verbose, advice));
-            solve_engine(rt, alloc, &mut mine, asked, watch, &mut out)
-        }
-        SolvingAsked::Traced { asked, file } => {
-            let mut trace = made_file(rt, words.verbose, file)?;
-            let mut out = Counted::new(output(rt, words.verbose, advice));
-            solve_traced_engine(rt, alloc, &mut mine, asked, watch, &mut trace, &mut out)
-        }
-    }
+    let mut trace = made_file(rt, words.verbose, file)?;
+    let mut out = Counted::new(output(rt, words.verbose, Some(advice_to_solve(words))));
+    solve_traced_engine(
+        rt,
+        rt.alloc(),
+        &mut mine,
+        asked,
+        watch,
+        &mut trace,
+        &mut out,
+    )
 }

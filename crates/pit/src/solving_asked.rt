@@ -1,38 +1,42 @@
 //! How `solve` is to solve a mine, by its words, or the word that names nothing that there is.
 
 use crate::effort_words::{effort_by_words, effort_to_solve, method_asked};
-use crate::solve_options::{
-    TraceAsked, asks_for_words, factor_asked, group_asked, room_asked, trace_asked,
-};
-use audit_engines::TracedAsked;
+use crate::solve_options::{TraceAsked, asks_for_words, group_asked, room_asked, trace_asked};
 use command_line::{Commanded, NamedOption, SolveWords, WrongWord};
-use engines::{Method, SolveAsked};
+use engines::{Effort, Method};
 use ordered_group::Group;
-use word_engines::WordsAsked;
+use word_engines::WordEffort;
 
 /// How it is to be solved.
 #[derive(Clone, Copy)]
 pub enum SolvingAsked<'a> {
     /// By the method of an effort.
-    ByMethod(SolveAsked),
+    ByMethod {
+        /// What amounts count.
+        group: Group,
+        /// The method, the workers and the steps.
+        effort: Effort,
+    },
     /// By the push-relabel machine, with the trace of its run.
     Traced {
-        /// The run.
-        asked: TracedAsked,
-        /// The file to which its trace is written.
-        file: &'a str,
+        /// What amounts count.
+        group: Group,
+        /// The workers and the steps.
+        effort: Effort,
+        /// The trace.
+        trace: TraceAsked<'a>,
     },
     /// By a run without a lock.
-    ByWords(WordsAsked),
+    ByWords(WordEffort),
 }
 
 impl<'a> SolvingAsked<'a> {
     /// The most steps.
     pub fn steps(self) -> u64 {
         match self {
-            SolvingAsked::ByMethod(asked) => asked.effort.steps,
-            SolvingAsked::Traced { asked, .. } => asked.effort.steps,
-            SolvingAsked::ByWords(asked) => asked.effort.steps,
+            SolvingAsked::ByMethod { effort, .. } => effort.steps,
+            SolvingAsked::Traced { effort, .. } => effort.steps,
+            SolvingAsked::ByWords(effort) => effort.steps,
         }
     }
 }
@@ -56,23 +60,13 @@ fn solving_by_method<'a>(
     group: Group,
 ) -> Result<SolvingAsked<'a>, WrongWord<'a>> {
     let effort = effort_to_solve(words, method)?;
-    let trace = trace_asked(words, method)?;
-    let factor = factor_asked(Commanded::Solve, words.model, words.factor)?;
-    Ok(match trace {
-        Some(TraceAsked { file, room }) => {
-            let asked = TracedAsked {
-                factor,
-                group,
-                effort,
-                room,
-            };
-            SolvingAsked::Traced { asked, file }
-        }
-        None => SolvingAsked::ByMethod(SolveAsked {
-            factor,
+    Ok(match trace_asked(words, method)? {
+        Some(trace) => SolvingAsked::Traced {
             group,
             effort,
-        }),
+            trace,
+        },
+        None => SolvingAsked::ByMethod { group, effort },
     })
 }
 
@@ -87,11 +81,7 @@ fn solving_by_words<'a>(
     match words.group {
         Some(word) if group != Group::Scaled => Err(wrong(NamedOption::GroupOfWords, word)),
         _ if words.trace.is_some() => Err(wrong(NamedOption::TracedMethod, method)),
-        _ => {
-            let effort = effort_by_words(words)?;
-            let factor = factor_asked(Commanded::Solve, words.model, words.factor)?;
-            Ok(SolvingAsked::ByWords(WordsAsked { factor, effort }))
-        }
+        _ => Ok(SolvingAsked::ByWords(effort_by_words(words)?)),
     }
 }
 
