@@ -38,7 +38,7 @@ ROWS = HERE / "scale.csv"
 FACTORS = (600, 1000, 1200)
 # A table's columns, rows and levels of blocks, and how many levels up a predecessor may lie: 13 predecessors for 2, 25 for 5.
 MODELS = {"s50k": (50, 44, 25, 2), "s50k25": (50, 44, 25, 5), "s500k": (118, 112, 42, 2), "s500k25": (118, 112, 42, 5), "s1m": (156, 148, 48, 2), "s2m": (196, 180, 63, 2)}
-CHECK = "s1m"                                # the fit doesn't see it
+FITTED = ("s50k", "s50k25", "s500k", "s2m")  # the others are compared with what the fit says of them
 SLOPE = 36.87                                # of blocks of 20 x 20 x 15, that of the diagonal
 QUANTITIES = ("python_s", "pit_s", "read_mb", "written_mb", "memory_mb", "scratch_mb")
 
@@ -114,13 +114,23 @@ def one_task(folder, number):
 
 
 def tables(folder):
-    """All pits read and checked again, and those of each likelihood, in a process of its own."""
+    """What `pitplan risk` does when all is found, in a process of its own: all is opened once, and for each realisation its prices
+    are worked out, its pits are read and added up again, and the nine pits of a likelihood are added up at its prices."""
     sys.path.insert(0, str(HERE.parent / "python"))
     from pitplan import Study, risk
-    with step("read"):
-        found = risk.Risk(Study(folder))
-    with step("likely"):
-        found.pits(1000)
+    with step("open"):
+        study = Study(folder)
+        study.verify()
+        one = risk.realisation(study, 0)
+        one.model
+    with step("price"):
+        one.priced
+    for factor in FACTORS:
+        with step("again", factor=factor):
+            mask = one.mask(factor)
+    with step("worths"):
+        for _ in risk.TENTHS:
+            one.priced.worth_of(mask, 1000)
 
 
 # pit, whose peak of memory and whose certificate's size are written down; Linux would count a large parent's memory as that of a child
@@ -155,13 +165,18 @@ def size(path):
         return 0
 
 
+def looked_through(path, risk):
+    """What looking through a realisation costs, when the file is open."""
+    grades, before = np.load(path, mmap_mode="r"), used()
+    risk.digest_of(risk.checked(grades[0], 0, path))
+    return {"step": "look", **{key: value - was for (key, value), was in zip(used().items(), before.values())}, "memory_mb": 0.0, "scratch_mb": 0.0}
+
+
 def measured(name):
     """The rows of a model."""
     study, economics, risk = built(name)
-    before = used()
     risk.prepare(study, economics, study.folder / "sims.npy", FACTORS)
-    after = used()
-    rows = [{"step": "look", **{key: after[key] - before[key] for key in after}, "memory_mb": 0.0, "scratch_mb": 0.0}]
+    rows = [looked_through(study.folder / "sims.npy", risk)]
     rows += in_a_process("task", study, 0)
     rows += in_a_process("tables", study)
     sizes = {"prec_mb": size(study.prec_file) / 1e6, "kept_mb": sum(size(path) for path in study.folder.glob("runs/r0000/*/*")) / len(FACTORS) / 1e6,
@@ -190,8 +205,8 @@ def means(rows):
 
 def fitted(found, step, quantity):
     """The three numbers of a + b for a million blocks + c for a million pairs, none below 0, by least squares of relative errors."""
-    of = found[(found.step == step) & (found.model != CHECK)]
-    known = np.column_stack([np.ones(len(of)), of.blocks / 1e6, of.pairs / 1e6])
+    of = found[(found.step == step) & found.model.isin(FITTED)]
+    known = np.column_stack([np.ones(len(of)), of.blocks / 1e6, of.pairs / 1e6 * ((step, quantity) in BY_PAIRS or quantity == "prec_mb")])
     value = of[quantity].to_numpy()
     if not value.any():
         return np.zeros(3)
@@ -217,7 +232,9 @@ class Model:
 
 
 TASK = ("start", "blocks", "pit")
-NAMES = {"look": "look through a realisation", "start": "start a task", "blocks": "price, write its blocks", "pit": "find and check a pit", "read": "read all pits again", "likely": "the pits of each likelihood"}
+NAMES = {"look": "look through a realisation", "start": "start a task", "blocks": "price, write its blocks", "pit": "find and check a pit", "open": "open all for the tables",
+         "price": "price a realisation again", "again": "read a pit and add it up", "worths": "add up nine pits at its prices"}
+BY_PAIRS = {("start", "python_s"), ("start", "read_mb"), ("open", "python_s"), ("open", "read_mb"), ("pit", "pit_s"), ("pit", "read_mb"), ("pit", "memory_mb")}      # the rest goes by blocks alone
 
 
 def lines(head, rows):
@@ -239,17 +256,20 @@ def show_runs(model):
 
 
 def show_fit(model):
-    """The model of cost, and how far it is off where it wasn't fitted."""
-    at = model.found[model.found.model == CHECK].set_index("step")
-    blocks, pairs = at.blocks.iloc[0], at.pairs.iloc[0]
+    """The model of cost, and by how much it is off where it wasn't fitted."""
+    others = [name for name in dict.fromkeys(model.found.model) if name not in FITTED]
     rows = []
     for step in model.steps:
         for key in QUANTITIES:
             a, b, c = model.fit[step, key]
-            if at[key][step] >= (1 if key != "pit_s" and key != "python_s" else 0.05):
-                guess = model.cost(step, key, blocks, pairs)
-                rows.append([NAMES[step], key.replace("_mb", " MB").replace("_s", " s"), f"{a:.2f}", f"{b:.2f}", f"{c:.3f}", f"{guess:,.2f}", f"{at[key][step]:,.2f}", f"{100 * (guess / at[key][step] - 1):+.0f} %"])
-    lines(["a + b x million blocks + c x million pairs", "", "a", "b", "c", f"{CHECK} by the fit", "measured", "off"], rows)
+            if max(b, c) * 1e3 < 1 or (b + c) < 0.05:
+                continue
+            off = []
+            for name in others:
+                at = model.found[(model.found.model == name) & (model.found.step == step)].iloc[0]
+                off.append(f"{100 * (model.cost(step, key, at.blocks, at.pairs) / at[key] - 1):+.0f} %" if at[key] else "")
+            rows.append([NAMES[step], key.replace("_mb", " MB").replace("_s", " s"), f"{a:.2f}", f"{b:.2f}", f"{c:.3f}", *off])
+    lines(["a + b x million blocks + c x million pairs", "", "a", "b", "c", *(f"off at {name}" for name in others)], rows)
 
 
 REALISATIONS, PITS, BLOCKS = 100, 20, 10_000_000
@@ -261,7 +281,7 @@ class Case:
     Attributes
     ----------
     pairs : float
-        As many a block as the model of the check has.
+        As many a block as the largest of the fitted models has.
     begin_s, pit_s : float
         Processor seconds of a task before its first pit, and of each pit.
     held_mb, asked_mb, scratch_mb : float
@@ -269,7 +289,7 @@ class Case:
     """
 
     def __init__(self, model):
-        at = model.found[model.found.model == CHECK].iloc[0]
+        at = model.found[model.found.model.isin(FITTED)].sort_values("blocks").iloc[-1]
         self.model, self.pairs = model, BLOCKS * at.pairs / at.blocks
         self.begin_s = sum(self.cost(step, key) for step in ("start", "blocks") for key in ("python_s", "pit_s"))
         self.pit_s = self.cost("pit", "python_s") + self.cost("pit", "pit_s")
@@ -280,9 +300,10 @@ class Case:
     def cost(self, step, key):
         return self.model.cost(step, key, BLOCKS, self.pairs)
 
-    def each(self, step, key, of):
-        """What a step costs for `of` realisations at all factors; it was measured for one at fewer."""
-        return self.cost(step, key) * of * (PITS / len(FACTORS) if step == "read" else 1)
+    def tables_s(self):
+        """Processor seconds of `pitplan risk` when all is found."""
+        each = 2 * self.cost("price", "python_s") + PITS * self.cost("again", "python_s") + self.cost("worths", "python_s")
+        return self.cost("open", "python_s") + REALISATIONS * each
 
     def work(self):
         from simulated_cluster import Work
@@ -309,9 +330,9 @@ def show_case(case):
            ["read by all tasks, mostly from memory, GB", f"{REALISATIONS * (case.cost('start', 'read_mb') + case.cost('blocks', 'read_mb') + PITS * case.cost('pit', 'read_mb')) / 1000:,.0f}"],
            ["written by all tasks into scratch, GB", f"{REALISATIONS * (case.cost('blocks', 'written_mb') + PITS * case.cost('pit', 'written_mb')) / 1000:,.0f}"],
            ["kept on the shared disk, GB", f"{REALISATIONS * PITS * case.kept_mb / 1000:.1f}"],
-           ["pitplan risk before, minutes", f"{case.cost('look', 'python_s') * REALISATIONS / 60:.0f}"],
-           ["pitplan risk afterwards, hours of one core", f"{(case.each('read', 'python_s', REALISATIONS) + case.each('likely', 'python_s', REALISATIONS)) / 3600:.1f}"],
-           ["its memory, GB", f"{(case.cost('read', 'memory_mb') + (PITS - len(FACTORS)) * BLOCKS * 2 / 1e6) / 1000:.1f}"]])
+           ["pitplan risk before, to look through the grades, s", f"{case.cost('look', 'python_s') * REALISATIONS:.0f}"],
+           ["pitplan risk afterwards, minutes of one core", f"{case.tables_s() / 60:.0f}"],
+           ["memory of that, GB", f"{(max(case.cost(step, 'memory_mb') for step in ('open', 'price', 'again', 'worths')) + PITS * BLOCKS * 2 / 1e6) / 1000:.1f}"]])
 
 
 def show_limits(case):
@@ -361,7 +382,7 @@ def show():
 
 def rewritten(page, printed):
     """A page with the parts of what was printed in place of its indented blocks, one for one."""
-    parts = iter(re.sub(r"^", "    ", part, flags=re.M) + "\n" for part in printed.strip().split("\n\n"))
+    parts = iter(re.sub(r"^", "    ", part, flags=re.M) + "\n" for part in printed.strip("\n").split("\n\n"))
     return re.sub(r"(?:^    .*\n)+", lambda block: next(parts), page, flags=re.M)
 
 

@@ -615,7 +615,7 @@ def test_firefox(file, shells, compared):
         assert len(set(seen)) == 3
         assert firefox.execute_script("return document.querySelector('#facts dd').textContent") == f"{shells.verdicts[-1]['count']:,}"
         firefox.press("#what", "\ue010")
-        ready(lambda: firefox.execute_script("return V === D.views[2] && H === V.H"))
+        ready(lambda: firefox.execute_script("return document.getElementById('slides').textContent === 'Surface of'"))
         assert firefox.execute_script("return document.querySelector('#facts dd').textContent") == f"{compared.design.held.sum():,}"
         firefox.press("#way", "\ue010")
         assert firefox.execute_script("return document.getElementById('where').textContent").startswith("bench ")

@@ -11,7 +11,7 @@ use crate::traced_asked::TracedAsked;
 use crate::tracing::trace_net;
 use closure_net::{Net, laws};
 use engines::mine_inputs::{MineToSolve, mine_to_solve};
-use engines::{EngineFault, MineInputs, Verdict};
+use engines::{EngineFault, MineInputs, Outcome, Verdict};
 use fixed_worth::{CountedRead, CountedWrite};
 use ordered_group::{Group, OrderedGroup, Scaled, Worth, WorthSize};
 use std::alloc::Global;
@@ -42,7 +42,7 @@ use workers::{Audited, Gate, Locked, Shared};
 pub fn solve_traced_engine<
     R: Threads + Wait + Sync,
     D: CountedRead,
-    T: Gate,
+    T: Gate + Outcome,
     V: CountedWrite,
     W: CountedWrite,
 >(
@@ -71,7 +71,7 @@ pub fn solve_traced_engine<
 }
 
 // The same once the mine is read: the certificate names its price.
-fn trace_mine<R: Threads + Wait + Sync, T: Gate, V: CountedWrite, W: CountedWrite>(
+fn trace_mine<R: Threads + Wait + Sync, T: Gate + Outcome, V: CountedWrite, W: CountedWrite>(
     rt: &R,
     alloc: Global,
     mine: MineToSolve,
@@ -104,7 +104,13 @@ fn trace_mine<R: Threads + Wait + Sync, T: Gate, V: CountedWrite, W: CountedWrit
 }
 
 // The same, in amounts of the group G.
-fn trace_by<G: OrderedGroup, R: Threads + Wait + Sync, T: Gate, V: CountedWrite, W: CountedWrite>(
+fn trace_by<
+    G: OrderedGroup,
+    R: Threads + Wait + Sync,
+    T: Gate + Outcome,
+    V: CountedWrite,
+    W: CountedWrite,
+>(
     rt: &R,
     alloc: Global,
     mine: MineToSolve,

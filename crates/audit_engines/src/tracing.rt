@@ -15,7 +15,7 @@ use check_pit::Price;
 use closure_net::{Flow, Net};
 use engines::certify::{Uncertified, certified};
 use engines::net_answer::{write_answer, write_no};
-use engines::{Effort, EngineFault, Verdict};
+use engines::{Effort, EngineFault, Outcome, Verdict};
 use fixed_worth::CountedWrite;
 use ordered_group::OrderedGroup;
 use std::alloc::Global;
@@ -34,7 +34,7 @@ use workers::{AuditEnd, AuditFault, Audited, Gate, Locked, Shared, SolveFault, s
 pub fn trace_net<
     G: OrderedGroup,
     R: Threads + Wait + Sync,
-    T: Gate,
+    T: Gate + Outcome,
     V: CountedWrite,
     W: CountedWrite,
 >(
@@ -61,7 +61,7 @@ where
     let AuditFault { fault, history } = match run {
         Ok(audit) => {
             write_trace(audit.history.as_slice(), trace)?;
-            return tell_flow(alloc, net, price, audit.flow, out);
+            return tell_flow(alloc, net, price, audit.flow, gate, out);
         }
         Err(ended) => ended,
     };
@@ -98,11 +98,12 @@ fn tell_no<V: CountedWrite, W: CountedWrite>(
 }
 
 // Writes the certificate of the flow that a run leaves, or that a sum of its check doesn't fit.
-fn tell_flow<G: OrderedGroup, W: CountedWrite>(
+fn tell_flow<G: OrderedGroup, T: Outcome, W: CountedWrite>(
     alloc: Global,
     net: &Net<G>,
     price: Price,
     flow: Flow<G>,
+    watch: &T,
     out: &mut W,
 ) -> Result<Verdict, EngineFault>
     requires price { IsPrice price }
@@ -113,7 +114,7 @@ fn tell_flow<G: OrderedGroup, W: CountedWrite>(
     ensures kept { ¬ IsErrOf result EngineFault.Device → W.failed out.new ≡ W.failed out.old }
 {
     match certified(alloc, net, flow) {
-        Ok(solution) => write_answer(net, price, Ok(solution), out),
+        Ok(solution) => write_answer(net, price, Ok(solution), watch, out),
         Err(Uncertified::NoMemory) => Err(EngineFault::Memory),
         // what the source reaches in a greatest flow is closed and tight, so only sums that overflow are left
         Err(Uncertified::Refused(_)) => write_no(b"REFUSED TooLarge\n", out),

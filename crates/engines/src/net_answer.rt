@@ -10,23 +10,26 @@ ghost use Rattle.engines.specs.NetAnswers.{SendsCertificate, SendsNo};
 use crate::certify::Solution;
 use crate::engine_fault::EngineFault;
 use crate::judgement::Verdict;
+use crate::outcome::Outcome;
 use crate::solving::Unsolved;
 use check_pit::{Certificate, Price, write_certificate};
 use closure_net::Net;
 use fixed_worth::{CountedWrite, write_text};
 use ordered_group::OrderedGroup;
 
-/// Writes what was found for a net: the certificate of a solution, at this price, or a line that says why there is none.
+/// Writes what was found for a net: the certificate of a solution, at this price, or a line that says why there is none. Whoever
+/// waits is told of a pit whose certificate was written.
 ///
 /// A solution is one of this net: its flow proves its pit.
 ///
 /// # Errors
 /// `Memory`, `Thread` and `Stranger` where that is why: then nothing was written. `Device` where a write fails: the writer then has a
 /// prefix.
-pub fn write_answer<G: OrderedGroup, W: CountedWrite>(
+pub fn write_answer<G: OrderedGroup, T: Outcome, W: CountedWrite>(
     net: &Net<G>,
     price: Price,
     found: Result<Solution<G>, Unsolved>,
+    watch: &T,
     out: &mut W,
 ) -> Result<Verdict, EngineFault>
     requires price { IsPrice price }
@@ -55,6 +58,7 @@ pub fn write_answer<G: OrderedGroup, W: CountedWrite>(
         flow: solution.flow,
     };
     write_certificate(&certificate, net.rests(), out)?;
+    watch.proved(solution.count, net.len(), solution.worth);
     Ok(Verdict::Done)
 }
 

@@ -12,6 +12,7 @@ use crate::engine_fault::EngineFault;
 use crate::judgement::Verdict;
 use crate::mine_inputs::{MineInputs, MineToSolve, mine_to_solve};
 use crate::net_answer::write_answer;
+use crate::outcome::Outcome;
 use crate::solve_asked::SolveAsked;
 use crate::solving::solution_of;
 use closure_net::{Net, laws};
@@ -44,7 +45,12 @@ use workers::{Gate, Locked, Shared, TurnBoard};
 /// a write fails: the writer has then received a prefix of the answer, and at every other fault nothing.
 ///
 /// Each device must have counted fewer than 2^64 - 1 failures, so that one more can be counted.
-pub fn solve_engine<R: Threads + Wait + Sync, D: CountedRead, T: Gate + Progress, W: CountedWrite>(
+pub fn solve_engine<
+    R: Threads + Wait + Sync,
+    D: CountedRead,
+    T: Gate + Progress + Outcome,
+    W: CountedWrite,
+>(
     rt: &R,
     alloc: Global,
     inputs: &mut MineInputs<D>,
@@ -68,7 +74,7 @@ pub fn solve_engine<R: Threads + Wait + Sync, D: CountedRead, T: Gate + Progress
 }
 
 // The same once the mine is read: the certificate names its price.
-fn solve_mine<R: Threads + Wait + Sync, T: Gate + Progress, W: CountedWrite>(
+fn solve_mine<R: Threads + Wait + Sync, T: Gate + Progress + Outcome, W: CountedWrite>(
     rt: &R,
     alloc: Global,
     mine: MineToSolve,
@@ -95,7 +101,12 @@ fn solve_mine<R: Threads + Wait + Sync, T: Gate + Progress, W: CountedWrite>(
 }
 
 // The same, in amounts of the group G.
-fn solve_by<G: OrderedGroup, R: Threads + Wait + Sync, T: Gate + Progress, W: CountedWrite>(
+fn solve_by<
+    G: OrderedGroup,
+    R: Threads + Wait + Sync,
+    T: Gate + Progress + Outcome,
+    W: CountedWrite,
+>(
     rt: &R,
     alloc: Global,
     mine: MineToSolve,
@@ -117,5 +128,5 @@ where
     // proof: what is known of every net, that its pairs are of its blocks and in order
     let _worths = net.worths();
     let found = solution_of(rt, alloc, &net, effort, gate);
-    write_answer(&net, mine.price, found, out)
+    write_answer(&net, mine.price, found, gate, out)
 }

@@ -1,9 +1,10 @@
 //! A run that nobody watches.
 
+use crate::outcome::Outcome;
 use pseudoflow::Progress;
 use workers::Gate;
 
-/// A gate that is always open, and a progress that tells nobody.
+/// A gate that is always open, and a progress and an outcome that tell nobody.
 #[derive(Clone, Copy)]
 pub struct Unwatched;
 
@@ -13,4 +14,8 @@ impl Gate for Unwatched {
 
 impl Progress for Unwatched {
     fn report(&self, _settled: u32, _blocks: u32) {}
+}
+
+impl Outcome for Unwatched {
+    fn proved(&self, _count: u32, _blocks: u32, _worth: i128) {}
 }

@@ -117,5 +117,12 @@ pub fn listed_slopes_files<R: Files + Print + Eprint + AllocGlobal>(
     let mut blocks = heard_file(rt, words.verbose, words.blocks, bound)?;
     let mut out = Counted::new(output(rt, words.verbose, None));
     let selection = selection_asked(words);
-    slopes_from_settings_engine(rt.alloc(), &mut settings, &mut blocks, up, selection, &mut out)
+    slopes_from_settings_engine(
+        rt.alloc(),
+        &mut settings,
+        &mut blocks,
+        up,
+        selection,
+        &mut out,
+    )
 }

@@ -29,7 +29,7 @@ use effort_words::effort_for_series;
 use engines::{EngineFault, Unwatched, Verdict, status, stored_check, write_fault};
 use files::{check_files, listed_slopes_files, replay_files, series_files, slopes_file};
 use fixed_worth::Counted;
-use progress::Meter;
+use progress::{Meter, PROGRESS_ALONE, Tells};
 use reasons::{tell_choice, tell_slope_reason};
 use shells::Factor;
 use slopes_words::{pattern_asked, up_asked};
@@ -129,8 +129,12 @@ fn solved<R: Files + Print + Eprint + Clock + Threads + Wait + Sync + AllocGloba
     solving: SolvingAsked<'_>,
     factor: Factor,
 ) -> Result<Verdict, EngineFault> {
-    if words.progress {
-        let meter = Meter::new(rt, solving.steps());
+    let tells = Tells {
+        progress: words.progress,
+        outcome: words.verbose,
+    };
+    if words.progress || words.verbose {
+        let meter = Meter::new(rt, solving.steps(), tells);
         solve_files(rt, words, solving, factor, &meter)
     } else {
         solve_files(rt, words, solving, factor, &Unwatched)
@@ -159,7 +163,12 @@ fn series<R: Files + Print + Eprint + Clock + Threads + Wait + Sync + AllocGloba
     };
     tell_choice(rt, words.verbose, words.method, words.steps);
     let verdict = if words.progress {
-        series_files(rt, words, effort, &Meter::new(rt, effort.steps))?
+        series_files(
+            rt,
+            words,
+            effort,
+            &Meter::new(rt, effort.steps, PROGRESS_ALONE),
+        )?
     } else {
         series_files(rt, words, effort, &Unwatched)?
     };

@@ -1,7 +1,9 @@
-//! How far a run is, for the one who waits for it.
+//! How far a run is and what it found, for the one who waits for it.
 
 ghost use Rattle.std.specs.Prelude.{◌≡◌};
 
+use engines::Outcome;
+use fixed_worth::Nanos;
 use pseudoflow::Progress;
 use shell_engines::SeriesProgress;
 use std::rt::Clock;
@@ -12,6 +14,21 @@ use workers::Gate;
 // How many turns of a worker there are from one look at the clock to the next: some milliseconds.
 const STRIDE: u64 = 1 << 16;
 
+/// What a meter tells.
+#[derive(Clone, Copy)]
+pub struct Tells {
+    /// How far the run is.
+    pub progress: bool,
+    /// What `solve` found.
+    pub outcome: bool,
+}
+
+/// How far the run is, and no more.
+pub const PROGRESS_ALONE: Tells = Tells {
+    progress: true,
+    outcome: false,
+};
+
 /// Tells on standard error, at most once a second, how far an engine is, and how many seconds have passed: of
 /// pseudoflow the blocks that are settled; of the machine the steps that were made and what share of the limit that is.
 /// Of shells and of the bench table it tells each factor at which a pit is proved. As a gate of the machine it is always
@@ -21,6 +38,7 @@ const STRIDE: u64 = 1 << 16;
 pub struct Meter<'a, R> {
     rt: &'a R,
     limit: u64,
+    tells: Tells,
     began: Option<Instant>,
     turns: AtomicU64,
     told: AtomicU64,
@@ -28,10 +46,11 @@ pub struct Meter<'a, R> {
 
 impl<'a, R: Clock + Eprint> Meter<'a, R> {
     /// Begins to count the steps of a run with this limit.
-    pub fn new(rt: &'a R, limit: u64) -> Meter<'a, R> {
+    pub fn new(rt: &'a R, limit: u64, tells: Tells) -> Meter<'a, R> {
         Meter {
             rt,
             limit,
+            tells,
             began: Instant::now(rt).ok(),
             turns: AtomicU64::new(0),
             told: AtomicU64::new(0),
@@ -51,6 +70,9 @@ impl<'a, R: Clock + Eprint> Meter<'a, R> {
 
     // The second that has begun, if nothing was told in it yet: it is taken by the one who asks.
     fn new_second(&self) -> Option<u64> {
+        if !self.tells.progress {
+            return None;
+        }
         let seconds = self.seconds()?;
         let told = self.told.load(Ordering::SeqCst);
         let is_mine = told < seconds
@@ -95,5 +117,17 @@ impl<R: Clock + Eprint> SeriesProgress for Meter<'_, R> {
         let _ = self.rt.eprintln(format_args!(
             "progress: factor {factor}: the pit is proved, {place} of {count}"
         ));
+    }
+}
+
+impl<R: Clock + Eprint> Outcome for Meter<'_, R> {
+    fn proved(&self, count: u32, blocks: u32, worth: i128) {
+        if self.tells.outcome {
+            let seconds = self.seconds().unwrap_or(0);
+            let worth = Nanos(worth);
+            let _ = self.rt.eprintln(format_args!(
+                "proved: {count} of {blocks} blocks, worth {worth}, {seconds} s"
+            ));
+        }
     }
 }

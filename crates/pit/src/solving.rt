@@ -6,7 +6,7 @@ use crate::solving_asked::SolvingAsked;
 use crate::told::output;
 use audit_engines::{TracedAsked, solve_traced_engine};
 use command_line::SolveWords;
-use engines::{EngineFault, SolveAsked, Verdict, solve_engine};
+use engines::{EngineFault, Outcome, SolveAsked, Verdict, solve_engine};
 use fixed_worth::Counted;
 use pseudoflow::Progress;
 use shells::Factor;
@@ -19,7 +19,7 @@ use workers::Gate;
 /// Solves the mine of files as it is asked for, where its blocks have prices at a factor.
 pub fn solve_files<
     R: Files + Print + Eprint + Threads + Wait + Sync + AllocGlobal,
-    T: Gate + Progress,
+    T: Gate + Progress + Outcome,
 >(
     rt: &R,
     words: SolveWords<'_>,
@@ -56,12 +56,11 @@ pub fn solve_files<
 }
 
 // Solves it by a run without a lock.
-fn words_files<'a, R: Files + Print + Eprint + Threads + Wait + Sync + AllocGlobal, T: Gate>(
-    rt: &'a R,
-    words: SolveWords<'a>,
-    asked: WordsAsked,
-    watch: &T,
-) -> Result<Verdict, EngineFault> {
+fn words_files<
+    'a,
+    R: Files + Print + Eprint + Threads + Wait + Sync + AllocGlobal,
+    T: Gate + Outcome,
+>(rt: &'a R, words: SolveWords<'a>, asked: WordsAsked, watch: &T) -> Result<Verdict, EngineFault> {
     let mut mine = open_mine(rt, words.verbose, words.prec, words.model)?;
     let mut out = Counted::new(output(rt, words.verbose, Some(advice_to_solve(words))));
     solve_words_engine(rt, rt.alloc(), &mut mine, asked, watch, &mut out)
@@ -71,7 +70,7 @@ fn words_files<'a, R: Files + Print + Eprint + Threads + Wait + Sync + AllocGlob
 fn method_files<
     'a,
     R: Files + Print + Eprint + Threads + Wait + Sync + AllocGlobal,
-    T: Gate + Progress,
+    T: Gate + Progress + Outcome,
 >(rt: &'a R, words: SolveWords<'a>, asked: SolveAsked, watch: &T) -> Result<Verdict, EngineFault> {
     let mut mine = open_mine(rt, words.verbose, words.prec, words.model)?;
     let mut out = Counted::new(output(rt, words.verbose, Some(advice_to_solve(words))));
@@ -79,7 +78,11 @@ fn method_files<
 }
 
 // Solves it by the push-relabel machine, and writes the trace of the run to a file.
-fn trace_files<'a, R: Files + Print + Eprint + Threads + Wait + Sync + AllocGlobal, T: Gate>(
+fn trace_files<
+    'a,
+    R: Files + Print + Eprint + Threads + Wait + Sync + AllocGlobal,
+    T: Gate + Outcome,
+>(
     rt: &'a R,
     words: SolveWords<'a>,
     asked: TracedAsked,

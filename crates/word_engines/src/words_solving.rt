@@ -13,7 +13,7 @@ use crate::words_asked::WordsAsked;
 use closure_net::{Net, laws};
 use engines::mine_inputs::{MineToSolve, mine_to_solve};
 use engines::net_answer::write_answer;
-use engines::{EngineFault, MineInputs, Verdict};
+use engines::{EngineFault, MineInputs, Outcome, Verdict};
 use fixed_worth::{CountedRead, CountedWrite};
 use ordered_group::Scaled;
 use std::alloc::Global;
@@ -35,7 +35,12 @@ use workers::Gate;
 /// The faults of `solve_engine`, in its order, except `Stranger`.
 ///
 /// Each device must have counted fewer than 2^64 - 1 failures, so that one more can be counted.
-pub fn solve_words_engine<R: Threads + Wait + Sync, D: CountedRead, T: Gate, W: CountedWrite>(
+pub fn solve_words_engine<
+    R: Threads + Wait + Sync,
+    D: CountedRead,
+    T: Gate + Outcome,
+    W: CountedWrite,
+>(
     rt: &R,
     alloc: Global,
     inputs: &mut MineInputs<D>,
@@ -59,7 +64,7 @@ pub fn solve_words_engine<R: Threads + Wait + Sync, D: CountedRead, T: Gate, W: 
 }
 
 // The same once the mine is read: the certificate names its price.
-fn mine_by_words<R: Threads + Wait + Sync, T: Gate, W: CountedWrite>(
+fn mine_by_words<R: Threads + Wait + Sync, T: Gate + Outcome, W: CountedWrite>(
     rt: &R,
     alloc: Global,
     mine: MineToSolve,
@@ -80,5 +85,5 @@ fn mine_by_words<R: Threads + Wait + Sync, T: Gate, W: CountedWrite>(
     // proof: what is known of every net, that its pairs are of its blocks and in order
     let _worths = net.worths();
     let found = by_words(rt, alloc, &net, effort, gate);
-    write_answer(&net, mine.price, found, out)
+    write_answer(&net, mine.price, found, gate, out)
 }

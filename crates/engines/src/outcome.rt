@@ -1,0 +1,7 @@
+//! Who is told of the pit that was found.
+
+/// Is told of a pit once its certificate is written.
+pub trait Outcome {
+    /// So many of the mine's blocks are in the pit, which is worth so many billionths.
+    fn proved(&self, count: u32, blocks: u32, worth: i128);
+}
