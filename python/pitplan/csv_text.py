@@ -8,6 +8,7 @@ import re
 import warnings
 import zlib
 from collections.abc import Collection, Sequence
+from contextlib import suppress
 from dataclasses import dataclass
 from pathlib import Path
 from typing import IO, Any, cast
@@ -109,6 +110,8 @@ def head_of(path: Path, encoding: str = "utf-8-sig", lines: int = 12) -> list[st
                         try_this='save it as "CSV UTF-8", or encoding = "cp1252" in [model]') from None
     if not text or not text[0].strip():
         raise PlanError("has no header line", table=path)
+    if "\r" in text[0]:
+        raise PlanError("a carriage return stands within the header line", table=path, row=-1, try_this='save it as "CSV UTF-8", in which lines end as on Windows or Unix')
     return text
 
 
@@ -119,7 +122,10 @@ def separator_of(header: str) -> str:
 
 def names_of(header: str, separator: str) -> list[str]:
     """The names of the columns, without blanks and quotes around them; those without a name are called by number."""
-    names = [name.strip() for name in next(csv.reader([header], delimiter=separator, skipinitialspace=True))]
+    try:
+        names = [name.strip() for name in next(csv.reader([header], delimiter=separator, skipinitialspace=True))]
+    except csv.Error as error:               # a name of more than 128 kB
+        raise PlanError(f"the header line is none: {error}", row=-1) from None
     while names and not names[-1]:
         names.pop()                          # a separator at the end of the header line
     return [name or f"column {i + 1}" for i, name in enumerate(names)]
@@ -219,7 +225,7 @@ def parsed(path: Path, dialect: Dialect, names: Sequence[str], words: Collection
 
 def too_long(path: Path, dialect: Dialect, width: int) -> PlanError:
     """The error of the first row that has more cells than the header line."""
-    with opened(path) as file, io.TextIOWrapper(file, dialect.encoding, newline="") as text:
+    with suppress(csv.Error), opened(path) as file, io.TextIOWrapper(file, dialect.encoding, newline="") as text:       # a cell of more than 128 kB
         for row, cells_of in enumerate(csv.reader(text, delimiter=dialect.separator), -1):
             if row >= dialect.skip and len(cells_of) > width:
                 return PlanError(f"has {len(cells_of)} cells, and the header line {width}", table=path, row=row, try_this="is there a separator within a number or a name?")

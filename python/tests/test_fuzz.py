@@ -40,6 +40,15 @@ def test_a_first_row_with_more_cells_than_the_header_is_told(tmp_path):
         pp.read_table(tmp_path / "t.csv", size=mines.SIZE)
 
 
+@pytest.mark.parametrize("change, told", [(lambda text: text.replace(",ZC", ",\rZC", 1), "row 1: a carriage return stands within the header line"),
+                                          (lambda text: text.replace("\n", "\r"), "row 1: a carriage return stands within the header line"),
+                                          (lambda text: text.replace("ZC", "ZC," + "Z" * 140_000, 1), "row 1: the header line is none: field larger")])
+def test_a_header_line_that_is_none_is_told(tmp_path, change, told):
+    (tmp_path / "t.csv").write_bytes(change(mines.table(4, 4, 3, 1).to_csv(index=False)).encode())
+    with pytest.raises(PlanError, match=told):
+        pp.read_table(tmp_path / "t.csv", size=mines.SIZE)
+
+
 def test_a_name_with_a_byte_of_zeros_is_told():
     with pytest.raises(PlanError, match="can't be opened"):
         pp.read_table("\0", size=mines.SIZE)
