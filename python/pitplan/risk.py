@@ -474,8 +474,8 @@ def means(study: Study, setup: Setup) -> Means:
     table = model.numbers(setup.column, "realisations")[there][covered]
     metal = next(m for m in setup.economics["metals"] if m["grade"] == setup.column)
     whole = float(tonnes.sum())
-    found = (float((grades * tonnes).sum()) / whole if whole > 0 else np.nan for grades in (total[covered] / len(setup.digests), table))
-    return Means(metal["name"], metal["grade_unit"], *found, rows=int(covered.sum()))
+    simulated, planned = (float((grades * tonnes).sum()) / whole if whole > 0 else np.nan for grades in (total[covered] / len(setup.digests), table))
+    return Means(metal["name"], metal["grade_unit"], simulated, planned, int(covered.sum()))
 
 
 def spelled_factor(factor: int) -> str:
