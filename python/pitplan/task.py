@@ -26,7 +26,7 @@ if TYPE_CHECKING:
     from .program import Pit
 
 BASE = "base"
-MADE = 260                                   # bytes a block that a realisation's process holds beside its `pit`, at most (bench/scale.py)
+MADE = 200                                   # bytes a block that a realisation's process holds beside its `pit` (bench/scale.csv)
 PROCESS = 200_000_000                        # bytes of a process of this package with nothing in it
 
 
