@@ -207,13 +207,14 @@ def draw(shells: Shells, cut: Plane, style: Style, exaggeration: float) -> tuple
         each.set_major_formatter(SEPARATED)
     axes.locator_params(axis="x", nbins=7)
     figure.legend(handles=handles, loc="lower center", ncol=4, frameon=False)
-    axes.set_title(f"{model.name}: {cut.title}{stretched(exaggeration)}" + (f"\n{cut.note}" if cut.note else ""), fontsize=12)
+    axes.set_title(f"{model.name}: {cut.title}{second_line(cut, exaggeration)}", fontsize=12)
     return figure, axes
 
 
-def stretched(exaggeration: float) -> str:
-    """What a title says of heights that are drawn longer."""
-    return f", vertical exaggeration {exaggeration:g}" if exaggeration != 1 else ""
+def second_line(cut: Plane, exaggeration: float) -> str:
+    """What stands below a title: from where to where a slanting section runs, and by how much heights are drawn longer."""
+    words = [cut.note] * bool(cut.note) + [f"vertical exaggeration {exaggeration:g}"] * (exaggeration != 1)
+    return "\n" + ", ".join(words) if words else ""
 
 
 def sheet(wide: float, high: float) -> tuple[Figure, Any, Any]:

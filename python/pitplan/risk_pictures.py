@@ -31,7 +31,7 @@ def section(found: Risk, factor: int = THOUSAND, row: int | None = None) -> Figu
     from matplotlib import colormaps
     from matplotlib.lines import Line2D
     from matplotlib.patches import Patch
-    from .pictures import CASING, ROCK_EDGE, ROCK_HATCH, SEPARATED, add_fence, exaggeration_of, fullest_row, hatch, sheet, stretched
+    from .pictures import CASING, ROCK_EDGE, ROCK_HATCH, SEPARATED, add_fence, exaggeration_of, fullest_row, hatch, second_line, sheet
     likelihood, model = found.likelihood(factor), found.study.model
     if row is None:
         row = fullest_row(np.bincount(model.blocks.iy.to_numpy(), weights=likelihood, minlength=model.grid.shape[1]))
@@ -52,7 +52,7 @@ def section(found: Risk, factor: int = THOUSAND, row: int | None = None) -> Figu
     handles += add_fence(axes, shut, cut)
     figure.colorbar(image, cax=beside, label=f"Likelihood over {found.count} realisations")
     axes.set_aspect(exaggeration)
-    axes.set_title(f"{model.name}: {cut.title}, likelihood at factor {factor / THOUSAND:g}{stretched(exaggeration)}" + (f"\n{cut.note}" if cut.note else ""), fontsize=12)
+    axes.set_title(f"{model.name}: {cut.title}, likelihood at factor {factor / THOUSAND:g}{second_line(cut, exaggeration)}", fontsize=12)
     for each in (axes.xaxis, axes.yaxis):
         each.set_major_formatter(SEPARATED)
     axes.set_xlabel(cut.labels[0])

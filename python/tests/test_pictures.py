@@ -186,7 +186,7 @@ def test_a_flat_section_is_drawn_higher_and_says_so(tmp_path, nx, told):
     """Blocks of 20 x 20 x 15: a section of one level and six columns is 120 by 15, an eighth; a fifth is aimed at."""
     frame = table(nx, 3, 1, 1)
     figure = pictures.section(study_of(tmp_path, frame, economics=costs(mining=0.01)).shells([1000]), row=1)
-    assert figure.axes[0].get_aspect() == told and (f", vertical exaggeration {told}" in title(figure)) == (told > 1)
+    assert figure.axes[0].get_aspect() == told and title(figure).endswith(f"\nvertical exaggeration {told}") == (told > 1)
 
 
 def test_what_may_not_be_dug_has_a_pattern_of_its_own(tmp_path):

@@ -288,7 +288,12 @@ def test_a_mean_grade_other_than_the_tables_is_told(tmp_path, scale, said):
 
 def test_a_section_has_the_likelihood_of_its_blocks(tmp_path):
     from pitplan.risk_pictures import section
-    found = done(prepared(tmp_path, 5))
+    found = done(prepared(tmp_path, 5, economics=costs(forbid=["SECTOR == 'EAST' and ZC < 110"])))
+    last = found.study.model.grid.shape[1] - 1
+    by_row = np.bincount(found.study.model.blocks.iy, weights=found.likelihood(1000))
+    own = section(found, 1000)
+    assert f"northing {9000 + 20 * (1 + int(np.argmax(by_row[1:last]))):,}" in own.axes[0].get_title()
+    assert "May not be dug" in [text.get_text() for text in own.legends[0].get_texts()]
     row = 3
     figure = section(found, 1000, row)
     shown = figure.axes[0].collections[0].get_array()
