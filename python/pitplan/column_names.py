@@ -27,7 +27,7 @@ USUAL: dict[str, tuple[str, ...]] = {
     "dz": ("zinc", "dim_z", "_rl", "dz", "zlen", "zlength", "z_length", "size_z", "zsize", "z_size", "_z"),
     "tonnes": ("tonnes", "tonnage", "tons", "tonne", "ton", "mass", "toneladas", "tonelaje"),
     "density": ("density", "sg", "bd", "dens", "specific_gravity", "bulk_density", "insitu_density", "rho", "densidad", "densidade", "densite"),
-    "rock": ("rock", "rocktype", "rock_type", "rock type", "lith", "lithology", "material", "mat", "domain", "zone", "rtype", "zona", "litologia", "roca", "rocha", "roche"),
+    "rock": ("rock", "rocktype", "rock_type", "rock type", "lith", "lithology", "material", "mat", "domain", "zone", "rtype", "litologia", "roca", "rocha", "roche", "zona"),
 }
 PLACES = ("x", "y", "z")
 SIZES = ("dx", "dy", "dz")
