@@ -53,7 +53,8 @@ def risk(folder: Path = STUDY,
 def tell_means(study: Study, setup: Setup) -> None:
     """Says where the realisations aren't true to the table on the mean."""
     from .risk import means
-    found = means(study, setup)
+    with err.status("the realisations beside the table"):
+        found = means(study, setup)
     if not abs(found.share) > NEAR:
         return
     by = f"{abs(found.share):.1%} " if found.table > 0 else ""
