@@ -38,6 +38,8 @@ KINDS = (
     ("write", "interrupted", ("device",)),
     ("write", "nothing", ("device",)),
 )
+# Cases, words that are added to theirs, and how many threads are then started beside the caller's own.
+STARTS = tuple(("shells/the_copper_mine_with_a_mill", ["--method", "pseudoflow", "--workers", str(workers)], workers - 1) for workers in (1, 2, 3, 4))
 # How long a run may take, and what stands for the status of one that takes longer.
 SECONDS = 120
 NO_ANSWER = "no answer"
@@ -106,9 +108,21 @@ def tried(program, library, row, kind, how, lines):
                 wrong.append("call %d: status %s, output %r, errors %r" % (number, answer[0], answer[1][:80], answer[2][:200]))
 
 
+def starts(program, library, row, words, wanted):
+    """What is wrong with the number of threads that a case starts, or nothing."""
+    with tempfile.TemporaryDirectory() as room:
+        folder, mark = Path(room) / "case", Path(room) / "mark"
+        folder.mkdir()
+        words = lay_out(HERE / "cases" / row, folder) + words
+        for number in count(1):
+            run(program, words, folder, {"LD_PRELOAD": str(library), "FAIL_KIND": "thread", "FAIL_HOW": "error", "FAIL_AT": str(number), "FAIL_MARK": str(mark)})
+            if not mark.exists():
+                return None if number - 1 == wanted else "%s starts %d threads, and not %d" % (" ".join(words), number - 1, wanted)
+            mark.unlink()
+
+
 def try_all(program, is_told=False):
     """Tries all rows, prints a table where that is asked for, and gives how many calls were answered as they must be and how many not."""
-    passed = failed = 0
     with tempfile.TemporaryDirectory() as room:
         library = shim(room)
         if library is None:
@@ -117,6 +131,10 @@ def try_all(program, is_told=False):
         tasks = [(row, *kind) for row in ROWS for kind in KINDS]
         with ThreadPoolExecutor(len(os.sched_getaffinity(0))) as pool:
             results = list(pool.map(lambda task: tried(program, library, *task), tasks))
+            strange = list(filter(None, pool.map(lambda task: starts(program, library, *task), STARTS)))
+    for line in strange:
+        print(line)
+    passed, failed = len(STARTS) - len(strange), len(strange)
     for (row, kind, how, _), (met, wrong) in zip(tasks, results):
         if is_told or wrong:
             print("%-56s %-7s %-12s %5d calls, %d wrong" % (row, kind, how, met, len(wrong)))
