@@ -4,7 +4,8 @@
     bench/page.py [--columns N] [--levels N] [--pits N] [--rounds N]
 
 The model and its pits are made up (cones, one within the next), so that no `pit` is needed: 118 x 118 columns of 36 levels have
-501,264 blocks. The page has the pits, three pushbacks, and a design beside the best pit. Of the rounds the fewest seconds count; "ready" is by the page's own clock, from the opening to the first picture that is drawn.
+501,264 blocks. The page has the pits, three pushbacks, and a design beside the best pit; nearly all the seconds of writing
+it are the widths of the pushbacks. Of the rounds the fewest seconds count; "ready" is by the page's own clock, from the opening to the first picture that is drawn.
 """
 import argparse
 import os

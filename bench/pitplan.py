@@ -169,6 +169,7 @@ def main():
     if asked.only in (None, "read"):
         reading(asked.rounds)
     if asked.only in (None, "pit", "shells"):
+        OUT.mkdir(exist_ok=True)
         with tempfile.TemporaryDirectory(dir=OUT) as folder:
             Path(folder, "study.toml").write_text(STUDY.format(table=str(mine("mine80k", 60, 52, 30)), factors=[factor / 1000 for factor in FACTORS]))
             subprocess.run([str(TOP / "bin" / "pitplan"), "build", folder], check=True, stdout=subprocess.DEVNULL)

@@ -9,24 +9,37 @@ between two bearings the slope changes evenly.
 
 Offsets that the others imply are left out. Standard error says by how much the wall errs: on average over all bearings
 at most 0.5 degrees, and nowhere more than 1, or it says that this can't be held and what can. Python's standard library
-is enough; the search is in python/pitplan/offsets.py of this repository.
+is enough; the search is in python/pitplan/offsets.py of this repository, or in the pitplan that is installed.
 """
 from __future__ import annotations
 
 import argparse
 import importlib.util
 import math
+import shutil
 import sys
 from pathlib import Path
 
-SEARCH = Path(__file__).resolve().parent.parent / "python" / "pitplan" / "offsets.py"
+SEARCH = Path("pitplan") / "offsets.py"
+INSTALLED = "python", "lib/pontihaw", "lib/python3/dist-packages"        # beside bin/pitplan of the repository, of ./install, of Debian's package
+
+
+def places():
+    """Where the search may lie: in the repository of this script, in this Python's packages, or beside the command pitplan."""
+    yield Path(__file__).resolve().parent.parent / "python" / SEARCH
+    package, command = importlib.util.find_spec("pitplan"), shutil.which("pitplan")
+    if package:
+        yield from (Path(folder) / SEARCH.name for folder in package.submodule_search_locations or ())
+    if command:
+        yield from (Path(command).resolve().parent.parent / folder / SEARCH for folder in INSTALLED)
 
 
 def search_module():
     """The search, by its file alone: the package around it needs more than the standard library."""
-    found = importlib.util.spec_from_file_location("pitplan_offsets", SEARCH)
-    if not SEARCH.is_file() or found is None or found.loader is None:
-        sys.exit("offsets.py: there is no %s: run it where it lies in the repository" % SEARCH)
+    file = next((place for place in places() if place.is_file()), None)
+    found = file and importlib.util.spec_from_file_location("pitplan_offsets", file)
+    if not found or found.loader is None:
+        sys.exit("offsets.py: no pitplan is installed: install it, or run this script where it lies in the repository")
     module = importlib.util.module_from_spec(found)
     sys.modules[found.name] = module
     found.loader.exec_module(module)

@@ -93,6 +93,13 @@ class Priced:
         milled: Bools = self.revenue * factor > self.processing * THOUSAND
         return milled
 
+    def forbidden(self) -> Bools:
+        """Which blocks may not be dug, of shape (blocks,): digging one costs more than twice what the whole mine brings, as
+        `economics.fence_price` makes it."""
+        most = 2 * exact_sum(self.revenue)
+        forbidden: Bools = self.mining > most if most else np.zeros(len(self), bool)
+        return forbidden
+
     def worth_of(self, blocks: Bools, factor: int) -> str:
         """What a set of blocks is worth at a factor, exactly, spelled as `pit` spells a worth.
 

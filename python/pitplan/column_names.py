@@ -1,7 +1,9 @@
 """Which column of a table is which: the names that planning packages give to columns in their exports."""
 from __future__ import annotations
 
-from collections.abc import Mapping, Sequence
+import difflib
+import re
+from collections.abc import Callable, Mapping, Sequence
 
 from .errors import PlanError, meant
 
@@ -12,23 +14,27 @@ from .errors import PlanError, meant
 USUAL: dict[str, tuple[str, ...]] = {
     "id": ("id", "blockid", "block_id", "block id", "ijk", "block", "index", "blockno", "block_no", "bid", "bloque", "bloco", "bloc"),
     "x": ("x", "xc", "centroid_x", "xcentre", "xcenter", "x_centre", "x_center", "centre_x", "center_x", "mid_x", "xmid",
-          "east", "easting", "e", "xworld", "x_world", "xpt", "xm", "este", "leste", "est"),
+          "east", "easting", "e", "xworld", "x_world", "xpt", "xm", "este", "leste", "est",
+          "x_centro", "xcentro", "centro_x", "x_centroide", "centroide_x"),
     "y": ("y", "yc", "centroid_y", "ycentre", "ycenter", "y_centre", "y_center", "centre_y", "center_y", "mid_y", "ymid",
-          "north", "northing", "n", "yworld", "y_world", "ypt", "ym", "norte", "nord"),
+          "north", "northing", "n", "yworld", "y_world", "ypt", "ym", "norte", "nord",
+          "y_centro", "ycentro", "centro_y", "y_centroide", "centroide_y"),
     "z": ("z", "zc", "centroid_z", "zcentre", "zcenter", "z_centre", "z_center", "centre_z", "center_z", "mid_z", "zmid",
-          "rl", "elev", "elevation", "level", "zworld", "z_world", "zpt", "zm", "cota", "elevacion", "elevacao", "cote"),
+          "rl", "elev", "elevation", "level", "zworld", "z_world", "zpt", "zm", "cota", "elevacion", "elevacao", "cote",
+          "z_centro", "zcentro", "centro_z", "z_centroide", "centroide_z"),
     "dx": ("xinc", "dim_x", "_east", "dx", "xlen", "xlength", "x_length", "size_x", "xsize", "x_size", "_x"),
     "dy": ("yinc", "dim_y", "_north", "dy", "ylen", "ylength", "y_length", "size_y", "ysize", "y_size", "_y"),
     "dz": ("zinc", "dim_z", "_rl", "dz", "zlen", "zlength", "z_length", "size_z", "zsize", "z_size", "_z"),
     "tonnes": ("tonnes", "tonnage", "tons", "tonne", "ton", "mass", "toneladas", "tonelaje"),
     "density": ("density", "sg", "bd", "dens", "specific_gravity", "bulk_density", "insitu_density", "rho", "densidad", "densidade", "densite"),
-    "rock": ("rock", "rocktype", "rock_type", "rock type", "lith", "lithology", "material", "mat", "domain", "zone", "rtype", "litologia", "roca", "rocha", "roche"),
+    "rock": ("rock", "rocktype", "rock_type", "rock type", "lith", "lithology", "material", "mat", "domain", "zone", "rtype", "zona", "litologia", "roca", "rocha", "roche"),
 }
 PLACES = ("x", "y", "z")
 SIZES = ("dx", "dy", "dz")
+ALIKE = 0.6                                  # from 0 to 1: names that are less alike aren't offered
 
 
-def which_columns(header: Sequence[str], given: Mapping[str, str], table: str, try_this: str | None = None) -> dict[str, str]:
+def which_columns(header: Sequence[str], given: Mapping[str, str], table: str, typed: Callable[[dict[str, str]], str] | None = None) -> dict[str, str]:
     """The table's own name for each of `USUAL`, where it has one.
 
     Parameters
@@ -37,8 +43,8 @@ def which_columns(header: Sequence[str], given: Mapping[str, str], table: str, t
         The names in the header line.
     given : mapping
         What the planner says; it counts before the usual names.
-    try_this : str, optional
-        How to name a column of x, y or z, where it isn't by study.toml.
+    typed : callable, optional
+        How to name columns of x, y or z, where it isn't by study.toml: gets the nearest of the table's names for each that is missing.
 
     Raises
     ------
@@ -60,6 +66,30 @@ def which_columns(header: Sequence[str], given: Mapping[str, str], table: str, t
             found[key] = hits[0]
     missing = [key for key in PLACES if key not in found]
     if missing:
+        near = nearest(missing, [name for name in header if name not in found.values()])
         raise PlanError(f"no column is known as {', '.join(missing)}; the header line has {', '.join(header)}", table=table,
-                        try_this=try_this or "columns = { " + ", ".join(f'{key} = "..."' for key in missing) + " } in [model]")
+                        try_this=typed(near) if typed else "columns = { " + ", ".join(f'{key} = "{name}"' for key, name in near.items()) + " } in [model]")
     return found
+
+
+def nearest(missing: Sequence[str], names: Sequence[str]) -> dict[str, str]:
+    """For each of x, y and z the name that looks most like one of its usual names, each name once; NAME where none does.
+
+    >>> nearest(["x", "y"], ["LENGTH", "Y_LOCAL", "X_LOCAL"])
+    {'x': 'X_LOCAL', 'y': 'Y_LOCAL'}
+    """
+    found: dict[str, str] = {}
+    for key in missing:
+        free = [(alike(key, name), name) for name in names if name not in found.values()]
+        best = max(free, default=(0.0, ""), key=lambda of: of[0])
+        found[key] = best[1] if best[0] >= ALIKE else "NAME"
+    return found
+
+
+def alike(key: str, name: str) -> float:
+    """How much a name looks like the usual names of a key, from 0 to 1; x, y or z as a word of its own makes it one of that axis."""
+    word = name.lower()
+    letters = set(re.split(r"[^a-z0-9]+", word)) & set(PLACES)
+    if letters:
+        return 1.0 if key in letters else 0.0
+    return max(difflib.SequenceMatcher(None, usual, word).ratio() for usual in USUAL[key])

@@ -14,6 +14,8 @@ if TYPE_CHECKING:
 
     from .phases import Phases
 
+WORST = 3                                    # thin benches of a pushback that are named
+
 
 @app.command()
 def phases(factors: str = typer.Argument(..., help="Factors of the pits that end the pushbacks, ascending, as 0.5,0.75,1.0."), folder: Path = STUDY,
@@ -31,7 +33,7 @@ def phases(factors: str = typer.Argument(..., help="Factors of the pits that end
         with whole_file(target / name) as part:
             frame.to_csv(part, index=False)
     show(found, table)
-    tell_narrow(found, benches)
+    tell_narrow(found, benches, target / "phase_benches.csv")
     out.print(f"{target}: phases.csv, phase_benches.csv, phase_blocks.csv. After each pushback the mine is a proved pit; in which order benches are dug is the scheduler's", soft_wrap=True)
 
 
@@ -69,8 +71,8 @@ def counted(blocks: Any) -> str:
     return f"{int(blocks):,} {'block' if blocks == 1 else 'blocks'}"
 
 
-def tell_narrow(found: Phases, benches: pd.DataFrame) -> None:
-    """Names the benches of each pushback that are thinner than the mining width."""
+def tell_narrow(found: Phases, benches: pd.DataFrame, file: Path) -> None:
+    """Names the worst benches of each pushback that are thinner than the mining width, and the file that has all."""
     if found.mining_width is None:
         return
     thin = benches[benches.narrow_blocks > 0]
@@ -79,4 +81,6 @@ def tell_narrow(found: Phases, benches: pd.DataFrame) -> None:
     for (pushback, factor), part in thin.groupby(["pushback", "factor"]):
         err.print(f"[yellow]look:[/yellow] pushback {pushback} (factor {factor:g}) is thinner than {found.mining_width:g} m on {len(part)} "
                   f"{'bench' if len(part) == 1 else 'benches'}, {counted(part.narrow_blocks.sum())}, {part.narrow_t.sum() / 1e6:,.2f} Mt:", soft_wrap=True)
-        err.print("  " + ", ".join(f"{row.bench:,.10g} ({row.width:g} m, {counted(row.narrow_blocks)})" for row in part.itertuples()), soft_wrap=True)
+        worst = part.sort_values(["width", "narrow_blocks"], ascending=[True, False], kind="stable").head(WORST)
+        named = ", ".join(f"{row.bench:,.10g} ({row.width:g} m, {counted(row.narrow_blocks)})" for row in worst.itertuples())
+        err.print("  " + (named if len(part) <= WORST else escape(f"{named} are the worst; {file} has all")), soft_wrap=True)

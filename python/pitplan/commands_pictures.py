@@ -27,7 +27,7 @@ def plot(folder: Path = STUDY,
          column: List[int] = typer.Option([], help="Section along this column of the model (its y axis), counted from 0."),
          colour: str = typer.Option("shell", help="What colours the blocks: shell, value (worth at factor 1), or a column of the table."),
          pit: Optional[float] = typer.Option(None, show_default=False, help="The factor of the pit that is outlined: 1 unless told, or the largest."),
-         exaggerate: float = typer.Option(1.0, min=0.1, max=20.0, help="Draw heights so many times longer, in sections.")) -> None:
+         exaggerate: Optional[float] = typer.Option(None, min=0.1, max=20.0, show_default=False, help="Draw heights so many times longer, in sections; 1 unless told, or more in a flat model.")) -> None:
     """Draw the pit-by-pit graph, a plan and a section; or the plans and sections that are asked for: bench, north, east, row and column may be given several times."""
     from . import pictures
     shells, rates = shells_of(folder)

@@ -7,6 +7,7 @@ from pathlib import Path
 from typing import TYPE_CHECKING, Optional
 
 import typer
+from rich.markup import escape
 
 from .console import STUDY, app, described, err, opened, out, results
 from .errors import PlanError
@@ -14,9 +15,11 @@ from .next_command import command
 
 if TYPE_CHECKING:
     from .local import Heard
-    from .risk import Risk
+    from .risk import Risk, Setup
     from .study import Study
     from .task import Task
+
+NEAR = 0.02                                  # of the table's mean grade: by how much that of realisations may differ untold
 
 
 @app.command()
@@ -39,11 +42,25 @@ def risk(folder: Path = STUDY,
     setup = setup_of(study)
     if setup is None:
         raise PlanError("no realisations were asked for over the model that stands there", try_this=command("risk", folder, "--realisations", "FILE"))
+    tell_means(study, setup)
     if later:
         out.print(f"{len(setup.digests)} realisations at {len(setup.factors)} factors; then: {command('submit', folder)}, and {command('risk', folder)} for the tables", soft_wrap=True)
         return
     do_all(study, tasks(study), workers)
     write_risk(Risk(study))
+
+
+def tell_means(study: Study, setup: Setup) -> None:
+    """Says where the realisations aren't true to the table on the mean."""
+    from .risk import means
+    found = means(study, setup)
+    if not abs(found.share) > NEAR:
+        return
+    by = f"{abs(found.share):.1%} " if found.table > 0 else ""
+    err.print("[yellow]look:[/yellow] " + escape(
+        f"the realisations' mean grade of {found.metal} is {found.realisations:.4g} {found.unit}, {by}{'above' if found.share > 0 else 'below'} the table's "
+        f"{found.table:.4g} {found.unit}, by tonnes over {found.rows:,} rows: so their worths differ from the plan's, which is neither upside nor risk\n"
+        "  try: realisations whose mean is the table's, or a table whose mean is theirs"), soft_wrap=True)
 
 
 def do_all(study: Study, tasks: list[Task], workers: Optional[int]) -> None:

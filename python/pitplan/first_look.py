@@ -82,7 +82,7 @@ def look_at(table: Path, given: Mapping[str, str] | None = None) -> Look:
     """
     dialect = dialect_of(table)
     names = which_columns(names_of(head_of(table, dialect.encoding, 1)[0], dialect.separator), given or {}, table.name,
-                          command("init", ".", str(table), "--column", "x=...", "--column", "y=...", "--column", "z=..."))
+                          lambda near: command("init", ".", str(table), *(word for key, name in {**(given or {}), **near}.items() for word in ("--column", f"{key}={name}"))))
     frame = read_frame(table, dialect, [names[key] for key in ("id", "rock") if key in names])
     look = Look(dialect, names, len(frame), columns=[str(name) for name in frame.columns])
     look.absent = marks_in(frame, names)

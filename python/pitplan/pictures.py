@@ -32,6 +32,10 @@ from .shells import Shells
 from .units_shown import Scale, factor_text, scale_of
 
 ROCK_HATCH, ROCK_EDGE = "....", "#9a9a9a"
+FENCE_HATCH, FENCE_EDGE = "xxxx", "#6b6b6b"
+FLAT = 1 / 8             # of its width: a section that is lower is drawn higher
+EASY = 1 / 5             # of its width: how high, about
+MOST_EXAGGERATED = 20
 CASING = [patheffects.withStroke(linewidth=3.6, foreground="white")]
 THIN_CASING = [patheffects.withStroke(linewidth=2.4, foreground="white")]           # black dots on the darkest colour need one too
 SEPARATED = FuncFormatter(lambda value, _: f"{value:,.10g}")
@@ -49,13 +53,13 @@ class Style:
         "shell" (the first pit that has the block), "value" (worth at the base price), or a column of the model.
     pit : float or None
         The factor of the pit that is drawn by a thick line; None is 1, or the largest factor where 1 isn't there.
-    exaggeration : float
-        How much longer a metre up is drawn than a metre along, in sections.
+    exaggeration : float or None
+        How much longer a metre up is drawn than a metre along, in sections; None is 1, or a whole number in a flat model.
     """
 
     colour: str = "shell"
     pit: float | None = None
-    exaggeration: float = 1.0
+    exaggeration: float | None = None
 
 
 @dataclass(frozen=True)
@@ -85,8 +89,9 @@ def paint(shells: Shells, colour: str) -> Paint:
     """The colours of the blocks. Raises PlanError where the model has no such column."""
     if colour == "shell":
         return paint_shells(shells)
-    if colour == "value":
-        return paint_numbers(shells.study.priced.worth(THOUSAND), f"Worth of a block at factor 1 ({currency_of(shells)})")
+    if colour == "value":                    # what is forbidden is priced beyond all else, which no scale can show
+        priced = shells.study.priced
+        return paint_numbers(np.where(priced.forbidden(), np.nan, priced.worth(THOUSAND)), f"Worth of a block at factor 1 ({currency_of(shells)})")
     blocks = shells.study.model.blocks
     if colour not in blocks.columns:
         known = ["shell", "value", *(str(c) for c in blocks.columns if c not in ("ix", "iy", "iz", "row"))]
@@ -133,7 +138,21 @@ def middle_of(shells: Shells, style: Style = Style()) -> tuple[float, int]:
     inside = shells.holds(pit_index(shells, style.pit))
     blocks = model.blocks[inside] if inside.any() else model.blocks
     level = int(np.median(blocks["iz"].unique()))
-    return model.grid.origin[2] + (level - 0.5) * model.grid.size[2], int(blocks["iy"].mode().iloc[0])
+    return model.grid.origin[2] + (level - 0.5) * model.grid.size[2], fullest_row(np.bincount(blocks["iy"], minlength=model.grid.shape[1]))
+
+
+def fullest_row(amounts: NDArray[Any]) -> int:
+    """The row of the model with most of something; its first and last only where no other has any, since no wall is held beyond them."""
+    inner = amounts[1:-1]
+    return 1 + int(np.argmax(inner)) if (inner > 0).any() else int(np.argmax(amounts))
+
+
+def exaggeration_of(cut: Plane, asked: float | None = None) -> float:
+    """How much longer heights are drawn in a section: as asked, or so that a flat one is no strip."""
+    if asked is not None:
+        return asked
+    wide, high = float(np.ptp(cut.across)), float(np.ptp(cut.up))
+    return 1.0 if high >= wide * FLAT else float(min(max(round(wide * EASY / high), 2), MOST_EXAGGERATED))
 
 
 def plan(shells: Shells, elevation: float, style: Style = Style()) -> Figure:
@@ -159,7 +178,7 @@ def section(shells: Shells, *, north: float | None = None, east: float | None = 
         raise PlanError("a section lies at one place", try_this="one of north, east, row and column")
     axis, at, is_index = places[0]
     cut = planes.section(model, axis, int(at) if is_index else planes.line_at(model, axis, float(at)))
-    figure, axes = draw(shells, cut, style, style.exaggeration)
+    figure, axes = draw(shells, cut, style, exaggeration_of(cut, style.exaggeration))
     toes = np.unique(cut.up)
     high = figure.get_figheight() * axes.get_position().height    # inches
     most = min(12, max(2, int(high * LABELS_AN_INCH)))
@@ -170,14 +189,16 @@ def section(shells: Shells, *, north: float | None = None, east: float | None = 
 
 def draw(shells: Shells, cut: Plane, style: Style, exaggeration: float) -> tuple[Figure, Any]:
     """The blocks of a plane, the outlines of pits, the key and the titles."""
-    model, colours = shells.study.model, paint(shells, style.colour)
+    model, colours, fence = shells.study.model, paint(shells, style.colour), shells.study.priced.forbidden()
     figure, axes, beside = sheet(float(np.ptp(cut.across)), float(np.ptp(cut.up)) * exaggeration)
     shown = np.where(cut.number >= 0, colours.values[cut.number], np.nan)
     image = axes.pcolormesh(cut.across, cut.up, shown, cmap=colours.colours, norm=colours.norm)
-    hatch(axes, (cut.number >= 0) & np.isnan(shown), cut)
+    shut = (cut.number >= 0) & fence[cut.number]
+    hatch(axes, (cut.number >= 0) & np.isnan(shown) & ~shut, cut)
     handles = add_outlines(axes, shells, cut, pit_index(shells, style.pit))
     if style.colour == "shell":
         handles.append(Patch(facecolor="white", edgecolor=ROCK_EDGE, hatch=ROCK_HATCH, label="Rock in no pit"))
+    handles += add_fence(axes, shut, cut)
     add_colour_bar(figure, beside, image, colours)
     axes.set_aspect(exaggeration)
     axes.set_xlabel(cut.labels[0])
@@ -186,9 +207,14 @@ def draw(shells: Shells, cut: Plane, style: Style, exaggeration: float) -> tuple
         each.set_major_formatter(SEPARATED)
     axes.locator_params(axis="x", nbins=7)
     figure.legend(handles=handles, loc="lower center", ncol=4, frameon=False)
-    stretched = f", vertical exaggeration {exaggeration:g}" if exaggeration != 1 else ""
-    axes.set_title(f"{model.name}: {cut.title}{stretched}" + (f"\n{cut.note}" if cut.note else ""), fontsize=12)
+    axes.set_title(f"{model.name}: {cut.title}{second_line(cut, exaggeration)}", fontsize=12)
     return figure, axes
+
+
+def second_line(cut: Plane, exaggeration: float) -> str:
+    """What stands below a title: from where to where a slanting section runs, and by how much heights are drawn longer."""
+    words = [cut.note] * bool(cut.note) + [f"vertical exaggeration {exaggeration:g}"] * (exaggeration != 1)
+    return "\n" + ", ".join(words) if words else ""
 
 
 def sheet(wide: float, high: float) -> tuple[Figure, Any, Any]:
@@ -237,8 +263,16 @@ def add_outlines(axes: Any, shells: Shells, cut: Plane, chosen: int) -> list[Any
     return handles
 
 
-def hatch(axes: Any, cells: NDArray[np.bool_], cut: Plane) -> None:
-    """Dots over a set of cells: one outline for each run of cells in a row."""
+def add_fence(axes: Any, cells: NDArray[np.bool_], cut: Plane) -> list[Any]:
+    """Crosses over what may not be dug, upon whatever colour it has; gives their handle, or none where nothing is forbidden here."""
+    if not cells.any():
+        return []
+    hatch(axes, cells, cut, (FENCE_HATCH, FENCE_EDGE), "none")
+    return [Patch(facecolor="white", edgecolor=FENCE_EDGE, hatch=FENCE_HATCH, label="May not be dug")]
+
+
+def hatch(axes: Any, cells: NDArray[np.bool_], cut: Plane, pattern: tuple[str, str] = (ROCK_HATCH, ROCK_EDGE), face: str = "white") -> None:
+    """A pattern over a set of cells, dots unless told: one outline for each run of cells in a row."""
     edge = np.diff(np.pad(cells, ((0, 0), (1, 1))).astype(np.int8), axis=1)
     (rows, first), (_, end) = np.nonzero(edge == 1), np.nonzero(edge == -1)
     if not len(rows):
@@ -246,7 +280,7 @@ def hatch(axes: Any, cells: NDArray[np.bool_], cut: Plane) -> None:
     corners = [(rows, first), (rows, end), (rows + 1, end), (rows + 1, first), (rows, first)]
     points = np.stack([np.stack([cut.across[c], cut.up[c]], axis=-1) for c in corners], axis=1).reshape(-1, 2)
     codes = np.tile([Outline.MOVETO, Outline.LINETO, Outline.LINETO, Outline.LINETO, Outline.CLOSEPOLY], len(rows))
-    axes.add_patch(PathPatch(Outline(points, codes), facecolor="white", edgecolor=ROCK_EDGE, hatch=ROCK_HATCH, linewidth=0, zorder=0.5))
+    axes.add_patch(PathPatch(Outline(points, codes), facecolor=face, edgecolor=pattern[1], hatch=pattern[0], linewidth=0, zorder=0.5 if face == "white" else 1.5))
 
 
 def add_north_and_scale(axes: Any) -> None:

@@ -28,7 +28,9 @@ BUILT = (TOP / "out" / "pit", TOP / "crates" / "pit" / "out" / "pit")      # whe
 PIECE = 1 << 20
 HEAD = 4                                     # lines before the PIT lines of a certificate
 BEHIND = (b"SOURCE ", b"REST ", b"SINK ", b"END")
-HINTS = {"UNSETTLED": "the run was cut off before its pit was proved: tell the maintainers of this mine",
+ROOM = "make room on the disk, and start the same command again: what is done is kept"
+HINTS = {"No space left on device": ROOM, "Disk quota exceeded": ROOM,
+         "UNSETTLED": "the run was cut off before its pit was proved: tell the maintainers of this mine",
          "TooLarge": "the amounts are too large together: rounding = 1000 in [economics], or prices and costs in thousands",
          "memory": "memory was refused: fewer --workers", "device": "a file couldn't be read or written: is the disk full?"}
 BEGUN = object()                             # what only Pit.check hands to an Accepted

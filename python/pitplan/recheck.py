@@ -144,8 +144,9 @@ def pieces(file: BinaryIO, most: int) -> Iterator[bytes]:
             yield data
 
 
-def judged(pit: str, path: Path, most: int) -> tuple[str, str, list[int]]:
-    """What `pit check` says of a certificate, the digest of the bytes that it was given, and their PIT lines."""
+def judged(pit: str, path: Path, most: int) -> tuple[str, str, list[int], int | None]:
+    """What `pit check` says of a certificate, the digest of the bytes that it was given, their PIT lines, and of how many blocks
+    the header says that the mine is."""
     words = ["--prec", str(within("model/mine.prec")), "--blocks", str(within("model/mine.blocks")), "--settings", str(within("model/settings.toml"))]
     digest, text = hashlib.sha256(), bytearray()
     run = subprocess.Popen([pit, "check", *words, "/dev/stdin"], stdin=subprocess.PIPE, stdout=subprocess.PIPE, stderr=subprocess.STDOUT)
@@ -167,7 +168,8 @@ def judged(pit: str, path: Path, most: int) -> tuple[str, str, list[int]]:
     finally:
         run.kill()
         run.wait()
-    return said, digest.hexdigest(), [int(line[4:]) for line in bytes(text).splitlines() if line.startswith(b"PIT ")]
+    of = re.match(rb"[^\n]*\nBLOCKS (\d{1,10})\n", text)
+    return said, digest.hexdigest(), [int(line[4:]) for line in bytes(text).splitlines() if line.startswith(b"PIT ")], int(of[1]) if of else None
 
 
 def check_pits(told: Told, pit: str, blocks: Blocks, facts: dict[str, Any], is_plain: bool) -> list[int]:
@@ -183,9 +185,9 @@ def check_pits(told: Told, pit: str, blocks: Blocks, facts: dict[str, Any], is_p
         if not found or factor <= last:
             told.check(factor > last, f"{at} comes behind {last / THOUSAND:g}")
             continue
-        said, digest, held = found
+        said, digest, held, of = found
         told.check(digest == verdict["certificate"], f"the certificate at {at} is the one whose pit is shown")
-        told.check(said == wanted, f"pit check at {at}: {said}" + ("" if said == wanted else f", and the bundle says {wanted}"))
+        told.check(said == wanted, f"pit check at {at}: {said}" + ("" if said == wanted else f", and the bundle says {wanted}{other_mine(of, len(blocks.places))}"))
         if is_plain:
             plain = plainly(path)
             told.check(plain == wanted, f"plainly.py at {at}: {plain}")
@@ -198,6 +200,11 @@ def check_pits(told: Told, pit: str, blocks: Blocks, facts: dict[str, Any], is_p
             shell[block] = shell[block] or factor
         below, last = now, factor
     return shell
+
+
+def other_mine(of: int | None, here: int) -> str:
+    """What to add where a certificate's header tells that it is of another mine."""
+    return "" if of is None or of == here else f": the certificate is of another mine, of {of:,} blocks, and the model has {here:,}"
 
 
 def plainly(path: Path) -> str:

@@ -426,6 +426,58 @@ class Risk:
         return pd.DataFrame({"id": b["id"].to_numpy(), "row": np.where(rows >= 0, rows + 2, 0), **found})
 
 
+@dataclass(frozen=True)
+class Means:
+    """The mean grade of the realisations beside that of the table, each weighted by tonnes.
+
+    Attributes
+    ----------
+    metal, unit : str
+        Whose grade it is, and in what.
+    realisations, table : float
+        The means, over the same rows; nan where there are none.
+    rows : int
+        How many rows the realisations cover: those for which one of them at least has a grade above 0.
+    """
+
+    metal: str
+    unit: str
+    realisations: float
+    table: float
+    rows: int
+
+    @property
+    def share(self) -> float:
+        """By which share of the table's mean the realisations' lies above it (below 0: below it)."""
+        if self.table > 0:
+            return self.realisations / self.table - 1
+        return np.inf if self.realisations > 0 else 0.0
+
+
+def means(study: Study, setup: Setup) -> Means:
+    """Holds the realisations against the table: a simulation whose mean is another than the estimate's is worth another amount
+    in every realisation, which looks like upside or risk and is neither.
+
+    Raises
+    ------
+    PlanError
+        Where the realisations aren't those that `prepare` looked through, or a grade of the table is no number.
+    """
+    model = lean_model(study, setup.economics)
+    rows = model.blocks["row"].to_numpy()
+    there = rows >= 0
+    total, rows = np.zeros(int(there.sum())), rows[there]
+    for r in range(len(setup.digests)):
+        total += Realisation(study, setup, r, model).grades()[rows]
+    covered = total > 0
+    tonnes = model.blocks.tonnes.to_numpy(float)[there][covered]
+    table = model.numbers(setup.column, "realisations")[there][covered]
+    metal = next(m for m in setup.economics["metals"] if m["grade"] == setup.column)
+    whole = float(tonnes.sum())
+    simulated, planned = (float((grades * tonnes).sum()) / whole if whole > 0 else np.nan for grades in (total[covered] / len(setup.digests), table))
+    return Means(metal["name"], metal["grade_unit"], simulated, planned, int(covered.sum()))
+
+
 def spelled_factor(factor: int) -> str:
     """A factor as a share of the price, for names of columns."""
     from decimal import Decimal

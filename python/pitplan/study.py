@@ -34,7 +34,7 @@ from .economics import Economics
 from .errors import Disagreement, MachineError, PlanError
 from .model import Model
 from .next_command import command
-from .program import Accepted, Files, Pit, sha256
+from .program import ROOM, Accepted, Files, Pit, sha256
 
 if TYPE_CHECKING:
     from .shells import Shells
@@ -355,7 +355,7 @@ def made_whole(place: Path) -> Iterator[Path]:
         shutil.rmtree(older, ignore_errors=True)
     except OSError as error:
         shutil.rmtree(work, ignore_errors=True)
-        hint = "make room on the disk, and start the same command again: what is done is kept" if error.errno in FULL else None
+        hint = ROOM if error.errno in FULL else None
         raise MachineError(f"{error.filename or place}: {error.strerror}", try_this=hint) from error
     except BaseException:
         shutil.rmtree(work, ignore_errors=True)

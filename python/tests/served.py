@@ -79,8 +79,9 @@ def serve(path):
     from pitplan.slopes import searched
     searched(wall(SIZE, 45), False, None)                  # that of nearly all tests
     with socket.socket(socket.AF_UNIX) as door:
-        door.bind(path)
+        door.bind(path + ".part")
         door.listen(64)
+        os.rename(path + ".part", path)      # who sees the door finds it open
         while door in select.select([door, sys.stdin], [], [])[0]:
             asked, _ = door.accept()
             if os.fork() == 0:

@@ -170,13 +170,24 @@ def test_commas_beside_marks_and_column_names_of_ones_own(tmp_path):
     f.loc[3, "CU"], f.loc[20, "CU"] = "-", "<0,01"
     f.to_csv(tmp_path / "t.csv", index=False, sep=";", decimal=",")
     lost = pitplan("init", "t.csv", cwd=tmp_path)
-    assert lost.returncode == 3 and "no column is known as x, y" in lost.stderr and "--column x=" in lost.stderr
+    assert lost.returncode == 3 and "no column is known as x, y" in lost.stderr and "pitplan init t.csv --column x=xx --column y=yy\n" in lost.stderr
     found = pitplan("init", "t.csv", "--column", "x=xx", "-c", "y=yy", cwd=tmp_path)
     assert found.returncode == 0, found.stderr
     told = read_study_file(tmp_path / "t")
     assert list(told.keys.absent) == ["-", "<0,01"] and "CU" in [m.grade for m in told.economics.metals]
     ran = pitplan("build", "t", cwd=tmp_path)
     assert ran.returncode == 0, ran.stderr
+
+
+def test_spanish_names_are_known_and_the_nearest_is_offered(tmp_path):
+    f = table(6, 5, 4, 3).rename(columns={"XC": "X_CENTRO", "YC": "Y_CENTRO", "ZC": "Z_CENTRO", "ROCK": "ZONA"})
+    f.to_csv(tmp_path / "t.csv", index=False)
+    found = pitplan("init", "t.csv", cwd=tmp_path)
+    assert found.returncode == 0 and "x = X_CENTRO, y = Y_CENTRO, z = Z_CENTRO" in found.stdout and "rock = ZONA" in found.stdout, found.stderr
+    f = f.rename(columns={"X_CENTRO": "Coord X", "Y_CENTRO": "NORTINGH", "Z_CENTRO": "Q"})
+    f.to_csv(tmp_path / "u.csv", index=False)
+    lost = pitplan("init", "u.csv", "--column", "rock=ZONA", cwd=tmp_path)
+    assert lost.returncode == 3 and "pitplan init u.csv --column rock=ZONA --column 'x=Coord X' --column y=NORTINGH --column z=NAME\n" in lost.stderr, lost.stderr
 
 
 def test_a_mark_that_is_told_is_not_asked_for_again(tmp_path):

@@ -1,6 +1,7 @@
 """The search for offsets: against plain sums, against hulls by shapely, and against the pit that `pit` finds in a deep model."""
 import math
 import re
+import shutil
 import subprocess
 import sys
 from fractions import Fraction
@@ -201,3 +202,23 @@ def test_nothing_better_is_passed_over(angles, safe):
             error = search.error_of(asked, search.Outline(asked, offsets))
             every.append(search._rank(search.Pattern(asked, tuple(offsets), offsets[-1][2], error, error.badness(safe) <= 1 + search.SLACK), safe))
     assert search._rank(found, safe) == pytest.approx(min(every), rel=1e-9)
+
+
+def test_a_copied_script_finds_an_installed_pitplan(tmp_path):
+    """As of /usr/share/doc/pitplan/examples, with nothing of the repository beside it; the Python that runs it has no packages."""
+    copied = Path(shutil.copy(SCRIPT, tmp_path / "offsets.py"))
+    words = ["-I", "-S", copied, "20", "20", "10", "44"]
+    lost = subprocess.run([sys.executable, *words], capture_output=True, text=True, env={"PATH": str(tmp_path)})
+    assert lost.returncode == 1 and lost.stderr == "offsets.py: no pitplan is installed: install it, or run this script where it lies in the repository\n"
+    wanted = subprocess.run([sys.executable, SCRIPT, *words[3:]], capture_output=True, text=True).stdout
+    with_packages = subprocess.run([sys.executable, *words[2:]], capture_output=True, text=True, env={"PATH": str(tmp_path), "PYTHONPATH": str(TOP / "python")})
+    assert wanted.startswith("# 44 degrees") and with_packages.stdout == wanted, with_packages.stderr
+    for where in ("lib/pontihaw", "lib/python3/dist-packages"):
+        root = tmp_path / where.replace("/", "-")
+        (root / where / "pitplan").mkdir(parents=True)
+        shutil.copy(TOP / "python" / "pitplan" / "offsets.py", root / where / "pitplan")
+        (root / "bin").mkdir()
+        (root / "bin" / "pitplan").write_text("#!/bin/sh\n")
+        (root / "bin" / "pitplan").chmod(0o755)
+        ran = subprocess.run([sys.executable, *words], capture_output=True, text=True, env={"PATH": str(root / "bin")})
+        assert ran.stdout == wanted, ran.stderr

@@ -241,9 +241,9 @@ def test_the_picture_isnt_blank_and_follows_the_slider_and_the_controls(pits_vie
     pits_view.find_element(By.ID, "stretch").send_keys(Keys.HOME)
     pits_view.find_element(By.ID, "plan").click()
     above = pits_view.execute_script(PIXELS)[2]
-    pits_view.find_element(By.ID, "colour").send_keys("b")
+    pits_view.find_element(By.ID, "colour").send_keys(Keys.END)
     coloured = pits_view.execute_script(PIXELS)[2]
-    pits_view.find_element(By.ID, "colour").send_keys("f")
+    pits_view.find_element(By.ID, "colour").send_keys(Keys.HOME)
     pits_view.find_element(By.ID, "slant").click()
     assert len({stretched, above, coloured, pits_view.execute_script(PIXELS)[2]}) == 4
 

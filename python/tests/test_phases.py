@@ -182,9 +182,14 @@ def test_the_command(tmp_path):
     pits = pd.read_csv(study / "out/pit_by_pit.csv")
     assert phases.factor.tolist() == [0.6, 1.0] and phases.worth.sum() == pits.worth_at_base[1] and benches.blocks.sum() == pits.blocks[1]
     thin = benches[benches.narrow_blocks > 0]
-    for row in thin.itertuples():
-        assert f"{row.bench:g} ({row.width:g} m, {row.narrow_blocks:,} block{'s' if row.narrow_blocks > 1 else ''})" in ran.stderr
-    assert len(thin) and ran.stderr.count(" m, ") == len(thin)
+    lines = ran.stderr.splitlines()
+    for pushback, part in thin.groupby("pushback"):
+        told = next(lines[i + 1] for i, line in enumerate(lines) if line.startswith(f"look: pushback {pushback} "))
+        order = sorted(part.itertuples(), key=lambda row: (row.width, -row.narrow_blocks))
+        for i, row in enumerate(order):
+            assert (f"{row.bench:g} ({row.width:g} m, {row.narrow_blocks:,} block{'s' if row.narrow_blocks > 1 else ''})" in told) == (i < 3)
+        assert (f"are the worst; {study}/out/phase_benches.csv has all" in told) == (len(order) > 3)
+    assert thin.pushback.value_counts().max() > 3
     assert pd.read_csv(study / "out/phase_blocks.csv").pushback.value_counts().sort_index().tolist() == phases.blocks.tolist()
     wide = pitplan("phases", "0.6,1.0", study, "--mining-width", "1")
     assert "at least 1 m wide" in wide.stdout and wide.stderr == ""

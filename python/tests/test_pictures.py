@@ -10,7 +10,7 @@ from shapely.geometry import Polygon
 from shapely.ops import unary_union
 
 import pitplan as pp
-from mines import shells_of, study_of, table, written_study
+from mines import costs, shells_of, study_of, table, written_study
 from pitplan import pictures, plane
 from pitplan.grid import Grid
 from pitplan.model import Model
@@ -170,6 +170,43 @@ def test_elevations_of_a_flat_section_dont_overlap(tmp_path):
         figure.canvas.draw()
         boxes = [label.get_window_extent() for label in figure.axes[0].get_yticklabels()]
         assert len(boxes) >= 2 and all(low.y1 <= high.y0 for low, high in zip(boxes, boxes[1:]))
+
+
+def test_the_row_of_a_section_has_most_of_the_pit_and_isnt_the_models_last(shells):
+    assert pictures.fullest_row(np.array([9, 1, 4, 2, 9])) == 2
+    assert pictures.fullest_row(np.array([3, 0, 0, 7])) == 3 and pictures.fullest_row(np.array([1, 2])) == 1
+    here, last = copy.copy(shells), shells.study.model.grid.shape[1] - 1
+    rows = shells.study.model.blocks["iy"].to_numpy()
+    here.shell = np.where((rows == last) | ((rows == 2) & (shells.study.model.blocks["ix"] > 2)), 0, len(shells.factors))
+    assert (here.shell[rows == last] == 0).sum() > (here.shell[rows == 2] == 0).sum() > 0 and pictures.middle_of(here)[1] == 2
+
+
+@pytest.mark.parametrize("nx, told", [(5, 1), (6, 1), (7, 2), (25, 7), (400, 20)])
+def test_a_flat_section_is_drawn_higher_and_says_so(tmp_path, nx, told):
+    """Blocks of 20 x 20 x 15: a section of one level and six columns is 120 by 15, an eighth; a fifth is aimed at."""
+    frame = table(nx, 3, 1, 1)
+    figure = pictures.section(study_of(tmp_path, frame, economics=costs(mining=0.01)).shells([1000]), row=1)
+    assert figure.axes[0].get_aspect() == told and title(figure).endswith(f"\nvertical exaggeration {told}") == (told > 1)
+
+
+def test_what_may_not_be_dug_has_a_pattern_of_its_own(tmp_path):
+    frame = table(9, 8, 5, 5)
+    shells = study_of(tmp_path, frame, economics=costs(forbid=["SECTOR == 'EAST' and ZC < 110"])).shells([600, 1000])
+    blocks = shells.study.model.blocks
+    fence = ((blocks.SECTOR == "EAST") & (blocks.ZC < 110)).to_numpy()
+    assert (shells.study.priced.forbidden() == fence).all()
+    for colour in ("shell", "value", "CU"):
+        figure = pictures.section(shells, row=3, style=Style(colour))
+        assert "May not be dug" in [t.get_text() for t in figure.legends[0].get_texts()]
+        crosses = [p for p in figure.axes[0].patches if p.get_hatch() == pictures.FENCE_HATCH]
+        assert len(crosses) == 1 and crosses[0].get_zorder() > figure.axes[0].collections[0].get_zorder()
+        cells = {(x, y) for x, y in np.round(crosses[0].get_path().vertices, 6).tolist()}
+        here = blocks[fence & (blocks.iy == 3)]
+        runs = np.flatnonzero(np.diff(np.pad(np.isin(np.arange(9), here.ix), 1).astype(int)))
+        assert len(here) and cells == {(5000 + 20 * i - 10.0, 92.5 + 15 * up) for i in runs for up in (0, 1)}
+    above = pictures.plan(shells, 120)
+    assert "May not be dug" not in [t.get_text() for t in above.legends[0].get_texts()]
+    assert pictures.paint(shells, "value").norm.vmin > -1e7              # the price of a fence would make all else pale
 
 
 def test_sections_say_where_they_look(shells):

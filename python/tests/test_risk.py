@@ -269,9 +269,31 @@ def test_the_command_goes_on_and_its_tables(tmp_path, program):
     assert "<title>t: likelihood over 4 realisations</title>" in (folder / "out/likelihood.html").read_text()
 
 
+@pytest.mark.parametrize("scale, said", [(1.06, "6.0% above"), (0.9, "10.0% below"), (1.015, None)])
+def test_a_mean_grade_other_than_the_tables_is_told(tmp_path, scale, said):
+    """The means are weighed by tonnes over rows that a realisation has a grade for; the others, here the richest, count in neither."""
+    folder, frame = written_study(tmp_path / "s", table(7, 6, 4, 3)), table(7, 6, 4, 3)
+    assert command("build", folder).wait() == 0
+    covered = (frame.CU < frame.CU.max()).to_numpy()
+    one = np.where(covered, frame.CU * scale, 0)
+    np.save(tmp_path / "sims.npy", np.stack([one * 0.5, one * 1.5]))
+    run = command("risk", folder, "--realisations", tmp_path / "sims.npy", "--later")
+    faults = run.communicate(timeout=60)[1]
+    assert run.returncode == 0
+    rows = covered & (frame.CU > 0)
+    mean = np.average(frame.CU[rows], weights=frame.TONNES[rows])
+    wanted = f"look: the realisations' mean grade of copper is {scale * mean:.4g} %, {said} the table's {mean:.4g} %, by tonnes over {rows.sum()} rows"
+    assert wanted in faults if said else "look:" not in faults
+
+
 def test_a_section_has_the_likelihood_of_its_blocks(tmp_path):
     from pitplan.risk_pictures import section
-    found = done(prepared(tmp_path, 5))
+    found = done(prepared(tmp_path, 5, economics=costs(forbid=["SECTOR == 'EAST' and ZC < 110"])))
+    last = found.study.model.grid.shape[1] - 1
+    by_row = np.bincount(found.study.model.blocks.iy, weights=found.likelihood(1000))
+    own = section(found, 1000)
+    assert f"northing {9000 + 20 * (1 + int(np.argmax(by_row[1:last]))):,}" in own.axes[0].get_title()
+    assert "May not be dug" in [text.get_text() for text in own.legends[0].get_texts()]
     row = 3
     figure = section(found, 1000, row)
     shown = figure.axes[0].collections[0].get_array()
