@@ -6,7 +6,7 @@
     shells = study.shells(pp.factors(0.3, 1.2, 0.05))
     shells.table(); shells.benches(); shells.of_blocks()
 
-This package computes no pit. A pit that it shows is the PIT lines of a certificate that `pit check` has accepted, over files
+This package computes no best pit. Each that it shows is the PIT lines of a certificate that `pit check` has accepted, over files
 whose digests still hold; and its worth, added up again from the planner's own table, is `pit`'s to the last digit.
 """
 from __future__ import annotations

@@ -6,7 +6,7 @@ import json
 import re
 import tomllib
 from collections.abc import Callable, Mapping
-from dataclasses import dataclass, field, fields
+from dataclasses import dataclass, fields
 from pathlib import Path
 from typing import Any
 
@@ -19,7 +19,7 @@ from .shells import factors, series_of
 from .slopes import Slopes
 
 NAME = "study.toml"
-SECTIONS = ("model", "economics", "slopes", "shells", "pictures")
+SECTIONS = ("model", "economics", "slopes", "shells")
 RATES = ("mining_rate", "mill_rate", "discount")
 SERIES = ("from", "to", "step")
 
@@ -40,8 +40,6 @@ class StudyFile:
         In thousandths.
     rates : dict
         Of ``mining_rate``, ``mill_rate``, ``discount`` those that are given: words for `Shells.table`.
-    pictures : dict
-        The section [pictures].
     digest : str
         Of the sections [model], [economics] and [slopes]: what a built model rests on.
     """
@@ -53,7 +51,6 @@ class StudyFile:
     slopes: Slopes
     factors: list[int]
     rates: dict[str, float]
-    pictures: dict[str, Any] = field(default_factory=dict)
     digest: str = ""
 
     def read_model(self) -> Model:
@@ -128,7 +125,7 @@ def checked(path: Path, told: Mapping[str, Any]) -> StudyFile:
     Rates(rates.get("mining_rate"), rates.get("mill_rate"), rates.get("discount", 0.1))
     digest = hashlib.sha256(json.dumps([told[name] for name in SECTIONS[:3]], sort_keys=True, default=str).encode()).hexdigest()
     return StudyFile(path, table, keys, economics_of(told["economics"]), made("slopes", Slopes, told["slopes"]), series(shells.get("factors")),
-                     rates, dict(told.get("pictures", {})), digest)
+                     rates, digest)
 
 
 def known(where: str, found: Mapping[str, Any], names: tuple[str, ...]) -> None:

@@ -14,6 +14,7 @@ WRONG = [
     ('recovery = 0.85', 'recovry = 0.85', "[economics] metals has no key 'recovry'; is 'recovery' meant?"),
     ('grade = "CU", ', '', "metal copper has no grade"),
     ('[slopes]', '[slope]', "the file has no section 'slope'; is 'slopes' meant?"),
+    ('[slopes]', '[pictures]\nwidth = 8\n[slopes]', "the file has no section 'pictures'"),
     ('angles = 45', 'angle = 45', "[slopes] has no key 'angle'; is 'angles' meant?"),
     ('discount = 0.08', 'discount = 8', "discount is 8"),
     ('mill_rate = 5e5', 'mill_rate = 0', "mill_rate is 0"),

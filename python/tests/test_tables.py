@@ -49,7 +49,9 @@ PACKAGES = {"Datamine": dict(IJK="IJK", XC="XC", YC="YC", ZC="ZC", TONNES="TONNE
             "Vulcan": dict(IJK="ijk", XC="centroid_x", YC="centroid_y", ZC="centroid_z", TONNES="tonnes", ROCK="rocktype"),
             "Surpac": dict(IJK="id", XC="x", YC="y", ZC="z", TONNES="tonnes", ROCK="rock_type"),
             "Micromine": dict(IJK="INDEX", XC="EAST", YC="NORTH", ZC="RL", TONNES="TONNES", ROCK="LITH"),
-            "MineSight": dict(IJK="BLOCK", XC="EASTING", YC="NORTHING", ZC="ELEV", TONNES="TONS", ROCK="ROCK")}
+            "MineSight": dict(IJK="BLOCK", XC="EASTING", YC="NORTHING", ZC="ELEV", TONNES="TONS", ROCK="ROCK"),
+            "Portuguese": dict(IJK="bloco", XC="leste", YC="norte", ZC="cota", TONNES="toneladas", ROCK="rocha"),
+            "French": dict(IJK="bloc", XC="est", YC="nord", ZC="cote", TONNES="tonnage", ROCK="roche")}
 
 
 @pytest.mark.parametrize("package", PACKAGES)
