@@ -26,7 +26,7 @@ import pandas as pd
 from . import store
 from .amounts import THOUSAND, Priced, spelled
 from .economics import Economics
-from .errors import MachineError, PlanError
+from .errors import Disagreement, MachineError, PlanError
 from .grid import Grid
 from .model import Model
 from .next_command import command
@@ -363,11 +363,15 @@ class Risk:
         tonnes = lean_model(study, setup.economics).blocks.tonnes.to_numpy(float)
         rows = []
         for r in range(self.count):
-            one = Realisation(study, setup, r)
+            one, below = Realisation(study, setup, r), np.zeros(study.manifest["blocks"], bool)
             for i, factor in enumerate(self.factors):
                 mask, verdict = one.mask(factor), one.verdict(factor)
                 assert verdict is not None       # its mask has just been read
+                if (below & ~mask).any():
+                    raise Disagreement(f"realisation {r}: the pit at {self.factors[i - 1] / THOUSAND:g} isn't within that at {factor / THOUSAND:g}, and pit proves that it is",
+                                       try_this="were results of several models mixed in this folder?")
                 self.hits[i] += mask
+                below = mask
                 rows.append({"realisation": r, "factor": factor / THOUSAND, "blocks": verdict["count"], "rock_t": float(tonnes[mask].sum()), "worth": float(verdict["worth"])})
         self.runs = pd.DataFrame(rows)
 

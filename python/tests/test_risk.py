@@ -1,6 +1,7 @@
 """The unit of work, and risk over realisations: pits of a likelihood are closed by pit's own word, and nested."""
 import dataclasses
 import gzip
+import hashlib
 import json
 import os
 import re
@@ -122,6 +123,22 @@ def test_the_lean_model_has_what_pricing_asks_for(tmp_path):
     ours = economics.priced(lean)
     for name in ("revenue", "processing", "mining"):
         assert (getattr(ours, name) == getattr(study.priced, name)).all()
+
+
+def test_pits_of_a_realisation_that_arent_nested_are_never_shown(tmp_path):
+    study = prepared(tmp_path, 1)
+    done(study)
+    one = risk.realisation(study, 0)
+    masks = [one.mask(factor) for factor in FACTORS]
+    assert masks[0].sum() < masks[1].sum()
+    for factor, mask in zip(FACTORS, reversed(masks)):      # each in the other's place, with all that is checked of one pit alone
+        place, bits = one.place(factor), np.packbits(mask)
+        np.savez_compressed(place / "pit.npz", bits=bits)
+        verdict = json.loads((place / "verdict.json").read_text())
+        verdict |= {"bits": hashlib.sha256(bits.tobytes()).hexdigest(), "count": int(mask.sum()), "worth": one.priced.worth_of(mask, factor)}
+        (place / "verdict.json").write_text(json.dumps(verdict))
+    with pytest.raises(pp.Disagreement, match="realisation 0: the pit at 0.8 isn't within that at 1"):
+        risk.Risk(study)
 
 
 def test_what_risk_says_is_added_up_by_pandas(tmp_path):
