@@ -1,7 +1,7 @@
 use Rattle.std.proofs.Common.{pos}
 use Rattle.bench_report.specs.Written.{written}
 use Rattle.bench_report.proofs.Lines.{header_row, table-next}
-use Rattle.bench_report.proofs.written_table.table_of.Goals as goal
+use Rattle.bench_report.proofs.written_table.report_text.Goals as goal
 
 pub loop-row-init : goal.loop-row-init
 loop-row-init c =
