@@ -16,7 +16,7 @@ abbrev pub block_line : ℕ → Option ℕ → List ℕ
 block_line b shell = decimal b ++ 44 ∷ (shell_field shell ++ 10 ∷ [])
 
 -- the lines of the blocks below n, where these are the shells
-pub block_lines : (ℕ → Option ℕ) → ℕ → List ℕ
+abbrev pub block_lines : (ℕ → Option ℕ) → ℕ → List ℕ
 block_lines shell zero = []
 block_lines shell (suc n) = block_lines shell n ++ block_line n (shell n)
 

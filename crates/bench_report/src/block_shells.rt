@@ -1,6 +1,6 @@
 //! The table of blocks and their shells, as comma-separated values.
 
-ghost use Rattle.std.specs.Prelude.{◌≡◌, ◌++◌, IfOk, OnOk};
+ghost use Rattle.std.specs.Prelude.{◌≡◌, ◌++◌, Some, None, IfOk, OnOk};
 ghost use Rattle.shells.specs.Prices.{blocks_of};
 ghost use Rattle.shells.specs.Series.{shell_at, IsSeries};
 ghost use Rattle.bench_report.specs.BlockShells.{block_line, block_table_text};
@@ -10,6 +10,32 @@ use crate::written_table::put_fields;
 use csv::{Writer, WriterBuilder};
 use shells::Series;
 use std::alloc::{AllocError, Global};
+
+// Writes the record of a block that has a shell.
+fn put_held(
+    alloc: Global,
+    wtr: &mut Writer<Vec<u8>>,
+    b: u32,
+    factor: u32,
+) -> Result<(), AllocError>
+    requires ready { IsReady wtr.old }
+    ensures ready { OnOk result (IsReady wtr.new) }
+    ensures text { OnOk result (written wtr.new ≡ written wtr.old ++ block_line b (Some factor)) }
+{
+    let block = format!(in alloc; "{b}")?;
+    let shell = format!(in alloc; "{factor}")?;
+    put_fields(wtr, &[block.as_bytes(), shell.as_bytes()])
+}
+
+// Writes the record of a block that has none.
+fn put_unheld(alloc: Global, wtr: &mut Writer<Vec<u8>>, b: u32) -> Result<(), AllocError>
+    requires ready { IsReady wtr.old }
+    ensures ready { OnOk result (IsReady wtr.new) }
+    ensures text { OnOk result (written wtr.new ≡ written wtr.old ++ block_line b None) }
+{
+    let block = format!(in alloc; "{b}")?;
+    put_fields(wtr, &[block.as_bytes(), b""])
+}
 
 // Writes the record of a block.
 fn put_block(
@@ -22,13 +48,9 @@ fn put_block(
     ensures ready { OnOk result (IsReady wtr.new) }
     ensures text { OnOk result (written wtr.new ≡ written wtr.old ++ block_line b shell) }
 {
-    let block = format!(in alloc; "{b}")?;
     match shell {
-        Some(factor) => {
-            let factor = format!(in alloc; "{factor}")?;
-            put_fields(wtr, &[block.as_bytes(), factor.as_bytes()])
-        }
-        None => put_fields(wtr, &[block.as_bytes(), b""]),
+        Some(factor) => put_held(alloc, wtr, b, factor),
+        None => put_unheld(alloc, wtr, b),
     }
 }
 

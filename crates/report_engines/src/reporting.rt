@@ -71,7 +71,8 @@ pub fn report_engine<
     ensures kept { ¬ IsErrOf result EngineFault.Device → NoInputFailed inputs.old inputs.new D.failed × NoOutputFailed outputs.old outputs.new V.failed W.failed }
 {
     let mine = report_mine_from(alloc, inputs)?;
-    let answer = answer_of(rt, alloc, mine, effort, gate, outputs.by_block.is_some())?;
+    let is_asked = outputs.has_table();
+    let answer = answer_of(rt, alloc, mine, effort, gate, is_asked)?;
     send(&answer, outputs)
 }
 

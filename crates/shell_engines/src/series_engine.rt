@@ -69,7 +69,8 @@ pub fn shells_engine<
     ensures kept { ¬ IsErrOf result EngineFault.Device → NoInputFailed inputs.old inputs.new D.failed × NoOutputFailed outputs.old outputs.new V.failed W.failed }
 {
     let mine = series_mine_from(alloc, inputs)?;
-    let answer = answer_of(rt, alloc, mine, effort, gate, outputs.by_block.is_some())?;
+    let is_asked = outputs.has_table();
+    let answer = answer_of(rt, alloc, mine, effort, gate, is_asked)?;
     send(&answer, outputs)
 }
 
@@ -89,14 +90,15 @@ fn answer_of<R: Threads + Wait + Sync, T: Gate + Progress + SeriesProgress>(
 {
     // proof: of two factors, the best pit at the lower one lies within that at the other
     laws::best_pits_at_factors_are_nested();
-    match settle(rt, alloc, mine, effort, gate) {
-        Ok(shells) => Ok(Answer {
-            verdict: Verdict::Done,
-            table: table_if_asked(alloc, is_asked, &shells.series)?,
-            text: table_of(alloc, shells.rows.as_slice())?,
-        }),
-        Err(none) => no_series(alloc, none),
-    }
+    let shells = match settle(rt, alloc, mine, effort, gate) {
+        Ok(shells) => shells,
+        Err(none) => return no_series(alloc, none),
+    };
+    Ok(Answer {
+        verdict: Verdict::Done,
+        table: table_if_asked(alloc, is_asked, &shells.series)?,
+        text: table_of(alloc, shells.rows.as_slice())?,
+    })
 }
 
 /// The answer where there is no series: `No`, with the line `UNSETTLED factor` where at a factor, in thousandths, the run

@@ -4,7 +4,7 @@ ghost use Rattle.std.specs.Prelude.{◌≡◌, ◌+◌, ◌-◌, ◌^◌, ◌<�
 ghost use Rattle.std.specs.Io.KnownBytes.{Appends};
 ghost use Rattle.fixed_worth.specs.Device.{ReceivedPrefix};
 ghost use Rattle.shell_engines.specs.Answering.{IsCutShort};
-ghost use Rattle.shell_engines.specs.Devices.{contents_in, failures_in, OutputsCanCount, output_failures, NoOutputFailed};
+ghost use Rattle.shell_engines.specs.Devices.{is_asked, contents_in, failures_in, OutputsCanCount, output_failures, NoOutputFailed};
 
 use engines::{EngineFault, Verdict};
 use fixed_worth::{CountedWrite, WriteFault, write_text};
@@ -16,6 +16,18 @@ pub struct SeriesOutputs<V, W> {
     pub by_block: Option<V>,
     /// What the answer is written to.
     pub out: W,
+}
+
+impl<V, W> SeriesOutputs<V, W> {
+    /// Whether the table of blocks is asked for.
+    pub fn has_table(&self) -> bool
+        ensures { result ≡ is_asked self.now.by_block }
+    {
+        match &self.by_block {
+            Some(_) => true,
+            None => false,
+        }
+    }
 }
 
 /// How such an engine ends, and what it writes.
