@@ -79,8 +79,8 @@ module _ (s t p : List ℕ) (prices : PricesView) (rests : RestsView) (factors :
       worth = worth_is;
     }
 
-    pub is_report : BestPitsAreNested → (rows : List BenchRow) → IsBenchTable (reported m series (place_beside charges) (worths_at series.prices factor)) rows → IsReport s t p (table_text rows)
-    is_report law rows table = record {
+    pub is_report : BestPitsAreNested → (rows : List BenchRow) → IsBenchTable (reported m series (place_beside charges) (worths_at series.prices factor)) rows → (text : List ℕ) → text ≡ table_text rows → IsReport s t p text
+    is_report law rows table text spelled = record {
       size = rests.blocks;
       mine = read.series.mine.mine;
       read = blocks_read;
@@ -89,7 +89,7 @@ module _ (s t p : List ℕ) (prices : PricesView) (rests : RestsView) (factors :
       nested = nested s t p prices rests read.series.mine law;
       rows = rows;
       table = table_same _ _ alike rows table;
-      spelled = refl;
+      spelled = spelled;
     }
 
   both : ReportBlocksRead s t × DenoteSeries s t p
