@@ -4,6 +4,7 @@ pub mod Growing
 pub mod Lifted
 pub mod FirstShell
 pub mod BlockTables
+pub mod OneTable
 pub mod Answering
 pub mod Answers
 pub mod Proving

@@ -23,3 +23,7 @@ pub record IsBlockTable (settings blocks precedence text : List ℕ) : Type 0 wh
 abbrev pub IsTableIfAsked : Bool → List ℕ → List ℕ → List ℕ → List ℕ → Type 0
 IsTableIfAsked true settings blocks precedence text = IsBlockTable settings blocks precedence text
 IsTableIfAsked false settings blocks precedence text = text ≡ []
+
+-- two tables of the blocks of the same texts are the same, whatever run each comes from
+abbrev pub BlockTablesAreOne : Type 0
+BlockTablesAreOne = (settings blocks precedence text other : List ℕ) → IsBlockTable settings blocks precedence text → IsBlockTable settings blocks precedence other → text ≡ other

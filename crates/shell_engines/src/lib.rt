@@ -9,6 +9,7 @@
 
 mod best_pits;
 pub mod block_tables;
+pub mod laws;
 pub mod no_series;
 pub mod series_engine;
 pub mod series_inputs;
