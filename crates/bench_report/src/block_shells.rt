@@ -12,12 +12,7 @@ use shells::Series;
 use std::alloc::{AllocError, Global};
 
 // Writes the record of a block that has a shell.
-fn put_held(
-    alloc: Global,
-    wtr: &mut Writer<Vec<u8>>,
-    b: u32,
-    factor: u32,
-) -> Result<(), AllocError>
+fn put_held(alloc: Global, wtr: &mut Writer<Vec<u8>>, b: u32, factor: u32) -> Result<(), AllocError>
     requires ready { IsReady wtr.old }
     ensures ready { OnOk result (IsReady wtr.new) }
     ensures text { OnOk result (written wtr.new ≡ written wtr.old ++ block_line b (Some factor)) }

@@ -2,8 +2,8 @@
 //! found.
 
 use crate::options::{
-    PREC_HELP, PRICED_BLOCKS_HELP, file_option, method_option, named_option, progress_option, steps_option,
-    text_of, verbose_solving_option, with_options, workers_option,
+    PREC_HELP, PRICED_BLOCKS_HELP, file_option, method_option, named_option, progress_option,
+    steps_option, text_of, verbose_solving_option, with_options, workers_option,
 };
 use clap::{Arg, ArgMatches, Command};
 use std::alloc::{AllocError, Global};

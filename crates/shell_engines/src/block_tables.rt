@@ -12,11 +12,7 @@ use std::alloc::{AllocError, Global};
 ///
 /// # Errors
 /// Memory was refused.
-pub fn table_if_asked(
-    alloc: Global,
-    is_asked: bool,
-    series: &Series,
-) -> Result<Vec<u8>, AllocError>
+pub fn table_if_asked(alloc: Global, is_asked: bool, series: &Series) -> Result<Vec<u8>, AllocError>
     ensures table { IfOk result (λ text. HasTableIfAsked is_asked series.now text.items) }
     ensures series { OnOk result (IsSeries series.now) }
 {
