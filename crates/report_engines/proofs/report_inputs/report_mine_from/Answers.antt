@@ -1,4 +1,4 @@
-use Rattle.std.proofs.Common.{List, sym, subst, IfSome}
+use Rattle.std.proofs.Common.{sym, subst, IfSome}
 use Rattle.engines.specs.declared.priced_inputs.ChargeColumns.{ChargeColumns}
 use Rattle.report_engines.specs.Internal.{IsPricedModel, IsReportRead}
 use Rattle.std.proofs.lemmas.Result.{err_from_is_err_and}
