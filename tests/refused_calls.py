@@ -26,6 +26,7 @@ ROWS = (
     "slopes/the_copper_mine",
     "shells/two_prices",
     "shells/two_prices_by_two_threads_of_the_machine",
+    "shells/by_block_two_prices",
     "report/two_prices",
 )
 # Each kind of failure, how it shows, and the lines that may come.

@@ -1,9 +1,10 @@
 -- Records of fields that need no quotes, and the rows of a table.
-use Rattle.std.proofs.Common.{◌≡◌, ℕ, ◌+◌, ◌<◌, List, [], ◌∷◌, ◌++◌, length, take, get_or, codes, refl, sym, ap, ◌∙◌, append_assoc, add-one}
+use Rattle.std.proofs.Common.{◌≡◌, ℕ, ◌+◌, ◌<◌, List, [], ◌∷◌, ◌++◌, length, take, get_or, codes, refl, sym, ap, ◌∙◌, append_assoc, add-one, Option}
 use Rattle.std.proofs.lemmas.List.{append-nil}
 use Rattle.std.proofs.Math.Seq.{take-suc}
 use Rattle.csv.specs.Writing.{default_writer, fields_text, row_text, is_blank}
 use Rattle.bench_report.specs.declared.bench_row.BenchRow.{BenchRow}
+use Rattle.bench_report.specs.BlockShells.{names_line, block_line, block_lines}
 use Rattle.bench_report.specs.Written.{header_line, row_line, rows_text}
 use Rattle.bench_report.proofs.Plain.{IsPlain, plain_needs_none}
 
@@ -33,3 +34,19 @@ pub table-next : (rs : List BenchRow) (i : ℕ) (d : BenchRow) (before after : L
     → before ≡ header_line ++ rows_text (take i rs) → after ≡ header_line ++ rows_text (take (i + 1) rs)
 table-next rs i d before after h e k =
     e ∙ ap (λ t. t ++ row_line (get_or rs i d)) k ∙ append_assoc header_line (rows_text (take i rs)) (row_line (get_or rs i d)) ∙ ap (λ t. header_line ++ t) (sym (rows_text-next rs i d h))
+
+-- two plain fields, with a comma between them and a line feed at the end
+pub two_fields : (a b : List ℕ) → IsPlain a → IsPlain b → row_text default_writer (a ∷ b ∷ []) ≡ a ++ 44 ∷ (b ++ 10 ∷ [])
+unfolding fields_text is_blank
+two_fields a b ha hb = ap (λ t. t ++ 10 ∷ []) (rw (plain_needs_none a ha, plain_needs_none b hb) refl) ∙ joined a b
+  where
+    joined : (a b : List ℕ) → (a ++ 44 ∷ (b ++ [])) ++ 10 ∷ [] ≡ a ++ 44 ∷ (b ++ 10 ∷ [])
+    joined a b = simp append_assoc
+
+pub names_row : row_text default_writer (codes "block" ∷ codes "shell" ∷ []) ≡ names_line
+unfolding fields_text is_blank
+names_row = refl
+
+-- one more block is written
+pub block_lines-next : (shell : ℕ → Option ℕ) (n : ℕ) (before after : List ℕ) → after ≡ before ++ block_line n (shell n) → before ≡ names_line ++ block_lines shell n → after ≡ names_line ++ block_lines shell (n + 1)
+block_lines-next shell n before after e k = e ∙ ap (λ t. t ++ block_line n (shell n)) k ∙ append_assoc names_line (block_lines shell n) (block_line n (shell n)) ∙ sym (ap (λ i. names_line ++ block_lines shell i) (add-one n))

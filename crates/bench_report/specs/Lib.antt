@@ -1,4 +1,5 @@
 pub mod Benches
+pub mod BlockShells
 pub mod FaultStands
 pub mod FaultText
 pub mod Internal

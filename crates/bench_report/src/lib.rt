@@ -15,6 +15,7 @@
 
 mod bench_row;
 mod bench_table;
+mod block_shells;
 pub mod laws;
 mod report_fault;
 mod row_map;
@@ -23,6 +24,7 @@ mod written_table;
 
 pub use bench_row::BenchRow;
 pub use bench_table::rows;
+pub use block_shells::block_shells_text;
 pub use report_fault::ReportFault;
 pub use write_fault::ReportWriteFault;
-pub use written_table::write_report;
+pub use written_table::{report_text, write_report};

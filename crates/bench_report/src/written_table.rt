@@ -1,6 +1,6 @@
 //! Writing the bench table.
 
-ghost use Rattle.std.specs.Prelude.{◌≡◌, ◌++◌, ◌+◌, ◌-◌, ◌^◌, ◌<◌, Err, IfOk, IfErr, OnOk, map};
+ghost use Rattle.std.specs.Prelude.{◌≡◌, ◌++◌, ◌+◌, ◌-◌, ◌^◌, ◌<◌, Err, IfOk, OnOk, map};
 ghost use Rattle.std.specs.Io.KnownBytes.{Appends};
 ghost use Rattle.csv.specs.Writing.{default_writer, row_text};
 ghost use Rattle.fixed_worth.specs.Device.{ReceivedPrefix};
@@ -10,18 +10,17 @@ use crate::bench_row::BenchRow;
 use crate::write_fault::ReportWriteFault;
 use csv::{Writer, WriterBuilder};
 use fixed_worth::{CountedWrite, MicrosTotal, Nanos, write_text};
-use std::alloc::Global;
+use std::alloc::{AllocError, Global};
 
 // Writes a record. Over a vector nothing but refused memory makes that fail, since each record has as many fields.
-fn put_fields(wtr: &mut Writer<Vec<u8>>, fields: &[&[u8]]) -> Result<(), ReportWriteFault>
+pub(crate) fn put_fields(wtr: &mut Writer<Vec<u8>>, fields: &[&[u8]]) -> Result<(), AllocError>
     requires ready { IsReady wtr.old }
     ensures ready { OnOk result (IsReady wtr.new) }
     ensures text { OnOk result (written wtr.new ≡ written wtr.old ++ row_text default_writer (map (λ f. f.now) fields.now)) }
-    ensures only_memory { IfErr result (λ e. e ≡ ReportWriteFault.NoMemory) }
 {
     match wtr.write_fields(fields) {
         Ok(()) => Ok(()),
-        Err(_) => Err(ReportWriteFault::NoMemory),
+        Err(_) => Err(AllocError),
     }
 }
 
@@ -34,11 +33,10 @@ fn put_numbers(
     blocks: u32,
     tonnes: i128,
     worth: i128,
-) -> Result<(), ReportWriteFault>
+) -> Result<(), AllocError>
     requires ready { IsReady wtr.old }
     ensures ready { OnOk result (IsReady wtr.new) }
     ensures text { OnOk result (written wtr.new ≡ written wtr.old ++ line_of z shell blocks tonnes worth) }
-    ensures only_memory { IfErr result (λ e. e ≡ ReportWriteFault.NoMemory) }
 {
     let z = format!(in alloc; "{z}")?;
     let shell = format!(in alloc; "{shell}")?;
@@ -58,21 +56,23 @@ fn put_numbers(
 }
 
 // Writes a row.
-fn put_row(alloc: Global, wtr: &mut Writer<Vec<u8>>, row: &BenchRow) -> Result<(), ReportWriteFault>
+fn put_row(alloc: Global, wtr: &mut Writer<Vec<u8>>, row: &BenchRow) -> Result<(), AllocError>
     requires ready { IsReady wtr.old }
     ensures ready { OnOk result (IsReady wtr.new) }
     ensures text { OnOk result (written wtr.new ≡ written wtr.old ++ row_line row.now) }
-    ensures only_memory { IfErr result (λ e. e ≡ ReportWriteFault.NoMemory) }
 {
     put_numbers(
         alloc, wtr, row.z, row.shell, row.blocks, row.tonnes, row.worth,
     )
 }
 
-// The text of the table.
-fn table_of(alloc: Global, rows: &[BenchRow]) -> Result<Vec<u8>, ReportWriteFault>
+/// The rows as comma-separated values: a line with the names of the columns, and a line for each row. Tonnes print with at
+/// most six places, worths with at most nine.
+///
+/// # Errors
+/// Memory was refused.
+pub fn report_text(alloc: Global, rows: &[BenchRow]) -> Result<Vec<u8>, AllocError>
     ensures text { IfOk result (λ v. v.items ≡ table_text rows.now) }
-    ensures only_memory { IfErr result (λ e. e ≡ ReportWriteFault.NoMemory) }
 {
     let mut wtr = WriterBuilder::new().from_writer(Vec::new(alloc));
     put_fields(&mut wtr, &[b"z", b"shell", b"blocks", b"tonnes", b"worth"])?;
@@ -81,12 +81,11 @@ fn table_of(alloc: Global, rows: &[BenchRow]) -> Result<Vec<u8>, ReportWriteFaul
     }
     match wtr.into_inner() {
         Ok(text) => Ok(text),
-        Err(_) => Err(ReportWriteFault::NoMemory),
+        Err(_) => Err(AllocError),
     }
 }
 
-/// Writes the rows as comma-separated values: a line with the names of the columns, and a line for each row. Tonnes print
-/// with at most six places, worths with at most nine. `out` must have counted fewer than 2^64 - 1 failures.
+/// Writes the text of [`report_text`]. `out` must have counted fewer than 2^64 - 1 failures.
 ///
 /// # Errors
 /// `NoMemory` where memory is refused: the whole text is made in memory first, so nothing was written. `Device` at the
@@ -103,7 +102,7 @@ pub fn write_report<W: CountedWrite>(
     ensures prefix { result ≡ Err ReportWriteFault.Device → ReceivedPrefix (W.contents out.old) (W.contents out.new) (table_text rows.now) }
     ensures untouched { result ≡ Err ReportWriteFault.NoMemory → out.new ≡ out.old }
 {
-    let table = table_of(alloc, rows)?;
+    let table = report_text(alloc, rows)?;
     match write_text(out, table.as_slice()) {
         Ok(()) => Ok(()),
         Err(_) => Err(ReportWriteFault::Device),

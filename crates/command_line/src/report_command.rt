@@ -12,7 +12,7 @@ const DETAILS: &str =
 
 Prints comma-separated values, which a spreadsheet opens: the line z,shell,blocks,tonnes,worth, and a line for each bench and shell that have a block. The shell of a block is the lowest of the factors in the settings whose best pit contains it; a block that is in no pit is in no line. The worths count at one factor for all shells: `report` in the settings, or without that key the last of `factors`.
 
-Each pit is found and checked as `pit shells` does it, and nothing is printed before all are. Prints UNSETTLED and the factor where no pit was found within the limits, and REFUSED TooLarge where a number overflows; both have the status 1.";
+Each pit is found and checked as `pit shells` does it, and nothing is printed before all are. With --by-block it writes the shell of each block to a file too. Prints UNSETTLED and the factor where no pit was found within the limits, and REFUSED TooLarge where a number overflows; both have the status 1.";
 
 const SETTINGS_HELP: &str =
     "The columns of revenues, of costs or a mill's charges, and of tonnes; the factors of the shells, and that of the worths: a TOML text";

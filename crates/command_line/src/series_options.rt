@@ -2,8 +2,8 @@
 //! found.
 
 use crate::options::{
-    PREC_HELP, PRICED_BLOCKS_HELP, file_option, method_option, progress_option, steps_option,
-    text_of, verbose_solving_option, with_options, workers_option,
+    PREC_HELP, PRICED_BLOCKS_HELP, file_option, method_option, named_option, progress_option,
+    steps_option, text_of, verbose_solving_option, with_options, workers_option,
 };
 use clap::{Arg, ArgMatches, Command};
 use std::alloc::{AllocError, Global};
@@ -17,8 +17,8 @@ pub enum SeriesCommand {
     Report,
 }
 
-/// The words of such a command: the files, and where they were given the method, the steps and the workers, and whether
-/// progress is shown and it is told why a file failed.
+/// The words of such a command: the files, and where they were given the method, the steps, the workers and the file of the
+/// table of blocks, and whether progress is shown and it is told why a file failed.
 #[derive(Clone, Copy)]
 pub struct SeriesWords<'a> {
     pub command: SeriesCommand,
@@ -28,8 +28,16 @@ pub struct SeriesWords<'a> {
     pub method: Option<&'a str>,
     pub steps: Option<&'a str>,
     pub workers: Option<&'a str>,
+    pub by_block: Option<&'a str>,
     pub progress: bool,
     pub verbose: bool,
+}
+
+impl SeriesWords<'_> {
+    /// Whether a word is that of a file which is read.
+    pub fn reads(self, word: &str) -> bool {
+        word == self.prec || word == self.blocks || word == self.settings
+    }
 }
 
 const METHOD_HELP: &str =
@@ -50,6 +58,9 @@ const WORKERS_HELP: &str =
 const PROGRESS_HELP: &str =
     "Reports on standard error each factor at which a pit is proved, and how far a run of push-relabel is";
 
+const BY_BLOCK_HELP: &str =
+    "Writes the shell of each block to this file, and replaces what is in it: lines block,shell, the shell empty where no pit holds the block; not an input";
+
 /// The options of such a command; the help says what its settings have.
 pub fn with_series<'a>(
     alloc: Global,
@@ -68,6 +79,7 @@ fn series_options<'a>(alloc: Global, settings_help: &'a str) -> Result<Vec<Arg<'
         methods.long_help(METHODS),
         steps_option(alloc),
         workers_option(alloc, WORKERS_HELP),
+        named_option(alloc, "by-block", "FILE", BY_BLOCK_HELP),
         progress_option(alloc, PROGRESS_HELP),
         verbose_solving_option(alloc),
     ]?)
@@ -83,6 +95,7 @@ pub fn series_words<'a>(command: SeriesCommand, words: &ArgMatches<'a>) -> Serie
         method: words.get_str("method"),
         steps: words.get_str("steps"),
         workers: words.get_str("workers"),
+        by_block: words.get_str("by-block"),
         progress: words.get_flag("progress"),
         verbose: words.get_flag("verbose"),
     }

@@ -12,6 +12,8 @@ const DETAILS: &str =
 
 Prints a line for each of the factors that the settings name, lowest first: SHELL, the factor in thousandths, the number of blocks of the best pit at that share of the revenues, and its worth there. Each pit is checked with a flow that proves it, and nothing is printed before all are.
 
+With --by-block it writes the first shell that holds each block to a file too, which joins the shells to the block model.
+
 Prints UNSETTLED and the factor where no pit was found within the limits, and REFUSED TooLarge where a number overflows; both have the status 1.";
 
 /// The command.

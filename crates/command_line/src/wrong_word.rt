@@ -46,6 +46,8 @@ pub enum NamedOption {
     Room,
     /// `--trace` with the word of an input.
     Trace,
+    /// `--by-block` with the word of an input.
+    ByBlock,
     /// `--method` where `--trace` is given.
     TracedMethod,
     /// `--group` where `--method words` is given.
@@ -110,6 +112,7 @@ fn shown(option: NamedOption) -> &'static str {
         NamedOption::Workers | NamedOption::WorkersOfWords => "--workers <WORKERS>",
         NamedOption::Room => "--room <ROOM>",
         NamedOption::Trace => "--trace <FILE>",
+        NamedOption::ByBlock => "--by-block <FILE>",
     }
 }
 
@@ -126,6 +129,8 @@ fn taken(command: Commanded, option: NamedOption) -> &'static str {
         NamedOption::Workers => "a whole number from 1 to 64",
         NamedOption::Room => "a whole number from 1 to 16777216",
         NamedOption::Trace => "a file that isn't an input, since the trace replaces what is in it",
+        NamedOption::ByBlock =>
+            "a file that isn't an input, since the table replaces what is in it",
         NamedOption::TracedMethod => "auto or push-relabel where --trace is given",
         NamedOption::GroupOfWords => "scaled where --method words is given",
         NamedOption::WorkersOfWords => "1 or 2 where --method words is given",

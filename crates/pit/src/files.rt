@@ -4,7 +4,7 @@ ghost use Rattle.engines.specs.Slopes.{IsChoice};
 
 use crate::advice::advice_for_series;
 use crate::heard::Heard;
-use crate::opened::{PricedFiles, file, heard_file, open_mine, open_prices};
+use crate::opened::{file, heard_file, made_file_if_named, open_mine, open_series};
 use crate::pairs_bound::{PairsBound, offsets_of};
 use crate::settings_reasons::KeptText;
 use crate::slopes_words::selection_asked;
@@ -18,7 +18,7 @@ use fixed_worth::Counted;
 use pseudoflow::Progress;
 use replay_engines::{ReplayAsked, replay_engine};
 use report_engines::report_engine;
-use shell_engines::{SeriesProgress, shells_engine};
+use shell_engines::{SeriesOutputs, SeriesProgress, shells_engine};
 use slope::Up;
 use std::rt::Files;
 use std::sync::Wait;
@@ -55,34 +55,19 @@ pub fn series_files<
     R: Files + Print + Eprint + Threads + Wait + Sync + AllocGlobal,
     T: Gate + Progress + SeriesProgress,
 >(rt: &'a R, words: SeriesWords<'a>, effort: Effort, watch: &T) -> Result<Verdict, EngineFault> {
-    let PricedFiles {
-        mut settings,
-        mut blocks,
-        mut prec,
-    } = open_prices(rt, words.verbose, words.prec, words.settings, words.blocks)?;
-    let mut out = Counted::new(output(rt, words.verbose, Some(advice_for_series(words))));
+    let mut inputs = open_series(rt, words)?;
+    let mut outputs = SeriesOutputs {
+        by_block: made_file_if_named(rt, words.verbose, words.by_block)?,
+        out: Counted::new(output(rt, words.verbose, Some(advice_for_series(words)))),
+    };
     let alloc = rt.alloc();
     match words.command {
-        SeriesCommand::Shells => shells_engine(
-            rt,
-            alloc,
-            &mut settings,
-            &mut blocks,
-            &mut prec,
-            effort,
-            watch,
-            &mut out,
-        ),
-        SeriesCommand::Report => report_engine(
-            rt,
-            alloc,
-            &mut settings,
-            &mut blocks,
-            &mut prec,
-            effort,
-            watch,
-            &mut out,
-        ),
+        SeriesCommand::Shells => {
+            shells_engine(rt, alloc, &mut inputs, effort, watch, &mut outputs)
+        }
+        SeriesCommand::Report => {
+            report_engine(rt, alloc, &mut inputs, effort, watch, &mut outputs)
+        }
     }
 }
 

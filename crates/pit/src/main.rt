@@ -13,6 +13,7 @@ mod pairs_bound;
 mod progress;
 mod reasons;
 mod replaced;
+mod series_words;
 mod settings_reasons;
 mod slopes_words;
 mod solve_options;
@@ -31,6 +32,7 @@ use files::{check_files, listed_slopes_files, replay_files, series_files, slopes
 use fixed_worth::Counted;
 use progress::{Meter, PROGRESS_ALONE, Tells};
 use reasons::{tell_choice, tell_slope_reason};
+use series_words::table_over_an_input;
 use shells::Factor;
 use slopes_words::{pattern_asked, up_asked};
 use solve_options::{factor_asked, replay_asked};
@@ -161,6 +163,9 @@ fn series<R: Files + Print + Eprint + Clock + Threads + Wait + Sync + AllocGloba
         Ok(effort) => effort,
         Err(wrong) => return refused(rt, wrong),
     };
+    if let Some(wrong) = table_over_an_input(words) {
+        return refused(rt, wrong);
+    }
     tell_choice(rt, words.verbose, words.method, words.steps);
     let verdict = if words.progress {
         series_files(

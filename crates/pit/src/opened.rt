@@ -2,26 +2,17 @@
 
 ghost use Rattle.std.specs.Prelude.{◌≡◌, IfOk};
 ghost use Rattle.engines.specs.MineInputs.{CanCount};
+ghost use Rattle.shell_engines.specs.Devices.{InputsCanCount, failures_in};
 
 use crate::heard::Heard;
 use crate::replaced::Replaced;
 use crate::settings_reasons::KeptText;
 use crate::told::{Told, made, opened, opened_and_heard};
-use command_line::ModelWords;
+use command_line::{ModelWords, SeriesWords};
 use engines::{EngineFault, MineInputs, WorthInputs};
 use fixed_worth::Counted;
+use shell_engines::SeriesInputs;
 use std::rt::Files;
-
-/// The files of a mine whose blocks have prices.
-#[derive(Drop)]
-pub struct PricedFiles<D> {
-    /// Which columns are prices.
-    pub settings: Counted<D>,
-    /// MineLib's `.blocks`.
-    pub blocks: Counted<D>,
-    /// MineLib's `.prec`.
-    pub prec: Counted<D>,
-}
 
 /// Opens the files of a mine, that of the predecessors first.
 ///
@@ -43,7 +34,7 @@ pub fn open_mine<'a, R: Files + Eprint + AllocGlobal>(
             Ok(MineInputs { worths, prec })
         }
         ModelWords::Prices { settings, blocks } => {
-            let PricedFiles {
+            let SeriesInputs {
                 settings,
                 blocks,
                 prec,
@@ -54,17 +45,27 @@ pub fn open_mine<'a, R: Files + Eprint + AllocGlobal>(
     }
 }
 
-/// Opens the files of a mine of prices, that of the predecessors first.
+/// Opens the files of a mine of which shells are drawn, that of the predecessors first.
 ///
 /// # Errors
 /// `Device` where one can't be opened.
-pub fn open_prices<'a, R: Files + Eprint + AllocGlobal>(
+pub fn open_series<'a, R: Files + Eprint + AllocGlobal>(
+    rt: &'a R,
+    words: SeriesWords<'a>,
+) -> Result<SeriesInputs<Counted<Told<'a, R, R::File>>>, EngineFault>
+    ensures { IfOk result (λ inputs. InputsCanCount inputs (λ device. device.failures)) }
+{
+    open_prices(rt, words.verbose, words.prec, words.settings, words.blocks)
+}
+
+// Opens the files of a mine of prices.
+fn open_prices<'a, R: Files + Eprint + AllocGlobal>(
     rt: &'a R,
     verbose: bool,
     prec: &'a str,
     settings: &'a str,
     blocks: &'a str,
-) -> Result<PricedFiles<Told<'a, R, R::File>>, EngineFault>
+) -> Result<SeriesInputs<Counted<Told<'a, R, R::File>>>, EngineFault>
     ensures { IfOk result (λ mine.
         (mine.prec.failures ≡ 0) × (mine.settings.failures ≡ 0) × (mine.blocks.failures ≡ 0)) }
 {
@@ -72,7 +73,7 @@ pub fn open_prices<'a, R: Files + Eprint + AllocGlobal>(
     let heard = Heard::Settings(KeptText::new(rt.alloc(), None));
     let settings = heard_file(rt, verbose, settings, heard)?;
     let blocks = file(rt, verbose, blocks)?;
-    Ok(PricedFiles {
+    Ok(SeriesInputs {
         settings,
         blocks,
         prec,
@@ -129,5 +130,22 @@ pub fn made_file<'a, R: Files + Eprint>(
     match made(rt, verbose, name) {
         Ok(file) => Ok(Counted::new(file)),
         Err(_) => Err(EngineFault::Device),
+    }
+}
+
+/// The same of a file that is named, if it is.
+///
+/// # Errors
+/// `Device` where it can't be made.
+pub fn made_file_if_named<'a, R: Files + Eprint>(
+    rt: &'a R,
+    verbose: bool,
+    name: Option<&'a str>,
+) -> Result<Option<Counted<Told<'a, R, Replaced<R::File>>>>, EngineFault>
+    ensures { IfOk result (λ made. failures_in made (λ device. device.failures) ≡ 0) }
+{
+    match name {
+        Some(name) => Ok(Some(made_file(rt, verbose, name)?)),
+        None => Ok(None),
     }
 }

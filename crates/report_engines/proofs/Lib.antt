@@ -1,6 +1,5 @@
 pub mod Columns
 pub mod SameBlocks
-pub mod FirstShell
 pub mod SmallSums
 pub mod Readings
 pub mod Tables

@@ -11,7 +11,7 @@ use Rattle.shells.specs.Prices.{PricesView, blocks_of, number_at, worth_after, w
 use Rattle.shells.specs.Series.{SeriesView}
 use Rattle.engines.specs.declared.priced_inputs.ChargeColumns.{ChargeColumns}
 use Rattle.engines.specs.declared.priced_inputs.ChargeColumns.TheVariants.{Plain, Mill}
-use Rattle.engines.specs.PricedTexts.{place_beside, values_of, first_charges, first_columns}
+use Rattle.engines.specs.PricedTexts.{place_beside, values_of, first_charges}
 use Rattle.bench_report.specs.Benches.{reported, blocks_at}
 use Rattle.bench_report.specs.FaultStands.{SameLengths, AllSumsFit, SomeSumOverflows}
 use Rattle.report_engines.specs.Internal.{IsSmall, IsPricedModel}

@@ -1,6 +1,5 @@
 -- The bench table of a series is that of the texts.
-use Rattle.std.proofs.Common.{◌≡◌, ℕ, pos, ◌<◌, List, [], ◌∷◌, ◌++◌, length, get_or, refl, sym, ap, ◌∙◌, subst, arith, Result, Ok, Err, unwrap_or, MatchResult}
-use Rattle.std.specs.List.{find, Contains}
+use Rattle.std.proofs.Common.{◌≡◌, ℕ, pos, ◌<◌, List, [], ◌∷◌, ◌++◌, length, get_or, Bool, refl, sym, ap, ◌∙◌, subst, arith, Result, unwrap_or, MatchResult}
 use Rattle.std.proofs.lemmas.List.FromFn.{length-map-range_with_len, get_or-map-range_with_len}
 use Rattle.ordered_group.specs.Block.{scaled_block}
 use Rattle.blocks_file.specs.Records as blocks
@@ -8,19 +7,16 @@ use Rattle.blocks_file.specs.declared.place.Place.{Place}
 use Rattle.blocks_file.specs.Denotes.{BlocksView}
 use Rattle.prec_file.specs.Rests.{RestsView}
 use Rattle.settings_file.specs.Settings.{settings_of}
-use Rattle.closure_net.specs.Mine.{Mine, IsBest}
-use Rattle.closure_net.specs.FaultStands.{WorthsFaultStands}
 use Rattle.closure_net.specs.declared.net.NetFault.{NetFault}
 use Rattle.closure_net.specs.declared.net.NetFault.TheVariants as net_fault
 use Rattle.shells.specs.Prices.{PricesView, blocks_of, worth_at, worths_at}
-use Rattle.shells.specs.Series.{SeriesView, mine_at, shell_at, upto, IsSeries}
+use Rattle.shells.specs.Series.{SeriesView, upto, IsSeries}
 use Rattle.shells.specs.Nesting.{BestPitsAreNested}
 use Rattle.bench_report.specs.declared.bench_row.BenchRow.{BenchRow}
 use Rattle.bench_report.specs.Benches.{reported, IsBenchTable}
 use Rattle.bench_report.specs.Written.{table_text}
 use Rattle.engines.specs.declared.judgement.Verdict.TheVariants.{No}
 use Rattle.engines.specs.declared.effort.Effort.{Effort}
-use Rattle.engines.specs.declared.solving.Unsolved.{Unsolved}
 use Rattle.engines.specs.declared.engine_fault.EngineFault.{EngineFault}
 use Rattle.engines.specs.declared.priced_inputs.ChargeColumns.{ChargeColumns}
 use Rattle.engines.specs.declared.priced_inputs.ChargeColumns.TheVariants.{Plain, Mill}
@@ -28,20 +24,16 @@ use Rattle.engines.specs.PricedTexts.{columns_said, charge_list, place_beside, c
 use Rattle.engines.specs.EngineFaults.{of_model}
 use Rattle.shell_engines.specs.declared.shell_rows.ShellRow.{ShellRow}
 use Rattle.shell_engines.specs.declared.no_series.NoSeries.{NoSeries}
-use Rattle.shell_engines.specs.declared.no_series.NoSeries.TheVariants as none
-use Rattle.shell_engines.specs.ShellTable.{IsLineOf}
-use Rattle.shell_engines.specs.SeriesTexts.{factors_said}
 use Rattle.shell_engines.specs.Settling.{IsSettled, NoSeriesStands}
-use Rattle.shell_engines.specs.Internal.{IsWant}
-use Rattle.shell_engines.specs.Shells.{mine_at_factor, DenoteSeries, ShellsFail}
-use Rattle.shell_engines.proofs.Lifted.{of_want, mine_is, nested, denoted, is_no_table, no_net_answer}
+use Rattle.shell_engines.specs.declared.series_outputs.Answer.{Answer}
+use Rattle.shell_engines.specs.Internal.{TellsWhy, IsFaultOf}
+use Rattle.shell_engines.specs.Shells.{DenoteSeries, ShellsFail}
+use Rattle.shell_engines.proofs.Lifted.{nested, denoted, no_series_answer}
+use Rattle.shell_engines.proofs.BlockTables.{first_shell, best_is}
 use Rattle.report_engines.specs.ReportTexts.{ReportBlocksRead, report_factor, report_blocks}
 use Rattle.report_engines.specs.Reports.{IsReport, AnswersReport, ReportFails}
-use Rattle.report_engines.specs.Internal.{IsReportRead, TellsWhy, IsFaultOf, verdict_of, text_of}
-use Rattle.report_engines.specs.declared.reporting.Outcome.{Outcome}
-use Rattle.engines.specs.declared.judgement.Verdict.{Verdict}
+use Rattle.report_engines.specs.Internal.{IsReportRead}
 use Rattle.report_engines.proofs.SameBlocks.{AreAlike, table_same}
-use Rattle.report_engines.proofs.FirstShell.{first_is}
 
 -- the tonnes stand behind the columns of prices
 tonnes_chosen : (charges : ChargeColumns) (revenue tonnes : ℕ) → get_or (revenue ∷ (charge_list charges ++ (tonnes ∷ []))) (place_beside charges) 0 ≡ tonnes
@@ -62,9 +54,6 @@ module _ (s t p : List ℕ) (prices : PricesView) (rests : RestsView) (factors :
       ∙ length-map-range_with_len (cell t (unwrap_or (settings_of s).revenue 0)) 0 (blocks.count_of t) ∙ sym read.blocks_are.2.count
 
   module _ (series : SeriesView) (shell_rows : List ShellRow) (settled : IsSettled rests.pairs prices factors series shell_rows) (is : IsSeries series) where
-    first_shell : (b : ℕ) → find (λ k. upto series.shells k b) (factors_said s) ≡ shell_at series.shells b
-    first_shell b = subst (λ (fs : List ℕ). find (λ k. upto series.shells k b) fs ≡ shell_at series.shells b) (settled.same_factors ∙ read.series.factors_are) (first_is (shell_at series.shells b) series.factors is.rising (is.known b))
-
     worth_is : (b : ℕ) → b < m.blocks → worth_at (table_of s t) (report_factor s) b ≡ get_or (worths_at series.prices factor) b (pos 0)
     worth_is b l =
         let inside : b < blocks_of prices = omega (arith, l, size_is, read.series.mine.size) in
@@ -85,58 +74,33 @@ module _ (s t p : List ℕ) (prices : PricesView) (rests : RestsView) (factors :
     alike = record {
       blocks = size_is;
       height = λ b l. sym (ap (λ (q : Place). q.z) (read.blocks_are.2.place b l));
-      shell = λ b l. first_shell b;
+      shell = λ b l. first_shell s t p prices rests factors read.series series shell_rows settled is b;
       tonnes = λ b l. sym (tonnes_are b l);
       worth = worth_is;
     }
 
-    best_is : (k : ℕ) → Contains (factors_said s) k → IsBest (mine_at_factor rests.blocks s t p k) (upto series.shells k)
-    best_is k c =
-        let held : Contains series.factors k = subst (λ (fs : List ℕ). Contains fs k) (sym (settled.same_factors ∙ read.series.factors_are)) c in
-        let B : Mine → Type 0 = λ mine. IsBest mine (upto series.shells k) in
-        let Q : List (ℕ × ℕ) → Type 0 = λ ps. B (mine_at ps prices k) in
-        let V : PricesView → Type 0 = λ v. B (mine_at series.pairs v k) in
-        subst B (mine_is s t p prices rests read.series.mine k) (subst Q settled.same_pairs (subst V settled.same_prices (is.best k held)))
-
-    pub is_report : BestPitsAreNested → (rows : List BenchRow) → IsBenchTable (reported m series (place_beside charges) (worths_at series.prices factor)) rows → IsReport s t p (table_text rows)
-    is_report law rows table = record {
+    pub is_report : BestPitsAreNested → (rows : List BenchRow) → IsBenchTable (reported m series (place_beside charges) (worths_at series.prices factor)) rows → (text : List ℕ) → text ≡ table_text rows → IsReport s t p text
+    is_report law rows table text spelled = record {
       size = rests.blocks;
       mine = read.series.mine.mine;
       read = blocks_read;
       pit = upto series.shells;
-      best = best_is;
+      best = best_is s t p prices rests factors read.series series shell_rows settled is;
       nested = nested s t p prices rests read.series.mine law;
       rows = rows;
       table = table_same _ _ alike rows table;
-      spelled = refl;
+      spelled = spelled;
     }
 
-  -- no pit is proved at a factor, and this line says so
-  is_none : (effort : Effort) (k : ℕ) (why : Unsolved) (line : List ℕ) → NoSeriesStands scaled_block rests prices factors effort (none.Unsolved k why) → IsLineOf k why line → AnswersReport s t p effort No line
-  is_none effort k why line h spelled = (blocks_read, is_no_table s t p prices rests factors read.series effort k why h.1.0 line h.0 h.1.1 h.1.2 spelled)
-
-  -- the answer where no pit is proved at a factor
-  none_answer : (effort : Effort) (k : ℕ) (why : Unsolved) (answer : Result Outcome EngineFault) → NoSeriesStands scaled_block rests prices factors effort (none.Unsolved k why) → MatchResult answer (λ o. (verdict_of o ≡ No) × IsLineOf k why (text_of o)) (IsWant why)
-      → MatchResult answer (λ o. AnswersReport s t p effort (verdict_of o) (text_of o)) (ReportFails s t p)
-  none_answer effort k why (Ok o) h line = subst (λ (v : Verdict). AnswersReport s t p effort v (text_of o)) (sym line.0) (is_none effort k why (text_of o) h line.1)
-  none_answer effort k why (Err e) h want =
-      let both : ReportBlocksRead s t × DenoteSeries s t p = (blocks_read, denoted s t p prices rests factors read.series) in
-      of_want (ReportFails s t p) tt both both why e want
+  both : ReportBlocksRead s t × DenoteSeries s t p
+  both = (blocks_read, denoted s t p prices rests factors read.series)
 
   net_fails : (fault : NetFault) → ShellsFail s t p (of_model fault) → ReportFails s t p (of_model fault)
   net_fails net_fault.WrongLength h = (blocks_read, h)
   net_fails net_fault.TooLarge h = (blocks_read, h)
   net_fails net_fault.NoMemory h = tt
 
-  -- an amount of the mine doesn't fit at a factor
-  no_net : (k : ℕ) (fault : NetFault) → Contains factors k × WorthsFaultStands scaled_block rests.blocks (worths_at prices k) fault → ReportFails s t p (of_model fault)
-  no_net k fault h = net_fails fault (no_net_answer s t p prices rests factors read.series k fault h)
-
   -- what comes of a mine that has no series
-  pub no_series_answer : (effort : Effort) (x : NoSeries) (answer : Result Outcome EngineFault) → NoSeriesStands scaled_block rests prices factors effort x → MatchResult answer (λ o. (verdict_of o ≡ No) × TellsWhy x (text_of o)) (IsFaultOf x)
-      → MatchResult answer (λ o. AnswersReport s t p effort (verdict_of o) (text_of o)) (ReportFails s t p)
-  no_series_answer effort (none.Unsolved k why) answer h m = none_answer effort k why answer h m
-  no_series_answer effort (none.Model k fault) (Ok o) h m = absurd m.1
-  no_series_answer effort (none.Model k fault) (Err e) h m = subst (ReportFails s t p) (sym m) (no_net k fault h)
-  no_series_answer effort none.Memory (Ok o) h m = absurd m.1
-  no_series_answer effort none.Memory (Err e) h m = subst (ReportFails s t p) (sym m) tt
+  pub no_report_answer : (effort : Effort) (asked : Bool) (x : NoSeries) (answer : Result Answer EngineFault) → NoSeriesStands scaled_block rests prices factors effort x → MatchResult answer (λ a. (a.verdict ≡ No) × (a.table.items ≡ []) × TellsWhy x a.text.items) (IsFaultOf x)
+      → MatchResult answer (λ a. AnswersReport s t p effort asked a.verdict a.table.items a.text.items) (ReportFails s t p)
+  no_report_answer effort asked = no_series_answer s t p prices rests factors read.series effort (AnswersReport s t p effort asked) (ReportFails s t p) (λ text h. (blocks_read, h, refl)) tt both both net_fails

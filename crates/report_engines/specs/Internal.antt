@@ -4,23 +4,13 @@ use Rattle.blocks_file.specs.Denotes.{BlocksView}
 use Rattle.prec_file.specs.Rests.{RestsView}
 use Rattle.settings_file.specs.Settings.{SettingsView, settings_of}
 use Rattle.shells.specs.Prices.{PricesView, PricesFaultStands}
-use Rattle.bench_report.specs.Written.{table_text}
-use Rattle.engines.specs.declared.judgement.Verdict.{Verdict}
-use Rattle.engines.specs.declared.judgement.Verdict.TheVariants.{Done, No}
 use Rattle.engines.specs.declared.engine_fault.EngineFault.{EngineFault}
 use Rattle.engines.specs.declared.engine_fault.EngineFault.TheVariants as engine
 use Rattle.engines.specs.declared.priced_inputs.ChargeColumns.{ChargeColumns}
 use Rattle.engines.specs.PricedTexts.{columns_said, column_list, place_beside, first_columns, SettingsFails}
 use Rattle.engines.specs.BlockTexts.{ReadsBlocks, BlocksFails}
-use Rattle.engines.specs.EngineFaults.{of_model}
-use Rattle.shell_engines.specs.declared.no_series.NoSeries.{NoSeries}
-use Rattle.shell_engines.specs.declared.no_series.NoSeries.TheVariants as none
-use Rattle.shell_engines.specs.ShellTable.{IsLineOf}
-use Rattle.shell_engines.specs.Internal.{IsWant}
 use Rattle.shell_engines.specs.SeriesTexts.{factors_said, IsSeriesRead}
 use Rattle.report_engines.specs.declared.report_inputs.ReportColumns.{ReportColumns}
-use Rattle.report_engines.specs.declared.reporting.Outcome.{Outcome}
-use Rattle.report_engines.specs.declared.reporting.Outcome.TheVariants.{Table, NoTable}
 use Rattle.report_engines.specs.ReportTexts.{report_keys, ReportKeysKnown, report_columns, report_factor}
 
 -- The prices, the pairs and the factors that were read, the blocks with their places and columns, the kind of the charges, and
@@ -70,23 +60,3 @@ PricedModelFails columns text (engine.Prices fault) = (m : BlocksView) × ReadsB
 PricedModelFails columns text engine.Memory = Unit {0}
 PricedModelFails columns text engine.Device = Unit {0}
 PricedModelFails columns text _ = ⊥
-
--- how the engine ends, and the text that it writes
-abbrev pub verdict_of : Outcome → Verdict
-verdict_of (Table rows) = Done
-verdict_of (NoTable line) = No
-
-abbrev pub text_of : Outcome → List ℕ
-text_of (Table rows) = table_text rows.items
-text_of (NoTable line) = line.items
-
--- the line that says why there is no series
-abbrev pub TellsWhy : NoSeries → List ℕ → Type 0
-TellsWhy (none.Unsolved factor why) text = IsLineOf factor why text
-TellsWhy _ text = ⊥
-
--- the fault that says so
-abbrev pub IsFaultOf : NoSeries → EngineFault → Type 0
-IsFaultOf (none.Unsolved factor why) e = IsWant why e
-IsFaultOf (none.Model factor fault) e = e ≡ of_model fault
-IsFaultOf none.Memory e = e ≡ engine.Memory

@@ -1,5 +1,5 @@
 -- How the engine of `report` ends, by the bytes of its inputs and of its output.
-use Rattle.std.specs.Prelude.{◌≡◌, ℕ, Bool, List, Contains, Option, Result}
+use Rattle.std.specs.Prelude.{◌≡◌, ℕ, Bool, List, [], Contains, Option, Result}
 use Rattle.closure_net.specs.Mine.{IsBest}
 use Rattle.bench_report.specs.declared.bench_row.BenchRow.{BenchRow}
 use Rattle.bench_report.specs.Benches.{IsBenchTable}
@@ -11,7 +11,8 @@ use Rattle.engines.specs.declared.effort.Effort.{Effort}
 use Rattle.engines.specs.Mines.{priced_texts, DenoteMine}
 use Rattle.shell_engines.specs.SeriesTexts.{factors_said}
 use Rattle.shell_engines.specs.Answering.{FailsBy, Ends}
-use Rattle.shell_engines.specs.Shells.{mine_at_factor, AreNested, DenoteSeries, IsNoTable, NoNetAt}
+use Rattle.shell_engines.specs.BlockTables.{mine_at_factor, IsTableIfAsked}
+use Rattle.shell_engines.specs.Shells.{AreNested, DenoteSeries, IsNoTable, NoNetAt}
 use Rattle.report_engines.specs.ReportTexts.{ReportBlocksRead, report_blocks, ReportMineFails}
 
 -- The texts denote a mine at each factor, the pits at the factors of the settings are the best ones, each of them lies
@@ -27,10 +28,10 @@ pub record IsReport (settings blocks precedence text : List ℕ) : Type 0 where
   pub table : IsBenchTable (report_blocks size settings blocks precedence pit) rows
   pub spelled : text ≡ table_text rows
 
--- the text that answers for them
-abbrev pub AnswersReport : List ℕ → List ℕ → List ℕ → Effort → Verdict → List ℕ → Type 0
-AnswersReport settings blocks precedence effort Done text = IsReport settings blocks precedence text
-AnswersReport settings blocks precedence effort No text = ReportBlocksRead settings blocks × IsNoTable settings blocks precedence effort text
+-- the table of blocks, which may be asked for, and the text that answer for them
+abbrev pub AnswersReport : List ℕ → List ℕ → List ℕ → Effort → Bool → Verdict → List ℕ → List ℕ → Type 0
+AnswersReport settings blocks precedence effort asked Done table text = IsReport settings blocks precedence text × IsTableIfAsked asked settings blocks precedence table
+AnswersReport settings blocks precedence effort asked No table text = ReportBlocksRead settings blocks × IsNoTable settings blocks precedence effort text × (table ≡ [])
 
 -- why the engine answers a fault: it stands, and none before it does
 abbrev pub ReportFails : List ℕ → List ℕ → List ℕ → EngineFault → Type 0
@@ -38,5 +39,5 @@ ReportFails settings blocks precedence = FailsBy (ReportMineFails settings block
     (λ fault. ReportBlocksRead settings blocks × NoNetAt settings blocks precedence fault)
 
 -- the answer, and what was written with it
-abbrev pub Reports : List ℕ → List ℕ → List ℕ → Effort → Option (List ℕ) → Option (List ℕ) → Result Verdict EngineFault → Type 0
-Reports settings blocks precedence effort = Ends (AnswersReport settings blocks precedence effort) (ReportFails settings blocks precedence)
+abbrev pub Reports : List ℕ → List ℕ → List ℕ → Effort → Bool → Option (List ℕ) → Option (List ℕ) → Option (List ℕ) → Option (List ℕ) → Result Verdict EngineFault → Type 0
+Reports settings blocks precedence effort asked = Ends (AnswersReport settings blocks precedence effort asked) (ReportFails settings blocks precedence)

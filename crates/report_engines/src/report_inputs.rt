@@ -6,6 +6,7 @@ ghost use Rattle.settings_file.specs.Values.{AreFactors};
 ghost use Rattle.shells.specs.Prices.{blocks_of};
 ghost use Rattle.engines.specs.Inputs.{IsMissing};
 ghost use Rattle.engines.specs.BlockTexts.{ReadsBlocks};
+ghost use Rattle.shell_engines.specs.Devices.{ForSeries, InputsCanCount, input_failures, NoInputFailed};
 ghost use Rattle.report_engines.specs.ReportTexts.{report_keys, factor_by, ReportMineFails};
 ghost use Rattle.report_engines.specs.Internal.{columns_by, report_list, IsSaid, SaidFails, PricedModelFails, IsReportRead, IsSmall, IsPricedModel};
 
@@ -18,7 +19,7 @@ use engines::priced_inputs::{
 };
 use fixed_worth::CountedRead;
 use settings_file::{Key, Settings};
-use shell_engines::series_inputs::{SeriesMine, factors_of};
+use shell_engines::series_inputs::{SeriesInputs, SeriesMine, factors_of};
 use shells::{Factor, Prices};
 use std::alloc::Global;
 
@@ -163,23 +164,19 @@ fn priced_model_from<B: CountedRead>(
 /// # Errors
 /// In this order: `Settings` for a fault of this text or a missing key; `Blocks`; `Prices` for a negative revenue;
 /// `Prec`. `Memory` where memory is refused, `Device` where a read fails.
-pub fn report_mine_from<S: CountedRead, B: CountedRead, P: CountedRead>(
+pub fn report_mine_from<D: CountedRead>(
     alloc: Global,
-    settings: &mut S,
-    blocks: &mut B,
-    prec: &mut P,
+    inputs: &mut SeriesInputs<D>,
 ) -> Result<ReportMine, EngineFault>
-    requires settings_room { S.failed settings.old < 2 ^ 64 - 1 }
-    requires blocks_room { B.failed blocks.old < 2 ^ 64 - 1 }
-    requires prec_room { P.failed prec.old < 2 ^ 64 - 1 }
-    ensures read { IfSome (S.remaining settings.old) (λ s. IfSome (B.remaining blocks.old) (λ b. IfSome (P.remaining prec.old) (λ p.
-        MatchResult result (λ mine. IsReportRead s b p mine.series.prices mine.series.rests mine.series.factors.items mine.model mine.charges mine.factor) (ReportMineFails s b p)))) }
-    ensures device { IsErrOf result EngineFault.Device → S.failed settings.new + B.failed blocks.new + P.failed prec.new ≡ S.failed settings.old + B.failed blocks.old + P.failed prec.old + 1 }
-    ensures kept { ¬ IsErrOf result EngineFault.Device → (S.failed settings.new ≡ S.failed settings.old) × (B.failed blocks.new ≡ B.failed blocks.old) × (P.failed prec.new ≡ P.failed prec.old) }
+    requires { InputsCanCount inputs.old D.failed }
+    ensures read { ForSeries inputs.old D.remaining (λ s b p. MatchResult result
+        (λ mine. IsReportRead s b p mine.series.prices mine.series.rests mine.series.factors.items mine.model mine.charges mine.factor) (ReportMineFails s b p)) }
+    ensures device { IsErrOf result EngineFault.Device → input_failures inputs.new D.failed ≡ input_failures inputs.old D.failed + 1 }
+    ensures kept { ¬ IsErrOf result EngineFault.Device → NoInputFailed inputs.old inputs.new D.failed }
 {
-    let said = said_from(alloc, settings)?;
-    let read = priced_model_from(alloc, blocks, said.columns)?;
-    let rests = rests_from(alloc, prec, read.prices.len())?;
+    let said = said_from(alloc, &mut inputs.settings)?;
+    let read = priced_model_from(alloc, &mut inputs.blocks, said.columns)?;
+    let rests = rests_from(alloc, &mut inputs.prec, read.prices.len())?;
     let series = SeriesMine {
         prices: read.prices,
         rests,

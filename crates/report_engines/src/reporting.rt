@@ -1,24 +1,21 @@
 //! The engine of `report`.
 
-ghost use Rattle.std.specs.Prelude.{◌≡◌, ℕ, List, ◌+◌, ◌-◌, ◌^◌, ◌<◌, ◌⊎◌, IfSome, IfOk, IfErr, OnOk, MatchResult, IsErrOf};
-ghost use Rattle.std.specs.Io.KnownBytes.{Appends};
-ghost use Rattle.fixed_worth.specs.Device.{ReceivedPrefix};
-ghost use Rattle.shell_engines.specs.ShellTable.{IsLineOf};
-ghost use Rattle.shell_engines.specs.Internal.{IsWant};
+ghost use Rattle.std.specs.Prelude.{ℕ, List, ◌+◌, ◌≡◌, MatchResult, IsErrOf};
+ghost use Rattle.shell_engines.specs.Devices.{ForSeries, InputsCanCount, OutputsCanCount, input_failures, output_failures, NoInputFailed, NoOutputFailed, is_asked, contents_in};
 ghost use Rattle.report_engines.specs.Reports.{AnswersReport, ReportFails, Reports};
-ghost use Rattle.report_engines.specs.Internal.{IsReportRead, TellsWhy, IsFaultOf, verdict_of, text_of};
+ghost use Rattle.report_engines.specs.Internal.{IsReportRead};
 
 use crate::bench_rows::rows_at;
 use crate::report_inputs::{ReportMine, report_mine_from};
-use bench_report::{BenchRow, ReportWriteFault, write_report};
-use engines::solving::Unsolved;
+use bench_report::report_text;
 use engines::{Effort, EngineFault, Verdict};
-use fixed_worth::{CountedRead, CountedWrite, write_text};
+use fixed_worth::{CountedRead, CountedWrite};
 use pseudoflow::Progress;
-use shell_engines::SeriesProgress;
-use shell_engines::no_series::NoSeries;
-use shell_engines::series_engine::answer_at;
+use shell_engines::block_tables::table_if_asked;
+use shell_engines::series_engine::no_series;
+use shell_engines::series_outputs::{Answer, send};
 use shell_engines::settling::settle;
+use shell_engines::{SeriesInputs, SeriesOutputs, SeriesProgress};
 use shells::laws;
 use std::alloc::Global;
 use std::sync::Wait;
@@ -28,12 +25,13 @@ use workers::Gate;
 /// Reports the shells of the mine of settings, blocks and a precedence: the bench table, as comma-separated values with
 /// the line `z,shell,blocks,tonnes,worth` first. A block's shell is the lowest factor of the settings whose best pit
 /// holds it, its tonnes are those of its record, and its worth is that at the factor of the report: the settings' key
-/// `report`, or else the last of the factors.
+/// `report`, or else the last of the factors. Where the table of blocks is asked for, it is written first: a line for each
+/// block with its shell.
 ///
 /// `Done` where the table was written: each pit was checked with a flow that proves it, and added to a series, before
 /// anything was written. `No` where at a factor no pit was proved: the line `UNSETTLED factor` where the run needs more
-/// steps than the effort has, `REFUSED TooLarge` where a number of it doesn't fit. The inputs are read in the order of
-/// the arguments, each to its end.
+/// steps than the effort has, `REFUSED TooLarge` where a number of it doesn't fit; nothing is written to the table of
+/// blocks. The inputs are read in the order of their fields, each to its end.
 ///
 /// # Errors
 /// In this order:
@@ -43,63 +41,52 @@ use workers::Gate;
 /// - `Blocks`; `Prices` for a negative revenue; `Prec`;
 /// - `Model` where an amount of the mine's net doesn't fit at one of the factors.
 ///
-/// `Memory`, `Thread`, `Stranger` and `Device` as for `solve_engine`.
+/// `Memory`, `Thread`, `Stranger` and `Device` as for `solve_engine`; at `Device` as `shells_engine` says.
 ///
 /// Each device must have counted fewer than 2^64 - 1 failures, so that one more can be counted.
 pub fn report_engine<
     R: Threads + Wait + Sync,
-    S: CountedRead,
-    B: CountedRead,
-    P: CountedRead,
+    D: CountedRead,
     T: Gate + Progress + SeriesProgress,
+    V: CountedWrite,
     W: CountedWrite,
 >(
     rt: &R,
     alloc: Global,
-    settings: &mut S,
-    blocks: &mut B,
-    prec: &mut P,
+    inputs: &mut SeriesInputs<D>,
     effort: Effort,
     gate: &T,
-    out: &mut W,
+    outputs: &mut SeriesOutputs<V, W>,
 ) -> Result<Verdict, EngineFault>
-    requires settings_room { S.failed settings.old < 2 ^ 64 - 1 }
-    requires blocks_room { B.failed blocks.old < 2 ^ 64 - 1 }
-    requires prec_room { P.failed prec.old < 2 ^ 64 - 1 }
-    requires out_room { W.failed out.old < 2 ^ 64 - 1 }
+    requires inputs_room { InputsCanCount inputs.old D.failed }
+    requires outputs_room { OutputsCanCount outputs.old V.failed W.failed }
 
     // What it answers and writes, where the readers tell their bytes.
-    ensures answer { IfSome (S.remaining settings.old) (λ s. IfSome (B.remaining blocks.old) (λ b. IfSome (P.remaining prec.old) (λ p.
-        Reports s b p effort (W.contents out.old) (W.contents out.new) result))) }
+    ensures answer { ForSeries inputs.old D.remaining (λ s b p. Reports s b p effort (is_asked outputs.old.by_block) (contents_in outputs.old.by_block V.contents) (contents_in outputs.new.by_block V.contents)
+        (W.contents outputs.old.out) (W.contents outputs.new.out) result) }
 
     // A device is named exactly where one failed.
-    ensures device { IsErrOf result EngineFault.Device → S.failed settings.new + B.failed blocks.new + P.failed prec.new + W.failed out.new
-        ≡ S.failed settings.old + B.failed blocks.old + P.failed prec.old + W.failed out.old + 1 }
-    ensures kept { ¬ IsErrOf result EngineFault.Device → (S.failed settings.new ≡ S.failed settings.old) × (B.failed blocks.new ≡ B.failed blocks.old) × (P.failed prec.new ≡ P.failed prec.old)
-        × (W.failed out.new ≡ W.failed out.old) }
+    ensures device { IsErrOf result EngineFault.Device → input_failures inputs.new D.failed + output_failures outputs.new V.failed W.failed
+        ≡ input_failures inputs.old D.failed + output_failures outputs.old V.failed W.failed + 1 }
+    ensures kept { ¬ IsErrOf result EngineFault.Device → NoInputFailed inputs.old inputs.new D.failed × NoOutputFailed outputs.old outputs.new V.failed W.failed }
 {
-    let mine = report_mine_from(alloc, settings, blocks, prec)?;
-    let outcome = outcome_of(rt, alloc, mine, effort, gate)?;
-    send(alloc, outcome, out)
+    let mine = report_mine_from(alloc, inputs)?;
+    let is_asked = outputs.has_table();
+    let answer = answer_of(rt, alloc, mine, effort, gate, is_asked)?;
+    send(&answer, outputs)
 }
 
-// What comes of a mine: the rows of its table, or the line that says why there is none.
-#[derive(Drop)]
-enum Outcome {
-    Table(Vec<BenchRow>),
-    NoTable(Vec<u8>),
-}
-
-// What comes of a mine that was read.
-fn outcome_of<R: Threads + Wait + Sync, T: Gate + Progress + SeriesProgress>(
+// The answer for a mine that was read.
+fn answer_of<R: Threads + Wait + Sync, T: Gate + Progress + SeriesProgress>(
     rt: &R,
     alloc: Global,
     mine: ReportMine,
     effort: Effort,
     gate: &T,
-) -> Result<Outcome, EngineFault>
+    is_asked: bool,
+) -> Result<Answer, EngineFault>
     ensures answer { (s b p : List ℕ) → IsReportRead s b p mine.series.prices mine.series.rests mine.series.factors.items mine.model mine.charges mine.factor → MatchResult result
-        (λ outcome. AnswersReport s b p effort (verdict_of outcome) (text_of outcome))
+        (λ a. AnswersReport s b p effort is_asked a.verdict a.table.items a.text.items)
         (λ e. ReportFails s b p e) }
     ensures no_device { ¬ IsErrOf result EngineFault.Device }
 {
@@ -111,62 +98,14 @@ fn outcome_of<R: Threads + Wait + Sync, T: Gate + Progress + SeriesProgress>(
         charges,
         factor,
     } = mine;
-    match settle(rt, alloc, series, effort, gate) {
-        Ok(shells) => Ok(Outcome::Table(rows_at(
-            rt,
-            alloc,
-            &model,
-            charges,
-            &shells.series,
-            factor,
-        )?)),
-        Err(none) => no_series(alloc, none),
-    }
-}
-
-// What comes of a mine that has no series.
-fn no_series(alloc: Global, none: NoSeries) -> Result<Outcome, EngineFault>
-    ensures { MatchResult result (λ outcome. (verdict_of outcome ≡ Verdict.No) × TellsWhy none (text_of outcome)) (IsFaultOf none) }
-{
-    match none {
-        NoSeries::Unsolved(factor, why) => no_table(alloc, factor, why),
-        NoSeries::Model(_, fault) => Err(EngineFault::from(fault)),
-        NoSeries::Memory => Err(EngineFault::Memory),
-    }
-}
-
-// What comes of a mine where no pit is proved at a factor.
-fn no_table(alloc: Global, factor: u32, why: Unsolved) -> Result<Outcome, EngineFault>
-    ensures { MatchResult result (λ outcome. (verdict_of outcome ≡ Verdict.No) × IsLineOf factor why (text_of outcome)) (IsWant why) }
-{
-    match answer_at(alloc, factor, why) {
-        Ok(answer) => Ok(Outcome::NoTable(answer.text)),
-        Err(fault) => Err(fault),
-    }
-}
-
-// Writes what comes of a mine, and ends so.
-fn send<W: CountedWrite>(
-    alloc: Global,
-    outcome: Outcome,
-    out: &mut W,
-) -> Result<Verdict, EngineFault>
-    requires room { W.failed out.old < 2 ^ 64 - 1 }
-    ensures verdict { IfOk result (λ v. v ≡ verdict_of outcome) }
-    ensures written { OnOk result (Appends (W.contents out.old) (W.contents out.new) (text_of outcome)) }
-    ensures fault { IfErr result (λ e. ((e ≡ EngineFault.Memory) × (W.contents out.new ≡ W.contents out.old)) ⊎ ((e ≡ EngineFault.Device) × ReceivedPrefix (W.contents out.old) (W.contents out.new) (text_of outcome))) }
-    ensures device { IsErrOf result EngineFault.Device → W.failed out.new ≡ W.failed out.old + 1 }
-    ensures kept { ¬ IsErrOf result EngineFault.Device → W.failed out.new ≡ W.failed out.old }
-{
-    match outcome {
-        Outcome::Table(rows) => match write_report(alloc, rows.as_slice(), out) {
-            Ok(()) => Ok(Verdict::Done),
-            Err(ReportWriteFault::Device) => Err(EngineFault::Device),
-            Err(ReportWriteFault::NoMemory) => Err(EngineFault::Memory),
-        },
-        Outcome::NoTable(line) => {
-            write_text(out, line.as_slice())?;
-            Ok(Verdict::No)
-        }
-    }
+    let shells = match settle(rt, alloc, series, effort, gate) {
+        Ok(shells) => shells,
+        Err(none) => return no_series(alloc, none),
+    };
+    let rows = rows_at(rt, alloc, &model, charges, &shells.series, factor)?;
+    Ok(Answer {
+        verdict: Verdict::Done,
+        table: table_if_asked(alloc, is_asked, &shells.series)?,
+        text: report_text(alloc, rows.as_slice())?,
+    })
 }

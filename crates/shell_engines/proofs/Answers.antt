@@ -1,5 +1,5 @@
 -- From the parts of the engine of shells to its answer, where the readers tell their bytes.
-use Rattle.std.proofs.Common.{ℕ, List, Option, Err, IfSome}
+use Rattle.std.proofs.Common.{ℕ, Bool, List, Option, Err, IfSome}
 use Rattle.engines.specs.declared.engine_fault.EngineFault.{EngineFault}
 use Rattle.engines.specs.declared.effort.Effort.{Effort}
 use Rattle.shell_engines.specs.SeriesTexts.{SeriesMineFails}
@@ -7,5 +7,5 @@ use Rattle.shell_engines.specs.Shells.{AnswersShells, DenoteSeries, NoNetAt, She
 use Rattle.shell_engines.proofs.Answering.{texts_unread}
 
 -- the texts were not read
-pub mine_unread : (o q r w : Option (List ℕ)) (effort : Effort) (e : EngineFault) → IfSome o (λ s. IfSome q (λ b. IfSome r (λ p. SeriesMineFails s b p e))) → IfSome o (λ s. IfSome q (λ b. IfSome r (λ p. Shells s b p effort w w (Err e))))
-mine_unread o q r w effort e h = texts_unread o q r (λ s b p. AnswersShells s b p effort) SeriesMineFails DenoteSeries NoNetAt (λ s b p k f. absurd f) (λ s b p f. absurd f) (λ s b p f. absurd f) w e h
+pub mine_unread : (o q r v w : Option (List ℕ)) (effort : Effort) (asked : Bool) (e : EngineFault) → IfSome o (λ s. IfSome q (λ b. IfSome r (λ p. SeriesMineFails s b p e))) → IfSome o (λ s. IfSome q (λ b. IfSome r (λ p. Shells s b p effort asked v v w w (Err e))))
+mine_unread o q r v w effort asked e h = texts_unread o q r (λ s b p. AnswersShells s b p effort asked) SeriesMineFails DenoteSeries NoNetAt (λ s b p k f. absurd f) (λ s b p f. absurd f) (λ s b p f. absurd f) v w e h

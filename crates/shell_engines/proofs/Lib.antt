@@ -2,6 +2,9 @@ pub mod Readings
 pub mod Nets
 pub mod Growing
 pub mod Lifted
+pub mod FirstShell
+pub mod BlockTables
+pub mod OneTable
 pub mod Answering
 pub mod Answers
 pub mod Proving

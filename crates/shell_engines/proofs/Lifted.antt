@@ -1,5 +1,5 @@
 -- Mines of prices and pairs that were read are those of their texts.
-use Rattle.std.proofs.Common.{◌≡◌, ℕ, Bool, true, false, List, length, refl, sym, ◌∙◌, subst, IsTrue, Result, Ok, Err, MatchResult}
+use Rattle.std.proofs.Common.{◌≡◌, ℕ, Bool, true, false, List, [], length, refl, sym, ◌∙◌, subst, IsTrue, Result, Ok, Err, MatchResult}
 use Rattle.std.specs.Prelude.{Contains}
 use Rattle.ordered_group.specs.Block.{scaled_block}
 use Rattle.prec_file.specs.Rests.{RestsView, ArePairsOf, has_pair}
@@ -30,10 +30,12 @@ use Rattle.shell_engines.specs.declared.shell_rows.ShellRow.{ShellRow}
 use Rattle.shell_engines.specs.ShellTable.{AreRowsOf, table_text, IsLineOf}
 use Rattle.shell_engines.specs.SeriesTexts.{factors_said, IsSeriesRead}
 use Rattle.shell_engines.specs.Settling.{IsNetAt, NotSolvedStands, NoSeriesStands}
-use Rattle.shell_engines.specs.Internal.{IsWant}
+use Rattle.shell_engines.specs.Internal.{IsWant, TellsWhy, IsFaultOf}
+use Rattle.shell_engines.specs.declared.no_series.NoSeries.{NoSeries}
 use Rattle.shell_engines.specs.declared.no_series.NoSeries.TheVariants as none
-use Rattle.shell_engines.specs.declared.series_engine.Answer.{Answer}
-use Rattle.shell_engines.specs.Shells.{shell_group, mine_at_factor, AreNested, DenoteSeries, IsShellTable, IsNoTable, NoNetAt, AnswersShells, ShellsFail}
+use Rattle.shell_engines.specs.BlockTables.{mine_at_factor}
+use Rattle.shell_engines.specs.declared.series_outputs.Answer.{Answer}
+use Rattle.shell_engines.specs.Shells.{shell_group, AreNested, DenoteSeries, IsShellTable, IsNoTable, NoNetAt, ShellsFail}
 
 -- what holds of each fault that a reason can make holds of the one that it makes
 pub of_want : (F : EngineFault → Type 0) → F engine.Memory → F engine.Thread → F engine.Stranger → (why : Unsolved) (e : EngineFault) → IsWant why e → F e
@@ -112,13 +114,6 @@ module _ (s t p : List ℕ) (table : PricesView) (rests : RestsView) (factors : 
     spelled = spelled;
   }
 
-  -- the answer where no pit is proved at a factor
-  pub no_pit_answer : (effort : Effort) (factor : ℕ) (why : Unsolved) (answer : Result Answer EngineFault) → NoSeriesStands scaled_block rests table factors effort (none.Unsolved factor why) → MatchResult answer (λ a. (a.verdict ≡ No) × IsLineOf factor why a.text.items) (IsWant why)
-      → MatchResult answer (λ a. AnswersShells s t p effort a.verdict a.text.items) (ShellsFail s t p)
-  no_pit_answer effort factor why (Ok a) h line =
-      subst (λ (v : Verdict). AnswersShells s t p effort v a.text.items) (sym line.0) (is_no_table effort factor why h.1.0 a.text.items h.0 h.1.1 h.1.2 line.1)
-  no_pit_answer effort factor why (Err e) h is = of_want (ShellsFail s t p) tt denoted denoted why e is
-
   -- an amount of the mine doesn't fit at a factor
   no_net : (factor : ℕ) (fault : NetFault) → Contains factors factor → ModelFails (priced_texts s t p factor) rests.blocks shell_group fault → NoNetAt s t p fault
   no_net factor fault c m = record { factor = factor; said = said factor c; size = rests.blocks; mine = read.mine.mine factor; stands = m }
@@ -127,3 +122,18 @@ module _ (s t p : List ℕ) (table : PricesView) (rests : RestsView) (factors : 
   no_net_answer factor net_fault.WrongLength h = no_net factor net_fault.WrongLength h.0 (net_fails s t p table rests read.mine factor net_fault.WrongLength h.1)
   no_net_answer factor net_fault.TooLarge h = no_net factor net_fault.TooLarge h.0 (net_fails s t p table rests read.mine factor net_fault.TooLarge h.1)
   no_net_answer factor net_fault.NoMemory h = tt
+
+  -- what is answered where there is no series, whatever such an answer and such a fault are said to mean
+  module _ (effort : Effort) (A : Verdict → List ℕ → List ℕ → Type 0) (F : EngineFault → Type 0) (no : (text : List ℕ) → IsNoTable s t p effort text → A No [] text) (memory : F engine.Memory) (thread : F engine.Thread) (stranger : F engine.Stranger)
+      (net : (fault : NetFault) → ShellsFail s t p (of_model fault) → F (of_model fault)) where
+    without : (a : Answer) → (a.verdict ≡ No) × (a.table.items ≡ []) × IsNoTable s t p effort a.text.items → A a.verdict a.table.items a.text.items
+    without a h = subst (λ (v : Verdict). A v a.table.items a.text.items) (sym h.0) (subst (λ (xs : List ℕ). A No xs a.text.items) (sym h.1) (no a.text.items h.2))
+
+    pub no_series_answer : (x : NoSeries) (answer : Result Answer EngineFault) → NoSeriesStands scaled_block rests table factors effort x → MatchResult answer (λ a. (a.verdict ≡ No) × (a.table.items ≡ []) × TellsWhy x a.text.items) (IsFaultOf x)
+        → MatchResult answer (λ a. A a.verdict a.table.items a.text.items) F
+    no_series_answer (none.Unsolved k why) (Ok a) h m = without a (m.0, m.1, is_no_table effort k why h.1.0 a.text.items h.0 h.1.1 h.1.2 m.2)
+    no_series_answer (none.Unsolved k why) (Err e) h m = of_want F memory thread stranger why e m
+    no_series_answer (none.Model k fault) (Ok a) h m = absurd m.2
+    no_series_answer (none.Model k fault) (Err e) h m = subst F (sym m) (net fault (no_net_answer k fault h))
+    no_series_answer none.Memory (Ok a) h m = absurd m.2
+    no_series_answer none.Memory (Err e) h m = subst F (sym m) memory

@@ -1,4 +1,4 @@
--- How an engine over the factors of settings ends, whatever it answers: what a fault says, and what is in the writer.
+-- How an engine over the factors of settings ends, whatever it answers: what a fault says, and what is in the writers.
 use Rattle.std.specs.Prelude.{ℕ, ◌⊎◌, List, Option, Result, Ok, Err}
 use Rattle.std.specs.Io.KnownBytes.{Appends, Keeps}
 use Rattle.fixed_worth.specs.Device.{ReceivedPrefix}
@@ -16,12 +16,19 @@ FailsBy Unread Denoted NoNet engine.Thread = Denoted
 FailsBy Unread Denoted NoNet engine.Stranger = Denoted
 FailsBy Unread Denoted NoNet fault = Unread fault
 
--- what is in the writer at a fault: what was there before, unless a device failed; then perhaps a prefix of an answer too
-abbrev pub WritesAtFault : (Verdict → List ℕ → Type 0) → Option (List ℕ) → Option (List ℕ) → EngineFault → Type 0
-WritesAtFault Answers old new engine.Device = Keeps old new ⊎ ((verdict : Verdict) × (text : List ℕ) × Answers verdict text × ReceivedPrefix old new text)
-WritesAtFault Answers old new _ = Keeps old new
+-- ---- Two texts are written: a table of blocks to its file, of which `before` and `after` are the bytes, and then an answer to the output.
+
+-- a device failed: the file has a prefix of the table, and the output nothing; or the file has the table, and the output a prefix of the answer
+abbrev pub IsCutShort : List ℕ → List ℕ → Option (List ℕ) → Option (List ℕ) → Option (List ℕ) → Option (List ℕ) → Type 0
+IsCutShort table text before after old new = (ReceivedPrefix before after table × Keeps old new) ⊎ (Appends before after table × ReceivedPrefix old new text)
+
+-- what is in both at a fault: what was there before, unless a device failed in writing them
+abbrev pub WritesAtFault : (Verdict → List ℕ → List ℕ → Type 0) → Option (List ℕ) → Option (List ℕ) → Option (List ℕ) → Option (List ℕ) → EngineFault → Type 0
+WritesAtFault Answers before after old new engine.Device =
+    (Keeps before after × Keeps old new) ⊎ ((verdict : Verdict) × (table : List ℕ) × (text : List ℕ) × Answers verdict table text × IsCutShort table text before after old new)
+WritesAtFault Answers before after old new _ = Keeps before after × Keeps old new
 
 -- the answer, and what was written with it
-abbrev pub Ends : (Verdict → List ℕ → Type 0) → (EngineFault → Type 0) → Option (List ℕ) → Option (List ℕ) → Result Verdict EngineFault → Type 0
-Ends Answers Fails old new (Ok verdict) = (text : List ℕ) × Answers verdict text × Appends old new text
-Ends Answers Fails old new (Err fault) = Fails fault × WritesAtFault Answers old new fault
+abbrev pub Ends : (Verdict → List ℕ → List ℕ → Type 0) → (EngineFault → Type 0) → Option (List ℕ) → Option (List ℕ) → Option (List ℕ) → Option (List ℕ) → Result Verdict EngineFault → Type 0
+Ends Answers Fails before after old new (Ok verdict) = (table : List ℕ) × (text : List ℕ) × Answers verdict table text × Appends before after table × Appends old new text
+Ends Answers Fails before after old new (Err fault) = Fails fault × WritesAtFault Answers before after old new fault

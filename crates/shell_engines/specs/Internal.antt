@@ -1,10 +1,11 @@
 -- What only the functions of this crate say to one another.
-use Rattle.std.specs.Prelude.{◌≡◌, ℕ, ℤ, ◌++◌, ◌∷◌, [], List, Contains}
+use Rattle.std.specs.Prelude.{◌≡◌, ℕ, ℤ, ◌++◌, ◌∷◌, [], Bool, true, false, List, Contains}
 use Rattle.ordered_group.specs.Amount.{Amount}
 use Rattle.prec_file.specs.Rests.{RestsView}
 use Rattle.engines.specs.declared.effort.Effort.{Effort}
-use Rattle.shells.specs.Prices.{PricesView}
-use Rattle.shells.specs.Series.{SeriesView, mine_at}
+use Rattle.shells.specs.Prices.{PricesView, blocks_of}
+use Rattle.shells.specs.Series.{SeriesView, mine_at, shell_at}
+use Rattle.bench_report.specs.BlockShells.{block_table_text}
 use Rattle.closure_net.specs.Network.{NetView, holds_of}
 use Rattle.closure_net.specs.Mine.{Mine, IsNetOf, IsBest}
 use Rattle.shell_engines.specs.declared.best_pits.BestPit.{BestPit}
@@ -13,8 +14,10 @@ use Rattle.engines.specs.declared.engine_fault.EngineFault.TheVariants as engine
 use Rattle.engines.specs.declared.solving.Unsolved.{Unsolved}
 use Rattle.engines.specs.declared.solving.Unsolved.TheVariants.{NoThread, Stranger}
 use Rattle.shell_engines.specs.declared.shell_rows.ShellRow.{ShellRow}
-use Rattle.shell_engines.specs.ShellTable.{IsRowOf}
+use Rattle.shell_engines.specs.ShellTable.{IsRowOf, IsLineOf}
 use Rattle.shell_engines.specs.declared.no_series.NoSeries.{NoSeries}
+use Rattle.shell_engines.specs.declared.no_series.NoSeries.TheVariants as none
+use Rattle.engines.specs.EngineFaults.{of_model}
 use Rattle.shell_engines.specs.Settling.{NoSeriesStands}
 
 -- why there is no net at a factor, whatever else there is
@@ -47,3 +50,19 @@ abbrev pub IsWant : Unsolved → EngineFault → Type 0
 IsWant NoThread e = e ≡ engine.Thread
 IsWant Stranger e = e ≡ engine.Stranger
 IsWant _ e = e ≡ engine.Memory
+
+-- the line that says why there is no series
+abbrev pub TellsWhy : NoSeries → List ℕ → Type 0
+TellsWhy (none.Unsolved factor why) text = IsLineOf factor why text
+TellsWhy _ text = ⊥
+
+-- the fault that says so
+abbrev pub IsFaultOf : NoSeries → EngineFault → Type 0
+IsFaultOf (none.Unsolved factor why) e = IsWant why e
+IsFaultOf (none.Model factor fault) e = e ≡ of_model fault
+IsFaultOf none.Memory e = e ≡ engine.Memory
+
+-- the text has the shell of each block of a series where that is asked for, and otherwise it is empty
+abbrev pub HasTableIfAsked : Bool → SeriesView → List ℕ → Type 0
+HasTableIfAsked true series text = text ≡ block_table_text (shell_at series.shells) (blocks_of series.prices)
+HasTableIfAsked false series text = text ≡ []

@@ -1,5 +1,5 @@
 -- How the engine of `shells` ends, by the bytes of its inputs and of its output.
-use Rattle.std.specs.Prelude.{◌≡◌, ℕ, ◌≤◌, Bool, List, Contains, Option, Result}
+use Rattle.std.specs.Prelude.{◌≡◌, ℕ, ◌≤◌, Bool, List, [], Contains, Option, Result}
 use Rattle.ordered_group.specs.declared.groups.Group.{Group}
 use Rattle.ordered_group.specs.declared.groups.Group.TheVariants.{Scaled}
 use Rattle.closure_net.specs.Network.{NetView}
@@ -9,7 +9,7 @@ use Rattle.engines.specs.declared.judgement.Verdict.{Verdict}
 use Rattle.engines.specs.declared.judgement.Verdict.TheVariants.{Done, No}
 use Rattle.engines.specs.declared.engine_fault.EngineFault.{EngineFault}
 use Rattle.engines.specs.declared.effort.Effort.{Effort}
-use Rattle.engines.specs.Mines.{priced_texts, mine_of, DenoteMine}
+use Rattle.engines.specs.Mines.{priced_texts, DenoteMine}
 use Rattle.engines.specs.FaultStands.{ModelFails}
 use Rattle.engines.specs.declared.solving.Unsolved.{Unsolved}
 use Rattle.engines.specs.Solving.{IsNetBy}
@@ -18,14 +18,11 @@ use Rattle.shell_engines.specs.Settling.{NotSolvedStands}
 use Rattle.shell_engines.specs.Answering.{FailsBy, Ends}
 use Rattle.shell_engines.specs.ShellTable.{AreRowsOf, table_text, IsLineOf}
 use Rattle.shell_engines.specs.SeriesTexts.{KeysKnown, factors_said, SeriesMineFails}
+use Rattle.shell_engines.specs.BlockTables.{mine_at_factor, IsTableIfAsked}
 
 -- the amounts in which each flow is checked: worth and the count of blocks in one number
 abbrev pub shell_group : Group
 shell_group = Scaled
-
--- the mine of n blocks that the texts denote at a factor
-abbrev pub mine_at_factor : ℕ → List ℕ → List ℕ → List ℕ → ℕ → Mine
-mine_at_factor n settings blocks precedence factor = mine_of n (priced_texts settings blocks precedence factor)
 
 -- of two of these factors, the best pit at the lower one lies within that at the other
 abbrev pub AreNested : (ℕ → Mine) → Type 0
@@ -58,10 +55,10 @@ pub record IsNoTable (settings blocks precedence : List ℕ) (effort : Effort) (
   pub stands : NotSolvedStands net effort why
   pub spelled : IsLineOf factor why text
 
--- the text that answers for them
-abbrev pub AnswersShells : List ℕ → List ℕ → List ℕ → Effort → Verdict → List ℕ → Type 0
-AnswersShells settings blocks precedence effort Done text = IsShellTable settings blocks precedence text
-AnswersShells settings blocks precedence effort No text = IsNoTable settings blocks precedence effort text
+-- the table of blocks, which may be asked for, and the text that answer for them
+abbrev pub AnswersShells : List ℕ → List ℕ → List ℕ → Effort → Bool → Verdict → List ℕ → List ℕ → Type 0
+AnswersShells settings blocks precedence effort asked Done table text = IsShellTable settings blocks precedence text × IsTableIfAsked asked settings blocks precedence table
+AnswersShells settings blocks precedence effort asked No table text = IsNoTable settings blocks precedence effort text × (table ≡ [])
 
 -- at one of the factors of the settings an amount of the mine's doesn't fit
 pub record NoNetAt (settings blocks precedence : List ℕ) (fault : NetFault) : Type 0 where
@@ -76,5 +73,5 @@ abbrev pub ShellsFail : List ℕ → List ℕ → List ℕ → EngineFault → T
 ShellsFail settings blocks precedence = FailsBy (SeriesMineFails settings blocks precedence) (DenoteSeries settings blocks precedence) (NoNetAt settings blocks precedence)
 
 -- the answer, and what was written with it
-abbrev pub Shells : List ℕ → List ℕ → List ℕ → Effort → Option (List ℕ) → Option (List ℕ) → Result Verdict EngineFault → Type 0
-Shells settings blocks precedence effort = Ends (AnswersShells settings blocks precedence effort) (ShellsFail settings blocks precedence)
+abbrev pub Shells : List ℕ → List ℕ → List ℕ → Effort → Bool → Option (List ℕ) → Option (List ℕ) → Option (List ℕ) → Option (List ℕ) → Result Verdict EngineFault → Type 0
+Shells settings blocks precedence effort asked = Ends (AnswersShells settings blocks precedence effort asked) (ShellsFail settings blocks precedence)

@@ -1,20 +1,26 @@
 //! Shells of a mine at rising prices: each factor's mine is solved, checked and added to a series.
 //!
-//! Stands on `engines`, which reads the texts of a mine with prices and solves one net, and on `shells`, whose series
-//! takes nothing but best pits. Promises upward, over the bytes of the texts: where `shells_engine`
-//! answers `Done` it wrote the row of the best pit at each factor of the settings, and the pits lie one within the next
-//! (Lerchs and Grossmann, 1965, make the phases of a mine so).
+//! Stands on `engines`, which reads the texts of a mine with prices and solves one net, on `shells`, whose series
+//! takes nothing but best pits, and on `bench_report` for the table of blocks and their shells. Promises upward, over the
+//! bytes of the texts: where `shells_engine` answers `Done` it wrote the row of the best pit at each factor of the
+//! settings, and the pits lie one within the next (Lerchs and Grossmann, 1965, make the phases of a mine so); and where
+//! the table is asked for, the first factor whose best pit holds each block.
 #![tactic(auto)]
 
 mod best_pits;
+pub mod block_tables;
+pub mod laws;
 pub mod no_series;
 pub mod series_engine;
 pub mod series_inputs;
+pub mod series_outputs;
 mod series_progress;
 pub mod settling;
 mod shell_rows;
 mod solving_at;
 
 pub use series_engine::shells_engine;
+pub use series_inputs::SeriesInputs;
+pub use series_outputs::SeriesOutputs;
 pub use series_progress::SeriesProgress;
 pub use shell_rows::ShellRow;

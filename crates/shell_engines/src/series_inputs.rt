@@ -5,6 +5,7 @@ ghost use Rattle.settings_file.specs.Settings.{first_missing};
 ghost use Rattle.settings_file.specs.Values.{AreFactors};
 ghost use Rattle.shells.specs.Prices.{blocks_of};
 ghost use Rattle.engines.specs.Inputs.{IsMissing};
+ghost use Rattle.shell_engines.specs.Devices.{ForSeries, InputsCanCount, input_failures, NoInputFailed};
 ghost use Rattle.shell_engines.specs.SeriesTexts.{IsSeriesRead, SeriesMineFails};
 
 use engines::EngineFault;
@@ -15,6 +16,17 @@ use prec_file::Rests;
 use settings_file::{Key, Settings};
 use shells::{Factor, Prices};
 use std::alloc::{AllocError, Global};
+
+/// The inputs of a mine whose blocks have prices. They are read in the order of these fields, each to its end.
+#[derive(Drop)]
+pub struct SeriesInputs<D> {
+    /// The settings, which say which columns are prices, and name the factors.
+    pub settings: D,
+    /// MineLib's `.blocks`, which has these columns.
+    pub blocks: D,
+    /// What rests on what: MineLib's `.prec`.
+    pub prec: D,
+}
 
 /// A mine whose blocks have prices, and the factors at which its pits are wanted.
 #[derive(Drop)]
@@ -66,25 +78,20 @@ pub fn factors_of(alloc: Global, settings: &Settings) -> Result<Vec<Factor>, Eng
 /// # Errors
 /// In this order: `Settings` for a fault of this text or a missing key; `Blocks`; `Prices` for a negative revenue;
 /// `Prec`. `Memory` where memory is refused, `Device` where a read fails.
-pub fn series_mine_from<S: CountedRead, B: CountedRead, P: CountedRead>(
+pub fn series_mine_from<D: CountedRead>(
     alloc: Global,
-    settings: &mut S,
-    blocks: &mut B,
-    prec: &mut P,
+    inputs: &mut SeriesInputs<D>,
 ) -> Result<SeriesMine, EngineFault>
-    requires settings_room { S.failed settings.old < 2 ^ 64 - 1 }
-    requires blocks_room { B.failed blocks.old < 2 ^ 64 - 1 }
-    requires prec_room { P.failed prec.old < 2 ^ 64 - 1 }
-    ensures read { IfSome (S.remaining settings.old) (λ s. IfSome (B.remaining blocks.old) (λ b. IfSome (P.remaining prec.old) (λ p.
-        MatchResult result (λ mine. IsSeriesRead s b p mine.prices mine.rests mine.factors.items) (SeriesMineFails s b p)))) }
-    ensures device { IsErrOf result EngineFault.Device → S.failed settings.new + B.failed blocks.new + P.failed prec.new ≡ S.failed settings.old + B.failed blocks.old + P.failed prec.old + 1 }
-    ensures kept { ¬ IsErrOf result EngineFault.Device → (S.failed settings.new ≡ S.failed settings.old) × (B.failed blocks.new ≡ B.failed blocks.old) × (P.failed prec.new ≡ P.failed prec.old) }
+    requires { InputsCanCount inputs.old D.failed }
+    ensures read { ForSeries inputs.old D.remaining (λ s b p. MatchResult result (λ mine. IsSeriesRead s b p mine.prices mine.rests mine.factors.items) (SeriesMineFails s b p)) }
+    ensures device { IsErrOf result EngineFault.Device → input_failures inputs.new D.failed ≡ input_failures inputs.old D.failed + 1 }
+    ensures kept { ¬ IsErrOf result EngineFault.Device → NoInputFailed inputs.old inputs.new D.failed }
 {
-    let settings = settings_from(alloc, settings)?;
+    let settings = settings_from(alloc, &mut inputs.settings)?;
     let columns = price_columns(&settings, &[Key::Factors])?;
     let factors = factors_of(alloc, &settings)?;
-    let prices = prices_from(alloc, blocks, columns)?;
-    let rests = rests_from(alloc, prec, prices.len())?;
+    let prices = prices_from(alloc, &mut inputs.blocks, columns)?;
+    let rests = rests_from(alloc, &mut inputs.prec, prices.len())?;
     Ok(SeriesMine {
         prices,
         rests,

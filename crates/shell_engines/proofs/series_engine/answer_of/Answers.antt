@@ -1,20 +1,20 @@
-use Rattle.std.proofs.Common.{◌∙◌, ap, sym, subst}
-use Rattle.ordered_group.specs.Block.{scaled_block}
-use Rattle.shell_engines.specs.declared.no_series.NoSeries.{NoSeries}
-use Rattle.shell_engines.specs.Settling.{NoSeriesStands}
+use Rattle.std.proofs.Common.{◌∙◌, ap, refl}
 use Rattle.shell_engines.specs.ShellTable.{table_text}
-use Rattle.shell_engines.specs.Shells.{ShellsFail}
-use Rattle.shell_engines.proofs.Lifted.{is_table, no_net_answer, no_pit_answer}
+use Rattle.shell_engines.specs.Shells.{AnswersShells, ShellsFail}
+use Rattle.shell_engines.proofs.BlockTables.{has_table}
+use Rattle.shell_engines.proofs.Lifted.{is_table, denoted, no_series_answer}
 use Rattle.shell_engines.proofs.series_engine.answer_of.Goals as goal
 
-pub returns-in_ok-table_of-in-Ok-clause-answer : goal.returns-in_ok-table_of-in-Ok-clause-answer
-returns-in_ok-table_of-in-Ok-clause-answer g c = λ s b p read.
-    is_table s b p c.args.mine.prices c.args.mine.rests c.args.mine.factors.items read c.best_pits_at_factors_are_nested.ensures c.in-Ok.shells.rows.items c.in_ok-table_of-in-Ok.field-0.items c.in-Ok.ensures.rows_are (c.in_ok-table_of-in-Ok.ensures ∙ ap table_text c.as_slice.ensures.value)
+pub returns-clause-answer : goal.returns-clause-answer
+returns-clause-answer g c = λ s b p read.
+    let mine = c.args.mine in (
+      is_table s b p mine.prices mine.rests mine.factors.items read c.best_pits_at_factors_are_nested.ensures c.in-Ok.shells.rows.items c.in_ok-table_of.field-0.items c.in-Ok.ensures.rows_are (c.in_ok-table_of.ensures ∙ ap table_text c.as_slice.ensures.value),
+      has_table s b p mine.prices mine.rests mine.factors.items read c.in-Ok.shells.series c.in-Ok.shells.rows.items c.in-Ok.ensures c.in_ok-table_if_asked.ensures.series c.args.is_asked c.in_ok-table_if_asked.field-0.items c.in_ok-table_if_asked.ensures.table,
+    )
 
-pub returns-in-Err-Unsolved-clause-answer : goal.returns-in-Err-Unsolved-clause-answer
-returns-in-Err-Unsolved-clause-answer g c = λ s b p read.
-    no_pit_answer s b p c.args.mine.prices c.args.mine.rests c.args.mine.factors.items read c.args.effort c.in-Err-Unsolved.factor c.in-Err-Unsolved.why c.answer_at.result (subst (λ (x : NoSeries). NoSeriesStands scaled_block c.args.mine.rests c.args.mine.prices c.args.mine.factors.items c.args.effort x) c.in-Err-Unsolved.field-0-is c.in-Err-Unsolved.ensures) c.answer_at.ensures
-
-pub returns-in-Err-Model-clause-answer : goal.returns-in-Err-Model-clause-answer
-returns-in-Err-Model-clause-answer g c = λ s b p read.
-    subst (ShellsFail s b p) (sym c.from.ensures) (no_net_answer s b p c.args.mine.prices c.args.mine.rests c.args.mine.factors.items read c.in-Err-Model.field-0-0 c.in-Err-Model.fault (subst (λ (x : NoSeries). NoSeriesStands scaled_block c.args.mine.rests c.args.mine.prices c.args.mine.factors.items c.args.effort x) c.in-Err-Model.field-0-is c.in-Err-Model.ensures))
+pub returns-in-Err-clause-answer : goal.returns-in-Err-clause-answer
+returns-in-Err-clause-answer g c = λ s b p read.
+    let mine = c.args.mine in
+    let d = denoted s b p mine.prices mine.rests mine.factors.items read in
+    no_series_answer s b p mine.prices mine.rests mine.factors.items read c.args.effort (AnswersShells s b p c.args.effort c.args.is_asked) (ShellsFail s b p) (λ text h. (h, refl)) tt d d (λ fault h. h)
+    c.in-Err.none c.no_series.result c.in-Err.ensures c.no_series.ensures

@@ -1,40 +1,38 @@
-use Rattle.std.proofs.Common.{List, ℕ, subst}
-use Rattle.std.specs.Io.KnownBytes.{Appends}
-use Rattle.fixed_worth.specs.Device.{ReceivedPrefix}
+use Rattle.std.proofs.Common.{List, ℕ, Bool, subst}
 use Rattle.std.proofs.lemmas.Result.{err_from_is_err_and}
+use Rattle.shell_engines.specs.Devices.{is_asked, contents_in}
+use Rattle.shell_engines.proofs.Answering.{unanswered, sent}
 use Rattle.shell_engines.specs.SeriesTexts.{IsSeriesRead}
 use Rattle.shell_engines.specs.Shells.{AnswersShells, ShellsFail}
-use Rattle.shell_engines.proofs.Answering.{unanswered, answered, cut_short}
 use Rattle.shell_engines.proofs.Answers.{mine_unread}
 use Rattle.shell_engines.proofs.series_engine.shells_engine.Goals as goal
 
 pub returns-in_err-mine-clause-answer : goal.returns-in_err-mine-clause-answer
 returns-in_err-mine-clause-answer g c =
     let p = err_from_is_err_and c.from_residual.result c.from_residual.ensures.1 in
-    rw (p.1, p.2) (mine_unread (g.S.Read.remaining c.args.settings.now) (g.B.Read.remaining c.args.blocks.now) (g.P.Read.remaining c.args.prec.now) (g.W.Write.contents c.args.out.now) c.args.effort c.in_err-mine.field-0.0 c.in_err-mine.ensures.read)
+    let inputs = c.args.inputs.now in
+    let outputs = c.args.outputs.now in
+    rw (p.1, p.2) (mine_unread (g.D.Read.remaining inputs.settings) (g.D.Read.remaining inputs.blocks) (g.D.Read.remaining inputs.prec) (contents_in outputs.by_block g.V.Write.contents) (g.W.Write.contents outputs.out) c.args.effort (is_asked outputs.by_block) c.in_err-mine.field-0.0 c.in_err-mine.ensures.read)
 
 pub returns-in_err-answer-clause-answer : goal.returns-in_err-answer-clause-answer
 returns-in_err-answer-clause-answer g c =
     let p = err_from_is_err_and c.from_residual-in_err-answer.result c.from_residual-in_err-answer.ensures.1 in
-    rw (p.1, p.2) (unanswered (g.S.Read.remaining c.args.settings.now) (g.B.Read.remaining c.args.blocks.now) (g.P.Read.remaining c.args.prec.now)
-    (λ s b p. AnswersShells s b p c.args.effort) ShellsFail (λ s b p. IsSeriesRead s b p c.in_ok-mine.mine.prices c.in_ok-mine.mine.rests c.in_ok-mine.mine.factors.items) c.in_ok-mine.ensures.read
-    (g.W.Write.contents c.args.out.now) c.in_err-answer.field-0.0 c.in_err-answer.ensures.answer)
-
-pub returns-in_err-write_text-clause-answer : goal.returns-in_err-write_text-clause-answer
-returns-in_err-write_text-clause-answer g c =
-    let old = g.W.Write.contents c.args.out.now in
-    let new = g.W.Write.contents c.write_text.new.out in
-    let F : List ℕ → Type 0 = λ text. ReceivedPrefix old new text in
-    let p = err_from_is_err_and c.from_residual-in_err-write_text.result c.from_residual-in_err-write_text.ensures.1 in
-    rw (p.1, p.2) (cut_short (g.S.Read.remaining c.args.settings.now) (g.B.Read.remaining c.args.blocks.now) (g.P.Read.remaining c.args.prec.now)
-    (λ s b p. AnswersShells s b p c.args.effort) ShellsFail (λ s b p. IsSeriesRead s b p c.in_ok-mine.mine.prices c.in_ok-mine.mine.rests c.in_ok-mine.mine.factors.items) c.in_ok-mine.ensures.read
-    old new c.in_ok-answer.answer.verdict c.in_ok-answer.answer.text.items c.in_ok-answer.ensures.answer (λ s b p. tt) (subst F c.as_slice.ensures.value c.in_err-write_text.ensures.prefix))
+    let inputs = c.args.inputs.now in
+    let outputs = c.args.outputs.now in
+    let mine = c.in_ok-mine.mine in
+    rw (p.1, p.2) (unanswered (g.D.Read.remaining inputs.settings) (g.D.Read.remaining inputs.blocks) (g.D.Read.remaining inputs.prec)
+    (λ s b p. AnswersShells s b p c.args.effort (is_asked outputs.by_block)) ShellsFail (λ s b p. IsSeriesRead s b p mine.prices mine.rests mine.factors.items) c.in_ok-mine.ensures.read
+    (contents_in outputs.by_block g.V.Write.contents) (g.W.Write.contents outputs.out) c.in_err-answer.field-0.0 c.in_err-answer.ensures.answer)
 
 pub returns-clause-answer : goal.returns-clause-answer
 returns-clause-answer g c =
-    let old = g.W.Write.contents c.args.out.now in
-    let new = g.W.Write.contents c.write_text.new.out in
-    let F : List ℕ → Type 0 = λ text. Appends old new text in
-    answered (g.S.Read.remaining c.args.settings.now) (g.B.Read.remaining c.args.blocks.now) (g.P.Read.remaining c.args.prec.now)
-    (λ s b p. AnswersShells s b p c.args.effort) ShellsFail (λ s b p. IsSeriesRead s b p c.in_ok-mine.mine.prices c.in_ok-mine.mine.rests c.in_ok-mine.mine.factors.items) c.in_ok-mine.ensures.read
-    old new c.in_ok-answer.answer.verdict c.in_ok-answer.answer.text.items c.in_ok-answer.ensures.answer (subst F c.as_slice.ensures.value c.in_ok-write_text.ensures.sent)
+    let inputs = c.args.inputs.now in
+    let old = c.args.outputs.now in
+    let new = c.send.new.outputs in
+    let mine = c.in_ok-mine.mine in
+    let a = c.in_ok-answer.answer in
+    let P : Bool → Type 0 = λ k. (s b p : List ℕ) → IsSeriesRead s b p mine.prices mine.rests mine.factors.items → AnswersShells s b p c.args.effort k a.verdict a.table.items a.text.items in
+    sent (g.D.Read.remaining inputs.settings) (g.D.Read.remaining inputs.blocks) (g.D.Read.remaining inputs.prec)
+    (λ s b p. AnswersShells s b p c.args.effort (is_asked old.by_block)) ShellsFail (λ s b p. IsSeriesRead s b p mine.prices mine.rests mine.factors.items) c.in_ok-mine.ensures.read
+    (contents_in old.by_block g.V.Write.contents) (contents_in new.by_block g.V.Write.contents) (g.W.Write.contents old.out) (g.W.Write.contents new.out) a.verdict a.table.items a.text.items
+    (subst P c.has_table-is_asked.ensures c.in_ok-answer.ensures.answer) (λ s b p. tt) c.send.result c.send.ensures.sent c.send.ensures.cut

@@ -1,0 +1,42 @@
+-- The shells of a series are those of its texts: the table of blocks.
+use Rattle.std.proofs.Common.{◌≡◌, ℕ, Bool, true, false, List, sym, ap, ◌∙◌, subst}
+use Rattle.std.specs.Prelude.{Contains}
+use Rattle.std.specs.List.{find}
+use Rattle.prec_file.specs.Rests.{RestsView}
+use Rattle.closure_net.specs.Mine.{Mine, IsBest}
+use Rattle.shells.specs.Prices.{PricesView, blocks_of}
+use Rattle.shells.specs.Series.{SeriesView, mine_at, shell_at, upto, IsSeries}
+use Rattle.bench_report.specs.BlockShells.{block_table_text}
+use Rattle.shell_engines.specs.declared.shell_rows.ShellRow.{ShellRow}
+use Rattle.shell_engines.specs.BlockTables.{mine_at_factor, IsBlockTable, IsTableIfAsked}
+use Rattle.shell_engines.specs.SeriesTexts.{factors_said, IsSeriesRead}
+use Rattle.shell_engines.specs.Settling.{IsSettled}
+use Rattle.shell_engines.specs.Internal.{HasTableIfAsked}
+use Rattle.shell_engines.proofs.FirstShell.{first_is}
+use Rattle.shell_engines.proofs.Lifted.{mine_is}
+
+module _ (s t p : List ℕ) (prices : PricesView) (rests : RestsView) (factors : List ℕ) (read : IsSeriesRead s t p prices rests factors) (series : SeriesView) (shell_rows : List ShellRow) (settled : IsSettled rests.pairs prices factors series shell_rows) (is : IsSeries series) where
+  -- the shell of a block is the first factor whose pit holds it
+  pub first_shell : (b : ℕ) → find (λ k. upto series.shells k b) (factors_said s) ≡ shell_at series.shells b
+  first_shell b = subst (λ (fs : List ℕ). find (λ k. upto series.shells k b) fs ≡ shell_at series.shells b) (settled.same_factors ∙ read.factors_are) (first_is (shell_at series.shells b) series.factors is.rising (is.known b))
+
+  pub best_is : (k : ℕ) → Contains (factors_said s) k → IsBest (mine_at_factor rests.blocks s t p k) (upto series.shells k)
+  best_is k c =
+      let held : Contains series.factors k = subst (λ (fs : List ℕ). Contains fs k) (sym (settled.same_factors ∙ read.factors_are)) c in
+      let B : Mine → Type 0 = λ mine. IsBest mine (upto series.shells k) in
+      let Q : List (ℕ × ℕ) → Type 0 = λ ps. B (mine_at ps prices k) in
+      let V : PricesView → Type 0 = λ v. B (mine_at series.pairs v k) in
+      subst B (mine_is s t p prices rests read.mine k) (subst Q settled.same_pairs (subst V settled.same_prices (is.best k held)))
+
+  count : blocks_of series.prices ≡ rests.blocks
+  count = ap blocks_of settled.same_prices ∙ read.mine.size
+
+  same_text : block_table_text (shell_at series.shells) (blocks_of series.prices) ≡ block_table_text (λ b. find (λ k. upto series.shells k b) (factors_said s)) rests.blocks
+  same_text = λ i. block_table_text (λ b. sym (first_shell b) i) (count i)
+
+  block_table : IsBlockTable s t p (block_table_text (shell_at series.shells) (blocks_of series.prices))
+  block_table = record { size = rests.blocks; mine = read.mine.mine; pit = upto series.shells; best = best_is; spelled = same_text }
+
+  pub has_table : (asked : Bool) (text : List ℕ) → HasTableIfAsked asked series text → IsTableIfAsked asked s t p text
+  has_table true text h = subst (λ (xs : List ℕ). IsBlockTable s t p xs) (sym h) block_table
+  has_table false text h = h
