@@ -91,18 +91,22 @@ class Shells:
     def __init__(self, study: Study, series: Iterable[int]) -> None:
         self.study = study
         self.factors = sorted(series)
-        study.verify()
         self.shell: npt.NDArray[np.int16] = np.full(study.manifest["blocks"], len(self.factors), np.int16)
         self.verdicts: list[Verdict] = []
+        with study.verifying():
+            self.read()
+
+    def read(self) -> None:
+        """Reads each pit with all checks, the largest first."""
         below: Bools | None = None
         for i in reversed(range(len(self.factors))):
-            mask = study.mask(self.factors[i])
+            mask = self.study.mask(self.factors[i])
             if below is not None and (mask & ~below).any():
                 raise Disagreement(f"the pit at {self.factors[i] / THOUSAND:g} isn't within that at {self.factors[i + 1] / THOUSAND:g}, and pit proves that it is",
                                    try_this="were results of several models mixed in this folder?")
             self.shell[mask] = i
             below = mask
-            verdict = study.verdict(self.factors[i])
+            verdict = self.study.verdict(self.factors[i])
             assert verdict is not None       # its mask has just been read
             self.verdicts.insert(0, verdict)
 

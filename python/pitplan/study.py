@@ -19,6 +19,7 @@ import shutil
 import tempfile
 import time
 from collections.abc import Callable, Iterator, Sequence
+from concurrent.futures import ThreadPoolExecutor
 from contextlib import contextmanager
 from functools import cached_property
 from pathlib import Path
@@ -195,6 +196,19 @@ class Study:
             if not path.is_file() or sha256(path) != digest:
                 raise PlanError(f"{path} isn't the file that the build made" if path.is_file() else f"{path} is gone", try_this=command("build", self.named))
 
+    @contextmanager
+    def verifying(self) -> Iterator[Callable[[], None]]:
+        """Takes the digests beside what is done within. The function that it gives waits for them; what `verify` raises comes in
+        place of any other error, since it explains them."""
+        with ThreadPoolExecutor(1) as pool:
+            digests = pool.submit(self.verify)
+            try:
+                yield digests.result
+            except PlanError:
+                digests.result()
+                raise
+            digests.result()
+
     def place(self, factor: int) -> Path:
         """The folder of a factor's result (in thousandths)."""
         return self.folder / "runs" / "base" / f"f{factor:05d}"
@@ -207,7 +221,7 @@ class Study:
             return None
         return found if found.get("model") == self.key and found.get("factor") == factor else None
 
-    def run(self, factor: int, told: Told | None = None) -> Verdict:
+    def run(self, factor: int, told: Told | None = None, sure: Callable[[], None] | None = None) -> Verdict:
         """One pit: found, checked, added up again, and put in its place whole. Where it is there already, nothing is done.
 
         Parameters
@@ -216,6 +230,8 @@ class Study:
             Of the revenue, in thousandths.
         told : function, optional
             Is told the factor, what is done for it, and how far that is.
+        sure : function, optional
+            Is called before anything is kept, as that of `verifying`.
 
         Raises
         ------
@@ -231,6 +247,8 @@ class Study:
         with made_whole(place) as work:
             found = self.program.best(self.files, factor, self.room(work) / "best.cert", solving(told, factor), self.keeps)
             self.agree(found, factor)
+            if sure:
+                sure()
             bits = np.packbits(found.mask)
             np.savez_compressed(work / "pit.npz", bits=bits)
             done = Verdict(factor=factor, count=found.count, worth=found.worth, certificate=found.certificate, bits=hashlib.sha256(bits.tobytes()).hexdigest(), model=self.key, pit=self.manifest["pit"],
@@ -302,7 +320,6 @@ class Study:
         from .shells import Shells, factors
         from .workers import run_all
         found = sorted(set(series)) if series is not None else factors(0.3, 1.2, 0.05)
-        self.verify()
         sweep(self.folder / "runs" / "base")
         run_all(self, found, workers, told)
         return Shells(self, found)

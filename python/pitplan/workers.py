@@ -2,7 +2,7 @@
 from __future__ import annotations
 
 import os
-from collections.abc import Sequence
+from collections.abc import Callable, Sequence
 from concurrent.futures import FIRST_COMPLETED, Future, ThreadPoolExecutor, wait
 from dataclasses import dataclass
 from pathlib import Path
@@ -74,24 +74,25 @@ def run_all(study: Study, factors: Sequence[int], workers: int | None = None, to
     for factor in factors:
         if told and factor not in left:
             told(factor, "done", 1.0)
-    again = at_once(study, sorted(left, reverse=True), workers_for(study, workers), told)
-    for factor in again:
-        one(study, factor, told)
+    if left:
+        with study.verifying() as sure:      # nothing is kept before the files are known to be those of the build
+            for factor in at_once(study, sorted(left, reverse=True), workers_for(study, workers), told, sure):
+                one(study, factor, told, sure)
 
 
-def one(study: Study, factor: int, told: Told | None) -> Verdict:
+def one(study: Study, factor: int, told: Told | None, sure: Callable[[], None]) -> Verdict:
     """Runs one factor, and tells that it is done."""
-    done = study.run(factor, told)
+    done = study.run(factor, told, sure)
     if told:
         told(factor, "done", 1.0)
     return done
 
 
-def at_once(study: Study, factors: Sequence[int], workers: int, told: Told | None) -> list[int]:
+def at_once(study: Study, factors: Sequence[int], workers: int, told: Told | None, sure: Callable[[], None]) -> list[int]:
     """Runs all factors, the dearest first, and returns those whose `pit` was killed."""
     killed: list[int] = []
     with ThreadPoolExecutor(workers) as pool:
-        running: dict[Future[Verdict], int] = {pool.submit(one, study, factor, told): factor for factor in factors}
+        running: dict[Future[Verdict], int] = {pool.submit(one, study, factor, told, sure): factor for factor in factors}
         try:
             study.read_ahead()
             while running:
