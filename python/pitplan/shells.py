@@ -14,7 +14,7 @@ from .amounts import LARGEST_FACTOR, THOUSAND
 from .errors import Disagreement, PlanError
 
 if TYPE_CHECKING:
-    from .study import Study, Verdict
+    from .study import Study, Told, Verdict
 
 Bools = npt.NDArray[np.bool_]
 
@@ -60,7 +60,7 @@ def series_of(shares: Iterable[float]) -> list[int]:
 
 
 class Shells:
-    """The accepted pits of a study at a series of factors. A shell is what a pit adds to the one before it.
+    """The proved pits of a study at a series of factors. A shell is what a pit adds to the one before it.
 
     Every pit is checked again as it is read: the digests of the model's files and of the pit, its count, its worth by the
     planner's own table, and that it lies within the next.
@@ -78,7 +78,7 @@ class Shells:
     shell : int array of shape (blocks,)
         The first pit that has a block, as an index into `factors`; ``len(factors)`` where none has it.
     verdicts : list of dict
-        What is kept of each pit: factor, count, worth, certificate and more, as `study.Verdict`.
+        What is kept of each pit: factor, count, worth, certificate (None where there is none) and more, as `study.Verdict`.
 
     Raises
     ------
@@ -112,6 +112,21 @@ class Shells:
 
     def __len__(self) -> int:
         return len(self.factors)
+
+    @property
+    def certified(self) -> int:
+        """How many of the pits have a certificate that `pit check` accepted; the others are as `pit shells` states them."""
+        return sum(verdict["certificate"] is not None for verdict in self.verdicts)
+
+    def with_certificates(self, workers: int | None = None, told: Told | None = None) -> Shells:
+        """The same pits, each with its certificate: those that have none yet are found by themselves, checked, and have to be the same.
+
+        Parameters
+        ----------
+        workers, told
+            As of `Study.shells`.
+        """
+        return self if self.certified == len(self) else self.study.shells(self.factors, workers, told, certificates=True)
 
     def holds(self, i: int) -> Bools:
         """Whether a block is in pit i, of shape (blocks,)."""

@@ -9,6 +9,7 @@ from pathlib import Path
 from typing import TYPE_CHECKING
 
 from .errors import MachineError
+from .program import MOST_FACTORS
 
 if TYPE_CHECKING:
     from .study import Study, Told, Verdict
@@ -70,14 +71,60 @@ def run_all(study: Study, factors: Sequence[int], workers: int | None = None, to
         The same.
     """
     study.program.is_stopped = False
-    left = [factor for factor in factors if not study.verdict(factor)]
-    for factor in factors:
-        if told and factor not in left:
-            told(factor, "done", 1.0)
+    left = missing(factors, study.certified, told)
     if left:
         with study.verifying() as sure:      # nothing is kept before the files are known to be those of the build
             for factor in at_once(study, sorted(left, reverse=True), workers_for(study, workers), told, sure):
                 one(study, factor, told, sure)
+
+
+def missing(factors: Sequence[int], there: Callable[[int], Verdict | None], told: Told | None) -> list[int]:
+    """The factors whose pits aren't there; of the others it tells that they are done."""
+    left = [factor for factor in factors if not there(factor)]
+    for factor in factors:
+        if told and factor not in left:
+            told(factor, "done", 1.0)
+    return left
+
+
+def run_series(study: Study, factors: Sequence[int], workers: int | None = None, told: Told | None = None) -> None:
+    """Finds the pits that aren't there yet, without certificates: one run of `pit shells` for each `MOST_FACTORS` of them. A run that
+    somebody ends, as the system does where memory is short, is started once more, one factor at a time.
+
+    Raises
+    ------
+    PlanError
+        As `Study.run_series`; what runs then is ended, and the runs that are done are kept.
+    KeyboardInterrupt
+        The same.
+    """
+    study.program.is_stopped = False
+    left = missing(sorted(factors), study.verdict, told)
+    if not left:
+        return
+    with study.verifying() as sure, ThreadPoolExecutor(1) as pool:
+        for at in range(0, len(left), MOST_FACTORS):
+            some = left[at:at + MOST_FACTORS]
+            try:
+                series(study, pool, some, min(workers_for(study, workers), len(some)), told, sure)
+            except MachineError as error:
+                if "SIGKILL" not in error.what:
+                    raise
+                if told:
+                    told(some[-1], "killed", 0.0)
+                series(study, pool, some, 1, told, sure)
+
+
+def series(study: Study, pool: ThreadPoolExecutor, factors: Sequence[int], workers: int, told: Told | None, sure: Callable[[], None]) -> None:
+    """One run of `pit shells`; what the tables of a series need is read beside it."""
+    running = pool.submit(study.run_series, factors, workers, told, sure)
+    try:
+        study.read_ahead()
+        running.result()
+    except BaseException:
+        study.program.stop()
+        study.program.is_stopped = False
+        raise
 
 
 def one(study: Study, factor: int, told: Told | None, sure: Callable[[], None]) -> Verdict:
