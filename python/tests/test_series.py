@@ -62,7 +62,7 @@ MISTAKES = {"a block in a later shell": ("0,/,600$/s/,600$/,800/", "", "adds up 
             "a worth": ("", "s/\\(SHELL 800 [0-9]* \\)/\\11/", "adds up to"), "a count": ("", "s/SHELL 800 /SHELL 800 1/", "adds up to"),
             "a line less": ("", "2d", "lines are of others"), "a line of other words": ("", "2s/^/x/", "lines are of others"),
             "a factor that wasn't asked for": ("0,/,600$/s/,600$/,700/", "", "isn't one of all blocks"), "a row less": ("5d", "", "isn't one of all blocks"),
-            "a row twice": ("5p", "", "isn't one of all blocks"), "no header": ("1d", "", "isn't one of all blocks"), "the last row cut off": ("$d", "", "the pit is of factor"),
+            "a row twice": ("5p", "", "isn't one of all blocks"), "no header": ("1d", "", "isn't one of all blocks"), "the last row cut off": ("\\$d", "", "the pit is of factor"),
             "a word": ("3s/,.*/,x/", "", "isn't one of all blocks"), "nothing": ("d", "", "isn't one of all blocks")}
 
 
@@ -80,7 +80,7 @@ def test_what_contradicts_itself_is_never_kept(tmp_path, program, what):
 def test_files_that_arent_those_of_the_build_give_no_pit(tmp_path):
     study = study_of(tmp_path, table(6, 5, 4, 3))
     lines = study.prec_file.read_text().splitlines()
-    study.prec_file.write_text("\n".join([*lines[:-1], f"{len(lines) - 1} 0"]) + "\n")
+    study.prec_file.write_text("\n".join(f"{b} 0" for b in range(len(lines))) + "\n")       # no slopes: other pits, and a sound file
     with pytest.raises(pp.PlanError, match="isn't the file that the build made"):
         study.shells(SERIES)
     assert list((study.folder / "runs/base").iterdir()) == []
@@ -182,7 +182,7 @@ def test_a_killed_series_is_started_once_more_with_one_worker(tmp_path, program)
 
 
 def test_an_older_pit_makes_a_certificate_of_each(tmp_path, program):
-    (tmp_path / "pit").write_text(f'#!/bin/sh\ncase "$*" in *by-block*) exit 2;; "shells --help") exec {program} shells --help | grep -v by-block;; esac\nexec {program} "$@"\n')
+    (tmp_path / "pit").write_text(f'#!/bin/sh\ncase "$*" in *by-block*) exit 2;; "shells --help") {program} shells --help | grep -v by-block; exit;; esac\nexec {program} "$@"\n')
     (tmp_path / "pit").chmod(0o755)
     study = study_of(tmp_path, table(6, 5, 4, 3))
     found = pp.Study(study.folder, Pit(tmp_path / "pit")).shells([600, 1000])
