@@ -1,7 +1,7 @@
 #!/usr/bin/python3
 """What pitplan costs beside what it stands on: pandas that reads the same table, and the same runs of `pit` alone.
 
-    bench/pitplan.py [--rounds N] [--workers N] [--only read|pit|shells]
+    bench/pitplan.py [--rounds N] [--workers N] [--only read|pit|shells|series]
 
 Debian's own Python and the packages of python/packages; the program as bench/common.py has it, or PIT. The tables are made once,
 from fixed seeds, in bench/out. Of the rounds the fewest seconds count.
@@ -16,6 +16,7 @@ import sys
 import tempfile
 import time
 from concurrent.futures import ThreadPoolExecutor
+from contextlib import contextmanager
 from pathlib import Path
 
 PYTHON = "/usr/bin/python3"
@@ -125,22 +126,36 @@ def alone(study, workers):
     return time.time() - began
 
 
-def series(study, rounds, workers):
-    """The whole command `pitplan shells`, its start, tables and all, beside the same runs of `pit` alone, in turns."""
+def one_run(study, workers):
+    """The seconds of one run of `pit shells --by-block` over the same factors, alone."""
+    with tempfile.TemporaryDirectory(dir=study.folder) as work:
+        settings = Path(work, "series.toml")
+        settings.write_text(study.settings_file.read_text() + f"factors = {FACTORS}\n")
+        words = ["--prec", study.prec_file, "--blocks", study.blocks_file, "--settings", settings, "--by-block", Path(work, "by_block.csv"), "--workers", str(workers)]
+        began = time.time()
+        subprocess.run([study.program.program, "shells", *words], stdout=subprocess.DEVNULL, check=True)
+        return time.time() - began
+
+
+def series(study, rounds, workers, bare_runs, more):
+    """The whole command `pitplan shells`, its start, tables and all, beside the runs of `pit` that it makes, alone, in turns.
+
+    `bare_runs` makes these, and `more` are the words of the command.
+    """
     pairs = []
     for _ in range(rounds):
         shutil.rmtree(study.folder / "runs", ignore_errors=True)
         used = [seconds_of(resource.RUSAGE_CHILDREN)]
-        bare = alone(study, workers)
+        bare = bare_runs(study, workers)
         used.append(seconds_of(resource.RUSAGE_CHILDREN))
         began = time.time()
-        subprocess.run([str(TOP / "bin" / "pitplan"), "shells", str(study.folder), "--workers", str(workers)], check=True, stdout=subprocess.DEVNULL, stderr=subprocess.DEVNULL,
+        subprocess.run([str(TOP / "bin" / "pitplan"), "shells", str(study.folder), "--workers", str(workers), *more], check=True, stdout=subprocess.DEVNULL, stderr=subprocess.DEVNULL,
                        env={**os.environ, "PIT": study.program.program})
         took = time.time() - began
         used.append(seconds_of(resource.RUSAGE_CHILDREN))
         pairs.append((took, bare, used[2] - used[1], used[1] - used[0]))
     ours, bare, ours_cpu, bare_cpu = min(pairs, key=lambda pair: pair[0] / pair[1])
-    print(f"## {len(FACTORS)} shells of {study.manifest['blocks']:,} blocks, {workers} at a time\n\n| | `pitplan shells` | the same runs of `pit` alone | times |\n|---|---|---|---|")
+    print(f"## {len(FACTORS)} shells of {study.manifest['blocks']:,} blocks, {workers} at a time\n\n| | `{' '.join(['pitplan shells', *more])}` | its {'runs' if more else 'run'} of `pit` alone | times |\n|---|---|---|---|")
     print(f"| seconds that passed | {ours:.1f} | {bare:.1f} | {ours / bare:.2f} |\n| CPU s | {ours_cpu:.1f} | {bare_cpu:.1f} | {ours_cpu / bare_cpu:.2f} |\n")
 
 
@@ -163,22 +178,32 @@ def main():
     words = argparse.ArgumentParser(description=__doc__, formatter_class=argparse.RawDescriptionHelpFormatter)
     words.add_argument("--rounds", type=int, default=3)
     words.add_argument("--workers", type=int, default=3)
-    words.add_argument("--only", choices=["read", "pit", "shells"])
+    words.add_argument("--only", choices=["read", "pit", "shells", "series"])
     asked = words.parse_args()
     print(f"{time.strftime('%Y-%m-%d, %H:%M UTC', time.gmtime())}, {os.cpu_count()} logical cores, load {os.getloadavg()[0]:.0f}\n", flush=True)
     if asked.only in (None, "read"):
         reading(asked.rounds)
+    OUT.mkdir(exist_ok=True)
     if asked.only in (None, "pit", "shells"):
-        OUT.mkdir(exist_ok=True)
-        with tempfile.TemporaryDirectory(dir=OUT) as folder:
-            Path(folder, "study.toml").write_text(STUDY.format(table=str(mine("mine80k", 60, 52, 30)), factors=[factor / 1000 for factor in FACTORS]))
-            subprocess.run([str(TOP / "bin" / "pitplan"), "build", folder], check=True, stdout=subprocess.DEVNULL)
-            import pitplan as pp
-            study = pp.Study(folder)
+        with built(mine("mine80k", 60, 52, 30)) as study:
             if asked.only != "shells":
                 one_pit(study, asked.rounds)
             if asked.only != "pit":
-                series(study, asked.rounds, asked.workers)
+                series(study, asked.rounds, asked.workers, alone, ["--certificates"])
+    if asked.only in (None, "series"):
+        for name, *shape in (("mine80k", 60, 52, 30), ("mine500k", 110, 108, 48)):
+            with built(mine(name, *shape)) as study:
+                series(study, asked.rounds, asked.workers, one_run, [])
+
+
+@contextmanager
+def built(table):
+    """The study of a table, built in a folder of its own."""
+    with tempfile.TemporaryDirectory(dir=OUT) as folder:
+        Path(folder, "study.toml").write_text(STUDY.format(table=str(table), factors=[factor / 1000 for factor in FACTORS]))
+        subprocess.run([str(TOP / "bin" / "pitplan"), "build", folder], check=True, stdout=subprocess.DEVNULL)
+        import pitplan as pp
+        yield pp.Study(folder)
 
 
 if __name__ == "__main__":

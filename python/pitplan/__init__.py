@@ -6,8 +6,9 @@
     shells = study.shells(pp.factors(0.3, 1.2, 0.05))
     shells.table(); shells.benches(); shells.of_blocks()
 
-This package computes no best pit. Each that it shows is the PIT lines of a certificate that `pit check` has accepted, over files
-whose digests still hold; and its worth, added up again from the planner's own table, is `pit`'s to the last digit.
+This package computes no best pit. Each that it shows is one that `pit shells` states, which is proved to check each with a flow; or,
+where certificates were asked for, the PIT lines of one that `pit check` has accepted. The digests of its files still hold, and its
+worth, added up again from the planner's own table, is `pit`'s to the last digit.
 """
 from __future__ import annotations
 
@@ -17,7 +18,7 @@ from typing import Any
 __version__ = "0.1.0"
 # Where each name is: they are imported when they are asked for, so that `pitplan --help` needs no pandas.
 WHERE = {"Economics": "economics", "Metal": "economics", "PlanError": "errors", "NotAccepted": "errors", "Disagreement": "errors", "MachineError": "errors",
-         "Grid": "grid", "Model": "model", "read_table": "model", "Accepted": "program", "Pit": "program", "Shells": "shells", "factors": "shells",
+         "Grid": "grid", "Model": "model", "read_table": "model", "Accepted": "program", "Stated": "program", "Pit": "program", "Shells": "shells", "factors": "shells",
          "Slopes": "slopes", "Study": "study", "Phases": "phases", "Design": "design", "Comparison": "compare",
          "Risk": "risk", "Task": "task", "Tasks": "task", "run_dask": "engines", "run_local": "local"}
 MODULES = {"plot": "pictures"}

@@ -77,6 +77,7 @@ def write(shells: Shells, folder: str | Path, told: Path, dialect: Dialect, rate
     table = study.table
     if table is None or not table.is_file() or sha256(table) != study.manifest["source"]["sha256"]:
         raise PlanError("the table that the study was built from isn't there any more", table=table, try_this=f"{command('build', study.named)} && {command('shells', study.named)}")
+    shells = shells.with_certificates()
     with made_whole(folder) as work:
         name = f"table/{plain_name(table.name)}"
         copy_files(study, work, {told: "study.toml", table: name})

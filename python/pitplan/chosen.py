@@ -63,6 +63,9 @@ def beside(study: Study, design: Design, factor: float) -> Comparison:
     wanted = thousandths(factor)
     if not study.verdict(wanted):
         raise not_run(study, wanted)
+    if not study.certified(wanted):
+        from .commands_shells import with_certificates
+        with_certificates(Shells(study, [wanted]))
     with err.status("pit check reads the design"):
         return compare(study, design, wanted)
 

@@ -13,8 +13,10 @@ from .console import STUDY, app, described, out, shells_of
 def bundle(target: Path = typer.Argument(..., metavar="DIR", help="The new folder."), folder: Path = STUDY) -> None:
     """All that the numbers rest on, with scripts that check it again: for an auditor."""
     from .bundle import write
+    from .commands_shells import with_certificates
     told = described(folder)
     shells, rates = shells_of(folder)
+    shells = with_certificates(shells)
     digest = write(shells, target, told.path, told.keys.dialect(told.table), rates)
     out.print(escape(f"{target}: {len(shells)} proved pits, with all that they rest on; python3 {target}/recheck.py PIT checks it again"))
     out.print(f"tell the auditor by another way: sha256 of SHA256SUMS is\n{digest}", soft_wrap=True)

@@ -13,6 +13,7 @@ from rich.markup import escape
 
 from .console import STUDY, app, described, err, opened, out, print_columns, results
 from .errors import PlanError
+from .next_command import command
 
 if TYPE_CHECKING:
     import pandas as pd
@@ -22,7 +23,8 @@ if TYPE_CHECKING:
 
 
 @app.command()
-def shells(folder: Path = STUDY, workers: Optional[int] = typer.Option(None, min=1, help="Pits at a time; as many as processors and free memory allow unless told.")) -> None:
+def shells(folder: Path = STUDY, workers: Optional[int] = typer.Option(None, min=1, help="Pits at a time; as many as processors and free memory allow unless told."),
+           certificates: bool = typer.Option(False, "--certificates", help="Find each pit by itself, with a certificate that pit check accepts: slower. Later ones are added to pits that are there.")) -> None:
     """Find the proved pit at each factor, and the tables. Goes on where it was stopped."""
     from .workers import workers_for
     told, study = described(folder), opened(folder)
@@ -30,11 +32,22 @@ def shells(folder: Path = STUDY, workers: Optional[int] = typer.Option(None, min
     if workers and count < workers:
         err.print(f"[yellow]{count} of {workers} workers:[/yellow] free memory has no room for more")
     with shown(told.factors, count) as listener:
-        found = study.shells(told.factors, count, listener)
+        found = study.shells(told.factors, count, listener, certificates)
     table = found.table(**told.rates)
     write_tables(found, table)
     print_table(found, table)
     warn_of_edges(found)
+
+
+def with_certificates(found: Shells) -> Shells:
+    """The same pits with their certificates; a bar shows how far those are that are made now."""
+    from .workers import workers_for
+    left = [verdict["factor"] for verdict in found.verdicts if not verdict["certificate"]]
+    if not left:
+        return found
+    count = workers_for(found.study)
+    with shown(left, count) as listener:
+        return found.with_certificates(count, lambda factor, what, share: listener(factor, what, share) if factor in left else None)
 
 
 @contextmanager
@@ -53,7 +66,9 @@ def shown(factors: list[int], workers: int) -> Iterator[Told]:
         def listener(factor: int, what: str, share: float) -> None:
             shares[factor] = 1.0 if what == "done" else 0.95 * share
             done = sum(value == 1.0 for value in shares.values())
-            bars.update(every, completed=sum(shares.values()), told=f"{done} of {len(factors)}")
+            bars.update(every, completed=sum(shares.values()), told=f"{done} of {len(factors)}" if what != "proved" else f"{sum(value > 0 for value in shares.values())} of {len(factors)} proved")
+            if what == "proved":
+                return                       # one run for all factors: no line for each
             if what in ("done", "killed"):
                 if factor in lanes:
                     bars.remove_task(lanes.pop(factor))        # type: ignore[arg-type]
@@ -65,13 +80,15 @@ def shown(factors: list[int], workers: int) -> Iterator[Told]:
 
 
 def lines(total: int) -> Told:
-    """A line for each factor that is done, for logs."""
-    began, done = time.time(), [0]
+    """A line for each factor that is proved or done, for logs."""
+    began, there = time.time(), set[int]()
 
     def listener(factor: int, what: str, share: float) -> None:
-        if what in ("done", "killed"):
-            done[0] += what == "done"
-            print(f"factor {factor / 1000:g} {what}: {done[0]} of {total} after {time.time() - began:.0f} s", file=sys.stderr, flush=True)
+        is_new = what in ("done", "proved") and factor not in there
+        if is_new:
+            there.add(factor)
+        if is_new or what == "killed":
+            print(f"factor {factor / 1000:g} {what}: {len(there)} of {total} after {time.time() - began:.0f} s", file=sys.stderr, flush=True)
     return listener
 
 
@@ -103,6 +120,10 @@ def print_table(found: Shells, table: pd.DataFrame) -> None:
                       f"{row['worth_at_base'] / 1e6:,.2f}", f"{row['npv_best'] / 1e6:,.2f}", f"{row['npv_worst'] / 1e6:,.2f}", f"{row['years']:.1f}"))
     print_columns(f"pit by pit, worths in million {currency} at the full price", names, lines)
     out.print(f"{found.study.folder / 'out'}: pit_by_pit.csv, benches.csv. Each pit is proved; the discounted cases are bounds and no schedule")
+    if found.certified == len(found):
+        out.print("each pit has a certificate, which pit check has accepted")
+    else:
+        out.print(escape(f"each pit is as pit shells states it, which is proved to check each with a flow; certificates: {command('shells', found.study.named)} --certificates"), soft_wrap=True)
 
 
 def warn_of_edges(found: Shells) -> None:

@@ -96,6 +96,10 @@ def status(folder: Path = STUDY) -> None:
         err.print(f"[yellow]look:[/yellow] {escape(error.what)}: what waits or runs there isn't shown", soft_wrap=True)
     found = states(study, wanted(study, described(folder).factors), in_hand)
     out.print(", ".join(f"{count} {name}" for name in STATES if (count := sum(state.state == name for state in found))) + f", of {len(found)} tasks")
+    there = [factor for factor in described(folder).factors if study.verdict(factor)]
+    kept = sum(study.certified(factor) is not None for factor in there)
+    if kept < len(there):
+        out.print(f"certificates: of {kept} of {len(there)} shells; the others are as pit shells states them")
     failed = [state for state in found if state.state == FAILED]
     for state in failed[:SHOWN]:
         out.print(escape(f"  failed: {state.task}: {state.words}"), soft_wrap=True)

@@ -144,7 +144,7 @@ def completed(study: Study, resting: Resting, design: Design) -> Design:
 
 
 class Certificate:
-    """The certificate of the best pit at a factor, by which `pit check` judges other sets of blocks.
+    """The certificate of the best pit at a factor, by which `pit check` judges other sets of blocks; made where none is there yet.
 
     Raises
     ------
@@ -156,6 +156,7 @@ class Certificate:
         self.study, self.factor = study, factor
         study.verify()
         study.mask(factor)
+        study.run(factor)                    # its certificate, where none is there yet
 
     def judge(self, held: Bools) -> str:
         """What `pit check` says of a set of blocks in place of the best pit's.

@@ -31,7 +31,7 @@ class InOrder(TyperGroup):
 
 
 app = typer.Typer(cls=InOrder, add_completion=True, no_args_is_help=True, pretty_exceptions_enable=False, rich_markup_mode=None, context_settings={"help_option_names": ["-h", "--help"]},
-                  help="From a planner's table of blocks to proved pits, tables and pictures. Every best pit that it shows was accepted by `pit check`.",
+                  help="From a planner's table of blocks to proved pits, tables and pictures. Every best pit that it shows is proved by `pit`.",
                   epilog="Exit status: 0 done; 1 no, where pit check refuses or a check of pitplan fails; 2 wrong words; 3 a file is wrong; 4 the machine (memory, disk); 130 stopped.")
 out = Console(width=None if sys.stdout.isatty() else 160, soft_wrap=not sys.stdout.isatty(), highlight=False)
 err = Console(stderr=True, highlight=False)

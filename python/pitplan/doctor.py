@@ -157,7 +157,7 @@ def built(folder: Path) -> None:
 def shelled(folder: Path) -> None:
     """The pits of two factors, which are known by hand."""
     from .study import Study
-    for verdict in Study(folder).shells(list(PITS), 1).verdicts:
+    for verdict in Study(folder).shells(list(PITS), 1).with_certificates(1).verdicts:
         if (verdict["count"], verdict["worth"]) != PITS[verdict["factor"]]:
             raise PlanError(f"at factor {verdict['factor'] / 1000:g} {verdict['count']} blocks worth {verdict['worth']}, and by hand {PITS[verdict['factor']]}")
 

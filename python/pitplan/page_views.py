@@ -27,9 +27,10 @@ if TYPE_CHECKING:
 Bools = npt.NDArray[np.bool_]
 Columns = list[tuple[str, list[str]]]        # a heading with its unit, and the texts below it
 PATTERNS = 5                                 # that blocks are told apart by, unless there are more kinds of them
-PITS = ("Each pit has a certificate that pit check has accepted: no pit that keeps the slopes is worth more at its factor. "
-        "Discounted: dug pit after pit (best case) or bench after bench (worst case).")
-PHASES = "After each pushback the mine is a pit that pit check has accepted. Amounts are those of the pushback alone, worths at the full price."
+CERTIFIED = "Each pit has a certificate that pit check has accepted: no pit that keeps the slopes is worth more at its factor. "
+STATED = "Each pit is as pit shells states it, which is proved to check each with a flow: no pit that keeps the slopes is worth more at its factor. "
+PITS = "Discounted: dug pit after pit (best case) or bench after bench (worst case)."
+PHASES = "After each pushback the mine is a pit that pit has proved. Amounts are those of the pushback alone, worths at the full price."
 DESIGN = "The best pit has a certificate that pit check has accepted: no pit that keeps the slopes is worth more at its factor."
 LIKELY = ("Each realisation has a pit that pit check has accepted. A block's likelihood is the share of the realisations whose pit has it; for every likelihood "
           "the blocks of at least that keep the slopes. Worths of a fixed set of blocks over all realisations.")
@@ -157,7 +158,7 @@ def pits(shells: Shells, table: pd.DataFrame) -> View:
     columns += [scaled(name, table[column], money) for name, column in (("Worth at factor 1", "worth_at_base"), ("Discounted, best case", "npv_best"), ("Discounted, worst case", "npv_worst"))]
     columns.append(("Years", [f"{v:.1f}" for v in table["years"]]))
     start = 1 + (shells.factors.index(THOUSAND) if THOUSAND in shells.factors else len(names) - 1)
-    return View("Pits by factor", "Pit at factor", Table("Pit by pit", "Factor", names, columns), levels, "First pit with the block, by factor", PITS, names, start)
+    return View("Pits by factor", "Pit at factor", Table("Pit by pit", "Factor", names, columns), levels, "First pit with the block, by factor", (CERTIFIED if shells.certified == len(shells) else STATED) + PITS, names, start)
 
 
 def phases(found: Phases, table: pd.DataFrame | None = None) -> View:

@@ -90,7 +90,7 @@ def table(shells: Shells, base: int, rates: Rates) -> pd.DataFrame:
     DataFrame
         ``factor`` (share of the price), ``blocks``; ``rock_t``, ``ore_t``, ``waste_t`` (tonnes in place; ore is what goes to
         the mill at the base factor), ``strip`` (waste by ore), ``feed_t`` (what the mill gets), ``worth_at_factor`` (text:
-        what `pit check` accepted), ``worth_at_base`` (exact, rounded to a float at the end), ``npv_best`` (dug shell by
+        what `pit` proved), ``worth_at_base`` (exact, rounded to a float at the end), ``npv_best`` (dug shell by
         shell), ``npv_worst`` (the pit bench by bench), ``years``; and for each metal ``grade_<metal>`` (of the ore in
         place, in its own unit) and ``metal_<metal>`` (recovered, in the unit of its price).
     """

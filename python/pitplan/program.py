@@ -1,4 +1,4 @@
-"""The one place that runs `pit`: what comes out is an `Accepted`, or an error in the planner's terms."""
+"""The one place that runs `pit`: what comes out is an `Accepted` or a `Stated`, or an error in the planner's terms."""
 from __future__ import annotations
 
 import gzip
@@ -13,15 +13,17 @@ import threading
 from collections.abc import Callable, Iterable, Iterator, Sequence
 from contextlib import contextmanager, nullcontext
 from dataclasses import InitVar, dataclass
+from functools import cached_property
 from pathlib import Path
 from typing import Union
 
 import numpy as np
 import numpy.typing as npt
 
-from .errors import MachineError, NotAccepted, PlanError
+from .errors import Disagreement, MachineError, NotAccepted, PlanError
 
 Progress = Callable[[int, int], None]
+Heard = Callable[[str], None]                # a line of `--progress`
 Word = Union[str, int, Path]
 TOP = Path(__file__).resolve().parents[2]
 BUILT = (TOP / "out" / "pit", TOP / "crates" / "pit" / "out" / "pit")      # where this repository's build puts it
@@ -33,7 +35,9 @@ HINTS = {"No space left on device": ROOM, "Disk quota exceeded": ROOM,
          "UNSETTLED": "the run was cut off before its pit was proved: tell the maintainers of this mine",
          "TooLarge": "the amounts are too large together: rounding = 1000 in [economics], or prices and costs in thousands",
          "memory": "memory was refused: fewer --workers", "device": "a file couldn't be read or written: is the disk full?"}
-BEGUN = object()                             # what only Pit.check hands to an Accepted
+BEGUN = object()                             # what only Pit.check hands to an Accepted, and Pit.series to a Stated
+MOST_FACTORS = 64                            # of one run of `pit shells`
+ABOVE = 1 << 30                              # of a block that no pit of a series has: above all factors
 
 
 @dataclass(frozen=True)
@@ -74,6 +78,46 @@ class Accepted:
         found = np.zeros(self.size, bool)
         found[self.blocks] = True
         return found
+
+
+@dataclass(frozen=True)
+class Stated:
+    """A pit as `pit shells --by-block` states it. `Pit.series` alone makes one, of one run's lines and table of blocks.
+
+    No certificate of it is kept. That it is the best pit at its factor rests on the program: it is proved to check each pit with a
+    flow before it prints a line.
+
+    Attributes
+    ----------
+    count : int
+        How many blocks the pit has, by the line.
+    worth : str
+        What it is worth at its factor, by the line.
+    factor : int
+        Of the revenue, in thousandths.
+    mask : bool array of shape (size,)
+        Whether a block is in the pit, by the table of blocks.
+    """
+
+    count: int
+    worth: str
+    factor: int
+    mask: npt.NDArray[np.bool_]
+    begun: InitVar[object] = None
+
+    def __post_init__(self, begun: object) -> None:
+        if begun is not BEGUN:
+            raise TypeError("a Stated is made by Pit.series alone")
+
+    @property
+    def size(self) -> int:
+        """Of the model, in blocks."""
+        return len(self.mask)
+
+    @property
+    def certificate(self) -> None:
+        """There is none."""
+        return None
 
 
 @dataclass(frozen=True)
@@ -164,7 +208,7 @@ class Pit:
             Where there was no certificate, or the check refuses it.
         """
         more: list[Word] = ["--progress"] if progress else []
-        said = self.run(["solve", *files.words(), "--factor", factor, "--verbose", *more], certificate, progress)
+        said = self.run(["solve", *files.words(), "--factor", factor, "--verbose", *more], certificate, settled(progress) if progress else None)
         if said:
             raise NotAccepted(f"pit solve at factor {factor / 1000:g}: {said.strip()}", try_this=hint_of(said))
         with packed(certificate) if keeps else nullcontext() as kept:
@@ -206,7 +250,48 @@ class Pit:
             raise NotAccepted(f"pit check counts {found[1]} blocks, and the certificate has {len(blocks)} PIT lines")
         return Accepted(int(found[1]), found[2], blocks, factor, lines.digest.hexdigest(), size, BEGUN)
 
-    def run(self, words: Sequence[Word], out: Path | None = None, progress: Progress | None = None, fed: Iterable[bytes] | None = None) -> str:
+    @cached_property
+    def states_blocks(self) -> bool:
+        """Whether its `shells` has the option `--by-block`, which older ones haven't."""
+        try:
+            return "--by-block" in self.run(["shells", "--help"])
+        except PlanError:
+            return False
+
+    def series(self, files: Files, factors: Sequence[int], work: Path, workers: int = 1, proved: Callable[[int], None] | None = None) -> list[Stated]:
+        """The best pits at up to `MOST_FACTORS` factors, from one run of `pit shells --by-block`.
+
+        Parameters
+        ----------
+        factors : sequence of int
+            In thousandths, ascending.
+        work : Path
+            A folder for the settings and the table of blocks.
+        workers : int
+            Factors that are solved at a time.
+        proved : function, optional
+            Is told each factor whose pit is proved.
+
+        Raises
+        ------
+        NotAccepted
+            Where `pit` finds no pit at one of the factors.
+        Disagreement
+            Where its lines and its table of blocks aren't of these factors and this model.
+        """
+        settings, table = work / "series.toml", work / "by_block.csv"
+        settings.write_text(files.settings.read_text() + f"factors = {list(factors)}\n")
+        words: list[Word] = [*Files(files.prec, files.blocks, settings).words(), "--by-block", table, "--workers", workers, "--verbose"]
+        said = self.run(["shells", *words, *(["--progress"] if proved else [])], heard=each_proved(proved) if proved else None)
+        lines = re.findall(r"^SHELL (\d+) (\d+) (-?[\d.]+)$", said, re.MULTILINE)
+        if not lines:
+            raise NotAccepted(f"pit shells: {said.strip()}", try_this=hint_of(said))
+        if [int(factor) for factor, _, _ in lines] != list(factors) or len(lines) != said.count("\n"):
+            raise Disagreement(f"pit shells was asked for {len(factors)} factors, and its lines are of others", try_this="tell the maintainers")
+        shell = shell_of_blocks(table, factors)
+        return [Stated(int(count), worth, int(factor), shell <= int(factor), BEGUN) for factor, count, worth in lines]
+
+    def run(self, words: Sequence[Word], out: Path | None = None, heard: Heard | None = None, fed: Iterable[bytes] | None = None) -> str:
         """Runs `pit`.
 
         Parameters
@@ -215,6 +300,8 @@ class Pit:
             Of its command line.
         out : Path, optional
             The file that its standard output is written to.
+        heard : function, optional
+            Is told each line that says how far it is.
         fed : iterable of bytes, optional
             What it gets on its standard input; all of it is gone through, also where `pit` reads no more.
 
@@ -231,7 +318,7 @@ class Pit:
         told: list[str] = []
         with open(out, "wb") if out else open(os.devnull, "wb") as target:
             run = self.started(words, target.fileno() if out else subprocess.PIPE, subprocess.PIPE if fed is not None else subprocess.DEVNULL)
-            ear = threading.Thread(target=listen, args=(run, told, progress), daemon=True)
+            ear = threading.Thread(target=listen, args=(run, told, heard), daemon=True)
             ear.start()
             try:
                 feed(run, fed or ())
@@ -300,16 +387,54 @@ def hint_of(said: str) -> str | None:
     return next((hint for key, hint in HINTS.items() if key in said), None)
 
 
-def listen(run: subprocess.Popen[bytes], told: list[str], progress: Progress | None) -> None:
+def listen(run: subprocess.Popen[bytes], told: list[str], heard: Heard | None) -> None:
     """Takes in what `pit` says on standard error: how far it is, and what is wrong."""
     assert run.stderr is not None
     for raw in run.stderr:
         line = raw.decode(errors="replace").rstrip()
-        found = re.match(r"progress: (\d+) of (\d+) blocks settled", line)
-        if found and progress:
-            progress(int(found[1]), int(found[2]))
-        elif not line.startswith("progress:"):
+        if not line.startswith("progress:"):
             told.append(line)
+        elif heard:
+            heard(line)
+
+
+def settled(progress: Progress) -> Heard:
+    """Tells of how many blocks `pit solve` says that they are settled."""
+    def heard(line: str) -> None:
+        found = re.match(r"progress: (\d+) of (\d+) blocks settled", line)
+        if found:
+            progress(int(found[1]), int(found[2]))
+    return heard
+
+
+def each_proved(proved: Callable[[int], None]) -> Heard:
+    """Tells each factor of which `pit shells` says that its pit is proved."""
+    def heard(line: str) -> None:
+        found = re.match(r"progress: factor (\d+): the pit is proved", line)
+        if found:
+            proved(int(found[1]))
+    return heard
+
+
+def shell_of_blocks(table: Path, factors: Sequence[int]) -> npt.NDArray[np.int64]:
+    """The first factor whose pit has each block, in thousandths, of shape (blocks,); above all factors where none has it.
+
+    Raises
+    ------
+    Disagreement
+        Where the table isn't one of all blocks, ascending, with these factors.
+    """
+    import pandas as pd
+    try:
+        found = pd.read_csv(table, dtype={"block": np.int64, "shell": np.float64}, keep_default_na=False, na_values=[""], skip_blank_lines=False)
+        block, shell = found["block"].to_numpy(), found["shell"].to_numpy()
+        is_right = list(found.columns) == ["block", "shell"] and (block == np.arange(len(block))).all() and np.isin(shell[~np.isnan(shell)], list(factors)).all()
+    except (ValueError, KeyError, OverflowError):
+        is_right = False
+    if not is_right:
+        raise Disagreement("the table of blocks that pit shells wrote isn't one of all blocks and these factors", try_this="is the disk full? else tell the maintainers")
+    first: npt.NDArray[np.int64] = np.nan_to_num(shell, nan=float(ABOVE)).astype(np.int64)
+    return first
 
 
 def feed(run: subprocess.Popen[bytes], pieces: Iterable[bytes]) -> None:

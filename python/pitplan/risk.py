@@ -12,7 +12,7 @@ import hashlib
 import json
 import re
 import tempfile
-from collections.abc import Iterator, Sequence
+from collections.abc import Callable, Iterator, Sequence
 from contextlib import contextmanager
 from dataclasses import asdict, dataclass
 from functools import cached_property
@@ -275,13 +275,13 @@ class Realisation(Study):
         """The certificate is written in this machine's scratch, and never goes over the network."""
         return self.made.parent if self.made else work
 
-    def run(self, factor: int, told: Told | None = None) -> Verdict:
+    def run(self, factor: int, told: Told | None = None, sure: Callable[[], None] | None = None) -> Verdict:
         """One pit of this realisation, as `Study.run`; the certificate isn't kept, its digest is."""
         done = self.verdict(factor)
         if done:
             return done
         with self.written():
-            return super().run(factor, told)
+            return super().run(factor, told, sure)
 
     @contextmanager
     def written(self) -> Iterator[Files]:

@@ -14,7 +14,7 @@ from .amounts import LARGEST_FACTOR, THOUSAND
 from .errors import Disagreement, PlanError
 
 if TYPE_CHECKING:
-    from .study import Study, Verdict
+    from .study import Study, Told, Verdict
 
 Bools = npt.NDArray[np.bool_]
 
@@ -60,7 +60,7 @@ def series_of(shares: Iterable[float]) -> list[int]:
 
 
 class Shells:
-    """The accepted pits of a study at a series of factors. A shell is what a pit adds to the one before it.
+    """The proved pits of a study at a series of factors. A shell is what a pit adds to the one before it.
 
     Every pit is checked again as it is read: the digests of the model's files and of the pit, its count, its worth by the
     planner's own table, and that it lies within the next.
@@ -78,7 +78,7 @@ class Shells:
     shell : int array of shape (blocks,)
         The first pit that has a block, as an index into `factors`; ``len(factors)`` where none has it.
     verdicts : list of dict
-        What is kept of each pit: factor, count, worth, certificate and more, as `study.Verdict`.
+        What is kept of each pit: factor, count, worth, certificate (None where there is none) and more, as `study.Verdict`.
 
     Raises
     ------
@@ -91,23 +91,42 @@ class Shells:
     def __init__(self, study: Study, series: Iterable[int]) -> None:
         self.study = study
         self.factors = sorted(series)
-        study.verify()
         self.shell: npt.NDArray[np.int16] = np.full(study.manifest["blocks"], len(self.factors), np.int16)
         self.verdicts: list[Verdict] = []
+        with study.verifying():
+            self.read()
+
+    def read(self) -> None:
+        """Reads each pit with all checks, the largest first."""
         below: Bools | None = None
         for i in reversed(range(len(self.factors))):
-            mask = study.mask(self.factors[i])
+            mask = self.study.mask(self.factors[i])
             if below is not None and (mask & ~below).any():
                 raise Disagreement(f"the pit at {self.factors[i] / THOUSAND:g} isn't within that at {self.factors[i + 1] / THOUSAND:g}, and pit proves that it is",
                                    try_this="were results of several models mixed in this folder?")
             self.shell[mask] = i
             below = mask
-            verdict = study.verdict(self.factors[i])
+            verdict = self.study.verdict(self.factors[i])
             assert verdict is not None       # its mask has just been read
             self.verdicts.insert(0, verdict)
 
     def __len__(self) -> int:
         return len(self.factors)
+
+    @property
+    def certified(self) -> int:
+        """How many of the pits have a certificate that `pit check` accepted; the others are as `pit shells` states them."""
+        return sum(verdict["certificate"] is not None for verdict in self.verdicts)
+
+    def with_certificates(self, workers: int | None = None, told: Told | None = None) -> Shells:
+        """The same pits, each with its certificate: those that have none yet are found by themselves, checked, and have to be the same.
+
+        Parameters
+        ----------
+        workers, told
+            As of `Study.shells`.
+        """
+        return self if self.certified == len(self) else self.study.shells(self.factors, workers, told, certificates=True)
 
     def holds(self, i: int) -> Bools:
         """Whether a block is in pit i, of shape (blocks,)."""

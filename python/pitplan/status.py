@@ -3,6 +3,7 @@ from __future__ import annotations
 
 import json
 import os
+import re
 from collections.abc import Mapping, Sequence
 from dataclasses import dataclass
 from pathlib import Path
@@ -79,16 +80,21 @@ def half_done(folder: Path, missing: Sequence[int]) -> tuple[set[str], bool]:
     """On which machines somebody works at one of these factors, and whether a process of this machine that is no more has left
     something half done. What a process of another machine has left can't be told from what it is at."""
     at, is_dead = set(), False
-    names = {f".f{factor:05d}" for factor in missing}
     for path in folder.glob(".f*"):
         parts = path.name.removesuffix(".old").rsplit(".", 3)
-        if len(parts) != 4 or parts[0] not in names:
+        if len(parts) != 4 or not is_of(parts[0], missing):
             continue
         if parts[1] != host() or os.path.exists(f"/proc/{parts[2]}"):
             at.add(parts[1])
         else:
             is_dead = True
     return at, is_dead
+
+
+def is_of(name: str, missing: Sequence[int]) -> bool:
+    """Whether a folder of that name, of a factor (".f00800") or of a series (".f00300-01200"), is for one of these factors."""
+    found = re.fullmatch(r"\.f(\d+)(?:-(\d+))?", name)
+    return found is not None and any(int(found[1]) <= factor <= int(found[2] or found[1]) for factor in missing)
 
 
 def seconds_left(study: Study, found: Sequence[State]) -> float | None:

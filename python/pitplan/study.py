@@ -2,7 +2,7 @@
 
     study.toml                                     what the planner says
     model/   mine.blocks mine.prec settings.toml slope-*.toml blocks.npz manifest.json
-    runs/base/f00800/   best.cert.gz pit.npz verdict.json
+    runs/base/f00800/   pit.npz verdict.json, and best.cert.gz where its certificate was asked for
     out/     tables and pictures
 
 Each of these is written in a folder of its own and renamed, so that it is there whole or not at all. A pit counts where its
@@ -19,6 +19,7 @@ import shutil
 import tempfile
 import time
 from collections.abc import Callable, Iterator, Sequence
+from concurrent.futures import ThreadPoolExecutor
 from contextlib import contextmanager
 from functools import cached_property
 from pathlib import Path
@@ -34,7 +35,7 @@ from .economics import Economics
 from .errors import Disagreement, MachineError, PlanError
 from .model import Model
 from .next_command import command
-from .program import ROOM, Accepted, Files, Pit, sha256
+from .program import ROOM, Accepted, Files, Pit, Stated, sha256
 
 if TYPE_CHECKING:
     from .shells import Shells
@@ -48,12 +49,12 @@ FULL = (errno.ENOSPC, errno.EDQUOT)          # a disk has no room, or its user's
 
 
 class Verdict(TypedDict):
-    """What is kept of a pit that `pit check` accepted."""
+    """What is kept of a pit: that `pit check` accepted, or, where ``certificate`` is None, as `pit shells` states it."""
 
     factor: int
     count: int
     worth: str
-    certificate: str
+    certificate: str | None
     bits: str
     model: str
     pit: list[str]
@@ -195,6 +196,19 @@ class Study:
             if not path.is_file() or sha256(path) != digest:
                 raise PlanError(f"{path} isn't the file that the build made" if path.is_file() else f"{path} is gone", try_this=command("build", self.named))
 
+    @contextmanager
+    def verifying(self) -> Iterator[Callable[[], None]]:
+        """Takes the digests beside what is done within. The function that it gives waits for them; what `verify` raises comes in
+        place of any other error, since it explains them."""
+        with ThreadPoolExecutor(1) as pool:
+            digests = pool.submit(self.verify)
+            try:
+                yield digests.result
+            except PlanError:
+                digests.result()
+                raise
+            digests.result()
+
     def place(self, factor: int) -> Path:
         """The folder of a factor's result (in thousandths)."""
         return self.folder / "runs" / "base" / f"f{factor:05d}"
@@ -207,8 +221,14 @@ class Study:
             return None
         return found if found.get("model") == self.key and found.get("factor") == factor else None
 
-    def run(self, factor: int, told: Told | None = None) -> Verdict:
-        """One pit: found, checked, added up again, and put in its place whole. Where it is there already, nothing is done.
+    def certified(self, factor: int) -> Verdict | None:
+        """The verdict of a pit whose certificate `pit check` accepted, over this very model, else None."""
+        found = self.verdict(factor)
+        return found if found and found["certificate"] else None
+
+    def run(self, factor: int, told: Told | None = None, sure: Callable[[], None] | None = None) -> Verdict:
+        """One pit with its certificate: found, checked, added up again, and put in its place whole. Where it is there already,
+        nothing is done; where the pit is there without a certificate, it has to be the same.
 
         Parameters
         ----------
@@ -216,33 +236,73 @@ class Study:
             Of the revenue, in thousandths.
         told : function, optional
             Is told the factor, what is done for it, and how far that is.
+        sure : function, optional
+            Is called before anything is kept, as that of `verifying`.
 
         Raises
         ------
         NotAccepted
             Where `pit check` doesn't accept.
         Disagreement
-            Where the planner's own table doesn't add up to what `pit` says. Nothing is kept then.
+            Where the planner's own table doesn't add up to what `pit` says, or `pit shells` stated another pit. Nothing is kept then.
         """
-        done = self.verdict(factor)
+        done = self.certified(factor)
         if done:
             return done
         began, place = time.time(), self.place(factor)
+        stated = self.mask(factor) if self.verdict(factor) else None
         with made_whole(place) as work:
             found = self.program.best(self.files, factor, self.room(work) / "best.cert", solving(told, factor), self.keeps)
             self.agree(found, factor)
-            bits = np.packbits(found.mask)
-            np.savez_compressed(work / "pit.npz", bits=bits)
-            done = Verdict(factor=factor, count=found.count, worth=found.worth, certificate=found.certificate, bits=hashlib.sha256(bits.tobytes()).hexdigest(), model=self.key, pit=self.manifest["pit"],
-                           seconds=round(time.time() - began, 2), host=host())
-            (work / "verdict.json").write_text(json.dumps(done, indent=1))
+            if stated is not None and (stated != found.mask).any():
+                raise Disagreement(f"at factor {factor / THOUSAND:g} pit shells stated another pit than pit solve found, and the best pit is one", try_this="keep the folder, and tell the maintainers")
+            if sure:
+                sure()
+            return self.kept(work, found, time.time() - began)
+
+    def kept(self, work: Path, found: Accepted | Stated, seconds: float) -> Verdict:
+        """Writes a pit and its verdict into a folder that is then renamed to its place."""
+        bits = np.packbits(found.mask)
+        np.savez_compressed(work / "pit.npz", bits=bits)
+        done = Verdict(factor=found.factor, count=found.count, worth=found.worth, certificate=found.certificate, bits=hashlib.sha256(bits.tobytes()).hexdigest(), model=self.key,
+                       pit=self.manifest["pit"], seconds=round(seconds, 2), host=host())
+        (work / "verdict.json").write_text(json.dumps(done, indent=1))
         return done
 
-    def agree(self, found: Accepted, factor: int) -> None:
+    def run_series(self, factors: Sequence[int], workers: int = 1, told: Told | None = None, sure: Callable[[], None] | None = None) -> None:
+        """The pits at some factors without certificates, from one run of `pit shells`: each added up again, and put in its place.
+
+        Parameters
+        ----------
+        factors : sequence of int
+            In thousandths, ascending, at most `program.MOST_FACTORS`.
+        workers, told, sure
+            As of `run`; `workers` is how many factors `pit` solves at a time.
+
+        Raises
+        ------
+        NotAccepted, Disagreement
+            As `run`.
+        """
+        began, pits = time.time(), self.folder / "runs" / "base"
+        pits.mkdir(parents=True, exist_ok=True)
+        with tempfile.TemporaryDirectory(prefix=f".f{factors[0]:05d}-{factors[-1]:05d}.{mark()}", dir=pits) as work:
+            found = self.program.series(self.files, factors, Path(work), workers, proving(told))
+        for pit in found:
+            self.agree(pit, pit.factor)
+        if sure:
+            sure()
+        for pit in found:
+            with made_whole(self.place(pit.factor)) as work_of_pit:
+                self.kept(work_of_pit, pit, (time.time() - began) / len(found))
+            if told:
+                told(pit.factor, "done", 1.0)
+
+    def agree(self, found: Accepted | Stated, factor: int) -> None:
         """The first two checks: the pit's worth, added up again from the planner's table in whole numbers, is `pit`'s to the
         last digit, and so is its count of blocks."""
         if found.factor != factor or found.size != self.manifest["blocks"]:
-            raise Disagreement(f"the certificate is of factor {found.factor / THOUSAND:g} over {found.size:,} blocks, and {factor / THOUSAND:g} over {self.manifest['blocks']:,} was asked for")
+            raise Disagreement(f"the pit is of factor {found.factor / THOUSAND:g} over {found.size:,} blocks, and {factor / THOUSAND:g} over {self.manifest['blocks']:,} was asked for")
         self.adds_up(found.mask, found.count, found.worth, factor)
 
     def adds_up(self, mask: Bools, count: int, worth: str, factor: int) -> None:
@@ -268,7 +328,7 @@ class Study:
         with np.load(self.place(factor) / "pit.npz", allow_pickle=False) as file:
             bits = file["bits"]
         if hashlib.sha256(bits.tobytes()).hexdigest() != done["bits"]:
-            raise Disagreement(f"{self.place(factor) / 'pit.npz'} isn't what was accepted", try_this=f"take {self.place(factor)} away, then: {command('shells', self.named)}")
+            raise Disagreement(f"{self.place(factor) / 'pit.npz'} isn't what was {'accepted' if done['certificate'] else 'stated'}", try_this=f"take {self.place(factor)} away, then: {command('shells', self.named)}")
         mask: Bools = np.unpackbits(bits, count=self.manifest["blocks"]).astype(bool)
         self.adds_up(mask, done["count"], done["worth"], factor)
         return mask
@@ -289,8 +349,11 @@ class Study:
         self.agree(found, factor)
         return found
 
-    def shells(self, series: Sequence[int] | None = None, workers: int | None = None, told: Told | None = None) -> Shells:
+    def shells(self, series: Sequence[int] | None = None, workers: int | None = None, told: Told | None = None, certificates: bool = False) -> Shells:
         """The proved pit at each factor; those that are there already aren't run again.
+
+        Without certificates they come from one run of `pit shells` for each 64 factors, where this `pit` has the option
+        `--by-block`; a `pit` that hasn't makes a certificate of each.
 
         Parameters
         ----------
@@ -298,13 +361,16 @@ class Study:
             Factors in thousandths, as `shells.factors` makes them; 0.30 to 1.20 by 0.05 unless told.
         workers : int, optional
             How many pits are found at a time; as many as processors and free memory allow unless told.
+        told : function, optional
+            Is told how far each factor is.
+        certificates : bool
+            Whether each pit is found by itself, with a certificate that `pit check` accepts.
         """
         from .shells import Shells, factors
-        from .workers import run_all
+        from .workers import run_all, run_series
         found = sorted(set(series)) if series is not None else factors(0.3, 1.2, 0.05)
-        self.verify()
         sweep(self.folder / "runs" / "base")
-        run_all(self, found, workers, told)
+        (run_all if certificates or not self.program.states_blocks else run_series)(self, found, workers, told)
         return Shells(self, found)
 
 
@@ -315,6 +381,14 @@ def solving(told: Told | None, factor: int) -> Callable[[int, int], None] | None
     listener = told
     listener(factor, "solving", 0.0)
     return lambda settled, of: listener(factor, "solving", settled / of if of else 0.0)
+
+
+def proving(told: Told | None) -> Callable[[int], None] | None:
+    """Which pits `pit shells` has proved, in the words of `Told`."""
+    if told is None:
+        return None
+    listener = told
+    return lambda factor: listener(factor, "proved", 1.0)
 
 
 def near(table: Path, folder: Path) -> str:

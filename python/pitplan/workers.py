@@ -2,13 +2,14 @@
 from __future__ import annotations
 
 import os
-from collections.abc import Sequence
+from collections.abc import Callable, Sequence
 from concurrent.futures import FIRST_COMPLETED, Future, ThreadPoolExecutor, wait
 from dataclasses import dataclass
 from pathlib import Path
 from typing import TYPE_CHECKING
 
 from .errors import MachineError
+from .program import MOST_FACTORS
 
 if TYPE_CHECKING:
     from .study import Study, Told, Verdict
@@ -70,28 +71,75 @@ def run_all(study: Study, factors: Sequence[int], workers: int | None = None, to
         The same.
     """
     study.program.is_stopped = False
-    left = [factor for factor in factors if not study.verdict(factor)]
+    left = missing(factors, study.certified, told)
+    if left:
+        with study.verifying() as sure:      # nothing is kept before the files are known to be those of the build
+            for factor in at_once(study, sorted(left, reverse=True), workers_for(study, workers), told, sure):
+                one(study, factor, told, sure)
+
+
+def missing(factors: Sequence[int], there: Callable[[int], Verdict | None], told: Told | None) -> list[int]:
+    """The factors whose pits aren't there; of the others it tells that they are done."""
+    left = [factor for factor in factors if not there(factor)]
     for factor in factors:
         if told and factor not in left:
             told(factor, "done", 1.0)
-    again = at_once(study, sorted(left, reverse=True), workers_for(study, workers), told)
-    for factor in again:
-        one(study, factor, told)
+    return left
 
 
-def one(study: Study, factor: int, told: Told | None) -> Verdict:
+def run_series(study: Study, factors: Sequence[int], workers: int | None = None, told: Told | None = None) -> None:
+    """Finds the pits that aren't there yet, without certificates: one run of `pit shells` for each `MOST_FACTORS` of them. A run that
+    somebody ends, as the system does where memory is short, is started once more, one factor at a time.
+
+    Raises
+    ------
+    PlanError
+        As `Study.run_series`; what runs then is ended, and the runs that are done are kept.
+    KeyboardInterrupt
+        The same.
+    """
+    study.program.is_stopped = False
+    left = missing(sorted(factors), study.verdict, told)
+    if not left:
+        return
+    with study.verifying() as sure, ThreadPoolExecutor(1) as pool:
+        for at in range(0, len(left), MOST_FACTORS):
+            some = left[at:at + MOST_FACTORS]
+            try:
+                series(study, pool, some, min(workers_for(study, workers), len(some)), told, sure)
+            except MachineError as error:
+                if "SIGKILL" not in error.what:
+                    raise
+                if told:
+                    told(some[-1], "killed", 0.0)
+                series(study, pool, some, 1, told, sure)
+
+
+def series(study: Study, pool: ThreadPoolExecutor, factors: Sequence[int], workers: int, told: Told | None, sure: Callable[[], None]) -> None:
+    """One run of `pit shells`; what the tables of a series need is read beside it."""
+    running = pool.submit(study.run_series, factors, workers, told, sure)
+    try:
+        study.read_ahead()
+        running.result()
+    except BaseException:
+        study.program.stop()
+        study.program.is_stopped = False
+        raise
+
+
+def one(study: Study, factor: int, told: Told | None, sure: Callable[[], None]) -> Verdict:
     """Runs one factor, and tells that it is done."""
-    done = study.run(factor, told)
+    done = study.run(factor, told, sure)
     if told:
         told(factor, "done", 1.0)
     return done
 
 
-def at_once(study: Study, factors: Sequence[int], workers: int, told: Told | None) -> list[int]:
+def at_once(study: Study, factors: Sequence[int], workers: int, told: Told | None, sure: Callable[[], None]) -> list[int]:
     """Runs all factors, the dearest first, and returns those whose `pit` was killed."""
     killed: list[int] = []
     with ThreadPoolExecutor(workers) as pool:
-        running: dict[Future[Verdict], int] = {pool.submit(one, study, factor, told): factor for factor in factors}
+        running: dict[Future[Verdict], int] = {pool.submit(one, study, factor, told, sure): factor for factor in factors}
         try:
             study.read_ahead()
             while running:

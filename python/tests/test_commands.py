@@ -32,7 +32,7 @@ def test_from_a_table_to_shells(tmp_path):
     built = pitplan("build", "mine", cwd=tmp_path)                       # the other commands name it from elsewhere
     assert built.returncode == 0 and "pairs" in built.stdout and "SUL" in built.stdout and "MB" in built.stdout
     ran = pitplan("shells", study)
-    assert ran.returncode == 0 and "factor 1 done" in ran.stderr and "pit by pit" in ran.stdout, ran.stderr
+    assert ran.returncode == 0 and "factor 1 proved" in ran.stderr and "pit by pit" in ran.stdout, ran.stderr
     pits = pd.read_csv(study / "out/pit_by_pit.csv")
     back = pd.read_csv(study / "out/mine.csv")
     assert pits.factor.tolist() == [0.5, 1.0, 1.5] and back.drop(columns="pit_shell").equals(f)

@@ -96,7 +96,7 @@ def test_a_result_that_was_damaged_is_never_shown(tmp_path):
         bits = file["bits"].copy()
     bits[0] ^= 128
     np.savez_compressed(place / "pit.npz", bits=bits)
-    with pytest.raises(pp.Disagreement, match="isn't what was accepted"):
+    with pytest.raises(pp.Disagreement, match="isn't what was stated"):
         pp.Shells(study, [600, 800])
     verdict = json.loads((place / "verdict.json").read_text())
     verdict["bits"] = hashlib.sha256(bits.tobytes()).hexdigest()
@@ -155,12 +155,12 @@ def test_a_series_goes_on_where_it_was(tmp_path, monkeypatch):
     ran = []
     best = Pit.best
     monkeypatch.setattr(Pit, "best", lambda self, files, factor, *rest: ran.append(factor) or best(self, files, factor, *rest))
-    study.shells([600, 1000])
+    study.shells([600, 1000], certificates=True)
     half = study.folder / "runs/base/.f00800.elsewhere.1.xyz"
     dead = study.folder / f"runs/base/.f00800.{os.uname().nodename.replace('.', '_')}.999999999.xyz"
     for folder in (half, dead):
         folder.mkdir()
-    study.shells([600, 800, 1000, 1200])
+    study.shells([600, 800, 1000, 1200], certificates=True)
     assert sorted(ran) == [600, 800, 1000, 1200]
     assert half.exists() and not dead.exists()      # another machine may still be at work on the first
 
@@ -184,7 +184,7 @@ def test_a_run_that_was_stopped_leaves_no_solver_and_goes_on(tmp_path, program, 
     folder = written_study(tmp_path / "s")
     assert command("build", folder).wait() == 0
     slow, marks = slow_pit(tmp_path, 30, program)
-    run = command("shells", folder, "--workers", 2, env={**os.environ, "PIT": str(slow)})
+    run = command("shells", folder, "--certificates", "--workers", 2, env={**os.environ, "PIT": str(slow)})
     solvers = waited_for(marks, 2)
     run.send_signal(how)
     said = run.communicate(timeout=60)[1]
@@ -205,7 +205,7 @@ def test_a_killed_solver_is_started_once_more(tmp_path, program):
     (tmp_path / "pit").chmod(0o755)
     study = pp.Study(study.folder, Pit(tmp_path / "pit"))
     told = []
-    assert len(study.shells([600, 1000], 2, lambda factor, what, share: told.append((factor, what))).verdicts) == 2
+    assert len(study.shells([600, 1000], 2, lambda factor, what, share: told.append((factor, what)), certificates=True).verdicts) == 2
     assert (1000, "killed") in told and (1000, "done") in told
     (tmp_path / "pit").write_text("#!/bin/sh\nkill -9 $$\n")
     with pytest.raises(pp.MachineError, match="SIGKILL"):
