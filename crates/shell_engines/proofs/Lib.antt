@@ -5,3 +5,6 @@ pub mod Lifted
 pub mod Answering
 pub mod Answers
 pub mod Proving
+pub mod Parting
+pub mod Merging
+pub mod Among

@@ -1,4 +1,5 @@
 pub mod Internal
+pub mod Parting
 pub mod SeriesTexts
 pub mod Settling
 pub mod ShellTable

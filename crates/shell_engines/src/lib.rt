@@ -7,6 +7,9 @@
 #![tactic(auto)]
 
 mod best_pits;
+mod halving;
+mod lifted_pits;
+mod mine_parts;
 pub mod no_series;
 pub mod series_engine;
 pub mod series_inputs;
