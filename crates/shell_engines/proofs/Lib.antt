@@ -8,3 +8,6 @@ pub mod OneTable
 pub mod Answering
 pub mod Answers
 pub mod Proving
+pub mod Parting
+pub mod Merging
+pub mod Among

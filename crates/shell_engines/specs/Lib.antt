@@ -2,6 +2,7 @@ pub mod Answering
 pub mod BlockTables
 pub mod Devices
 pub mod Internal
+pub mod Parting
 pub mod SeriesTexts
 pub mod Settling
 pub mod ShellTable

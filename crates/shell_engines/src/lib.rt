@@ -9,7 +9,10 @@
 
 mod best_pits;
 pub mod block_tables;
+mod halving;
 pub mod laws;
+mod lifted_pits;
+mod mine_parts;
 pub mod no_series;
 pub mod series_engine;
 pub mod series_inputs;

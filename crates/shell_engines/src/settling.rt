@@ -7,7 +7,8 @@ ghost use Rattle.shells.specs.Series.{IsAbove, rests_in};
 ghost use Rattle.shell_engines.specs.Settling.{IsSettled, NoSeriesStands};
 ghost use Rattle.shell_engines.specs.Internal.{IsAdded, IsProved};
 
-use crate::best_pits::{BestPit, best_in, best_of, found_beside, net_at};
+use crate::best_pits::{BestPit, best_in, best_of, net_at};
+use crate::halving::found_beside;
 use crate::no_series::NoSeries;
 use crate::series_inputs::SeriesMine;
 use crate::series_progress::SeriesProgress;

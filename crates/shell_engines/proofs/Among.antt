@@ -1,0 +1,65 @@
+-- The net of some blocks alone, what a pit of them is worth, and what parts give.
+use Rattle.std.proofs.Common.{◌≡◌, ℕ, zero, suc, ◌+ℤ◌, ℤ, pos, ◌<◌, ◌≤◌, ◌&&◌, Bool, true, false, All, List, [], ◌∷◌, ◌++◌, nat_lt, cond, inl, inr, length, map, get_or, refl, sym, subst, ap, ◌∙◌, arith}
+use Rattle.std.proofs.lemmas.List.{length-map, get_or-map}
+use Rattle.ordered_group.specs.Amount.{Amount, zero_amount}
+use Rattle.ordered_group.specs.Sets.{worth_in, count_in}
+use Rattle.closure_net.specs.Network.{NetView, net_view, holds_of, IsAscending}
+use Rattle.closure_net.specs.Mine.{IsBest}
+use Rattle.shells.specs.Prices.{PricesView, blocks_of, worth_at}
+use Rattle.shells.specs.Series.{mine_at}
+use Rattle.engines.proofs.Counted.{count_in-ascending}
+use Rattle.sub_mines.specs.Parts.{every_block}
+use Rattle.sub_mines.specs.Renumbered.{number_in}
+use Rattle.sub_mines.specs.Kept.{IsPartPairs}
+use Rattle.sub_mines.proofs.Kept.{listed, rests_of_pair, pair_of_rests}
+use Rattle.sub_mines.proofs.Renumbering.{worth_listed}
+use Rattle.shell_engines.specs.declared.mine_parts.Part.{Part}
+use Rattle.shell_engines.specs.ShellTable.{IsRowOf}
+use Rattle.shell_engines.specs.Parting.{mine_among, IsNetAmong}
+use Rattle.shell_engines.proofs.Parting.{own_list}
+use Rattle.std.proofs.lemmas.Bool.{ltb-true, cases_Bool}
+use Rattle.std.proofs.lemmas.List.Elements.{All-append}
+use Rattle.shell_engines.proofs.Proving.{all_one}
+
+pub net_among_is : (block : ℤ → ℕ → Amount) (pairs less : List (ℕ × ℕ)) (prices : PricesView) (kept : List ℕ) (k : ℕ) (net : NetView) → net ≡ net_view less (map (λ v. block v (length kept)) (map (worth_at prices k) kept)) → IsPartPairs kept pairs less
+    → IsNetAmong block pairs prices kept k net
+net_among_is block pairs less prices kept k net is part =
+    let worths = map (worth_at prices k) kept in
+    let n = length kept in
+    let counted : length worths ≡ n = length-map kept (worth_at prices k) in
+    record {
+      less = less;
+      part = part;
+      of = record {
+        blocks = ap (λ (x : NetView). length x.worths) is ∙ length-map worths (λ v. block v n) ∙ counted;
+        worths = λ b l.
+            let inside : b < length worths = omega (arith, l, counted) in
+            ap (λ (x : NetView). get_or x.worths b zero_amount) is ∙ get_or-map (λ v. block v n) worths b (pos 0) zero_amount inside ∙ ap (λ v. block v n) (get_or-map (worth_at prices k) kept b 0 (pos 0) l);
+        pairs = λ b p. rw (ap (λ (x : NetView). x.pairs) is) (rests_of_pair less b p, pair_of_rests less b p);
+      };
+    }
+
+-- the worth of a set, with each other block worth nothing
+worth_folded : (v : ℕ → ℤ) (e : ℕ → Bool) (n : ℕ) → worth_in v e n ≡ worth_in (λ b. cond (e b) (v b) (pos 0)) every_block n
+worth_folded v e zero = refl
+worth_folded v e (suc n) = ap (λ x. x +ℤ cond (e n) (v n) (pos 0)) (worth_folded v e n)
+
+-- a pit of ascending blocks, each with a price, has as many as it lists and is worth what they are worth together
+pub proved_row : (pairs : List (ℕ × ℕ)) (prices : PricesView) (k : ℕ) (blocks : List ℕ) (count : ℕ) (worth : ℤ) → IsAscending blocks → All (λ b. b < blocks_of prices) blocks → count ≡ length blocks
+    → worth ≡ worth_in (λ i. worth_at prices k (number_in blocks i)) every_block (length blocks) → IsBest (mine_at pairs prices k) (holds_of blocks) → IsRowOf (mine_at pairs prices k) (record { factor = k; blocks = count; worth = worth })
+proved_row pairs prices k blocks count worth rising low counts is best = record {
+  pit = holds_of blocks;
+  best = best;
+  blocks_are = count_in-ascending blocks (blocks_of prices) rising low ∙ sym counts;
+  worth_is =
+      worth_folded (worth_at prices k) (holds_of blocks) (blocks_of prices)
+      ∙ worth_listed (holds_of blocks) every_block (worth_at prices k) (number_in blocks) (blocks_of prices) (length blocks) (listed (holds_of blocks) (blocks_of prices) blocks (own_list (blocks_of prices) blocks rising low)) ∙ sym is;
+}
+
+-- a part is taken up where it has some factor
+kept_by : (Q : Part → Type 0) (part : Part) (xs : List Part) (t : Bool) → All Q xs → (t ≡ true → Q part) → All Q (xs ++ cond t (part ∷ []) [])
+kept_by Q part xs true h k = All-append Q xs (part ∷ []) h (all_one Q part (k refl))
+kept_by Q part xs false h k = All-append Q xs [] h (λ j d l. absurd (omega (arith, l)))
+
+pub all_kept : (Q : Part → Type 0) (part : Part) (xs ys : List Part) → ys ≡ xs ++ cond (nat_lt part.from part.to) (part ∷ []) [] → All Q xs → (part.from < part.to → Q part) → All Q ys
+all_kept Q part xs ys e h k = subst (All Q) (sym e) (kept_by Q part xs (nat_lt part.from part.to) h (λ t. k (ltb-true part.from part.to t)))

@@ -1,0 +1,88 @@
+-- Lists of blocks that grow by one block, and what is held by them.
+use Rattle.std.proofs.lemmas.Bool.{cases_lt}
+use Rattle.std.proofs.Common.{◌≡◌, ℕ, suc, ◌+◌, ◌<◌, ◌≤◌, All, Bool, true, false, ◌==◌, ◌||◌, cond, ℤ, pos, ◌+ℤ◌, List, [], ◌∷◌, ◌++◌, length, map, take, get_or, inl, inr, refl, sym, subst, ap, ◌∙◌, arith}
+use Rattle.std.proofs.lemmas.List.{take_more, map_more, map_push, get_or_default}
+use Rattle.closure_net.specs.Network.{holds_of}
+use Rattle.prec_file.specs.Rests.{passing}
+use Rattle.ordered_group.specs.Sets.{worth_in}
+use Rattle.sub_mines.specs.Parts.{joined, every_block}
+use Rattle.shell_engines.specs.Parting.{ArePut}
+
+or_false : (x : Bool) → (x || false) ≡ x
+or_false true = refl
+or_false false = refl
+
+or_again : (x y z : Bool) → (x || (y || z)) ≡ ((x || y) || z)
+or_again true y z = refl
+or_again false y z = refl
+
+or_turned : (x y z : Bool) → ((x || y) || z) ≡ ((x || z) || y)
+or_turned true y z = refl
+or_turned false true true = refl
+or_turned false true false = refl
+or_turned false false true = refl
+or_turned false false false = refl
+
+pub holds_push : (xs : List ℕ) (y b : ℕ) → holds_of (xs ++ y ∷ []) b ≡ (holds_of xs b || (y == b))
+holds_push [] y b = or_false (y == b)
+holds_push (x ∷ xs) y b = ap (λ t. (x == b) || t) (holds_push xs y b) ∙ or_again (x == b) (holds_of xs b) (y == b)
+
+-- a block more of the list
+pub put_second : (e : ℕ → Bool) (blocks : List ℕ) (k : ℕ) (found : List ℕ) → k < length blocks → ArePut e blocks k found → ArePut e blocks (k + 1) (found ++ get_or blocks k 0 ∷ [])
+put_second e blocks k found l h = record {
+  most = omega (arith, l);
+  held = λ b.
+      let y = get_or blocks k 0 in
+      holds_push found y b ∙ ap (λ t. t || (y == b)) (h.held b) ∙ sym (or_again (e b) (holds_of (take k blocks) b) (y == b))
+      ∙ ap (λ t. e b || t) (sym (holds_push (take k blocks) y b)) ∙ ap (λ xs. e b || holds_of xs b) (sym (take_more blocks k 0 l));
+}
+
+-- a block more of the set
+pub put_first : (first second : List ℕ) (i k : ℕ) (found : List ℕ) → i < length first → ArePut (holds_of (take i first)) second k found → ArePut (holds_of (take (i + 1) first)) second k (found ++ get_or first i 0 ∷ [])
+put_first first second i k found l h = record {
+  most = h.most;
+  held = λ b.
+      let y = get_or first i 0 in
+      holds_push found y b ∙ ap (λ t. t || (y == b)) (h.held b) ∙ or_turned (holds_of (take i first) b) (holds_of (take k second) b) (y == b)
+      ∙ ap (λ t. t || holds_of (take k second) b) (sym (holds_push (take i first) y b)) ∙ ap (λ xs. holds_of xs b || holds_of (take k second) b) (sym (take_more first i 0 l));
+}
+
+-- what is so of each place
+pub all_places : (P : ℕ → Type 0) (xs : List ℕ) → ((j : ℕ) → j < length xs → P (get_or xs j 0)) → All P xs
+all_places P xs h j d l = subst P (get_or_default xs j 0 d l) (h j l)
+
+pub all_nothing : {T : Type 0} (P : T → Type 0) → All P []
+all_nothing P j d l = absurd (omega (arith, l))
+
+-- what is so of the first places, and of the next one
+pub below_more : (P : ℕ → Type 0) (xs : List ℕ) (i : ℕ) → ((j : ℕ) → j < i → P (get_or xs j 0)) → P (get_or xs i 0) → (j : ℕ) → j < i + 1 → P (get_or xs j 0)
+below_more P xs i h last j l =
+    elim (cases_lt j i) [
+      | inl low ↦ h j low
+      | inr past ↦ let same : j ≡ i = omega (arith, l, past) in subst (λ n. P (get_or xs n 0)) (sym same) last
+    ]
+
+-- a number more of a list, mapped
+pub mapped_more : {T : Type 0} (f : ℕ → T) (xs : List ℕ) (i : ℕ) (found now : List T) → i < length xs → found ≡ map f (take i xs) → now ≡ found ++ f (get_or xs i 0) ∷ [] → now ≡ map f (take (i + 1) xs)
+mapped_more f xs i found now l is more = more ∙ ap (λ ys. ys ++ f (get_or xs i 0) ∷ []) is ∙ sym (map_more f xs i 0 l)
+
+-- a number more that passes a test, or doesn't
+pub passes_more : (f : ℕ → ℕ) (test : ℕ → Bool) (i : ℕ) (found now : List ℕ) → test i ≡ true → found ≡ map f (passing test i) → now ≡ found ++ f i ∷ [] → now ≡ map f (passing test (i + 1))
+passes_more f test i found now t is more =
+    let on : i + 1 ≡ suc i = omega arith in
+    let taken : passing test (suc i) ≡ passing test i ++ i ∷ [] = ap (λ x. cond x (passing test i ++ i ∷ []) (passing test i)) t in
+    more ∙ ap (λ ys. ys ++ f i ∷ []) is ∙ sym (map_push f (passing test i) i) ∙ ap (map f) (sym taken) ∙ ap (λ n. map f (passing test n)) (sym on)
+
+pub fails_more : (f : ℕ → ℕ) (test : ℕ → Bool) (i : ℕ) (found : List ℕ) → test i ≡ false → found ≡ map f (passing test i) → found ≡ map f (passing test (i + 1))
+fails_more f test i found t is =
+    let on : i + 1 ≡ suc i = omega arith in
+    let skipped : passing test (suc i) ≡ passing test i = ap (λ x. cond x (passing test i ++ i ∷ []) (passing test i)) t in
+    is ∙ ap (map f) (sym skipped) ∙ ap (λ n. map f (passing test n)) (sym on)
+
+-- one block more of all
+pub every_more : (b : ℕ) (kept now : List ℕ) → kept ≡ passing every_block b → now ≡ kept ++ b ∷ [] → now ≡ passing every_block (b + 1)
+every_more b kept now is more = let on : b + 1 ≡ suc b = omega arith in more ∙ ap (λ ys. ys ++ b ∷ []) is ∙ ap (passing every_block) (sym on)
+
+-- the worth of one block more
+pub worth_more : (v : ℕ → ℤ) (i : ℕ) (sum now : ℤ) → sum ≡ worth_in v every_block i → now ≡ sum +ℤ v i → now ≡ worth_in v every_block (i + 1)
+worth_more v i sum now is more = let on : i + 1 ≡ suc i = omega arith in more ∙ ap (λ x. x +ℤ v i) is ∙ ap (worth_in v every_block) (sym on)

@@ -1,0 +1,7 @@
+use Rattle.std.proofs.Common.{All}
+use Rattle.shell_engines.specs.Internal.{IsProved}
+use Rattle.shell_engines.specs.Parting.{IsLeft}
+use Rattle.shell_engines.proofs.halving.found_beside.Given as goal
+
+abbrev pub invariant-loop : goal.invariant-loop
+invariant-loop g l = All (IsProved l.rests.pairs l.prices) l.found.items × All (IsLeft l.rests.pairs l.prices l.factors) l.parts.items

@@ -1,0 +1,46 @@
+use Rattle.std.proofs.Common.{◌≡◌, ◌+◌, ◌<◌, ◌∙◌, ℕ, List, All, length, map, get_or, Vec, Global, Option, IfSome, sym, ap, subst, arith}
+use Rattle.std.proofs.lemmas.List.{get_or_default}
+use Rattle.prec_file.specs.Rests.{passing}
+use Rattle.closure_net.specs.Network.{holds_of}
+use Rattle.closure_net.specs.Mine.{IsBest}
+use Rattle.shells.specs.Series.{mine_at}
+use Rattle.sub_mines.specs.Parts.{joined, beside, every_block}
+use Rattle.sub_mines.specs.Renumbered.{number_in}
+use Rattle.shell_engines.proofs.Parting.{lifted_best, lower_part, higher_part, same_lists_part}
+use Rattle.shell_engines.proofs.mine_parts.by_pit.Goals as goal
+
+pub returns : goal.returns
+returns c = λ pairs h part found.
+    let prices = c.args.prices.now in
+    let factors = c.args.factors.now in
+    let from = c.args.part.now.from in
+    let to = c.args.part.now.to in
+    let place = c.args.place in
+    let low = c.args.part.now.low.items in
+    let kept = c.args.part.now.kept.items in
+    let s = c.args.small.now in
+    let ks = c.as_slice-kept.result.now in
+    let ss = c.blocks-2.result.now in
+    let first = c.requires.first in
+    let last = c.requires.last in
+    let rising = c.blocks-2.ensures.ascending in
+    let at = subst (λ (o : Option (Vec ℕ Global)). IfSome o (λ v. (v.items ≡ map (number_in ks) ss) × All (λ i. i < length ks) ss)) c.in-Some.is c.in_ok-inside.ensures in
+    let ke : ks ≡ kept = c.as_slice-kept.ensures.value in
+    let se : ss ≡ s = c.blocks-2.ensures.is in
+    let inside : c.in-Some.inside.items ≡ map (number_in kept) s = at.0 ∙ ap (λ (xs : List ℕ). map (number_in xs) ss) ke ∙ ap (map (number_in kept)) se in
+    let places : All (λ i. i < length kept) s = subst (All (λ i. i < length kept)) se (subst (λ (xs : List ℕ). All (λ i. i < length xs) ss) ke at.1) in
+    let outside : c.in_ok-outside.outside.items ≡ map (number_in kept) (passing (beside every_block (holds_of s)) (length kept)) =
+    c.in_ok-outside.ensures ∙ ap (λ (xs : List ℕ). map (number_in xs) (passing (beside every_block (holds_of s)) (length xs))) ke in
+    let blocks = c.in_ok-blocks.blocks.items in
+    let are : (b : ℕ) → holds_of blocks b ≡ joined (holds_of low) (holds_of (map (number_in kept) s)) b = λ b.
+    c.in_ok-blocks.ensures b ∙ ap (λ (xs : List ℕ). joined (holds_of xs) (holds_of c.as_slice-2.result.now) b) c.as_slice.ensures.value
+    ∙ ap (λ (xs : List ℕ). joined (holds_of low) (holds_of xs) b) (c.as_slice-2.ensures.value ∙ inside) in
+    let above : c.in_ok-above.above.items ≡ blocks = c.in_ok-above.ensures.items ∙ c.as_slice-3.ensures.value in
+    let again : c.in_ok-from_slice.field-0.items ≡ low = c.in_ok-from_slice.ensures.items ∙ c.as_slice-4.ensures.value in
+    let is_k : c.index-factors-place.result ≡ get_or factors place 0 = c.index-factors-place.is ∙ get_or_default factors place c.index-factors-place.result 0 c.requires.inside in
+    let best = lifted_best pairs prices factors from to place low kept s h part first last rising places found blocks are in
+    record {
+      found = c.in-Some-best_with.ensures pairs (subst (λ f. IsBest (mine_at pairs prices f) (holds_of blocks)) (sym is_k) best);
+      lower = same_lists_part pairs prices factors from place low _ _ _ again inside (lower_part pairs prices factors from to place low kept s h part first last rising places found blocks are);
+      higher = same_lists_part pairs prices factors (place + 1) to blocks _ _ _ above outside (higher_part pairs prices factors from to place low kept s h part first last rising places found blocks are);
+    }

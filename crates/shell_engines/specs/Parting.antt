@@ -1,0 +1,74 @@
+-- Parts of a mine between two pits, within which the best pits of some factors are looked for.
+use Rattle.std.specs.Prelude.{take, ◌≡◌, ℕ, ℤ, ◌<◌, ◌≤◌, ◌+◌, Bool, List, length, slice_index, All, IfSome}
+use Rattle.fixed_worth.specs.declared.limits.TheConstants.{MOST_BLOCKS}
+use Rattle.ordered_group.specs.Amount.{Amount}
+use Rattle.prec_file.specs.Rests.{IsRests, has_pair}
+use Rattle.closure_net.specs.Network.{NetView, holds_of, IsAscending}
+use Rattle.closure_net.specs.Mine.{Mine, IsBest, IsNetOf}
+use Rattle.shells.specs.Prices.{PricesView, blocks_of, worth_at, NoneNegative}
+use Rattle.shells.specs.Series.{mine_at}
+use Rattle.sub_mines.specs.Parts.{joined, beside}
+use Rattle.sub_mines.specs.Bounds.{IsFloor, IsCeiling}
+use Rattle.sub_mines.specs.Renumbered.{number_in}
+use Rattle.sub_mines.specs.Kept.{IsKept, IsPartPairs}
+use Rattle.shell_engines.specs.declared.mine_parts.Part.{Part}
+use Rattle.shell_engines.specs.declared.mine_parts.Halved.{Halved}
+use Rattle.shell_engines.specs.declared.halving.Level.{Level}
+use Rattle.shell_engines.specs.Internal.{IsProved}
+
+-- pairs and prices of the same blocks, at most `MOST_BLOCKS`, no revenue negative, and factors that rise
+pub record ArePriced (pairs : List (ℕ × ℕ)) (prices : PricesView) (factors : List ℕ) : Type 0 where
+  pub rests : IsRests (record { blocks = blocks_of prices; pairs = pairs })
+  pub known : NoneNegative prices
+  pub few : blocks_of prices ≤ MOST_BLOCKS
+  pub rising : IsAscending factors
+
+-- The best pit at each of the factors from one place to another has the blocks of one list, and beside them none but those of
+-- another: the one is a floor of it, and both together are a ceiling.
+pub record LiesIn (pairs : List (ℕ × ℕ)) (prices : PricesView) (factors : List ℕ) (from to : ℕ) (low kept : List ℕ) : Type 0 where
+  pub high : ℕ → Bool
+  pub inside : to ≤ length factors
+  pub floor : (i : ℕ) → from ≤ i → i < to → IsFloor (mine_at pairs prices (slice_index factors i)) (holds_of low)
+  pub ceiling : (i : ℕ) → from ≤ i → i < to → IsCeiling (mine_at pairs prices (slice_index factors i)) high
+  pub are_kept : IsKept (beside high (holds_of low)) (blocks_of prices) kept
+
+-- the same of a part
+abbrev pub IsPart : List (ℕ × ℕ) → PricesView → List ℕ → Part → Type 0
+IsPart pairs prices factors part = LiesIn pairs prices factors part.from part.to part.low.items part.kept.items
+
+-- the mine of the blocks of a list, by their places in it
+abbrev pub mine_among : List (ℕ × ℕ) → PricesView → List ℕ → ℕ → Mine
+mine_among less prices kept k = record { blocks = length kept; rests = has_pair less; worth = λ i. worth_at prices k (number_in kept i) }
+
+-- the net is that of these blocks alone, with the pairs among them
+pub record IsNetAmong (block : ℤ → ℕ → Amount) (pairs : List (ℕ × ℕ)) (prices : PricesView) (kept : List ℕ) (k : ℕ) (net : NetView) : Type 0 where
+  pub less : List (ℕ × ℕ)
+  pub part : IsPartPairs kept pairs less
+  pub of : IsNetOf block (mine_among less prices kept k) net
+
+-- the places are the best pit of the mine of these blocks alone
+pub record IsBestAmong (pairs : List (ℕ × ℕ)) (prices : PricesView) (kept : List ℕ) (k : ℕ) (places : List ℕ) : Type 0 where
+  pub less : List (ℕ × ℕ)
+  pub part : IsPartPairs kept pairs less
+  pub best : IsBest (mine_among less prices kept k) (holds_of places)
+
+-- what a part gave: the best pit that was found is one, and the parts that are left are parts
+pub record AreHalved (pairs : List (ℕ × ℕ)) (prices : PricesView) (factors : List ℕ) (halves : Halved) : Type 0 where
+  pub found : IfSome halves.best (IsProved pairs prices)
+  pub lower : IsPart pairs prices factors halves.lower
+  pub higher : IsPart pairs prices factors halves.higher
+
+-- a part of which some factor is left
+pub record IsLeft (pairs : List (ℕ × ℕ)) (prices : PricesView) (factors : List ℕ) (part : Part) : Type 0 where
+  pub lies : IsPart pairs prices factors part
+  pub some : part.from < part.to
+
+-- what was found are best pits, and what is left are parts with some factor
+pub record IsLevel (pairs : List (ℕ × ℕ)) (prices : PricesView) (factors : List ℕ) (level : Level) : Type 0 where
+  pub found : All (IsProved pairs prices) level.found.items
+  pub left : All (IsLeft pairs prices factors) level.parts.items
+
+-- a list holds the blocks of a set and the first so many of another list
+pub record ArePut (e : ℕ → Bool) (blocks : List ℕ) (next : ℕ) (found : List ℕ) : Type 0 where
+  pub most : next ≤ length blocks
+  pub held : (b : ℕ) → holds_of found b ≡ joined e (holds_of (take next blocks)) b

@@ -1,0 +1,232 @@
+//! Parts of a mine between two pits, within which the best pits of some factors are looked for.
+
+ghost use Rattle.std.specs.Prelude.{◌≡◌, ℕ, ◌<◌, ◌≤◌, All, List, [], IfOk, IfSome, length, map, slice_index};
+ghost use Rattle.fixed_worth.specs.declared.limits.TheConstants.{MOST_BLOCKS};
+ghost use Rattle.ordered_group.specs.Block.{scaled_block};
+ghost use Rattle.prec_file.specs.Rests.{passing};
+ghost use Rattle.closure_net.specs.Network.{IsAscending};
+ghost use Rattle.shells.specs.Prices.{PricesView, blocks_of, worth_at};
+ghost use Rattle.sub_mines.specs.Parts.{every_block};
+ghost use Rattle.shell_engines.specs.Internal.{IsBestOf};
+ghost use Rattle.shell_engines.specs.Parting.{ArePriced, IsPart, IsNetAmong, IsBestAmong, AreHalved};
+
+use crate::best_pits::{BestPit, best_of};
+use crate::lifted_pits::{at_others, at_places, best_with, merged};
+use closure_net::{Net, NetFault, Pit};
+use engines::solving::by_pseudoflow;
+use ordered_group::Scaled;
+use prec_file::Rests;
+use pseudoflow::Silent;
+use shells::{Factor, Prices};
+use std::alloc::{AllocError, Global};
+use sub_mines::rests_among;
+
+/// Some of the factors, and where their best pits lie.
+#[derive(Drop)]
+pub struct Part {
+    /// The places of its factors: from this one
+    pub from: usize,
+    /// to this one, which isn't among them.
+    pub to: usize,
+    /// The blocks that each of their best pits has, ascending.
+    pub low: Vec<u32>,
+    /// The other blocks that they may have, ascending.
+    pub kept: Vec<u32>,
+}
+
+/// What a part gave: the best pit at one of its factors, if it was found, and the parts of the others.
+#[derive(Drop)]
+pub struct Halved {
+    /// The pit.
+    pub best: Option<BestPit>,
+    /// The part of the lower factors.
+    pub lower: Part,
+    /// The part of the higher ones.
+    pub higher: Part,
+}
+
+/// The part of all factors, whose best pits may have any block.
+///
+/// # Errors
+/// Memory was refused.
+pub fn whole(alloc: Global, blocks: u32, factors: usize) -> Result<Part, AllocError>
+    ensures { IfOk result (λ part. (part.from ≡ 0) × (part.to ≡ factors) × (part.low.items ≡ []) × (part.kept.items ≡ passing every_block blocks)) }
+{
+    let mut kept = Vec::with_capacity(alloc, blocks as usize)?;
+    for b in 0..blocks {
+        kept.push(b)?;
+    }
+    Ok(Part {
+        from: 0,
+        to: factors,
+        low: Vec::new(alloc),
+        kept,
+    })
+}
+
+// What these blocks are worth at a factor, in their order: none where one has no price.
+fn worths_among(
+    alloc: Global,
+    prices: &Prices,
+    kept: &[u32],
+    factor: Factor,
+) -> Result<Option<Vec<i128>>, AllocError>
+    ensures { IfOk result (λ o. IfSome o (λ v. v.items ≡ map (worth_at prices.now factor) kept.now)) }
+{
+    let mut worths = Vec::with_capacity(alloc, kept.len())?;
+    for b in kept {
+        if *b >= prices.len() {
+            return Ok(None);
+        }
+        worths.push(prices.worth(*b, factor))?;
+    }
+    Ok(Some(worths))
+}
+
+// The net of these blocks alone, by their places in the list: none where an amount doesn't fit.
+fn net_among(
+    alloc: Global,
+    prices: &Prices,
+    rests: &Rests,
+    kept: &[u32],
+    factor: Factor,
+) -> Result<Option<Net<Scaled>>, AllocError>
+    requires ascending { IsAscending kept.now }
+    requires below { All (λ b. b < rests.now.blocks) kept.now }
+    requires size { length kept.now ≤ rests.now.blocks }
+    ensures { IfOk result (λ o. IfSome o (IsNetAmong scaled_block rests.now.pairs prices.now kept.now factor)) }
+{
+    let small = rests_among(alloc, rests, kept)?;
+    let Some(worths) = worths_among(alloc, prices, kept, factor)? else {
+        return Ok(None);
+    };
+    match Net::<Scaled>::of_worths(alloc, small, worths.as_slice()) {
+        Ok(net) => Ok(Some(net)),
+        Err(NetFault::NoMemory) => Err(AllocError),
+        Err(_) => Ok(None),
+    }
+}
+
+// The best pit at a factor of the part, and the parts of the others: those of lower factors lie within it, and those of higher
+// ones have it. None where it isn't found.
+fn by_pit(
+    alloc: Global,
+    prices: &Prices,
+    factors: &[Factor],
+    part: &Part,
+    place: usize,
+    small: &Pit,
+) -> Result<Option<Halved>, AllocError>
+    requires inside { place < length factors.now }
+    requires first { part.now.from ≤ place }
+    requires last { place < part.now.to }
+    requires few { length part.now.kept.items ≤ MOST_BLOCKS }
+    ensures { (pairs : List (ℕ × ℕ)) → ArePriced pairs prices.now factors.now → IsPart pairs prices.now factors.now part.now → IsBestAmong pairs prices.now part.now.kept.items (slice_index factors.now place) small.now → IfOk result (λ o. IfSome o (AreHalved pairs prices.now factors.now)) }
+{
+    let kept = part.kept.as_slice();
+    let Some(inside) = at_places(alloc, kept, small.blocks())? else {
+        return Ok(None);
+    };
+    let outside = at_others(alloc, kept, small)?;
+    let blocks = merged(alloc, part.low.as_slice(), inside.as_slice())?;
+    let above = Vec::from_slice(alloc, blocks.as_slice())?;
+    let Some(best) = best_with(prices, blocks, factors[place]) else {
+        return Ok(None);
+    };
+    let lower = Part {
+        from: part.from,
+        to: place,
+        low: Vec::from_slice(alloc, part.low.as_slice())?,
+        kept: inside,
+    };
+    let higher = Part {
+        from: place + 1,
+        to: part.to,
+        low: above,
+        kept: outside,
+    };
+    Ok(Some(Halved {
+        best: Some(best),
+        lower,
+        higher,
+    }))
+}
+
+// The best pit of a net at a factor, where pseudoflow finds it and a check accepts its flow.
+fn quick_best(
+    alloc: Global,
+    net: &Net<Scaled>,
+    factor: Factor,
+    turns: u64,
+) -> Result<Option<BestPit>, AllocError>
+    ensures { IfOk result (λ o. IfSome o (IsBestOf scaled_block net.now factor)) }
+{
+    match by_pseudoflow(alloc, net, turns, &Silent)? {
+        Some(solution) => Ok(Some(best_of(factor, solution))),
+        None => Ok(None),
+    }
+}
+
+impl Part {
+    // The same blocks for the factors at these places.
+    fn narrowed(&self, alloc: Global, from: usize, to: usize) -> Result<Part, AllocError>
+        ensures { IfOk result (λ part. (part.from ≡ from) × (part.to ≡ to) × (part.low.items ≡ self.now.low.items) × (part.kept.items ≡ self.now.kept.items)) }
+    {
+        Ok(Part {
+            from,
+            to,
+            low: Vec::from_slice(alloc, self.low.as_slice())?,
+            kept: Vec::from_slice(alloc, self.kept.as_slice())?,
+        })
+    }
+
+    // What a part gives where nothing is found at a factor: its other factors are those below this place and from the next on.
+    fn unsolved(&self, alloc: Global, place: usize, next: usize) -> Result<Halved, AllocError>
+        requires first { self.now.from ≤ next }
+        requires last { place ≤ self.now.to }
+        ensures { (pairs : List (ℕ × ℕ)) (prices : PricesView) (factors : List ℕ) → IsPart pairs prices factors self.now → IfOk result (AreHalved pairs prices factors) }
+    {
+        let lower = self.narrowed(alloc, self.from, place)?;
+        let higher = self.narrowed(alloc, next, self.to)?;
+        Ok(Halved {
+            best: None,
+            lower,
+            higher,
+        })
+    }
+}
+
+/// Solves the part at the factor at this place.
+///
+/// # Errors
+/// Memory was refused.
+pub fn solved_part(
+    alloc: Global,
+    prices: &Prices,
+    rests: &Rests,
+    factors: &[Factor],
+    part: &Part,
+    place: usize,
+    turns: u64,
+) -> Result<Halved, AllocError>
+    requires blocks { rests.now.blocks ≡ blocks_of prices.now }
+    requires priced { ArePriced rests.now.pairs prices.now factors.now }
+    requires part { IsPart rests.now.pairs prices.now factors.now part.now }
+    requires first { part.now.from ≤ place }
+    requires last { place < part.now.to }
+    ensures { IfOk result (AreHalved rests.now.pairs prices.now factors.now) }
+{
+    let factor = factors[place];
+    let next = place + 1;
+    let kept = part.kept.as_slice();
+    let Some(net) = net_among(alloc, prices, rests, kept, factor)? else {
+        return part.unsolved(alloc, place, next);
+    };
+    let Some(small) = quick_best(alloc, &net, factor, turns)? else {
+        return part.unsolved(alloc, place, next);
+    };
+    let Some(found) = by_pit(alloc, prices, factors, part, place, &small.pit)? else {
+        return part.unsolved(alloc, place, next);
+    };
+    Ok(found)
+}

@@ -1,0 +1,142 @@
+-- What bounds the best pit of a mine: a pit known beforehand, and the best pits of mines that are worth less and more.
+use Rattle.std.proofs.Common.{◌≡◌, ℕ, Bool, true, false, ◌&&◌, ◌||◌, IsTrue, sym, refl, ap, ◌∙◌, arith}
+use Rattle.std.proofs.lemmas.Int.{ints}
+use Rattle.std.proofs.lemmas.Bool.{and_from, or_left}
+use Rattle.ordered_group.specs.Sets.{worth_in, count_in}
+use Rattle.ordered_group.proofs.BlockSets.{worth_in-same, count_in-same, count_in-within, worth_of_two, lead_rises}
+use Rattle.sub_mines.proofs.BlockSets.{count_of_two}
+use Rattle.closure_net.specs.Mine.{Mine, IsPit, worth_of, count_of, AreSame, IsBest, LiesWithin, RisesTo}
+use Rattle.closure_net.proofs.BestPits.{union_is_pit, intersection_is_pit}
+use Rattle.ordered_group.proofs.Totals.{within_first, within_second}
+use Rattle.sub_mines.specs.Parts.{joined, shared, no_block, every_block, IsAsGood, LiesBetween}
+use Rattle.sub_mines.specs.Bounds.{IsFloor, IsCeiling}
+use Rattle.sub_mines.proofs.Parts.{fewest_of}
+
+pub as_good_same : (mine : Mine) (c d : ℕ → Bool) → AreSame mine c d → IsAsGood mine c d
+as_good_same mine c d s =
+    let worth : worth_of mine c ≡ worth_of mine d = worth_in-same mine.worth c d mine.blocks s in
+    let count : count_of mine c ≡ count_of mine d = count_in-same c d mine.blocks s in
+    record { pays = omega (arith, ints, worth); few = λ e. omega (arith, count) }
+
+pub as_good_more : (mine : Mine) (c d e : ℕ → Bool) → IsAsGood mine c d → IsAsGood mine d e → IsAsGood mine c e
+as_good_more mine c d e x y = record {
+  pays = omega (arith, ints, x.pays, y.pays);
+  few = λ same.
+      let first : worth_of mine c ≡ worth_of mine d = omega (arith, ints, x.pays, y.pays, same) in
+      let second : worth_of mine d ≡ worth_of mine e = omega (arith, ints, x.pays, y.pays, same) in
+      omega (arith, x.few first, y.few second);
+}
+
+-- the best pit is as good as any
+pub best_is_as_good : (mine : Mine) (e c : ℕ → Bool) → IsBest mine e → IsPit mine c → IsAsGood mine e c
+best_is_as_good mine e c h p = record { pays = h.most c p; few = λ same. fewest_of mine e c h p (sym same) }
+
+-- a pit within another that is as good is that one
+same_from_less : (mine : Mine) (c d : ℕ → Bool) → LiesWithin mine c d → IsAsGood mine d c → IsAsGood mine c d → AreSame mine c d
+same_from_less mine c d within x y =
+    let k = count_in-within c d mine.blocks within in
+    let level : worth_of mine d ≡ worth_of mine c = omega (arith, ints, x.pays, y.pays) in
+    k.1 (omega (arith, k.0, x.few level))
+
+-- ---- the best pit that is known
+
+pub between_by_best : (mine : Mine) (low high c : ℕ → Bool) → IsPit mine low → IsPit mine high → IsBest mine c → LiesWithin mine low c → LiesWithin mine c high
+    → LiesBetween mine low high
+between_by_best mine low high c p q h all only = record {
+  low_pit = p;
+  high_pit = q;
+  nested = λ b l t. only b l (all b l t);
+  between = λ d r. record { pit = c; is_pit = h.is_pit; all = all; only = only; as_good = best_is_as_good mine c d h r };
+}
+
+-- ---- a floor and a ceiling
+
+pub between_by_bounds : (mine : Mine) (low high : ℕ → Bool) → IsFloor mine low → IsCeiling mine high → LiesBetween mine low high
+between_by_bounds mine low high f c =
+    let cut = c.within_it low f.is_pit in
+    let p = intersection_is_pit mine low high f.is_pit c.is_pit in
+    let back : IsAsGood mine low (shared low high) = as_good_more mine low (joined low (shared low high)) (shared low high)
+    (as_good_same mine low (joined low (shared low high)) (λ b l. absorbs (low b) (high b))) (f.with_it (shared low high) p) in
+    let same = same_from_less mine (shared low high) low (λ b l. within_first low high b) back cut in
+    let nested : LiesWithin mine low high = λ b l t. within_second low high b (same b l ∙ t) in
+    record {
+      low_pit = f.is_pit;
+      high_pit = c.is_pit;
+      nested = nested;
+      between = λ d r.
+          let u = union_is_pit mine low d f.is_pit r in
+          record {
+            pit = shared (joined low d) high;
+            is_pit = intersection_is_pit mine (joined low d) high u c.is_pit;
+            all = λ b l t. and_from (joined low d b) (high b) (or_left (low b) (d b) t) (nested b l t);
+            only = λ b l. within_second (joined low d) high b;
+            as_good = as_good_more mine (shared (joined low d) high) (joined low d) d (c.within_it (joined low d) u) (f.with_it d r);
+          };
+    }
+  where
+    absorbs : (x y : Bool) → x ≡ (x || (x && y))
+    absorbs true y = refl
+    absorbs false y = refl
+
+pub none_is_floor : (mine : Mine) → IsFloor mine no_block
+none_is_floor mine = record { is_pit = λ b p r t. t; with_it = λ d p. as_good_same mine (joined no_block d) d (λ b l. refl) }
+
+pub all_is_ceiling : (mine : Mine) → IsCeiling mine every_block
+all_is_ceiling mine = record { is_pit = λ b p r t. refl; within_it = λ d p. as_good_same mine (shared d every_block) d (λ b l. whole (d b)) }
+  where
+    whole : (x : Bool) → (x && true) ≡ x
+    whole true = refl
+    whole false = refl
+
+-- ---- the best pits where worths rise
+
+pit_of_later : (mine later : Mine) (e : ℕ → Bool) → RisesTo mine later → IsPit mine e → IsPit later e
+pit_of_later mine later e r h b p t = let i : IsTrue (mine.rests b p) = sym (r.rests b p) ∙ t in h b p i
+
+pit_of_earlier : (mine later : Mine) (e : ℕ → Bool) → RisesTo mine later → IsPit later e → IsPit mine e
+pit_of_earlier mine later e r h b p t = let i : IsTrue (later.rests b p) = r.rests b p ∙ t in h b p i
+
+-- over the same number of blocks
+later_worth : (mine later : Mine) (e : ℕ → Bool) → RisesTo mine later → worth_of later e ≡ worth_in later.worth e mine.blocks
+later_worth mine later e r = ap (worth_in later.worth e) r.blocks
+
+later_count : (mine later : Mine) (e : ℕ → Bool) → RisesTo mine later → count_of later e ≡ count_in e mine.blocks
+later_count mine later e r = ap (count_in e) r.blocks
+
+pub best_is_floor : (mine later : Mine) (e : ℕ → Bool) → RisesTo mine later → IsBest mine e → IsFloor later e
+best_is_floor mine later e r h = record {
+  is_pit = pit_of_later mine later e r h.is_pit;
+  with_it = λ d p.
+      let n = mine.blocks in
+      let d_pit = pit_of_earlier mine later d r p in
+      let i = intersection_is_pit mine e d h.is_pit d_pit in
+      let lead = lead_rises mine.worth later.worth (shared e d) e n (λ b l. within_first e d b) r.worths in
+      let most = h.most (shared e d) i in
+      let sums = worth_of_two later.worth e d n in
+      let counts = count_of_two e d n in
+      let lu = later_worth mine later (joined e d) r in
+      let ld = later_worth mine later d r in
+      record {
+        pays = omega (arith, ints, lead, most, sums, lu, ld);
+        few = λ same.
+            let level : worth_of mine (shared e d) ≡ worth_of mine e = omega (arith, ints, lead, most, sums, lu, ld, same) in
+            let few = fewest_of mine e (shared e d) h i level in
+            omega (arith, few, counts, later_count mine later (joined e d) r, later_count mine later d r);
+      };
+}
+
+pub best_is_ceiling : (mine later : Mine) (e : ℕ → Bool) → RisesTo mine later → IsBest later e → IsCeiling mine e
+best_is_ceiling mine later e r h = record {
+  is_pit = pit_of_earlier mine later e r h.is_pit;
+  within_it = λ d p.
+      let n = mine.blocks in
+      let d_pit = pit_of_later mine later d r p in
+      let u = union_is_pit later d e d_pit h.is_pit in
+      let lead = lead_rises mine.worth later.worth (shared d e) d n (λ b l. within_first d e b) r.worths in
+      let most = h.most (joined d e) u in
+      let sums = worth_of_two later.worth d e n in
+      let lu = later_worth mine later (joined d e) r in
+      let le = later_worth mine later e r in
+      let few = (count_in-within (shared d e) d n (λ b l. within_first d e b)).0 in
+      record { pays = omega (arith, ints, lead, most, sums, lu, le); few = λ same. few };
+}

@@ -1,0 +1,94 @@
+-- The blocks of a set as a list, their pairs, and lists of them.
+use Rattle.std.proofs.Common.{◌≡◌, ℕ, ◌<◌, All, Bool, true, false, IsTrue, List, length, map, get_or, inl, inr, refl, sym, subst, ap, ◌∙◌, arith}
+use Rattle.std.specs.Prelude.{◌==◌, ◌&&◌}
+use Rattle.std.specs.List.{Contains}
+use Rattle.std.proofs.lemmas.Bool.{eqb-true, eq-eqb, and_parts, and_from, cases_order}
+use Rattle.std.proofs.lemmas.List.{get_or-map, length-map}
+use Rattle.std.proofs.lemmas.List.Folds.{Any-from_list_any, list_any-from_Any}
+use Rattle.closure_net.specs.Network.{holds_of, IsAscending}
+use Rattle.closure_net.proofs.Holding.{holds_at, place_of}
+use Rattle.prec_file.specs.Rests.{has_pair, passing}
+use Rattle.prec_file.proofs.Passing.{passing_at, passing_here, passing_after}
+use Rattle.closure_net.proofs.Reach.{ascends, passing_known}
+use Rattle.sub_mines.specs.Renumbered.{IsListed, IsImage, number_in}
+use Rattle.sub_mines.specs.Kept.{IsKept, IsPartPairs}
+
+-- ---- the list
+
+pub listed : (set : ℕ → Bool) (n : ℕ) (kept : List ℕ) → IsKept set n kept → IsListed set n (length kept) (number_in kept)
+listed set n kept h = record {
+  below = λ i l. h.below i 0 l;
+  held = λ i l. sym (h.are (number_in kept i) (h.below i 0 l)) ∙ holds_at kept i l;
+  rising = λ i j l k. h.ascending i j l k;
+  all = λ b l t. place_of kept b (h.are b l ∙ t);
+}
+
+-- ---- the pairs (as in shells/proofs/OverNets.antt)
+
+pub rests_of_pair : (pairs : List (ℕ × ℕ)) (b p : ℕ) → Contains pairs (b, p) → IsTrue (has_pair pairs b p)
+rests_of_pair pairs b p c = list_any-from_Any (λ (q : ℕ × ℕ). (q.0 == b) && (q.1 == p)) pairs (c.0, (b, p), c.1, c.2, and_from (b == b) (p == p) (eq-eqb b b refl) (eq-eqb p p refl))
+
+pub pair_of_rests : (pairs : List (ℕ × ℕ)) (b p : ℕ) → IsTrue (has_pair pairs b p) → Contains pairs (b, p)
+pair_of_rests pairs b p held =
+    let some = Any-from_list_any (λ (q : ℕ × ℕ). (q.0 == b) && (q.1 == p)) pairs held in
+    let parts = and_parts (some.1.0 == b) (some.1.1 == p) some.4 in
+    let same : some.1 ≡ (b, p) = λ i. (eqb-true some.1.0 b parts.0 i, eqb-true some.1.1 p parts.1 i) in
+    subst (Contains pairs) same (some.0, some.2, some.3)
+
+pub same_tests : (x y : Bool) → (x ≡ true → y ≡ true) → (y ≡ true → x ≡ true) → x ≡ y
+same_tests true y h k = sym (h refl)
+same_tests false true h k = absurd (let e = k refl in cc)
+same_tests false false h k = refl
+
+pub same_rests : (kept : List ℕ) (pairs less : List (ℕ × ℕ)) → IsPartPairs kept pairs less → (i j : ℕ) → i < length kept → j < length kept
+    → has_pair less i j ≡ has_pair pairs (number_in kept i) (number_in kept j)
+same_rests kept pairs less h i j l k =
+    same_tests (has_pair less i j) (has_pair pairs (number_in kept i) (number_in kept j))
+    (λ t. rests_of_pair pairs (number_in kept i) (number_in kept j) ((h.same i j l k).0 (pair_of_rests less i j t)))
+    (λ t. rests_of_pair less i j ((h.same i j l k).1 (pair_of_rests pairs (number_in kept i) (number_in kept j) t)))
+
+-- ---- lists of them
+
+one_place : (kept : List ℕ) (i j : ℕ) → IsAscending kept → i < length kept → j < length kept → number_in kept i ≡ number_in kept j → i ≡ j
+one_place kept i j h l k e = elim (cases_order i j) [
+  | inl same ↦ same
+  | inr w ↦ elim w [
+    | inl below ↦ absurd (let x = h i j below k in omega (arith, x, e))
+    | inr above ↦ absurd (let x = h j i above l in omega (arith, x, e))
+  ]
+]
+
+-- the list of the blocks at the places of a list holds the image of what that list holds
+pub list_image : (n : ℕ) (kept xs : List ℕ) → IsAscending kept → All (λ i. i < length kept) xs
+    → IsImage n (length kept) (number_in kept) (holds_of xs) (holds_of (map (number_in kept) xs))
+list_image n kept xs h low = record {
+  same = λ i l. same_tests (holds_of (map (number_in kept) xs) (number_in kept i)) (holds_of xs i)
+      (λ t.
+      let x = place_of (map (number_in kept) xs) (number_in kept i) t in
+      let k : x.0 < length xs = subst (λ n. x.0 < n) (length-map xs (number_in kept)) x.1 in
+      let at : number_in kept (get_or xs x.0 0) ≡ number_in kept i = sym (get_or-map (number_in kept) xs x.0 0 0 k) ∙ x.2 in
+      let same : get_or xs x.0 0 ≡ i = one_place kept (get_or xs x.0 0) i h (low x.0 0 k) l at in
+      subst (λ m. holds_of xs m ≡ true) same (holds_at xs x.0 k))
+      (λ t.
+      let x = place_of xs i t in
+      let k : x.0 < length (map (number_in kept) xs) = subst (λ n. x.0 < n) (sym (length-map xs (number_in kept))) x.1 in
+      let at : get_or (map (number_in kept) xs) x.0 0 ≡ number_in kept i = get_or-map (number_in kept) xs x.0 0 0 x.1 ∙ ap (number_in kept) x.2 in
+      subst (λ m. holds_of (map (number_in kept) xs) m ≡ true) at (holds_at (map (number_in kept) xs) x.0 k));
+  only = λ b l t.
+      let x = place_of (map (number_in kept) xs) b t in
+      let k : x.0 < length xs = subst (λ n. x.0 < n) (length-map xs (number_in kept)) x.1 in
+      (get_or xs x.0 0, low x.0 0 k, sym (get_or-map (number_in kept) xs x.0 0 0 k) ∙ x.2);
+}
+
+-- ---- the list of a set
+
+pub passing_is_kept : (set : ℕ → Bool) (n : ℕ) → IsKept set n (passing set n)
+passing_is_kept set n = record {
+  ascending = ascends set n (passing set n) refl;
+  below = passing_known set n (passing set n) refl;
+  are = λ b l. same_tests (holds_of (passing set n) b) (set b)
+      (λ t.
+      let x = place_of (passing set n) b t in
+      ap set (sym x.2) ∙ (passing_at set n x.0 x.1).passes)
+      (λ t. ap (holds_of (passing set n)) (sym (passing_here set b n l t)) ∙ holds_at (passing set n) (length (passing set b)) (passing_after set b n l t));
+}

@@ -1,0 +1,7 @@
+pub mod BlockSets
+pub mod Parts
+pub mod Bounds
+pub mod Renumbering
+pub mod Kept
+pub mod Together
+pub mod Rows

@@ -1,0 +1,223 @@
+-- The best pit of a mine, from that of a part of it.
+use Rattle.std.proofs.Common.{◌≡◌, ℕ, zero, suc, ◌+◌, ◌<◌, ◌≤◌, ℤ, pos, ◌+ℤ◌, Bool, true, false, cond, not, ◌&&◌, ◌||◌, inl, inr, sym, refl, ◌∙◌, arith}
+use Rattle.std.proofs.lemmas.Int.{ints}
+use Rattle.std.proofs.lemmas.Bool.{and_parts, and_from, or_cases, or_left, or_right, cases_lt}
+use Rattle.ordered_group.specs.Sets.{worth_in, count_in}
+use Rattle.ordered_group.proofs.BlockSets.{worth_in-same, count_in-same, count_in-within}
+use Rattle.closure_net.specs.Mine.{Mine, IsPit, worth_of, count_of, AreSame, IsBest, LiesWithin}
+use Rattle.closure_net.proofs.BestPits.{best_from_fewest}
+use Rattle.sub_mines.specs.Parts.{IsOwn, joined, shared, beside, part, LiesBetween}
+
+-- ---- of best pits
+
+-- of the pits that are worth the same the best has the fewest blocks
+pub fewest_of : (mine : Mine) (e c : ℕ → Bool) → IsBest mine e → IsPit mine c → worth_of mine c ≡ worth_of mine e → count_of mine e ≤ count_of mine c
+fewest_of mine e c h p same =
+    elim (cases_lt (count_of mine c) (count_of mine e)) [
+      | inl l ↦
+          let more = h.fewest c p (λ s. let k : count_of mine c ≡ count_of mine e = count_in-same c e mine.blocks s in omega (arith, k, l)) same in
+          absurd (omega (arith, more, l))
+      | inr l ↦ l
+    ]
+
+pub best_of_same : (mine : Mine) (e c : ℕ → Bool) → IsOwn mine → IsBest mine e → AreSame mine c e → IsBest mine c
+best_of_same mine e c o h s =
+    let worth : worth_of mine c ≡ worth_of mine e = worth_in-same mine.worth c e mine.blocks s in
+    let count : count_of mine c ≡ count_of mine e = count_in-same c e mine.blocks s in
+    record {
+      is_pit = λ b p r t. let i = o.own b p r in s p i.1 ∙ h.is_pit b p r (sym (s b i.0) ∙ t);
+      most = λ d pit. rw worth (h.most d pit);
+      fewest = λ d pit differ same. rw count (h.fewest d pit (λ k. differ (λ b l. k b l ∙ sym (s b l))) (same ∙ worth));
+    }
+
+-- ---- of tests
+
+pub is_beside : (x y : Bool) → x ≡ true → y ≡ false → (x && not y) ≡ true
+is_beside true false h k = refl
+is_beside true true h k = absurd cc
+is_beside false y h k = absurd cc
+
+pub not_beside : (x y : Bool) → (x && not y) ≡ true → y ≡ false
+not_beside true false h = refl
+not_beside true true h = absurd cc
+not_beside false y h = absurd cc
+
+-- two tests that can't differ agree
+pub agree : (s t : Bool) → ¬ (¬ (s ≡ t)) → s ≡ t
+agree true true h = refl
+agree true false h = absurd (h (λ e. absurd cc))
+agree false true h = absurd (h (λ e. absurd cc))
+agree false false h = refl
+
+-- ---- sums, block by block
+
+-- a block of the lower set, or one of the part
+worth_term : (low high s : Bool) (v : ℤ) → cond (low || (s && (high && not low))) v (pos 0) ≡ cond low v (pos 0) +ℤ cond s (cond (high && not low) v (pos 0)) (pos 0)
+worth_term true true true v = omega (arith, ints)
+worth_term true true false v = omega (arith, ints)
+worth_term true false true v = omega (arith, ints)
+worth_term true false false v = omega (arith, ints)
+worth_term false true true v = omega (arith, ints)
+worth_term false true false v = omega (arith, ints)
+worth_term false false true v = omega (arith, ints)
+worth_term false false false v = omega (arith, ints)
+
+pub worth_lifts : (v : ℕ → ℤ) (low high s : ℕ → Bool) (n : ℕ)
+    → worth_in v (joined low (shared s (beside high low))) n ≡ worth_in v low n +ℤ worth_in (λ b. cond (beside high low b) (v b) (pos 0)) s n
+worth_lifts v low high s zero = omega (arith, ints)
+worth_lifts v low high s (suc n) = omega (arith, ints, worth_lifts v low high s n, worth_term (low n) (high n) (s n) (v n))
+
+count_term : (low high s : Bool) → cond (low || (s && (high && not low))) 1 0 ≤ cond low 1 0 + cond s 1 0
+count_term true true true = omega arith
+count_term true true false = omega arith
+count_term true false true = omega arith
+count_term true false false = omega arith
+count_term false true true = omega arith
+count_term false true false = omega arith
+count_term false false true = omega arith
+count_term false false false = omega arith
+
+pub count_lifts : (low high s : ℕ → Bool) (n : ℕ) → count_in (joined low (shared s (beside high low))) n ≤ count_in low n + count_in s n
+count_lifts low high s zero = omega arith
+count_lifts low high s (suc n) = omega (arith, count_lifts low high s n, count_term (low n) (high n) (s n))
+
+-- a set between the two is the lower one and a set of the part
+worth_cut_term : (low high c : Bool) (v : ℤ) → (low ≡ true → c ≡ true) → (c ≡ true → high ≡ true)
+    → cond c v (pos 0) ≡ cond low v (pos 0) +ℤ cond (c && not low) (cond (high && not low) v (pos 0)) (pos 0)
+worth_cut_term true high true v h k = omega (arith, ints)
+worth_cut_term true high false v h k = absurd (let e = h refl in cc)
+worth_cut_term false true true v h k = omega (arith, ints)
+worth_cut_term false false true v h k = absurd (let e = k refl in cc)
+worth_cut_term false true false v h k = omega (arith, ints)
+worth_cut_term false false false v h k = omega (arith, ints)
+
+pub worth_cuts : (v : ℕ → ℤ) (low high c : ℕ → Bool) (n : ℕ) → ((b : ℕ) → b < n → low b ≡ true → c b ≡ true) → ((b : ℕ) → b < n → c b ≡ true → high b ≡ true)
+    → worth_in v c n ≡ worth_in v low n +ℤ worth_in (λ b. cond (beside high low b) (v b) (pos 0)) (beside c low) n
+worth_cuts v low high c zero h k = omega (arith, ints)
+worth_cuts v low high c (suc n) h k =
+    omega (arith, ints, worth_cuts v low high c n (λ b l. h b (omega (arith, l))) (λ b l. k b (omega (arith, l))), worth_cut_term (low n) (high n) (c n) (v n) (h n (omega arith)) (k n (omega arith)))
+
+count_cut_term : (low c : Bool) → (low ≡ true → c ≡ true) → cond c 1 0 ≡ cond low 1 0 + cond (c && not low) 1 0
+count_cut_term true true h = refl
+count_cut_term true false h = absurd (let e = h refl in cc)
+count_cut_term false true h = refl
+count_cut_term false false h = refl
+
+pub count_cuts : (low c : ℕ → Bool) (n : ℕ) → ((b : ℕ) → b < n → low b ≡ true → c b ≡ true) → count_in c n ≡ count_in low n + count_in (beside c low) n
+count_cuts low c zero h = refl
+count_cuts low c (suc n) h = omega (arith, count_cuts low c n (λ b l. h b (omega (arith, l))), count_cut_term (low n) (c n) (h n (omega arith)))
+
+-- ---- the part between two pits
+
+module _ (mine : Mine) (low high : ℕ → Bool) (own : IsOwn mine) (known : LiesBetween mine low high) where
+  -- a pit of the part is one of the mine with the lower pit
+  pub lift_is_pit : (s : ℕ → Bool) → IsPit (part mine (beside high low)) s → IsPit mine (joined low (shared s (beside high low)))
+  lift_is_pit s h b p r t =
+      elim (or_cases (low b) (s b && (high b && not (low b))) t) [
+        | inl x ↦ or_left (low p) (s p && (high p && not (low p))) (known.low_pit b p r x)
+        | inr x ↦
+            let at = and_parts (s b) (high b && not (low b)) x in
+            let above = known.high_pit b p r (and_parts (high b) (not (low b)) at.1).0 in
+            inside (low p) refl at above
+      ]
+    where
+      inside : (x : Bool) → low p ≡ x → (s b ≡ true) × ((high b && not (low b)) ≡ true) → high p ≡ true → (low p || (s p && (high p && not (low p)))) ≡ true
+      inside true e at above = or_left (low p) (s p && (high p && not (low p))) e
+      inside false e at above =
+          let set = is_beside (high p) (low p) above e in
+          or_right (low p) (s p && (high p && not (low p))) (and_from (s p) (high p && not (low p))
+          (h b p (and_from (mine.rests b p) ((high b && not (low b)) && (high p && not (low p))) r (and_from (high b && not (low b)) (high p && not (low p)) at.1 set)) at.0) set)
+
+  -- and what a pit of the mine has beside the lower one is a pit of the part
+  pub cut_is_pit : (c : ℕ → Bool) → IsPit mine c → IsPit (part mine (beside high low)) (beside c low)
+  cut_is_pit c h b p r t =
+      let rests = and_parts (mine.rests b p) ((high b && not (low b)) && (high p && not (low p))) r in
+      let sets = and_parts (high b && not (low b)) (high p && not (low p)) rests.1 in
+      is_beside (c p) (low p) (h b p rests.0 (and_parts (c b) (not (low b)) t).0) (not_beside (high p) (low p) sets.1)
+
+  -- the best pit of the part makes the best pit of the mine
+  pub best_lifts : (f : ℕ → Bool) → IsBest (part mine (beside high low)) f → IsBest mine (joined low (shared f (beside high low)))
+  best_lifts f h =
+      let n = mine.blocks in
+      let sub = part mine (beside high low) in
+      let whole = worth_lifts mine.worth low high f n in
+      let size = count_lifts low high f n in
+      best_from_fewest mine (joined low (shared f (beside high low))) (lift_is_pit f h.is_pit)
+      (λ d p.
+      let x = known.between d p in
+      let cut = worth_cuts mine.worth low high x.pit n x.all x.only in
+      let most = h.most (beside x.pit low) (cut_is_pit x.pit x.is_pit) in
+      omega (arith, ints, whole, cut, most, x.as_good.pays))
+      (λ d p same.
+      let x = known.between d p in
+      let q = cut_is_pit x.pit x.is_pit in
+      let cut = worth_cuts mine.worth low high x.pit n x.all x.only in
+      let most = h.most (beside x.pit low) q in
+      let as_much : worth_of sub (beside x.pit low) ≡ worth_of sub f = omega (arith, ints, whole, cut, most, x.as_good.pays, same) in
+      let few = fewest_of sub f (beside x.pit low) h q as_much in
+      let level : worth_of mine x.pit ≡ worth_of mine d = omega (arith, ints, whole, cut, as_much, same) in
+      omega (arith, size, few, count_cuts low x.pit n x.all, x.as_good.few level))
+
+  -- the best pit of the mine lies between the two
+  pub best_between : (e : ℕ → Bool) → IsBest mine e → LiesWithin mine low e × LiesWithin mine e high
+  best_between e h =
+      let x = known.between e h.is_pit in
+      let level : worth_of mine x.pit ≡ worth_of mine e = omega (arith, ints, h.most x.pit x.is_pit, x.as_good.pays) in
+      let same : AreSame mine x.pit e = λ b l. agree (x.pit b) (e b) (λ differ.
+      let more = h.fewest x.pit x.is_pit (λ s. differ (s b l)) level in
+      omega (arith, more, x.as_good.few level)) in
+      (λ b l t. sym (same b l) ∙ x.all b l t, λ b l t. x.only b l (same b l ∙ t))
+
+  -- and what it has beside the lower one is the best pit of the part
+  pub best_cuts : (e : ℕ → Bool) → IsBest mine e → IsBest (part mine (beside high low)) (beside e low)
+  best_cuts e h =
+      let n = mine.blocks in
+      let sub = part mine (beside high low) in
+      let lies = best_between e h in
+      let cut = worth_cuts mine.worth low high e n lies.0 lies.1 in
+      let size = count_cuts low e n lies.0 in
+      best_from_fewest sub (beside e low) (cut_is_pit e h.is_pit)
+      (λ s p.
+      let whole = worth_lifts mine.worth low high s n in
+      let most = h.most (joined low (shared s (beside high low))) (lift_is_pit s p) in
+      omega (arith, ints, whole, cut, most))
+      (λ s p same.
+      let whole = worth_lifts mine.worth low high s n in
+      let level : worth_of mine (joined low (shared s (beside high low))) ≡ worth_of mine e = omega (arith, ints, whole, cut, same) in
+      let few = fewest_of mine e (joined low (shared s (beside high low))) h (lift_is_pit s p) level in
+      omega (arith, few, size, count_lifts low high s n))
+
+-- ---- the blocks that aren't in the part
+
+trim_term : (s q : Bool) (v : ℤ) → cond (s && q) (cond q v (pos 0)) (pos 0) ≡ cond s (cond q v (pos 0)) (pos 0)
+trim_term true true v = refl
+trim_term true false v = refl
+trim_term false q v = refl
+
+trimmed : (v : ℕ → ℤ) (s q : ℕ → Bool) (n : ℕ) → worth_in (λ b. cond (q b) (v b) (pos 0)) (shared s q) n ≡ worth_in (λ b. cond (q b) (v b) (pos 0)) s n
+trimmed v s q zero = refl
+trimmed v s q (suc n) = rw (trimmed v s q n, trim_term (s n) (q n) (v n)) refl
+
+-- a pit of a part has a pit of it in the part alone
+trim_is_pit : (mine : Mine) (q s : ℕ → Bool) → IsPit (part mine q) s → IsPit (part mine q) (shared s q)
+trim_is_pit mine q s h b p r t =
+    let rests = and_parts (mine.rests b p) (q b && q p) r in
+    and_from (s p) (q p) (h b p r (and_parts (s b) (q b) t).0) (and_parts (q b) (q p) rests.1).1
+
+-- so the best one has no other blocks
+pub best_inside : (mine : Mine) (q f : ℕ → Bool) → IsBest (part mine q) f → LiesWithin mine f q
+best_inside mine q f h b l t =
+    agree (q b) true (λ differ.
+    let more = h.fewest (shared f q) (trim_is_pit mine q f h.is_pit) (λ s. differ ((and_parts (f b) (q b) (s b l ∙ t)).1)) (trimmed mine.worth f q mine.blocks) in
+    let few = (count_in-within (shared f q) f mine.blocks (λ c k i. (and_parts (f c) (q c) i).0)).0 in
+    omega (arith, more, few))
+
+inside_same : (low f q : Bool) → (f ≡ true → q ≡ true) → (low || f) ≡ (low || (f && q))
+inside_same true f q h = refl
+inside_same false true q h = sym (h refl)
+inside_same false false q h = refl
+
+pub best_by_part : (mine : Mine) (low high f : ℕ → Bool) → IsOwn mine → LiesBetween mine low high → IsBest (part mine (beside high low)) f → IsBest mine (joined low f)
+best_by_part mine low high f own known h =
+    best_of_same mine (joined low (shared f (beside high low))) (joined low f) own (best_lifts mine low high own known f h)
+    (λ b l. inside_same (low b) (f b) (beside high low b) (best_inside mine (beside high low) f h b l))

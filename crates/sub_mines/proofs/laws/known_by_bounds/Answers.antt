@@ -1,0 +1,5 @@
+use Rattle.sub_mines.proofs.Bounds.{between_by_bounds}
+use Rattle.sub_mines.proofs.laws.known_by_bounds.Goals as goal
+
+pub returns : goal.returns
+returns c = between_by_bounds

@@ -1,0 +1,89 @@
+//! The pairs among some of the blocks.
+
+ghost use Rattle.std.specs.Prelude.{◌≡◌, ℕ, ◌<◌, ◌≤◌, ◌+◌, All, IfOk, OnOk, length};
+ghost use Rattle.prec_file.specs.Rests.{IsKnown};
+ghost use Rattle.closure_net.specs.Network.{IsAscending};
+ghost use Rattle.sub_mines.specs.Kept.{IsPartPairs};
+ghost use Rattle.sub_mines.specs.Among.{ArePlaces, AreRows};
+
+use prec_file::{ListedPairs, MOST_PAIRS, Rests};
+use std::alloc::{AllocError, Global};
+
+// For each of n blocks its place among the kept ones and 1 more, or 0.
+fn places_of(alloc: Global, n: u32, kept: &[u32]) -> Result<Vec<u32>, AllocError>
+    requires ascending { IsAscending kept.now }
+    requires below { All (λ b. b < n) kept.now }
+    ensures { IfOk result (λ v. ArePlaces n kept.now (length kept.now) v.items) }
+{
+    let mut places: Vec<u32> = vec![in alloc; 0; n as usize]?;
+    for i in 0..kept.len() {
+        places[kept[i] as usize] = i as u32 + 1;
+    }
+    Ok(places)
+}
+
+// Adds the pairs of block `row` of the list to the others.
+fn add_row(
+    pairs: &mut Vec<(u32, u32)>,
+    rests: &Rests,
+    kept: &[u32],
+    places: &[u32],
+    row: u32,
+) -> Result<(), AllocError>
+    requires below { All (λ b. b < rests.now.blocks) kept.now }
+    requires places { ArePlaces rests.now.blocks kept.now (length kept.now) places.now }
+    requires inside { row < length kept.now }
+    requires few { length pairs.old.items ≤ MOST_PAIRS }
+    requires so_far { AreRows rests.now.pairs kept.now row pairs.old.items }
+    ensures rows { OnOk result (AreRows rests.now.pairs kept.now (row + 1) pairs.new.items) }
+    ensures few { OnOk result (length pairs.new.items ≤ MOST_PAIRS) }
+{
+    // proof: what is known of the pairs
+    let _ = rests.len();
+    for other in rests.above(kept[row as usize]) {
+        let place = places[*other as usize];
+        if place > 0 {
+            if pairs.len() >= MOST_PAIRS {
+                return Err(AllocError);
+            }
+            pairs.push((row, place - 1))?;
+        }
+    }
+    Ok(())
+}
+
+// The pairs of all rows.
+fn rows_of(
+    alloc: Global,
+    rests: &Rests,
+    kept: &[u32],
+    places: &[u32],
+) -> Result<Vec<(u32, u32)>, AllocError>
+    requires below { All (λ b. b < rests.now.blocks) kept.now }
+    requires places { ArePlaces rests.now.blocks kept.now (length kept.now) places.now }
+    requires size { length kept.now ≤ rests.now.blocks }
+    ensures { IfOk result (λ v. AreRows rests.now.pairs kept.now (length kept.now) v.items × (length v.items ≤ MOST_PAIRS)) }
+{
+    let _ = rests.len();
+    let mut pairs = Vec::new(alloc);
+    for row in 0..kept.len() as u32 {
+        add_row(&mut pairs, rests, kept, places, row)?;
+    }
+    Ok(pairs)
+}
+
+/// The pairs of which both blocks are in the list, each block by its place in it. Linear in the blocks and in the pairs of
+/// the blocks that are kept.
+///
+/// # Errors
+/// Where memory is refused.
+pub fn rests_among(alloc: Global, rests: &Rests, kept: &[u32]) -> Result<Rests, AllocError>
+    requires ascending { IsAscending kept.now }
+    requires below { All (λ b. b < rests.now.blocks) kept.now }
+    requires size { length kept.now ≤ rests.now.blocks }
+    ensures { IfOk result (λ r. (r.blocks ≡ length kept.now) × IsPartPairs kept.now rests.now.pairs r.pairs) }
+{
+    let places = places_of(alloc, rests.len(), kept)?;
+    let pairs = rows_of(alloc, rests, kept, &places)?;
+    ListedPairs::of(kept.len() as u32, pairs).into_rests(alloc)
+}
