@@ -521,7 +521,8 @@ def read_table(name: str) -> list[dict[str, str]]:
 def check_tables(told: Told, blocks: Blocks, facts: dict[str, Any], shell: list[int]) -> None:
     """The tables say what the certificates do."""
     shown = [round(float(line["shell"]) * THOUSAND) if line["shell"] else 0 for line in numbering()]
-    told.check(shown == shell, "tables/blocks.csv has the shell of each block")
+    is_counted = [line["block"] for line in numbering()] == [str(b) for b in range(len(shell))]
+    told.check(is_counted and shown == shell, "tables/blocks.csv has the number and the shell of each block")
     verdicts, benches = load("verdicts.json"), dict[tuple[float, int], Sum]()
     pits = {verdict["factor"]: Sum() for verdict in verdicts}
     for b, factor in enumerate(shell):
