@@ -393,7 +393,7 @@ def main() -> int:
         reading.error("either --upit, or --blocks and --settings")
     try:
         line, status = answer(told)
-    except (Wrong, OSError, EOFError) as error:
+    except (Wrong, OSError, EOFError, UnicodeDecodeError) as error:
         line, status = "plainly: %s" % error, 3
     print(line)
     return status

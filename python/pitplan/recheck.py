@@ -24,13 +24,14 @@ from collections.abc import Callable, Iterator
 from decimal import Decimal
 from itertools import zip_longest
 from pathlib import Path
-from typing import Any, BinaryIO
+from typing import Any, BinaryIO, NamedTuple
 
 HERE = Path(__file__).resolve().parent
 SUMS, PIECE, THOUSAND, MICRO, NANO = "SHA256SUMS", 1 << 20, 1000, 10 ** 6, 10 ** 9
 LINE = 120                                   # bytes that a line of a certificate has at most
 NUMBER = re.compile(r"[+-]?(\d+\.?\d*|\.\d+)([eE][+-]?\d+)?")
 GRADES = {"%": 10_000.0, "kg/t": 1_000.0, "g/t": 1.0, "ppm": 1.0, "mg/kg": 1.0, "ppb": 0.001}           # grams in a tonne
+SERIES = {"from": 0.30, "to": 1.20, "step": 0.05}                                                       # where study.toml says no factors
 PRICES = {"t": 1e6, "kg": 1e3, "g": 1.0, "lb": 453.59237, "oz": 31.1034768, "dmtu": 10_000.0}          # grams in a unit
 
 
@@ -80,11 +81,14 @@ def within(name: str) -> Path:
 
 def check_digests(told: Told) -> None:
     """Each file is listed and is the one that was listed."""
-    listed = {}
-    for line in within(SUMS).read_text("utf-8").splitlines():
-        found = re.fullmatch(r"([0-9a-f]{64})  (.+)", line)
-        if not found:
+    listed: dict[str, str] = {}
+    *lines, behind = within(SUMS).read_bytes().decode("utf-8").split("\n")     # no other byte ends a line, as for sha256sum
+    for line in [*lines, behind] if behind else lines:
+        found = re.fullmatch(r"([0-9a-f]{64})  ([^\x00-\x1f]+)", line)
+        if not found or line is behind:
             raise Bad(f"a line that is none: {line[:100]!r}")
+        if found[2] in listed:
+            raise Bad(f"a second line for {found[2]}")
         listed[found[2]] = found[1]
     for name, digest in listed.items():
         told.attempt(f"sha256 of {name}", lambda: told.check(digest_of(within(name)) == digest, f"sha256 of {name}"))
@@ -144,9 +148,19 @@ def pieces(file: BinaryIO, most: int) -> Iterator[bytes]:
             yield data
 
 
-def judged(pit: str, path: Path, most: int) -> tuple[str, str, list[int], int | None]:
-    """What `pit check` says of a certificate, the digest of the bytes that it was given, their PIT lines, and of how many blocks
-    the header says that the mine is."""
+class Judged(NamedTuple):
+    """A certificate: what `pit check` says, the digest of the bytes that it was given, their PIT lines, and what the header says
+    (of how many blocks the mine is, and at which factor in thousandths)."""
+
+    said: str
+    digest: str
+    held: list[int]
+    of: int | None
+    factor: int | None
+
+
+def judged(pit: str, path: Path, most: int) -> Judged:
+    """Gives a certificate to `pit check`."""
     words = ["--prec", str(within("model/mine.prec")), "--blocks", str(within("model/mine.blocks")), "--settings", str(within("model/settings.toml"))]
     digest, text = hashlib.sha256(), bytearray()
     run = subprocess.Popen([pit, "check", *words, "/dev/stdin"], stdin=subprocess.PIPE, stdout=subprocess.PIPE, stderr=subprocess.STDOUT)
@@ -168,38 +182,75 @@ def judged(pit: str, path: Path, most: int) -> tuple[str, str, list[int], int | 
     finally:
         run.kill()
         run.wait()
-    of = re.match(rb"[^\n]*\nBLOCKS (\d{1,10})\n", text)
-    return said, digest.hexdigest(), [int(line[4:]) for line in bytes(text).splitlines() if line.startswith(b"PIT ")], int(of[1]) if of else None
+    head = re.match(rb"[^\n]*\nBLOCKS (\d{1,10})\n(?:PRICE MILL (\d{1,5})\n)?", text)
+    of, factor = (int(number) if number else None for number in head.groups()) if head else (None, None)
+    return Judged(said, digest.hexdigest(), [int(line[4:]) for line in bytes(text).splitlines() if line.startswith(b"PIT ")], of, factor)
 
 
 def check_pits(told: Told, pit: str, blocks: Blocks, facts: dict[str, Any], is_plain: bool) -> list[int]:
-    """Each certificate: its digest, `pit check`, its blocks added up, and that it lies within the next. Returns the first
-    factor whose pit has each block, 0 where none has it."""
+    """Each certificate, and that its pit lies within the next. Returns the first factor whose pit has each block, 0 where none
+    has it."""
     most = LINE * (3 * len(blocks.places) + facts["pairs"] + 10)
     shell, below, last = [0] * len(blocks.places), set[int](), 0
     for verdict in load("verdicts.json"):
-        factor, path = verdict["factor"], within(verdict["file"])
+        factor = verdict["factor"]
         at = f"factor {factor / THOUSAND:g}"
-        wanted = f"ACCEPTED {verdict['count']} {verdict['worth']}"
-        found = told.attempt(f"the certificate at {at}", judged, pit, path, most)
+        found = told.attempt(f"the certificate at {at}", judged, pit, within(verdict["file"]), most)
         if not found or factor <= last:
             told.check(factor > last, f"{at} comes behind {last / THOUSAND:g}")
             continue
-        said, digest, held, of = found
-        told.check(digest == verdict["certificate"], f"the certificate at {at} is the one whose pit is shown")
-        told.check(said == wanted, f"pit check at {at}: {said}" + ("" if said == wanted else f", and the bundle says {wanted}{other_mine(of, len(blocks.places))}"))
-        if is_plain:
-            plain = plainly(path)
-            told.check(plain == wanted, f"plainly.py at {at}: {plain}")
-        worth = spelled(sum(blocks.worth(block, factor) for block in held))
-        told.check(worth == verdict["worth"] and len(held) == verdict["count"], f"its {len(held):,} blocks add up to {worth}")
-        now = set(held)
+        check_pit(told, blocks, verdict, found, is_plain)
+        now = set(found.held)
         if last:
             told.check(below <= now, f"the pit at {last / THOUSAND:g} lies within that at {factor / THOUSAND:g}")
         for block in now - below:
             shell[block] = shell[block] or factor
         below, last = now, factor
     return shell
+
+
+def check_pit(told: Told, blocks: Blocks, verdict: dict[str, Any], found: Judged, is_plain: bool) -> None:
+    """A certificate: its digest, its factor, `pit check`, and its blocks added up. Without the factor a pit that is worth the
+    same at another one, as the pit of no block, could stand for a best pit that it isn't."""
+    factor, at = verdict["factor"], f"factor {verdict['factor'] / THOUSAND:g}"
+    wanted = f"ACCEPTED {verdict['count']} {verdict['worth']}"
+    told.check(found.digest == verdict["certificate"], f"the certificate at {at} is the one whose pit is shown")
+    its = "no factor" if found.factor is None else f"factor {found.factor / THOUSAND:g}"
+    told.check(found.factor == factor, f"the certificate at {at} is of {its}")
+    told.check(found.said == wanted, f"pit check at {at}: {found.said}" + ("" if found.said == wanted else f", and the bundle says {wanted}{other_mine(found.of, len(blocks.places))}"))
+    if is_plain:
+        plain = plainly(within(verdict["file"]))
+        told.check(plain == wanted, f"plainly.py at {at}: {plain}")
+    worth = spelled(sum(blocks.worth(block, factor) for block in found.held))
+    told.check(worth == verdict["worth"] and len(found.held) == verdict["count"], f"its {len(found.held):,} blocks add up to {worth}")
+
+
+def check_series(told: Told) -> None:
+    """There is a pit for each factor of study.toml, and a certificate for each pit, and no more."""
+    verdicts, wanted = load("verdicts.json"), series(study_of("shells").get("factors", SERIES))
+    ours, theirs = [verdict["factor"] for verdict in verdicts], [f"{factor / THOUSAND:g}" for factor in wanted]
+    told.check(ours == wanted and bool(ours), f"the pits are those at the {len(wanted):,} factors of study.toml: {', '.join(theirs)}")
+    there = sorted(path.relative_to(HERE).as_posix() for path in (HERE / "certificates").iterdir())
+    told.check(there == sorted(verdict["file"] for verdict in verdicts), "each certificate is that of one pit")
+
+
+def series(said: Any) -> list[int]:
+    """The factors of [shells], in thousandths."""
+    if isinstance(said, dict):
+        low, high, step = (float(said[key]) for key in SERIES)
+        count = int((high - low) / step + 1e-9)
+        if not 0 <= count <= 10 * THOUSAND:
+            raise Bad(f"factors = {said} is no series")
+        said = [low + i * step for i in range(count + 1)]
+    return [round(float(share) * THOUSAND) for share in said]
+
+
+def study_of(section: str) -> dict[str, Any]:
+    """A section of study.toml."""
+    found = tomllib.loads(within("study.toml").read_text("utf-8-sig")).get(section, {})
+    if not isinstance(found, dict):
+        raise Bad(f"study.toml: {section} is no section")
+    return found
 
 
 def other_mine(of: int | None, here: int) -> str:
@@ -220,6 +271,8 @@ class Table:
     ----------
     rows : dict
         The cells of each row that isn't blank, by its number below the header line.
+    passed : dict
+        Likewise those that were passed over, as descriptions.
     """
 
     def __init__(self, facts: dict[str, Any], absent: list[str]) -> None:
@@ -230,7 +283,8 @@ class Table:
         with gzip.open(path, "rt", 9, self.told["encoding"], newline="") if is_packed else open(path, encoding=self.told["encoding"], newline="") as file:
             rows = csv.reader(file, delimiter=self.told["separator"], skipinitialspace=True)
             self.names = [name.strip() or f"column {i + 1}" for i, name in enumerate(next(rows))]
-            self.rows = {i: row for i, row in enumerate(rows) if i >= self.told["skip"] and any(cell.strip() for cell in row)}
+            filled = {i: row for i, row in enumerate(rows) if any(cell.strip() for cell in row)}
+            self.rows, self.passed = ({i: row for i, row in filled.items() if (i >= self.told["skip"]) == is_block} for is_block in (True, False))
         self.at = {name: i for i, name in enumerate(self.names)}
 
     def word(self, row: int, column: str) -> str:
@@ -339,28 +393,60 @@ class Economics:
 
     def is_near(self, ours: float, theirs: int) -> bool:
         """Whether an amount in millionths is the nearest multiple of `rounding`."""
-        return abs(theirs / MICRO - ours) <= self.rounding * 0.500001 + 1e-9 * abs(ours)
+        return math.isfinite(ours) and abs(theirs / MICRO - ours) <= self.rounding * 0.500001 + 1e-9 * abs(ours)
+
+
+def check_facts(told: Told, blocks: Blocks, facts: dict[str, Any]) -> None:
+    """What facts.json and model/manifest.json say of the other files is so, and is what study.toml asks for."""
+    manifest, model = load("model/manifest.json"), study_of("model")
+    table, grid = digest_of(within(facts["table"])), facts["grid"]
+    told.check(table == facts["sha256"] == manifest["source"]["sha256"], "the table is the one that the model was built from")
+    listed = {name: digest for name, digest in manifest["files"].items() if name != "blocks.npz"}        # pitplan's own, not bundled
+    bad = [name for name, digest in listed.items() if digest_of(within(f"model/{name}")) != digest]
+    told.check(not bad and {"mine.blocks", "mine.prec", "settings.toml"} <= set(listed), "the files of model/ are those that were built" + (f": not so for {', '.join(bad)}" if bad else ""))
+    offsets = [tomllib.loads(within(f"model/slope-{i}.toml").read_text("utf-8"))["offsets"] for i in range(len(list((HERE / "model").glob("slope-*.toml"))))]
+    regions = {"default", *study_of("slopes").get("regions", {})}
+    told.check(offsets == list(manifest["offsets"].values()) and set(manifest["offsets"]) == regions, f"the lists of offsets are those of the {len(regions):,} slopes of study.toml")
+    with open(within("model/mine.prec"), "rb") as file:
+        pairs = sum(int(line.split()[1]) for line in file)
+    told.check(len(blocks.places) == facts["blocks"] == manifest["blocks"] and pairs == facts["pairs"] == manifest["pairs"], f"the model has {len(blocks.places):,} blocks and {pairs:,} pairs")
+    asked = {"size": model.get("size", grid["size"]), "rotation": model.get("rotation", 0.0)}
+    columns = {**facts["columns"], **model.get("columns", {})}
+    told.check(asked == {key: grid[key] for key in asked} and columns == facts["columns"] and facts["depth"] == (model.get("z") == "depth"),
+               "the grid and the columns are those of [model] in study.toml")
+    currency = study_of("economics").get("currency", "$")
+    told.check(currency == facts["currency"] == manifest["currency"], f"amounts are in {currency}")
 
 
 def check_table(told: Told, blocks: Blocks, facts: dict[str, Any]) -> None:
     """Each block's place, tonnes and amounts are those of its row of the planner's table."""
-    study = tomllib.loads(within("study.toml").read_text("utf-8-sig"))
+    model = study_of("model")
     told.say("look", "the columns that were taken: " + ", ".join(f"{key} = {name}" for key, name in facts["columns"].items()))
     if facts["has_sub_blocks"]:
+        told.check(model.get("regularise") is True, "study.toml asks for sub-blocks to be added up")
         told.say("look", "sub-blocks were added up to whole blocks: what a block brings and costs isn't added up from the table here")
         return
-    table = Table(facts, study["model"].get("absent", []))
-    economics = Economics(study["economics"], table, facts)
+    table = Table(facts, model.get("absent", []))
+    economics = Economics(study_of("economics"), table, facts)
+    check_passed(told, table, facts)
     rows = [int(line["row"]) - 2 for line in numbering()]
     known = [row for row in rows if row >= 0]
     told.check(len(rows) == len(blocks.places) and sorted(known) == sorted(table.rows), f"each of the {len(table.rows):,} rows of the table is one block")
     steps: dict[str, Callable[[int, int], bool]] = {
         "place": lambda b, row: is_placed(table, row, blocks.places[b], facts),
-        "tonnage": lambda b, row: abs(economics.tonnes(row) - blocks.tonnes[b]) <= 6e-4 + 1e-9 * blocks.tonnes[b]}
+        "tonnage": lambda b, row: math.isfinite(blocks.tonnes[b]) and abs(economics.tonnes(row) - blocks.tonnes[b]) <= 6e-4 + 1e-9 * blocks.tonnes[b]}
     for what, is_right in steps.items():
         bad = [row for b, row in enumerate(rows) if row >= 0 and not is_right(b, row)]
         told.check(not bad, f"the {what} of each block is that of its row" + (f": not so for {len(bad):,}, the first is row {bad[0] + 2}" if bad else ""))
     check_amounts(told, economics, blocks, rows)
+
+
+def check_passed(told: Told, table: Table, facts: dict[str, Any]) -> None:
+    """Lines of descriptions between the header and the first block; a line with three coordinates is a block."""
+    names = [facts["columns"][key] for key in "xyz"]
+    blocks = [i for i, row in table.passed.items() if all(NUMBER.fullmatch(row[at].strip().replace(table.told["decimal"], ".")) if (at := table.at[name]) < len(row) else False for name in names)]
+    if table.passed:
+        told.check(not blocks, f"{len(table.passed):,} lines below the header are descriptions and no blocks" + (f": not so in row {blocks[0] + 2}" if blocks else ""))
 
 
 def numbering() -> list[dict[str, str]]:
@@ -403,25 +489,58 @@ def is_placed(table: Table, row: int, place: tuple[int, ...], facts: dict[str, A
     return all(abs(table.number(row, columns[key]) - value) <= 0.06 * size for key, value, size in zip("xyz", (x, y, z), (min(grid["size"][:2]),) * 2 + (grid["size"][2],)))
 
 
+class Sum:
+    """What some blocks of a pit add up to, at the full price."""
+
+    def __init__(self) -> None:
+        self.blocks, self.worth, self.tonnes, self.ore = 0, 0, list[float](), list[float]()
+
+    def add(self, blocks: Blocks, b: int) -> None:
+        revenue, processing, _ = blocks.amounts[b]
+        self.blocks, self.worth = self.blocks + 1, self.worth + blocks.worth(b, THOUSAND)
+        self.tonnes.append(blocks.tonnes[b])
+        self.ore.append(blocks.tonnes[b] if revenue > processing else 0.0)
+
+    def is_line(self, line: dict[str, str], worth: str) -> bool:
+        """Whether a line of a table has these blocks, tonnes and worth, and the strip ratio where it has one. `mine.blocks` has
+        tonnes to three decimals."""
+        rock, ore, off = math.fsum(self.tonnes), math.fsum(self.ore), 6e-4 * self.blocks
+        strip = line.get("strip")            # benches.csv has none, and a pit without ore an empty one
+        return int(line["blocks"]) == self.blocks and all(
+            math.isclose(float(line[name]), value, rel_tol=1e-9, abs_tol=far) for name, value, far in
+            (("rock_t", rock, off), ("ore_t", ore, off), ("waste_t", rock - ore, 2 * off), (worth, self.worth / NANO, 1e-3))) and (
+                strip is None or (abs(float(strip or "nan") - (rock - ore) / ore) <= 3 * off * (1 + rock / ore) / ore + 1e-9 if ore else strip == ""))
+
+
+def read_table(name: str) -> list[dict[str, str]]:
+    """The lines of a table of the bundle."""
+    with open(within(f"tables/{name}"), newline="", encoding="utf-8") as file:
+        return list(csv.DictReader(file))
+
+
 def check_tables(told: Told, blocks: Blocks, facts: dict[str, Any], shell: list[int]) -> None:
     """The tables say what the certificates do."""
     shown = [round(float(line["shell"]) * THOUSAND) if line["shell"] else 0 for line in numbering()]
-    told.check(shown == shell, "tables/blocks.csv has the shell of each block")
-    with open(within("tables/pit_by_pit.csv"), newline="", encoding="utf-8") as file:
-        lines = [(round(float(line["factor"]) * THOUSAND), int(line["blocks"]), float(line["worth_at_factor"])) for line in csv.DictReader(file)]
-    wanted = [(verdict["factor"], verdict["count"], float(verdict["worth"])) for verdict in load("verdicts.json")]
-    is_same = len(lines) == len(wanted) and all(a[:2] == b[:2] and math.isclose(a[2], b[2], rel_tol=1e-9, abs_tol=1e-6) for a, b in zip(lines, wanted))
-    told.check(is_same, "tables/pit_by_pit.csv has the blocks and the worth of each pit")
-    count, worth = Counter[tuple[float, int]](), Counter[tuple[float, int]]()
+    is_counted = [line["block"] for line in numbering()] == [str(b) for b in range(len(shell))]
+    told.check(is_counted and shown == shell, "tables/blocks.csv has the number and the shell of each block")
+    verdicts, benches = load("verdicts.json"), dict[tuple[float, int], Sum]()
+    pits = {verdict["factor"]: Sum() for verdict in verdicts}
     for b, factor in enumerate(shell):
         if factor:
             bench = (round(facts["grid"]["origin"][2] + blocks.places[b][2] * facts["grid"]["size"][2], 3), factor)
-            count[bench] += 1
-            worth[bench] += blocks.worth(b, THOUSAND)
-    with open(within("tables/benches.csv"), newline="", encoding="utf-8") as file:
-        found = {(round(float(line["bench"]), 3), round(float(line["shell"]) * THOUSAND)): (int(line["blocks"]), float(line["worth"])) for line in csv.DictReader(file)}
-    is_same = {key: n for key, (n, _) in found.items() if n} == dict(count) and all(math.isclose(found[key][1], worth[key] / NANO, rel_tol=1e-9, abs_tol=1e-3) for key in count)
-    told.check(is_same, "tables/benches.csv has the blocks and the worth of each bench and shell")
+            benches.setdefault(bench, Sum()).add(blocks, b)
+            for larger, found in pits.items():
+                if larger >= factor:
+                    found.add(blocks, b)
+    lines = read_table("pit_by_pit.csv")
+    is_same = len(lines) == len(verdicts) and all(
+        round(float(line["factor"]) * THOUSAND) == verdict["factor"] and math.isclose(float(line["worth_at_factor"]), float(verdict["worth"]), rel_tol=1e-9, abs_tol=1e-6)
+        and pits[verdict["factor"]].is_line(line, "worth_at_base") for line, verdict in zip(lines, verdicts))
+    told.check(is_same, "tables/pit_by_pit.csv has the blocks, the tonnes and the worths of each pit")
+    lines = read_table("benches.csv")
+    keys = [(round(float(line["bench"]), 3), round(float(line["shell"]) * THOUSAND)) for line in lines]
+    is_same = sorted(keys) == sorted(benches) and all(benches[key].is_line(line, "worth") for key, line in zip(keys, lines))
+    told.check(is_same, "tables/benches.csv has the blocks, the tonnes and the worth of each bench and shell")
 
 
 def check_slopes(told: Told, pit: str) -> None:
@@ -431,7 +550,7 @@ def check_slopes(told: Told, pit: str) -> None:
     runs = [subprocess.Popen([*words, str(within(f"model/{name}"))], stdout=subprocess.PIPE) for name in lists]
     try:
         with open(within("model/mine.prec"), "rb") as file:
-            bad = next((n for n, lines in enumerate(zip_longest(file, *(run.stdout or () for run in runs))) if lines[0] not in lines[1:]), None)
+            bad = next((n for n, lines in enumerate(zip_longest(file, *(run.stdout or () for run in runs))) if None in lines or lines[0] not in lines[1:]), None)
     finally:
         for run in runs:
             run.kill()
@@ -449,8 +568,10 @@ def check_all(told: Told, pit: str, is_plain: bool) -> None:
         return
     here = [line for line in said if line]
     told.say("ok" if here == facts["pit"] else "look", f"the program here is {', '.join(here)}; the bundle was made by {', '.join(facts['pit'])}")
+    told.attempt("facts.json, model/manifest.json", check_facts, told, blocks, facts)
     told.attempt("the table", check_table, told, blocks, facts)
     told.attempt("the slopes", check_slopes, told, pit)
+    told.attempt("the factors", check_series, told)
     shell = told.attempt("verdicts.json", check_pits, told, pit, blocks, facts, is_plain)
     if shell is not None:
         told.attempt("the tables", check_tables, told, blocks, facts, shell)

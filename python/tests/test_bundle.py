@@ -91,6 +91,7 @@ def test_sub_blocks_are_said_to_be_no_part_of_it(tmp_path):
     folder = bundled(tmp_path)
     facts = json.loads((folder / "facts.json").read_text())
     (folder / "facts.json").write_text(json.dumps({**facts, "has_sub_blocks": True}))
+    replaced(folder / "study.toml", "size =", "regularise = true\nsize =")
     summed(folder)
     ran = subprocess.run([sys.executable, str(folder / "recheck.py"), os.environ["PIT"]], capture_output=True, text=True)
     assert ran.returncode == 0 and re.search(r"^look +sub-blocks were added up", ran.stdout, re.M)
@@ -109,6 +110,17 @@ def test_a_changed_byte_in_any_file_is_found(whole, copy):
             assert subprocess.run(["sha256sum", "-c", "--quiet", bundle.SUMS], cwd=copy, capture_output=True).returncode == 1, name
         path.write_bytes(kept)
     assert rechecked(copy)[1] == 0
+
+
+def test_each_changed_line_end_of_the_list_is_found(copy):
+    """0x0b ends a line for Python's splitlines, and not for sha256sum."""
+    path = copy / bundle.SUMS
+    kept = path.read_bytes()
+    for at in (kept.index(b"\n"), len(kept) - 1):
+        path.write_bytes(kept[:at] + b"\x0b" + kept[at + 1:])
+        assert rechecked(copy)[1] == 1
+    path.write_bytes(b"0" * 64 + b"  README.txt\n" + kept)
+    assert any("a second line for README.txt" in line for line in rechecked(copy)[0])
 
 
 def test_files_that_are_gone_or_new_are_found(copy):
@@ -173,7 +185,72 @@ def fewer_predecessors(folder):
     path.write_text("\n".join(lines) + "\n")
 
 
+def told_otherwise(name, *keys, value):
+    """A value of a JSON file that is another."""
+    def change(folder):
+        told = json.loads((folder / name).read_text())
+        at = told
+        for key in keys[:-1]:
+            at = at[key]
+        at[keys[-1]] = value
+        (folder / name).write_text(json.dumps(told))
+    return change
+
+
+def column(name, title, value):
+    """A number of the first line of a table that is another."""
+    def change(folder):
+        path = folder / "tables" / name
+        lines = path.read_text().splitlines(keepends=True)
+        cells = lines[1].rstrip("\n").split(",")
+        cells[lines[0].rstrip("\n").split(",").index(title)] = value
+        path.write_text("".join([lines[0], ",".join(cells) + "\n", *lines[2:]]))
+    return change
+
+
+def no_pits(folder):
+    """No pit, no certificate and no line of a table: nothing contradicts anything."""
+    (folder / "verdicts.json").write_text("[]")
+    for path in (folder / "certificates").iterdir():
+        path.unlink()
+    for name in ("pit_by_pit.csv", "benches.csv"):
+        path = folder / "tables" / name
+        path.write_text(path.read_text().splitlines(keepends=True)[0])
+    path = folder / "tables" / "blocks.csv"
+    path.write_text(re.sub(r",[0-9.]+$", ",", path.read_text(), flags=re.M))
+
+
+def empty_pit(folder):
+    """The pit of no block is worth 0 at every factor, and is the best at factor 0 alone."""
+    model = folder / "model"
+    files = ["--prec", model / "mine.prec", "--blocks", model / "mine.blocks", "--settings", model / "settings.toml"]
+    text = subprocess.run([os.environ["PIT"], "solve", *files, "--factor", "0"], capture_output=True, text=True, check=True).stdout
+    assert "PIT " not in text
+    packed(folder / "certificates" / "f00600.cert.gz", lambda _: text)
+    told = json.loads((folder / "verdicts.json").read_text())
+    told[0].update(count=0, worth="0")
+    (folder / "verdicts.json").write_text(json.dumps(told))
+
+
 CHANGES = {
+    "a pit of another factor": (empty_pit, "the certificate at factor 0.6 is of factor 0"),
+    "no pits": (no_pits, "the pits are those at the 3 factors"),
+    "the factors": (lambda f: replaced(f / "study.toml", "factors = [0.6,", "factors = [0.5, 0.6,"), "the pits are those at the 4 factors"),
+    "a certificate of no pit": (lambda f: shutil.copy(f / "certificates" / "f00600.cert.gz", f / "certificates" / "f00500.cert.gz"), "each certificate is that of one pit"),
+    "the size of blocks": (lambda f: replaced(f / "study.toml", "size = [20, 20, 15]", "size = [20, 20, 10]"), "the grid and the columns"),
+    "the rotation": (lambda f: replaced(f / "study.toml", "size =", "rotation = 30\nsize ="), "the grid and the columns"),
+    "the currency": (told_otherwise("facts.json", "currency", value="EUR"), "amounts are in"),
+    "the digest of the table": (told_otherwise("facts.json", "sha256", value="0" * 64), "the table is the one"),
+    "the number of blocks": (told_otherwise("facts.json", "blocks", value=1), "the model has"),
+    "sub-blocks": (told_otherwise("facts.json", "has_sub_blocks", value=True), "sub-blocks to be added up"),
+    "a line passed over": (told_otherwise("facts.json", "dialect", "skip", value=1), "are descriptions and no blocks"),
+    "the digest of a file": (told_otherwise("model/manifest.json", "files", "mine.prec", value="0" * 64), "the files of model/"),
+    "a list of offsets more": (lambda f: (f / "model" / "slope-1.toml").write_text("offsets = [[0, 0, 1]]\n"), "the lists of offsets"),
+    "ore of a pit": (column("pit_by_pit.csv", "ore_t", "1.0"), "tables/pit_by_pit.csv"),
+    "the strip ratio of a pit": (column("pit_by_pit.csv", "strip", "9.0"), "tables/pit_by_pit.csv"),
+    "the worth of a pit at the full price": (column("pit_by_pit.csv", "worth_at_base", "1.0"), "tables/pit_by_pit.csv"),
+    "rock of a bench": (column("benches.csv", "rock_t", "1.0"), "tables/benches.csv"),
+    "the number of a block": (column("blocks.csv", "block", "7"), "tables/blocks.csv"),
     "a worth": (other_worth, "pit check at factor 0.6"),
     "the order of the pits": (swapped, "comes behind"),
     "a price": (lambda f: replaced(f / "study.toml", "8500", "8600"), "what each block brings and costs"),

@@ -125,3 +125,12 @@ def test_a_model_that_cannot_be_read_is_told(tmp_path, capsys, text, what):
     line, status = plain(words, capsys)
     assert status == 3 and line.startswith("plainly: ") and what in line
     assert checked(words)[1] == 3
+
+
+def test_settings_that_are_no_text_are_told(tmp_path, capsys):
+    """Without a word for it Python's own status is 1, which says that the certificate is refused."""
+    for name, data in {"b": b"0 0 0 0 1 2\n", "p": b"", "s": b"revenue = 0\ncost = 1 # \xe9\n", "c": b"PITCERT 1\n"}.items():
+        (tmp_path / name).write_bytes(data)
+    words = ["--prec", tmp_path / "p", "--blocks", tmp_path / "b", "--settings", tmp_path / "s", tmp_path / "c"]
+    line, status = plain(words, capsys)
+    assert status == 3 and line.startswith("plainly: ") and checked(words)[1] == 3
