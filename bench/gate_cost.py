@@ -4,7 +4,7 @@
     python3 bench/gate_cost.py python3 tests/run
 
 Prints what the command prints, and then a row per crate: its lines and edits, and the seconds of its proof, of the same
-once more with its tests, and of its edits. The processes are looked at every half second, so what a process does in its
+once more with its tests, of the edits that the kit tries, and of those that are tried by a check of their function. The processes are looked at every half second, so what a process does in its
 last moments isn't counted: the sum is some percent below the whole, which the last line gives. What others run beside it isn't
 counted either.
 """
@@ -18,7 +18,9 @@ from pathlib import Path
 
 TOP = Path(__file__).resolve().parent.parent
 TICK = os.sysconf("SC_CLK_TCK")
-KINDS = ("proof", "tests", "edits")
+KINDS = ("proof", "tests", "edits", "by function")
+# The folders in which edits are tried: by the kit, over a proof of their whole crate, and by tests/must_fail.py, by a check of their function.
+ROOMS = {"rt-edit-": "edits", "pit-edit-": "by function"}
 
 
 def words_of(pid):
@@ -35,10 +37,11 @@ def task_of(pid):
     if "--crate-name" not in words:
         return None
     try:
-        is_edit = os.path.basename(os.readlink("/proc/%d/cwd" % pid)).startswith("rt-edit-")
+        room = os.path.basename(os.readlink("/proc/%d/cwd" % pid))
     except OSError:
         return None
-    return words[words.index("--crate-name") + 1], "edits" if is_edit else "tests" if "--test" in words else "proof"
+    of_edit = [kind for begin, kind in ROOMS.items() if room.startswith(begin)]
+    return words[words.index("--crate-name") + 1], of_edit[0] if of_edit else "tests" if "--test" in words else "proof"
 
 
 def processes():
@@ -96,11 +99,11 @@ def is_test(file):
 
 
 def sizes(crate):
-    """Lines of code, of tests, of definitions and of proofs, and how many edits the gate tries and how many are planted."""
+    """Lines of code, of tests, of definitions and of proofs, and how many edits the kit tries, how many are tried by function, and how many are planted."""
     folder = TOP / "crates" / crate
     return (lines_in(folder / "src", "*.rt", lambda file: not is_test(file)), lines_in(folder / "src", "*.rt", is_test),
             lines_in(folder / "specs", "*.antt"), lines_in(folder / "proofs", "*.antt"),
-            len(list((folder / "must-fail").glob("*.edit"))), len(list((folder / "planted").glob("*.edit"))))
+            *(len(list((folder / shelf).glob("*.edit"))) for shelf in ("must-fail", "edits", "planted")))
 
 
 def row(name, counts, seconds):
@@ -110,7 +113,7 @@ def row(name, counts, seconds):
 def print_table(seconds):
     crates = [line.split(":")[0].strip() for line in (TOP / "crates.txt").read_text().splitlines() if line.split("#")[0].strip()]
     rows = [(sizes(crate), [seconds.get(crate, {}).get(kind, 0.0) for kind in KINDS]) for crate in crates]
-    print("\n| Crate | Code | Tests | Definitions | Proofs | Edits of the gate | planted | Proof | With tests | Trying the edits |\n|" + "---|" * 10)
+    print("\n| Crate | Code | Tests | Definitions | Proofs | Edits of the kit | by function | planted | Proof | With tests | Edits of the kit | by function |\n|" + "---|" * 12)
     for crate, (counts, used) in zip(crates, rows):
         print(row("`%s`" % crate, counts, used))
     print(row("all", map(sum, zip(*(counts for counts, _ in rows))), map(sum, zip(*(used for _, used in rows)))))

@@ -170,6 +170,22 @@ def the_gate_tries_edits_over_its_own_libraries(tree):
     return well and is_back, first + second
 
 
+def each_edit_that_shows_nothing_fails_the_gate(tree):
+    """One that is accepted, one refused for a name alone, and one whose function there isn't: each alone beside one that is refused."""
+    tree.commit()
+    tree.write("crates/low/edits/wrong.edit", EDIT % "REFUSED")
+    said = []
+    for name, text, wanted in (("accepted", EDIT % "nothing", "ACCEPTED: the crate is still proved with this mistake"),
+                               ("named", EDIT % "NAMED", "cannot be tried: it is refused for a name alone"),
+                               ("nowhere", (EDIT % "REFUSED").replace("function: one", "function: other"), "cannot be tried: its check ended with the status")):
+        tree.write("crates/high/edits/%s.edit" % name, text)
+        told, (status, again) = asked(tree, "gate()"), tree.ran("tests/run", "--edits")
+        (tree.top / "crates/high/edits" / (name + ".edit")).unlink()
+        well = told.endswith("(2, 1)\n") and all("low/wrong: refused: " in it and "high/%s: %s" % (name, wanted) in it for it in (told, again))
+        said.append(well and status == 1 and again.endswith("1 passed, 1 failed\n") or told + again)
+    return said == [True] * 3 and asked(tree, "gate()").endswith("(2, 0)\n"), repr(said)
+
+
 def what_is_proved_is_kept_where_one_fails(tree):
     tree.crate("low", "fn one() {}\n")
     tree.crate("beside", SLOW)
@@ -427,7 +443,7 @@ CASES = [
     the_program_stays_where_the_gate_leaves_it, a_change_is_proved, the_room_is_in_the_tree, ctrl_c_ends_with_one_line,
     sigterm_leaves_nothing_behind, a_closed_terminal_leaves_nothing_behind, a_killed_build_is_cleared_away_by_the_next,
     a_second_build_waits_and_says_so, the_gate_waits_for_a_build,
-    the_gate_tries_edits_over_its_own_libraries, what_is_proved_is_kept_where_one_fails, a_crate_of_few_functions_gets_one_process,
+    the_gate_tries_edits_over_its_own_libraries, each_edit_that_shows_nothing_fails_the_gate, what_is_proved_is_kept_where_one_fails, a_crate_of_few_functions_gets_one_process,
     limits_of_a_container_count, an_answer_comes_before_any_proof, quick_stops_after_the_first_answer, no_answer_without_proof_is_told,
     the_page_of_the_example_is_made,
     an_unknown_word_is_refused, install_copies_the_program, the_launcher_changes_nothing_else, install_brings_pitplan_where_its_packages_are, pitplan_names_the_packages_that_it_lacks,

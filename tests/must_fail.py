@@ -24,9 +24,11 @@ import tree
 
 TRY_MEMORY = 2_000_000_000
 PARTS = ("src", "specs", "proofs")
-# What the prover says where a proof file names what the edit took away: that shows nothing of a contract.
-OF_NAMES = re.compile(r"(note: )?(\./)?proofs/.*(has no field|is not in scope|has no `|was not admitted)")
 TOLD = re.compile(r"(note: )?\S+:\d+:\d+: ")
+# A goal that is left without a proof.
+OPEN = re.compile(r"note: (\./)?src/\S+: it is not proved that ")
+# What the prover says where a proof file names what the edit took away: that shows nothing of a contract.
+OF_NAMES = re.compile(r"(note: )?(\./)?proofs/.*(has no field|is not in scope|has no `|was not admitted|is already a name|can be named from here)")
 OF_TEXT = re.compile(r"(?:\./)?(\S+?):\d+:\d+: error: (?:(`[^`]*`): )?(.*)")
 UNREADABLE = re.compile(r"is not in scope|has no field|is no name|operand is missing|expected the end|cannot continue")
 
@@ -120,16 +122,27 @@ def is_unread(line, texts):
     return not said[2] or bool(UNREADABLE.search(re.sub(r"`[^`]*`", "", said[3])))
 
 
+def messages(lines):
+    """What the prover says, a line a message: it breaks a long one before a name, and indents what follows."""
+    told = []
+    for line in lines:
+        if told and line.startswith(" "):
+            told[-1] += " " + line.strip()
+        else:
+            told.append(line)
+    return told
+
+
 def goal_refused(texts, lines):
-    """The line with which the prover refuses a goal; BadEdit where it refuses the edit's text, or a name alone."""
-    told = [line for line in lines if TOLD.match(line) and (": error" in line or line.startswith("note: "))]
+    """The message with which the prover refuses a goal, one that it left open before an answer that doesn't fit; BadEdit where it refuses the edit's text, or a name alone."""
+    told = [line for line in messages(lines) if TOLD.match(line) and (": error" in line or line.startswith("note: "))]
     for line in told:
         if is_unread(line, texts):
             raise BadEdit("the prover can't read the edited text: %s" % line[:200])
     goals = [line for line in told if not OF_NAMES.match(line)]
     if not goals:
         raise BadEdit("it is refused for a name alone, which says nothing of a contract: %s" % (told or lines)[0][:200])
-    return goals[0]
+    return next(filter(OPEN.match, goals), goals[0])
 
 
 def verdict(edit):

@@ -8,6 +8,7 @@ import sys
 import tempfile
 from pathlib import Path
 
+import must_fail
 import pages
 
 CODE = """//! A crate for the tests of the scripts.
@@ -91,13 +92,13 @@ def named_edits_are_tried_alone(tree):
 
 def edits_are_tried_by_their_function(tree):
     for name, text in {"of_next": NEXT + REFUSED, "of_another": SOME + REFUSED, "harmless": SOME + ACCEPTED, "unnamed": REFUSED,
-                       "stale": NEXT + STALE, "unreadable": NEXT + REFUSED.replace("new:     n", "new:     nobody")}.items():
+                       "stale": NEXT + STALE, "nowhere": "# function: nobody\n" + REFUSED, "unreadable": NEXT + REFUSED.replace("new:     n", "new:     nobody")}.items():
         write(tree, "small/edits/%s.edit" % name, text)
     status, said = ran(tree, "tests/run", "--edits", "small")
     wanted = ["of_next: refused: ", "of_another: refused by the whole crate, and not by some_number", "harmless: ACCEPTED",
-              "unnamed: cannot be tried", "stale: cannot be tried", "unreadable: cannot be tried"]
+              "unnamed: cannot be tried", "stale: cannot be tried", "unreadable: cannot be tried", "nowhere: cannot be tried"]
     shutil.rmtree(tree / "crates/small/edits")
-    return status == 1 and all("small/" + it in said for it in wanted) and said.endswith("2 passed, 4 failed\n"), said
+    return status == 1 and all("small/" + it in said for it in wanted) and said.endswith("2 passed, 5 failed\n"), said
 
 
 def a_build_says_what_it_proved(tree):
@@ -144,7 +145,44 @@ def wrong_pages_are_told(tree):
     return len(told) == len(wanted) and all(sum(one in said for said in told) == 1 for one in wanted), "\n".join(told)
 
 
-OF_THIS_TREE = [version_is_up_to_date, pages_are_right]
+# What the prover printed where a proof names a goal or a value that is gone: a long message goes on over lines.
+GONE_GOAL = """./proofs/long_module/long_function/Answers.antt:4:15: error: `returns`: `goal.returns-then-long`
+  module `Rattle.small.proofs.long_module.long_function.Goals`
+  has no `returns-then-long` that can be named from here (names in it that begin alike: `returns`)
+fn small::long_module::long_function: not proved
+help: `Goals` has no `returns-then-long`; rattle asks for `returns`, `overflow_add-result`; a `use` line of it can name these places: `Start`
+"""
+GONE_VALUE = """./proofs/long_module/long_function/Answers.antt:5:28: error: `returns`: record `Rattle.small.proofs.long_module.long_function.Lts.Start`
+  has no field `if-long`
+  the fields that can be named here are `args`, `well_formed`, `ranges`, `requires`
+./proofs/long_module/above/Answers.antt:4:5: error: 1 declaration that depends on `returns`, which was not admitted, was not checked: loop
+"""
+TWICE = "./proofs/next/Answers.antt:4:5: error: `returns`: `returns` is already a name of this module (a `use` line brings it)\n"
+OTHER_TYPE = """./proofs/row/read_row/Answers.antt:33:134: error: `loop-preserved`: as printed, the two types differ only where one has `c.loop.column`
+  (expected), right after `AreTaken c.args.columns.now`
+  and the other has `(c.loop.column + 1)` (found)
+"""
+OPEN_GOAL = "note: src/lib.rt:107:128: it is not proved that what the function ensures holds when it returns (`returns`); `search` gave up at one of its limits\n"
+UNREAD = "src/lib.rt:8:5: error: `nobody` is not in scope\n"
+# What a check printed, and the beginning of what it is refused by, or of why that is nothing.
+REFUSALS = ((GONE_GOAL, "it is refused for a name alone"), (GONE_VALUE, "it is refused for a name alone"), (GONE_GOAL + GONE_VALUE + TWICE, "it is refused for a name alone"),
+            (GONE_VALUE + OPEN_GOAL + GONE_GOAL, OPEN_GOAL[:-1]), (OTHER_TYPE + GONE_VALUE, "./proofs/row/read_row/Answers.antt:33:134: error: `loop-preserved`"),
+            (OTHER_TYPE + OPEN_GOAL, OPEN_GOAL[:-1]), (OPEN_GOAL + UNREAD, "the prover can't read the edited text"))
+
+
+def refusals_are_read(top):
+    """Whether a refusal by a goal, an open one first, is told from one for a name alone, and from a text that can't be read."""
+    wrong = []
+    for text, wanted in REFUSALS:
+        try:
+            said = must_fail.goal_refused({"src/lib.rt": ""}, text.splitlines() + ["only=1 proved=0"])
+        except must_fail.BadEdit as bad:
+            said = str(bad)
+        wrong += [] if said.startswith(wanted) else ["%s\nin place of %s, for\n%s" % (said, wanted, text)]
+    return not wrong, "\n".join(wrong)
+
+
+OF_THIS_TREE = [version_is_up_to_date, pages_are_right, refusals_are_read]
 
 
 TABLE = "x,y,z,value\n0,0,0,1\n20,0,0,-2.5\n"

@@ -71,19 +71,25 @@ elif words[0] == "ci":
 else:
     sys.exit("the stand-in has no rt " + words[0])
 '''
-# the prover of the kit: `REFUSED` in a crate's sources is refused where the function one is checked, `OTHER` where all is
+# The prover of the kit: `REFUSED` in a crate's sources is refused where the function one is checked, `OTHER` where all is, `NAMED`
+# for a name alone, which the real one tells over three lines. There is no other function.
 RATTLE = r'''#!/usr/bin/env python3
 import sys
 from pathlib import Path
 
 words, text = sys.argv[1:], (Path("src") / "lib.rt").read_text()
 libraries = [Path(word.partition("=")[2]) for word in words if word.startswith("low=")]
+named = words[words.index("--only") + 1] if "--only" in words else None
 with open(Path(__file__).resolve().parent.parent / "LOG", "a") as file:
-    file.write("try %s %s\n" % ("one" if "--only" in words else "all", [it.name for at in libraries for it in at.iterdir()]))
-is_refused = "REFUSED" in text or "OTHER" in text and "--only" not in words
-if is_refused:
+    file.write("try %s %s\n" % (named or "all", [it.name for at in libraries for it in at.iterdir()]))
+if named not in (None, "one"):
+    sys.exit("rattle: error: `high` has no function `%s`: help: write the name that a check prints after `fn`, or the end of it" % named)
+is_refused = "REFUSED" in text or "OTHER" in text and not named or "NAMED" in text
+if "NAMED" in text:
+    print("./proofs/one/Answers.antt:4:15: error: `returns`: `goal.gone`\n  module `Rattle.high.proofs.one.Goals`\n  has no `gone` that can be named from here")
+elif is_refused:
     print("src/lib.rt:1:1: error: `one`: a goal is open")
-print("only=1 proved=%d" % (not is_refused) if "--only" in words else "logic=not-proved" if is_refused else "logic=proved")
+print("only=1 proved=%d" % (not is_refused) if named else "logic=not-proved" if is_refused else "logic=proved")
 sys.exit(int(is_refused))
 '''
 # the kit's LLVM: as llvm-strip it copies, as llvm-nm it names a call

@@ -42,6 +42,7 @@ pub struct Meter<'a, R> {
     began: Option<Instant>,
     turns: AtomicU64,
     told: AtomicU64,
+    pits: AtomicU64,
 }
 
 impl<'a, R: Clock + Eprint> Meter<'a, R> {
@@ -54,6 +55,7 @@ impl<'a, R: Clock + Eprint> Meter<'a, R> {
             began: Instant::now(rt).ok(),
             turns: AtomicU64::new(0),
             told: AtomicU64::new(0),
+            pits: AtomicU64::new(0),
         }
     }
 
@@ -113,9 +115,11 @@ impl<R: Clock + Eprint> Progress for Meter<'_, R> {
 }
 
 impl<R: Clock + Eprint> SeriesProgress for Meter<'_, R> {
-    fn settled(&self, factor: u32, place: u32, count: u32) {
+    // The pits are counted as they come, which isn't the order of their factors.
+    fn settled(&self, factor: u32, _place: u32, count: u32) {
+        let pit = self.pits.fetch_add(1, Ordering::SeqCst).saturating_add(1);
         let _ = self.rt.eprintln(format_args!(
-            "progress: factor {factor}: the pit is proved, {place} of {count}"
+            "progress: factor {factor}: the pit is proved, {pit} of {count}"
         ));
     }
 }
