@@ -12,7 +12,7 @@ from .errors import PlanError, meant
 # sizes. MineSight: EAST NORTH ELEV (or ELEVATION) and ROCK, with TONS. Then the words of tables in Spanish, Portuguese and
 # French. Whoever finds his package's name missing adds it here, or names the column in study.toml.
 USUAL: dict[str, tuple[str, ...]] = {
-    "id": ("id", "blockid", "block_id", "block id", "ijk", "block", "index", "blockno", "block_no", "bid", "bloque", "bloco", "bloc"),
+    "id": ("id", "blockid", "block_id", "block id", "ijk", "block", "index", "blockno", "block_no", "bid", "bloque", "bloco", "bloc", "codigo", "código", "code"),
     "x": ("x", "xc", "centroid_x", "xcentre", "xcenter", "x_centre", "x_center", "centre_x", "center_x", "mid_x", "xmid",
           "east", "easting", "e", "xworld", "x_world", "xpt", "xm", "este", "leste", "est",
           "x_centro", "xcentro", "centro_x", "x_centroide", "centroide_x"),
@@ -27,7 +27,7 @@ USUAL: dict[str, tuple[str, ...]] = {
     "dz": ("zinc", "dim_z", "_rl", "dz", "zlen", "zlength", "z_length", "size_z", "zsize", "z_size", "_z"),
     "tonnes": ("tonnes", "tonnage", "tons", "tonne", "ton", "mass", "toneladas", "tonelaje"),
     "density": ("density", "sg", "bd", "dens", "specific_gravity", "bulk_density", "insitu_density", "rho", "densidad", "densidade", "densite"),
-    "rock": ("rock", "rocktype", "rock_type", "rock type", "lith", "lithology", "material", "mat", "domain", "zone", "rtype", "litologia", "roca", "rocha", "roche", "zona"),
+    "rock": ("rock", "rocktype", "rock_type", "rock type", "lith", "lithology", "material", "mat", "domain", "zone", "rtype", "lito", "litologia", "litología", "roca", "rocha", "roche", "zona"),
 }
 PLACES = ("x", "y", "z")
 SIZES = ("dx", "dy", "dz")

@@ -25,6 +25,7 @@ import pandas as pd
 
 from . import store
 from .amounts import THOUSAND, Priced, spelled
+from .csv_text import dialect_of
 from .economics import Economics
 from .errors import Disagreement, MachineError, PlanError
 from .grid import Grid
@@ -146,7 +147,8 @@ def opened(path: Path, work: Path) -> tuple[Any, str]:
     try:
         if path.suffix == ".npy":
             return np.load(path, mmap_mode="r", allow_pickle=False), str(path.resolve())
-        frame = pd.read_csv(path, sep=None, engine="python") if path.stat().st_size < 1 << 20 else pd.read_csv(path)
+        dialect = dialect_of(path)
+        frame = pd.read_csv(path, sep=dialect.separator, decimal=dialect.decimal, encoding=dialect.encoding)
         wrong = next((name for name in frame.columns if frame[name].dtype.kind not in "iuf"), None)
         if wrong is not None:
             bad = int(np.argmax(pd.to_numeric(frame[wrong], errors="coerce").isna().to_numpy()))

@@ -175,6 +175,15 @@ def test_a_csv_is_the_same_as_an_npy(tmp_path):
     assert risk.prepare(study, costs(), tmp_path / "sims.csv", [1000]).digests == digests
 
 
+@pytest.mark.parametrize("copies", [3, 3000])                     # below and above a megabyte
+@pytest.mark.parametrize("separator, decimal", [(",", "."), (";", ","), (";", "."), ("\t", ",")])
+def test_a_csv_of_realisations_may_have_semicolons_and_decimal_commas(tmp_path, copies, separator, decimal):
+    grades = np.tile(np.array([[0.5, 1.25], [2.0, 0.125], [0.25, 3.5]], np.float32), (30, copies))
+    pd.DataFrame(grades, columns=[f"s{i}" for i in range(2 * copies)]).to_csv(tmp_path / "sims.csv", index=False, sep=separator, decimal=decimal)
+    found, _ = risk.opened(tmp_path / "sims.csv", tmp_path)
+    assert (found == grades.T).all()
+
+
 def test_cells_that_are_no_grades_are_told(tmp_path):
     frame = table(6, 5, 4, 3)
     study, good = prepared(tmp_path, 3, frame), grades_of(frame, 3)

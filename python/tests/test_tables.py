@@ -261,3 +261,9 @@ def test_unknown_keys_name_the_nearest(tmp_path):
     assert "is 'rotation' meant?" in refusal(tmp_path, table(3, 3, 2, 1), rotatoin=3)
     assert "none of elevation, depth" in refusal(tmp_path, table(3, 3, 2, 1), z="up")
     assert "three numbers above 0" in refusal(tmp_path, table(3, 3, 2, 1), size=(1, 2))
+
+
+def test_the_usual_spanish_names_of_ids_and_rocks():
+    from pitplan.column_names import which_columns
+    found = which_columns(["CODIGO", "ESTE", "NORTE", "COTA", "DENS", "LITO"], {}, "t.csv")
+    assert found == {"id": "CODIGO", "x": "ESTE", "y": "NORTE", "z": "COTA", "density": "DENS", "rock": "LITO"}
