@@ -12,7 +12,7 @@ from .errors import PlanError, meant
 # sizes. MineSight: EAST NORTH ELEV (or ELEVATION) and ROCK, with TONS. Then the words of tables in Spanish, Portuguese and
 # French. Whoever finds his package's name missing adds it here, or names the column in study.toml.
 USUAL: dict[str, tuple[str, ...]] = {
-    "id": ("id", "blockid", "block_id", "block id", "ijk", "block", "index", "blockno", "block_no", "bid", "bloque", "bloco", "bloc", "codigo", "código", "code"),
+    "id": ("id", "blockid", "block_id", "block id", "ijk", "block", "index", "blockno", "block_no", "bid", "bloque", "bloco", "bloc", "codigo", "código"),
     "x": ("x", "xc", "centroid_x", "xcentre", "xcenter", "x_centre", "x_center", "centre_x", "center_x", "mid_x", "xmid",
           "east", "easting", "e", "xworld", "x_world", "xpt", "xm", "este", "leste", "est",
           "x_centro", "xcentro", "centro_x", "x_centroide", "centroide_x"),

@@ -119,7 +119,7 @@ def print_table(found: Shells, table: pd.DataFrame) -> None:
         lines.append((f"{row['factor']:.3f}", f"{row['blocks']:,}", f"{row['ore_t'] / 1e6:,.2f}", f"{row['waste_t'] / 1e6:,.2f}", strip, *grades,
                       f"{row['worth_at_base'] / 1e6:,.2f}", f"{row['npv_best'] / 1e6:,.2f}", f"{row['npv_worst'] / 1e6:,.2f}", f"{row['years']:.1f}"))
     print_columns(f"pit by pit, worths in million {currency} at the full price", names, lines)
-    out.print(f"{found.study.folder / 'out'}: pit_by_pit.csv, benches.csv. Each pit is proved; the discounted cases are bounds and no schedule")
+    out.print(f"{found.study.folder / 'out'}: pit_by_pit.csv, benches.csv. Each pit is proved; the discounted cases are two simple orders, no schedule")
     if found.certified == len(found):
         out.print("each pit has a certificate, which pit check has accepted")
     else:
