@@ -4,6 +4,7 @@ What it does with a crate is told by words in the crate's sources: `SLEEP 2` tak
 crate that it works on is a line of the file LOG beside it: `NAME JOBS FOLDER`, and `again` where it goes on from earlier work.
 """
 import os
+import signal
 import subprocess
 from pathlib import Path
 
@@ -149,9 +150,10 @@ class Tree:
         self.write("crates/%s/src/%s.rt" % (name, "main" if name == "pit" else "lib"), text)
 
     def starts(self, *words):
-        """Starts a script of the tree in a group of processes of its own."""
+        """Starts a script of the tree in a group of processes of its own, which hears a hangup: under nohup it would not."""
         return subprocess.Popen([str(self.top / words[0]), *words[1:]], cwd=self.top, env=self.around, stdin=subprocess.DEVNULL,
-                                stdout=subprocess.PIPE, stderr=subprocess.STDOUT, text=True, start_new_session=True)
+                                stdout=subprocess.PIPE, stderr=subprocess.STDOUT, text=True, start_new_session=True,
+                                preexec_fn=lambda: signal.signal(signal.SIGHUP, signal.SIG_DFL))
 
     def ran(self, *words):
         """Runs a script of the tree, and gives its exit status and what it printed."""
