@@ -31,12 +31,14 @@ _pit() {
         "shells --method") words="auto pseudoflow push-relabel" ;;
         "shells --steps") : ;;
         "shells --workers") : ;;
+        "shells --by-block") files=1 ;;
         "report --prec") files=1 ;;
         "report --blocks") files=1 ;;
         "report --settings") files=1 ;;
         "report --method") words="auto pseudoflow push-relabel" ;;
         "report --steps") : ;;
         "report --workers") : ;;
+        "report --by-block") files=1 ;;
         "replay --prec") files=1 ;;
         "replay --upit") files=1 ;;
         "replay --blocks") files=1 ;;
@@ -48,8 +50,8 @@ _pit() {
             check) words="--prec --upit --blocks --settings --verbose -h --help" files=1 ;;
             slopes) words="--blocks --pattern --up --settings --reduce --verbose -h --help" ;;
             solve) words="--prec --upit --blocks --settings --factor --method --group --steps --workers --progress --verbose --trace --room -h --help" ;;
-            shells) words="--prec --blocks --settings --method --steps --workers --progress --verbose -h --help" ;;
-            report) words="--prec --blocks --settings --method --steps --workers --progress --verbose -h --help" ;;
+            shells) words="--prec --blocks --settings --method --steps --workers --by-block --progress --verbose -h --help" ;;
+            report) words="--prec --blocks --settings --method --steps --workers --by-block --progress --verbose -h --help" ;;
             replay) words="--prec --upit --blocks --settings --factor --group --verbose -h --help" files=1 ;;
             esac
             case "$word" in -*) files= ;; *) words= ;; esac ;;

@@ -52,7 +52,7 @@ _pitplan() {
             init) words="--study -c --column --force -h --help" files=1 ;;
             build) words="-h --help" files=1 ;;
             slopes) words="--every -h --help" files=1 ;;
-            shells) words="--workers -h --help" files=1 ;;
+            shells) words="--workers --certificates -h --help" files=1 ;;
             plot) words="--bench --north --east --row --column --colour --pit --exaggerate -h --help" files=1 ;;
             page) words="--phases --design --layer --column --value --factor --title -h --help" files=1 ;;
             phases) words="--mining-width -h --help" files=1 ;;

@@ -20,6 +20,7 @@ complete -c pitplan -n '__fish_seen_subcommand_from slopes' -s h -l help -d 'Sho
 complete -c pitplan -n __fish_use_subcommand -a shells -d 'Find the proved pit at each factor, and the tables'
 complete -c pitplan -n '__fish_seen_subcommand_from shells' -F
 complete -c pitplan -n '__fish_seen_subcommand_from shells' -l workers -x -d 'Pits at a time'
+complete -c pitplan -n '__fish_seen_subcommand_from shells' -l certificates -d 'Find each pit by itself, with a certificate that pit check accepts'
 complete -c pitplan -n '__fish_seen_subcommand_from shells' -s h -l help -d 'Show this message and exit'
 complete -c pitplan -n __fish_use_subcommand -a plot -d 'Draw the pit-by-pit graph, a plan and a section'
 complete -c pitplan -n '__fish_seen_subcommand_from plot' -F

@@ -36,6 +36,7 @@ _pitplan() {
         slopes) _arguments '--every[Degrees of bearing between two lines of the table]:every: ' \
             '-h[Show this message and exit]' '--help[Show this message and exit]' '*:file:_files' ;;
         shells) _arguments '--workers[Pits at a time]:workers: ' \
+            '--certificates[Find each pit by itself, with a certificate that pit check accepts]' \
             '-h[Show this message and exit]' '--help[Show this message and exit]' '*:file:_files' ;;
         plot) _arguments '--bench[Plan of the bench at this elevation]:bench: ' \
             '--north[Section at this northing, of a model that isn'\''t turned]:north: ' \
