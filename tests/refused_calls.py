@@ -5,6 +5,7 @@ The program has to answer as with ample means, or as FORMATS.md says of the fail
 standard error; then standard output is empty, or, where a write to it failed, has a prefix of the answer.
 """
 import os
+import re
 import shutil
 import subprocess
 import tempfile
@@ -39,8 +40,12 @@ KINDS = (
     ("write", "interrupted", ("device",)),
     ("write", "nothing", ("device",)),
 )
-# Cases, words that are added to theirs, and how many threads are then started beside the caller's own.
-STARTS = tuple(("shells/the_copper_mine_with_a_mill", ["--method", "pseudoflow", "--workers", str(workers)], workers - 1) for workers in (1, 2, 3, 4))
+# How many threads are started by so many workers beside the caller's own, for the shells of the copper mine at eight factors. The
+# highest one is looked for first, then the middle one, then two at a time, and then four: each time as many threads start as
+# there are workers and parts, less one.
+EIGHT = "factors = [300, 400, 500, 600, 700, 800, 900, 1000]"
+STARTS = tuple(("shells/the_copper_mine_with_a_mill", ["--method", "pseudoflow", "--workers", str(workers)], sum(min(workers, parts) - 1 for parts in (1, 1, 2, 4)))
+               for workers in (1, 2, 3, 4, 5))
 # How long a run may take, and what stands for the status of one that takes longer.
 SECONDS = 120
 NO_ANSWER = "no answer"
@@ -115,6 +120,8 @@ def starts(program, library, row, words, wanted):
         folder, mark = Path(room) / "case", Path(room) / "mark"
         folder.mkdir()
         words = lay_out(HERE / "cases" / row, folder) + words
+        settings = folder / "s"
+        settings.write_text(re.sub(r"^factors = .*$", EIGHT, settings.read_text(), flags=re.M))
         for number in count(1):
             run(program, words, folder, {"LD_PRELOAD": str(library), "FAIL_KIND": "thread", "FAIL_HOW": "error", "FAIL_AT": str(number), "FAIL_MARK": str(mark)})
             if not mark.exists():
