@@ -149,7 +149,8 @@ def built(folder: Path) -> None:
     from .study_file import read_study_file
     (folder / "mine.csv").write_text(rows_of_mine())
     (folder / "study.toml").write_text('[model]\ntable = "mine.csv"\nsize = [10, 10, 10]\n[economics]\nmining = 2.5\nprocessing = 10\n'
-                                       'metals = [ { name = "copper", grade = "CU", price = 8000, recovery = 0.85 } ]\n[slopes]\nangles = 45\n')
+                                       'metals = [ { name = "copper", grade = "CU", price = 8000, recovery = 0.85 } ]\n[slopes]\nangles = 45\n'
+                                       f"[shells]\nfactors = {[factor / 1000 for factor in PITS]}\n")
     told = read_study_file(folder)
     Study.create(folder, told.read_model(), told.economics, told.slopes, keys=told.digest)
 

@@ -496,6 +496,7 @@ class Sum:
         self.blocks, self.worth, self.tonnes, self.ore = 0, 0, list[float](), list[float]()
 
     def add(self, blocks: Blocks, b: int) -> None:
+        """Counts a block in."""
         revenue, processing, _ = blocks.amounts[b]
         self.blocks, self.worth = self.blocks + 1, self.worth + blocks.worth(b, THOUSAND)
         self.tonnes.append(blocks.tonnes[b])

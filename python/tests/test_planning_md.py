@@ -99,6 +99,7 @@ def test_options_of_the_text_are_options_of_a_command():
     from pitplan import cli, console
     cli.load_commands()
     known = {option for command in get_command(console.app).commands.values() for it in command.params for option in it.opts}
+    known |= set(re.findall(r"--[a-z][\w-]*", (DOCUMENT.parent.parent / "completions" / "pit.bash").read_text()))      # those of `pit`
     named = set(re.findall(r"(?<![\w-])--[a-z][\w-]*", DOCUMENT.read_text()))
     assert len(named) > 20 and named - known <= {"--help", "--no-install-recommends"}, named - known
 

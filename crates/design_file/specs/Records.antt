@@ -1,0 +1,95 @@
+-- What a design says, over its list of lines.
+use Rattle.std.specs.Prelude.{◌≡◌, ℕ, ◌<◌, ◌==◌, ◌||◌, Bool, true, false, not, cond, List, [], ◌∷◌, ◌++◌, length, codes, nat_lt, nat_le, slice_set, slice_index_or, Option, Some, None}
+use Rattle.std.specs.Option.{option_or}
+use Rattle.std.specs.List.{list_any, flat_map}
+use Rattle.fixed_worth.specs.declared.limits.TheConstants.{LINE_BYTES}
+use Rattle.fixed_worth.specs.Text.{fields_of}
+use Rattle.fixed_worth.specs.Record.{Line, lines_in, reads, number_of, is_remark}
+use Rattle.design_file.specs.declared.design_fault.DesignFault.{DesignFault}
+use Rattle.design_file.specs.declared.design_fault.DesignFault.TheVariants.{Text, Number, UnknownBlock, Repeated, NoMemory}
+use Rattle.std.specs.Str.{bytes_eq}
+
+-- A certificate has lines that begin with this word, and they name no block of its pit.
+abbrev pub is_beside_pit : List ℕ → Bool
+is_beside_pit word =
+    bytes_eq word (codes "PITCERT") || bytes_eq word (codes "BLOCKS") || bytes_eq word (codes "PRICE") || bytes_eq word (codes "GROUP")
+    || bytes_eq word (codes "SOURCE") || bytes_eq word (codes "REST") || bytes_eq word (codes "SINK") || bytes_eq word (codes "END")
+
+-- The line is passed over: it has no field, is a remark, or is one that a certificate has beside its pit.
+abbrev pub is_passed : List (List ℕ) → Bool
+is_passed [] = true
+is_passed (field ∷ fields) = is_remark field || is_beside_pit field
+
+-- The field that names the block of a line `b` or `PIT b`; none of a line of any other form.
+abbrev pub block_word : List (List ℕ) → Option (List ℕ)
+block_word [] = None
+block_word (field ∷ []) = Some field
+block_word (first ∷ second ∷ []) = cond (bytes_eq first (codes "PIT")) (Some second) None
+block_word (first ∷ second ∷ third ∷ fields) = None
+
+-- What is wrong with this field as the block of a line, given which blocks were named before.
+abbrev pub word_fault : ℕ → (ℕ → Bool) → ℕ → List ℕ → Option DesignFault
+word_fault n had line word =
+    cond (not (reads word)) (Some (Number line))
+    (cond (nat_le n (number_of word)) (Some (UnknownBlock line))
+    (cond (had (number_of word)) (Some (Repeated line))
+    None))
+
+abbrev pub named_fault : ℕ → (ℕ → Bool) → ℕ → Option (List ℕ) → Option DesignFault
+named_fault n had line None = Some (Text line)
+named_fault n had line (Some word) = word_fault n had line word
+
+-- The fault of a line's fields: one that is passed over has none.
+abbrev pub record_fault : ℕ → (ℕ → Bool) → ℕ → List (List ℕ) → Option DesignFault
+record_fault n had line fields = cond (is_passed fields) None (named_fault n had line (block_word fields))
+
+-- The fault of a line: one of more than 65,536 bytes is faulty even where it would be passed over.
+abbrev pub line_fault : ℕ → (ℕ → Bool) → Line → Option DesignFault
+line_fault n had l = cond (nat_lt LINE_BYTES (length l.text)) (Some (Text l.number)) (record_fault n had l.number (fields_of l.text))
+
+-- The block that a line names, if it names one.
+abbrev pub block_in : Option (List ℕ) → List ℕ
+block_in None = []
+block_in (Some word) = number_of word ∷ []
+
+abbrev pub blocks_in : List (List ℕ) → List ℕ
+blocks_in fields = cond (is_passed fields) [] (block_in (block_word fields))
+
+-- The blocks that the lines name, in their order.
+abbrev pub blocks_of : List Line → List ℕ
+blocks_of lines = flat_map (λ l. blocks_in (fields_of l.text)) lines
+
+-- The block is among these.
+abbrev pub has : List ℕ → ℕ → Bool
+has blocks b = list_any (λ x. x == b) blocks
+
+-- The fault of the first faulty line, if any, behind these lines.
+abbrev pub first_fault : ℕ → List Line → List Line → Option DesignFault
+first_fault n before [] = None
+first_fault n before (l ∷ lines) = option_or (line_fault n (has (blocks_of before)) l) (first_fault n (before ++ l ∷ []) lines)
+
+-- The fault of a text for n blocks, if any.
+abbrev pub fault_of : ℕ → List ℕ → Option DesignFault
+fault_of n text = first_fault n [] (lines_in text)
+
+-- The design of a text, as a set of blocks: those that its lines name.
+abbrev pub design_of : List ℕ → ℕ → Bool
+design_of text b = has (blocks_of (lines_in text)) b
+
+-- Each of the n blocks is marked where the design has it.
+pub record AreMarks (n : ℕ) (text : List ℕ) (marks : List Bool) : Type 0 where
+  pub size : length marks ≡ n
+  pub at : (b : ℕ) → b < n → slice_index_or marks b false ≡ design_of text b
+
+-- The marks once the line with these fields is read.
+abbrev pub set_in : List Bool → Option (List ℕ) → List Bool
+set_in marks None = marks
+set_in marks (Some word) = slice_set marks (number_of word) true
+
+abbrev pub marked : List (List ℕ) → List Bool → List Bool
+marked fields marks = cond (is_passed fields) marks (set_in marks (block_word fields))
+
+-- The fault is want of memory, or the claim holds.
+abbrev pub UnlessMemory : DesignFault → Type 0 → Type 0
+UnlessMemory NoMemory claim = Unit {0}
+UnlessMemory _ claim = claim

@@ -1,0 +1,18 @@
+use Rattle.std.proofs.Common.{rules, ◌≡◌, ℕ, List, [], take, ap, ◌∙◌, subst, refl, arith}
+use Rattle.prec_file.specs.Rests.{first_of}
+use Rattle.design_value.specs.OpenPairs.{AreOpen}
+use Rattle.design_value.specs.Sums.{marked_in}
+use Rattle.design_value.proofs.Leading.{none_passed, all_passed}
+use Rattle.design_value.proofs.open_pairs.open_pairs_of.Goals as goal
+
+pub loop-b-init : goal.loop-b-init
+loop-b-init c =
+    let none : c.new.result.items ≡ [] = search rules in
+    rw (none_passed c.args.rests.now.pairs) (record { all = refl; first = none })
+
+pub returns : goal.returns
+returns c =
+    let v = c.args.rests.now in
+    let end : c.loop-b.b ≡ v.blocks = omega arith in
+    let all = ap (λ (k : ℕ). take (first_of v.pairs k) v.pairs) end ∙ all_passed v c.len-blocks.ensures.all in
+    subst (λ (ps : List (ℕ × ℕ)). AreOpen (marked_in c.args.marks.now) ps c.loop-b.leading.count c.loop-b.leading.first.items) all c.loop-b.invariant
