@@ -31,9 +31,11 @@ RUNS = [
     ("Runs without a lock", ["words.py"]),
     ("`pit replay`: the steps of a trace", ["replay.py"]),
     ("`pit shells` at twenty factors", ["shells.py"]),
+    ("`pit value` beside `pit check`", ["value.py"]),
     ("The worths at a factor, by several threads", ["worths.py"]),
     ("The bench table: `rows` and `write_report` alone", ["report.py"]),
     ("pitplan beside pandas, and beside `pit` alone", ["pitplan.py"]),
+    ("The page of pitplan", ["page.py"]),
     ("Files, pushbacks and designs of pitplan", ["pitplan_export.py"]),
 ]
 

@@ -50,7 +50,7 @@ def made_up(columns, levels, pits):
                                    manifest={"currency": "$", "metals": {"copper": {"grade": "CU", "grade_unit": "%", "price_unit": "t"}}})
     shells.factors = [300 + 50 * n for n in range(pits)]
     shells.shell = np.clip((out + (levels - 1 - k)) / (0.6 * columns) * pits, 0, pits).astype(np.int16)
-    shells.verdicts = [{"count": int((shells.shell <= n).sum()), "worth": "0"} for n in range(pits)]
+    shells.verdicts = [{"count": int((shells.shell <= n).sum()), "worth": "0", "certificate": None} for n in range(pits)]
     return shells
 
 

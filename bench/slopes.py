@@ -4,13 +4,15 @@
     bench/slopes.py
 
 A cube of 1,000,000 blocks by the small patterns, and a box of 480,000 by cones: every pair, and the reduced ones. The pairs of
-a full box can be counted by its sides. This is a measurement and no test: it holds no time against a limit.
+a full box can be counted by its sides. Then `nine` beside peers/slopes_writer, in turns, whose text must be the same: of the cube,
+and of the cube numbered in no order. This is a measurement and no test: it holds no time against a limit.
 """
 import os
+import random
 import sys
 import tempfile
 
-from common import PIT, adopt_orphans, run, table
+from common import PIT, adopt_orphans, best, peer, rounds, run, table
 
 CUBE = (100, 100, 100)
 BOX = (100, 80, 60)
@@ -59,6 +61,24 @@ def write_box(name, sides):
             out.write(f"{b} {b % sides[0]} {b // sides[0] % sides[1]} {b // sides[0] // sides[1]} 1 2.5\n")
 
 
+def write_shuffled(name, sides):
+    """The same box, numbered in no order."""
+    numbers = list(range(sides[0] * sides[1] * sides[2]))
+    random.Random(1).shuffle(numbers)
+    with open(name, "w") as out:
+        for b, at in enumerate(numbers):
+            out.write(f"{b} {at % sides[0]} {at // sides[0] % sides[1]} {at // sides[0] // sides[1]} 1 2.5\n")
+
+
+def beside(name, file):
+    """A row for pattern nine beside the plain writer."""
+    ours, theirs = rounds([[str(PIT), "slopes", "--blocks", file, "--pattern", "nine"], [peer("slopes_writer"), file]], 3, 0)
+    if ours[0].status != 0 or ours[0].output != theirs[0].output:
+        sys.exit(f"bench: the two texts of {name} differ")
+    (seconds, peak), (peer_seconds, peer_peak) = best(ours), best(theirs)
+    return [name, f"{seconds:.2f}", f"{peer_seconds:.2f}", f"{seconds / peer_seconds:.1f}", f"{peak:.0f}", f"{peer_peak:.0f}", f"{peak / peer_peak:.1f}"]
+
+
 def measured(file, sides, words, offsets):
     """A row for a run whose pairs are those of these offsets."""
     answer = run([str(PIT), "slopes", "--blocks", file, "--pattern", *words], 0)
@@ -82,7 +102,12 @@ def main():
         rows.append(measured(box, BOX, ["cone:8:3:5"], eight))
         rows.append(measured(box, BOX, ["cone:8:3:5", "--reduce"], reduced(eight)))
         rows.append(measured(box, BOX, ["cone:12:3:5", "--reduce"], reduced(twelve)))
+        shuffled = os.path.join(folder, "shuffled.blocks")
+        write_shuffled(shuffled, CUBE)
+        compared = [beside("in order", cube), beside("in no order", shuffled)]
     table(["pattern", "blocks", "pairs", "MB of text", "CPU s", "wall s", "peak MB"], rows)
+    print()
+    table(["nine, blocks", "pit s", "peer s", "ratio", "pit MB", "peer MB", "ratio"], compared)
 
 
 if __name__ == "__main__":

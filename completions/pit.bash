@@ -2,7 +2,7 @@
 _pit() {
     local word=${COMP_WORDS[COMP_CWORD]} before=${COMP_WORDS[COMP_CWORD-1]} words= files=
     if [ "$COMP_CWORD" = 1 ]; then
-        words="check slopes solve shells report replay"
+        words="check slopes solve shells report value replay"
         case "$word" in -*) words="-h --help -V --version" ;; esac
     else
         case "${COMP_WORDS[1]} $before" in
@@ -39,6 +39,12 @@ _pit() {
         "report --steps") : ;;
         "report --workers") : ;;
         "report --by-block") files=1 ;;
+        "value --prec") files=1 ;;
+        "value --upit") files=1 ;;
+        "value --blocks") files=1 ;;
+        "value --settings") files=1 ;;
+        "value --factor") : ;;
+        "value --best") files=1 ;;
         "replay --prec") files=1 ;;
         "replay --upit") files=1 ;;
         "replay --blocks") files=1 ;;
@@ -52,6 +58,7 @@ _pit() {
             solve) words="--prec --upit --blocks --settings --factor --method --group --steps --workers --progress --verbose --trace --room -h --help" ;;
             shells) words="--prec --blocks --settings --method --steps --workers --by-block --progress --verbose -h --help" ;;
             report) words="--prec --blocks --settings --method --steps --workers --by-block --progress --verbose -h --help" ;;
+            value) words="--prec --upit --blocks --settings --factor --best --verbose -h --help" files=1 ;;
             replay) words="--prec --upit --blocks --settings --factor --group --verbose -h --help" files=1 ;;
             esac
             case "$word" in -*) files= ;; *) words= ;; esac ;;

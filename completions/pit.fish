@@ -55,6 +55,16 @@ complete -c pit -n '__fish_seen_subcommand_from report' -l by-block -r -F -d 'Wr
 complete -c pit -n '__fish_seen_subcommand_from report' -l progress -d 'Reports on standard error each factor at which a pit is proved, and how far a run of push-relabel is'
 complete -c pit -n '__fish_seen_subcommand_from report' -l verbose -d 'Reports on standard error which file failed, and the system\'s reason'
 complete -c pit -n '__fish_seen_subcommand_from report' -s h -l help -d 'Print help (see a summary with \'-h\')'
+complete -c pit -n __fish_use_subcommand -a value -d 'Judges a design'
+complete -c pit -n '__fish_seen_subcommand_from value' -F
+complete -c pit -n '__fish_seen_subcommand_from value' -l prec -r -F -d 'The predecessors of each block'
+complete -c pit -n '__fish_seen_subcommand_from value' -l upit -r -F -d 'What each block is worth'
+complete -c pit -n '__fish_seen_subcommand_from value' -l blocks -r -F -d 'The blocks with columns of revenues and costs, or of a mill\'s charges'
+complete -c pit -n '__fish_seen_subcommand_from value' -l settings -r -F -d 'The columns of revenues and costs, or of a mill\'s charges instead of costs, and the factors of the shells'
+complete -c pit -n '__fish_seen_subcommand_from value' -l factor -x -d 'The share of the revenues that counts, in thousandths, from 0 to 10000, with --blocks'
+complete -c pit -n '__fish_seen_subcommand_from value' -l best -r -F -d 'A certificate of the best pit, with which the design is compared'
+complete -c pit -n '__fish_seen_subcommand_from value' -l verbose -d 'Reports on standard error which file failed, and the system\'s reason'
+complete -c pit -n '__fish_seen_subcommand_from value' -s h -l help -d 'Print help (see a summary with \'-h\')'
 complete -c pit -n __fish_use_subcommand -a replay -d 'Repeats a run of push-relabel step by step from its trace'
 complete -c pit -n '__fish_seen_subcommand_from replay' -F
 complete -c pit -n '__fish_seen_subcommand_from replay' -l prec -r -F -d 'The predecessors of each block'

@@ -8,6 +8,7 @@ _pit() {
         'solve:Finds the best pit and writes its certificate'
         'shells:Finds the shells'
         'report:Prints the bench table'
+        'value:Judges a design'
         'replay:Repeats a run of push-relabel step by step from its trace'
     )
     if (( CURRENT == 2 )); then
@@ -65,6 +66,14 @@ _pit() {
             '--progress[Reports on standard error each factor at which a pit is proved, and how far a run of push-relabel is]' \
             '--verbose[Reports on standard error which file failed, and the system'\''s reason]' \
             '-h[Print help (see a summary with '\''-h'\'')]' '--help[Print help (see a summary with '\''-h'\'')]' ;;
+        value) _arguments '--prec[The predecessors of each block]:prec:_files' \
+            '--upit[What each block is worth]:upit:_files' \
+            '--blocks[The blocks with columns of revenues and costs, or of a mill'\''s charges]:blocks:_files' \
+            '--settings[The columns of revenues and costs, or of a mill'\''s charges instead of costs, and the factors of the shells]:settings:_files' \
+            '--factor[The share of the revenues that counts, in thousandths, from 0 to 10000, with --blocks]:factor: ' \
+            '--best[A certificate of the best pit, with which the design is compared]:best:_files' \
+            '--verbose[Reports on standard error which file failed, and the system'\''s reason]' \
+            '-h[Print help (see a summary with '\''-h'\'')]' '--help[Print help (see a summary with '\''-h'\'')]' '*:file:_files' ;;
         replay) _arguments '--prec[The predecessors of each block]:prec:_files' \
             '--upit[What each block is worth]:upit:_files' \
             '--blocks[The blocks with columns of revenues and costs, or of a mill'\''s charges]:blocks:_files' \

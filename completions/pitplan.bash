@@ -8,6 +8,7 @@ _pitplan() {
         case "${COMP_WORDS[1]} $before" in
         "init --study") files=1 ;;
         "init -c"|"init --column") : ;;
+        "init --encoding") : ;;
         "slopes --every") : ;;
         "shells --workers") : ;;
         "plot --bench") : ;;
@@ -49,7 +50,7 @@ _pitplan() {
         "submit --at-once") : ;;
         *)
             case "${COMP_WORDS[1]}" in
-            init) words="--study -c --column --force -h --help" files=1 ;;
+            init) words="--study -c --column --encoding --force -h --help" files=1 ;;
             build) words="-h --help" files=1 ;;
             slopes) words="--every -h --help" files=1 ;;
             shells) words="--workers --certificates -h --help" files=1 ;;

@@ -8,6 +8,7 @@ complete -c pitplan -n __fish_use_subcommand -a init -d 'Look at a table of bloc
 complete -c pitplan -n '__fish_seen_subcommand_from init' -F
 complete -c pitplan -n '__fish_seen_subcommand_from init' -l study -r -F -d 'The folder of the new study'
 complete -c pitplan -n '__fish_seen_subcommand_from init' -s c -l column -x -d 'What a column is, as x=este, where its name isn\'t a usual one'
+complete -c pitplan -n '__fish_seen_subcommand_from init' -l encoding -x -d 'Of the table where it isn\'t UTF-8, as cp1252'
 complete -c pitplan -n '__fish_seen_subcommand_from init' -l force -d 'Write over a study.toml that is there'
 complete -c pitplan -n '__fish_seen_subcommand_from init' -s h -l help -d 'Show this message and exit'
 complete -c pitplan -n __fish_use_subcommand -a build -d 'Read the table, work out what each block brings and costs, and make the slopes'

@@ -30,6 +30,7 @@ _pitplan() {
     case $command in
         init) _arguments '--study[The folder of the new study]:study:_files' \
             '-c[What a column is, as x=este, where its name isn'\''t a usual one]:column: ' '--column[What a column is, as x=este, where its name isn'\''t a usual one]:column: ' \
+            '--encoding[Of the table where it isn'\''t UTF-8, as cp1252]:encoding: ' \
             '--force[Write over a study.toml that is there]' \
             '-h[Show this message and exit]' '--help[Show this message and exit]' '*:file:_files' ;;
         build) _arguments '-h[Show this message and exit]' '--help[Show this message and exit]' '*:file:_files' ;;

@@ -98,7 +98,7 @@ def indices(axis, coordinates, size):
     for row, step in enumerate(steps):
         if abs(step - round(step)) > 0.1:
             sys.exit("block %d, row %d below the header: %s is %.10g, which is %.2f blocks of %g above the lowest, and no whole number of blocks: "
-                     "is a block %g long along %s, and are all of one size?" % (row, row + 1, axis, coordinates[row], step, size, size, axis))
+                     "is a block %g long along %s, are all of one size, and is the model not turned?" % (row, row + 1, axis, coordinates[row], step, size, size, axis))
     found = [round(step) for step in steps]
     apart = functools.reduce(math.gcd, found)
     if apart > 1:

@@ -22,8 +22,8 @@ from pathlib import Path
 import page_facts
 
 PAGES = "README.md", "docs/GUIDE.md", "docs/ENGINES.md"
-COMMANDS = "slopes", "solve", "check", "shells", "report", "replay"
-STATUSES = (("REFUSED", 1), ("UNSETTLED", 1), ("HISTORYFULL", 1), ("error:", 2), ("fault: device", 4), ("fault: memory", 4), ("fault:", 3))
+COMMANDS = "slopes", "solve", "check", "shells", "report", "replay", "value"
+STATUSES = (("REFUSED", 1), ("UNSETTLED", 1), ("HISTORYFULL", 1), ("OPEN ", 1), ("error:", 2), ("fault: device", 4), ("fault: memory", 4), ("fault:", 3))
 LOOKS_TYPED = re.compile(r"(pit|python3|pitplan|\./\S+|cd|grep|sed|cut|cat) ")
 UNTYPED = {"README.md": ("./run-example", "./install", "python3 tests/run"),
            "docs/GUIDE.md": ("python3 examples/csv_to_minelib.py mine.csv 20 20 10 mine revenue cost tonnes", "pit slopes --blocks mine.blocks",

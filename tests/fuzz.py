@@ -19,7 +19,7 @@ from refused_calls import lay_out
 
 HERE = Path(__file__).resolve().parent
 FOUND = HERE.parent / "out" / "fuzz"
-KINDS = ("check", "solve", "slopes", "shells", "report", "replay", "certificate", "settings", "hostile", "prec", "upit")
+KINDS = ("check", "solve", "slopes", "shells", "report", "replay", "value", "certificate", "settings", "hostile", "prec", "upit")
 OWN = {"words", "status", "stdout", "stderr", "stderr-any", "same-as"}
 LARGEST = 20_000
 SECONDS = 30

@@ -8,8 +8,10 @@ from concurrent.futures import ThreadPoolExecutor
 from pathlib import Path
 
 import debian
+import machine
 
 PYTHON = "/usr/bin/python3"
+AT_ONCE = 4  # tests of browsers, Slurm and large models take up to 1.5 GB each
 
 
 def packages(top):
@@ -45,14 +47,18 @@ def installed(top):
 
 
 def try_all(top, pit):
-    """Runs the tests, with those on a one-node Slurm, Snakemake and Dask, and gives how many passed and failed. What they write is taken away."""
+    """Runs the tests, with those on a one-node Slurm, Snakemake and Dask, and gives how many passed and failed. What they write is taken away.
+
+    Each processor takes one file of tests after another: those of a file share a model, a browser or a Slurm.
+    """
     if not os.access(pit, os.X_OK):
         print("no program at %s" % pit)
         return 0, 1
     if not installed(top):
         return 0, 1
     with tempfile.TemporaryDirectory(prefix="pitplan-tests.", ignore_cleanup_errors=True) as room:
-        words = [PYTHON, "-m", "pytest", "-q", "-p", "no:cacheprovider", "--basetemp=" + os.path.join(room, "t"), "tests"]
+        side_by_side = ["-n", str(min(AT_ONCE, machine.processors())), "--dist", "loadfile"]
+        words = [PYTHON, "-m", "pytest", "-q", *side_by_side, "-p", "no:cacheprovider", "--basetemp=" + os.path.join(room, "t"), "tests"]
         ran = subprocess.run(words, cwd=top / "python", env={**os.environ, "PIT": str(pit), "TMPDIR": room}, stdin=subprocess.DEVNULL, stdout=subprocess.PIPE, stderr=subprocess.STDOUT, text=True)
     counts = {word: int(number) for number, word in re.findall(r"(\d+) (passed|failed|error|errors)\b", ran.stdout.strip().rsplit("\n", 1)[-1])}
     passed, failed = counts.get("passed", 0), counts.get("failed", 0) + counts.get("error", 0) + counts.get("errors", 0)

@@ -29,6 +29,8 @@ ROWS = (
     "shells/two_prices_by_two_threads_of_the_machine",
     "shells/by_block_two_prices",
     "report/two_prices",
+    "value/all_three_blocks_beside_the_best_pit",
+    "value/prices_of_a_block_that_needs_another",
 )
 # Each kind of failure, how it shows, and the lines that may come.
 KINDS = (

@@ -16,6 +16,8 @@ Bools = npt.NDArray[np.bool_]
 THOUSAND = 1000                              # a factor is in thousandths
 MOST = Decimal(10) ** 12                     # the most that `pit` reads for a block
 LARGEST_FACTOR = 10_000                      # that `pit` takes, in thousandths
+PIECE = 1 << 15                              # blocks whose worths are added up at a time: what stays near the processor takes a third of the time
+HALF = 31                                    # bits of a number that are added up apart from those above them
 
 
 def rounding_of(rounding: float | str | Decimal) -> Decimal:
@@ -76,11 +78,21 @@ class Priced:
         PlanError
             Where a product doesn't fit 64 bits.
         """
-        largest = max(int(self.revenue.max(initial=0)) * max(factor, THOUSAND), int(np.abs(self.processing).max(initial=0)) * THOUSAND,
-                      int(np.abs(self.mining).max(initial=0)) * THOUSAND)
+        self.check_room(factor)
+        return self.of_part(slice(None), factor)
+
+    def check_room(self, factor: int) -> None:
+        """Raises PlanError where a product at a factor doesn't fit 64 bits."""
+        largest = max(furthest(self.revenue) * max(factor, THOUSAND), furthest(self.processing) * THOUSAND, furthest(self.mining) * THOUSAND)
         if largest >= 1 << 61:
             raise PlanError(f"an amount of {largest / THOUSAND * float(self.rounding):g} for one block is too large to count with", try_this="rounding = 1000 in [economics]")
-        worth: Whole = np.maximum(self.revenue * factor - self.processing * THOUSAND, 0) - self.mining * THOUSAND
+
+    def of_part(self, part: slice, factor: int) -> Whole:
+        """`thousandths` of some of the blocks, where `check_room` has passed."""
+        worth: Whole = self.revenue[part] * factor
+        worth -= self.processing[part] * THOUSAND
+        np.maximum(worth, 0, out=worth)
+        worth -= self.mining[part] * THOUSAND
         return worth
 
     def worth(self, factor: int) -> Floats:
@@ -100,6 +112,12 @@ class Priced:
         forbidden: Bools = self.mining > most if most else np.zeros(len(self), bool)
         return forbidden
 
+    def at_most(self) -> Bools:
+        """Which blocks cost the most that `pit` reads to dig, of shape (blocks,): what `economics.fence_price` makes of forbidden
+        ones where more than the whole mine brings at the largest factor is more than that."""
+        found: Bools = self.mining >= int(MOST / self.rounding)
+        return found
+
     def worth_of(self, blocks: Bools, factor: int) -> str:
         """What a set of blocks is worth at a factor, exactly, spelled as `pit` spells a worth.
 
@@ -109,13 +127,24 @@ class Priced:
         factor : int
             In thousandths.
         """
-        return spelled(Decimal(exact_sum(self.thousandths(factor)[blocks])) * self.rounding / THOUSAND)
+        self.check_room(factor)
+        parts = (slice(at, at + PIECE) for at in range(0, len(self), PIECE))
+        return self.spelled(sum(exact_sum(self.of_part(part, factor) * blocks[part]) for part in parts))
+
+    def spelled(self, thousandths: int) -> str:
+        """Thousandths of `rounding` as `pit` spells a worth."""
+        return spelled(Decimal(thousandths) * self.rounding / THOUSAND)
+
+
+def furthest(values: Whole) -> int:
+    """How far from 0 whole numbers go."""
+    return max(int(values.max(initial=0)), -int(values.min(initial=0)))
 
 
 def exact_sum(values: Whole) -> int:
     """The sum of whole numbers as Python's whole number: it is never rounded and never overflows, for up to 2^31 of them."""
-    high, low = np.divmod(values, 1 << 31)
-    return (int(high.sum(dtype=np.int64)) << 31) + int(low.sum(dtype=np.int64))
+    high = int((values >> HALF).sum(dtype=np.int64))       # of a number below 0 too: it is high times 2^31 and low, from 0 on
+    return (high << HALF) + int((values & (1 << HALF) - 1).sum(dtype=np.int64))
 
 
 def spelled(value: Decimal) -> str:

@@ -15,9 +15,9 @@ import pandas as pd
 from . import __version__
 from .amounts import THOUSAND
 from .csv_text import Dialect
+from .digests import sha256
 from .errors import PlanError
 from .next_command import command
-from .program import sha256
 from .study import COLUMNS, READ, made_whole
 
 if TYPE_CHECKING:

@@ -66,7 +66,7 @@ def beside(study: Study, design: Design, factor: float) -> Comparison:
     if not study.certified(wanted):
         from .commands_shells import with_certificates
         with_certificates(Shells(study, [wanted]))
-    with err.status("pit check reads the design"):
+    with err.status("pit value reads the design"):
         return compare(study, design, wanted)
 
 

@@ -3,13 +3,9 @@ from __future__ import annotations
 
 import errno
 import importlib
-import importlib.util
 import pkgutil
 import sys
-import threading
 from pathlib import Path
-from types import ModuleType
-from typing import Any
 
 import click
 from rich.markup import escape
@@ -17,31 +13,11 @@ from rich.markup import escape
 from . import older
 from .console import app, err
 from .errors import Disagreement, MachineError, NotAccepted, PlanError
+from .later import lazily
 from .next_command import remember
 
 ORDER = ("init", "build", "slopes", "shells", "plot", "page", "phases", "export", "compare", "risk", "vary", "submit", "status", "task", "bundle", "doctor")  # of a working day, for --help
 NO, WRONG, MACHINE, STOPPED = 1, 3, 4, 130
-LOADING = threading.RLock()
-
-
-class Later(ModuleType):
-    """A module that is loaded when something of it is asked for."""
-
-    def __getattr__(self, name: str) -> Any:
-        with LOADING:
-            if sys.modules.get(self.__name__) is self:
-                del sys.modules[self.__name__]
-                self.__dict__.update(vars(importlib.import_module(self.__name__)))
-        return getattr(sys.modules[self.__name__], name)
-
-
-def lazily(name: str) -> None:
-    """Lets `import NAME` wait: pandas takes longer to load than many a command takes to run, and the first pits can be looked for
-    meanwhile."""
-    spec = importlib.util.find_spec(name)
-    if spec and name not in sys.modules:
-        sys.modules[name] = Later(name)
-        sys.modules[name].__spec__ = spec
 
 
 def load_commands() -> None:
@@ -69,7 +45,7 @@ def remedy(error: OSError) -> str:
 def main() -> None:
     """Runs a command. Exit status: 0 done, 1 no, 2 wrong words, 3 a file is wrong, 4 the machine, 130 stopped."""
     remember(sys.argv[0])
-    lazily("pandas")
+    lazily("pandas")                         # the first pits can be looked for while it is loaded
     load_commands()
     try:
         try:

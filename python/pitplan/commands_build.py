@@ -1,8 +1,10 @@
 """`pitplan init` and `pitplan build`."""
 from __future__ import annotations
 
+import sys
+from collections.abc import Sequence
 from pathlib import Path
-from typing import TYPE_CHECKING, Any, Optional
+from typing import TYPE_CHECKING, Optional
 
 import typer
 from rich.markup import escape
@@ -12,6 +14,9 @@ from .errors import PlanError
 from .next_command import command
 
 if TYPE_CHECKING:
+    from rich.status import Status
+
+    from .slopes import Heard
     from .study import Study
     from .study_file import StudyFile
 
@@ -20,11 +25,12 @@ if TYPE_CHECKING:
 def init(table: Path = typer.Argument(..., help="A table of blocks: CSV or CSV.gz."),
          folder: Optional[Path] = typer.Option(None, "--study", help="The folder of the new study; the table's name without its ending unless told."),
          column: list[str] = typer.Option([], "--column", "-c", metavar="KEY=NAME", help="What a column is, as x=este, where its name isn't a usual one. May be given several times."),
+         encoding: Optional[str] = typer.Option(None, "--encoding", help="Of the table where it isn't UTF-8, as cp1252."),
          is_forced: bool = typer.Option(False, "--force", help="Write over a study.toml that is there.")) -> None:
     """Look at a table of blocks, and write a study.toml for it."""
     from .first_look import look_at, written
     from .study import near
-    look = look_at(table, dict(map(named, column)))
+    look = look_at(table, dict(map(named, column)), encoding)
     folder = folder or Path(table.name.removesuffix(".gz").removesuffix(".csv"))
     path = folder / "study.toml"
     if path.exists() and not is_forced:
@@ -38,7 +44,7 @@ def init(table: Path = typer.Argument(..., help="A table of blocks: CSV or CSV.g
         out.print(f"  blocks of {' x '.join(f'{v:g}' for v in look.size)}" + (f", turned by {look.rotation:g} degrees" if look.rotation else "")
                   + (", with sub-blocks" if look.has_sub_blocks else ""))
     for note in look.notes:
-        err.print("  [yellow]look:[/yellow] " + escape(note))
+        err.print("  [yellow]look:[/yellow] " + escape(note), soft_wrap=True)
     out.print(escape(f"{path} is written: put your own prices, costs and slopes there, then: {command('build', folder)}"), soft_wrap=True)
 
 
@@ -61,13 +67,25 @@ def build(folder: Path = STUDY) -> None:
     out.print(f"{told.table.name}: {len(model):,} blocks of {' x '.join(f'{v:g}' for v in model.grid.size)} on a grid of {' x '.join(map(str, model.grid.shape))}")
     for note in model.notes:
         out.print("  " + escape(note))
-    with err.status("prices and slopes"):
+    with err.status("prices and slopes") as status:
+        told.slopes.heard = of_region(status)
         study = Study.create(told.path.parent, model, told.economics, told.slopes, keys=told.digest)
         study.named = folder
     print_tonnage(study)
     print_patterns(told.slopes, study.model.grid)
     set_aside(study, key_of(told.slopes, study.model.grid))
     print_size(study, told)
+
+
+def of_region(status: Status) -> Heard:
+    """Says which region's slopes are begun: on a terminal in place of the line before, else a line for each, for logs."""
+    def heard(name: str, at: int, count: int) -> None:
+        said = f"slopes of {name}, {at} of {count}"
+        if err.is_terminal:
+            status.update(escape(said))
+        else:
+            print(said, file=sys.stderr, flush=True)
+    return heard
 
 
 def set_aside(study: Study, walls: str) -> None:
@@ -85,15 +103,22 @@ def print_tonnage(study: Study) -> None:
     """The grade-tonnage line of each rock."""
     from .tonnage import by_rock
     lines = by_rock(study.model, study.priced, study.manifest["metals"])
-    print_columns("in place, at the full price; metals as recovered", list(map(str, lines.columns)),
-                  [(str(line[0]), *(cell(value) for value in line[1:])) for line in lines.itertuples(index=False)], words=1)
+    columns = [list(map(str, lines[lines.columns[0]])), *(cells_of(lines[name].tolist()) for name in lines.columns[1:])]
+    print_columns("in place, at the full price; metals as recovered", list(map(str, lines.columns)), list(zip(*columns)), words=1)
 
 
-def cell(value: Any) -> str:
-    """A number as a table shows it."""
-    if isinstance(value, float):
-        return "" if value != value else f"{value:,.3f}" if abs(value) < 100 else f"{value:,.0f}"
-    return f"{value:,}"
+def cells_of(values: Sequence[int | float]) -> list[str]:
+    """The numbers of a column as a table shows them, all with as many decimals: 3 where the greatest is below 100, one less for each
+    digit more, and none for whole numbers. What is no number is an empty cell.
+
+    >>> cells_of([178.4, 52.12, float("nan")]), cells_of([5041, 12])
+    (['178.40', '52.12', ''], ['5,041', '12'])
+    """
+    if all(isinstance(value, int) for value in values):
+        return [f"{value:,}" for value in values]
+    greatest = max((abs(value) for value in values if value == value), default=0.0)
+    places = next((places for places, most in ((3, 100), (2, 1_000), (1, 10_000)) if round(greatest, places) < most), 0)
+    return ["" if value != value else f"{value:,.{places}f}" for value in values]
 
 
 def print_size(study: Study, told: StudyFile) -> None:

@@ -9,11 +9,12 @@ from typing import TYPE_CHECKING, Any, List, Optional
 import typer
 from rich.markup import escape
 
-from .console import STUDY, app, opened, out, results
+from .console import STUDY, app, described, opened, out, results
 from .errors import PlanError
 
 if TYPE_CHECKING:
     from .compare import Comparison
+    from .amounts import Bools
     from .design import Design
     from .model import Model
     from .study import Study
@@ -31,7 +32,7 @@ def compare(folder: Path = STUDY,
     """Put a designed pit beside the proved best one: does it keep the slopes, what is it worth, how far from the bound. Status 1 where it breaks the slopes."""
     from .chosen import beside
     study = opened(folder)
-    found = beside(study, design_of(study.model, ids, (column, value), (surface, layer)), factor)
+    found = beside(study, design_of(study.model, ids, (column, value), (surface, layer), described(folder).keys.encoding), factor)
     target = write(study, found, bench)
     tell(study, found)
     out.print(escape(f"{target}: summary.json, benches.csv" + ("" if found.is_closed else ", pairs.csv, walls.csv, repair.csv") + ", plans"), soft_wrap=True)
@@ -39,15 +40,15 @@ def compare(folder: Path = STUDY,
         raise typer.Exit(1)
 
 
-def design_of(model: Model, ids: Path | None, column: tuple[str | None, str | None], surface: tuple[Path | None, list[str]]) -> Design:
-    """The design that is asked for; exactly one."""
+def design_of(model: Model, ids: Path | None, column: tuple[str | None, str | None], surface: tuple[Path | None, list[str]], encoding: str | None) -> Design:
+    """The design that is asked for; exactly one. `encoding` is that of the table of blocks."""
     from .design import by_column, by_ids_of, by_surface
     if sum(given is not None for given in (ids, column[0], surface[0])) != 1:
         raise PlanError("a design is given by one of --ids FILE, --column NAME and --surface FILE")
     if ids is not None:
-        return by_ids_of(model, ids)
+        return by_ids_of(model, ids, encoding)
     if surface[0] is not None:
-        return by_surface(model, surface[0], surface[1])
+        return by_surface(model, surface[0], surface[1], encoding)
     return by_column(model, str(column[0]), column[1])
 
 
@@ -79,15 +80,24 @@ def summary(study: Study, found: Comparison) -> dict[str, Any]:
     """What an auditor asks of the comparison."""
     verdict = study.verdict(found.factor)
     tonnes = study.model.blocks.tonnes.to_numpy(float)
-    told: dict[str, Any] = {"design": found.design.name, "notes": found.design.notes, "factor": found.factor / 1000, "pit_check_said": found.said, "is_closed": found.is_closed,
+    told: dict[str, Any] = {"design": found.design.name, "notes": found.design.notes, "factor": found.factor / 1000, "pit_value_said": found.said, "is_closed": found.is_closed,
                             "blocks": int(found.design.held.sum()), "tonnes": float(tonnes[found.design.held].sum()), "worth": found.worth, "bound": found.bound, "gap": found.gap,
                             "best_blocks": int(found.optimum.sum()), "best_tonnes": float(tonnes[found.optimum].sum()),
                             "left_tonnes": float(found.benches.left_t.sum()), "over_tonnes": float(found.benches.over_t.sum()),
-                            "certificate": verdict["certificate"] if verdict else None, "model": study.key, "pit": study.manifest["pit"]}
+                            "forbidden_blocks": int((found.design.held & study.priced.forbidden()).sum()), "certificate": verdict["certificate"] if verdict else None, "model": study.key, "pit": study.manifest["pit"]}
     if found.repair:
         told["repair"] = {"blocks": found.repair.blocks, "tonnes": found.repair.tonnes, "worth": found.repair.worth, "gap": found.repair.gap}
         told["broken_pairs"] = len(found.pairs)
     return told
+
+
+def forbidden_lines(study: Study, held: Bools) -> list[str]:
+    """What is said of a design that digs what may not be dug: its worth has the price that keeps these blocks from every pit."""
+    shut = held & study.priced.forbidden()
+    if not shut.any():
+        return []
+    count, first = int(shut.sum()), str(study.model.blocks["id"].to_numpy()[shut][0])
+    return [f"look: the design digs {count:,} {'blocks' if count > 1 else 'block'} that forbid keeps from being dug, as {first}: its worth counts them at a price that no pit pays, and says nothing"]
 
 
 def tell(study: Study, found: Comparison) -> None:
@@ -95,7 +105,7 @@ def tell(study: Study, found: Comparison) -> None:
     from .compare_words import money, verdict_lines
     currency, held = study.manifest["currency"], found.design.held
     tonnes = study.model.blocks.tonnes.to_numpy(float)
-    lines = [f"{found.design.name}: {int(held.sum()):,} blocks, {tonnes[held].sum() / 1e6:,.2f} Mt, worth {money(found.worth, currency)} at factor {found.factor / 1000:g}", *(f"  {note}" for note in found.design.notes),
+    lines = [f"{found.design.name}: {int(held.sum()):,} blocks, {tonnes[held].sum() / 1e6:,.2f} Mt, worth {money(found.worth, currency)} at factor {found.factor / 1000:g}", *(f"  {note}" for note in found.design.notes), *forbidden_lines(study, held),
              f"best pit: {int(found.optimum.sum()):,} blocks, {tonnes[found.optimum].sum() / 1e6:,.2f} Mt, worth {money(found.bound, currency)}: no pit that keeps the slopes is worth more",
              *verdict_lines(found, currency)]
     b = found.benches

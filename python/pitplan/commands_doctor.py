@@ -19,6 +19,6 @@ def doctor() -> None:
         if found.try_this:
             out.print(f"  try: {escape(found.try_this)}", soft_wrap=True)
         bad += found.is_bad
-    out.print("all is well" if not bad else f"{bad} things are missing or wrong")
+    out.print("all is well" if not bad else f"missing or wrong: {bad}")
     if bad:
         raise typer.Exit(1)

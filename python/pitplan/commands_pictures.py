@@ -8,7 +8,7 @@ from typing import TYPE_CHECKING, List, Optional
 import typer
 from rich.markup import escape
 
-from .console import STUDY, app, out, results, shells_of
+from .console import STUDY, app, described, out, results, shells_of
 from .errors import PlanError
 
 if TYPE_CHECKING:
@@ -65,12 +65,12 @@ def page(folder: Path = STUDY,
     cut = Phases(pits_at(folder, shares_of(phases))) if phases else None
     if design and column:
         raise PlanError("a design is given by one of --design FILE and --column NAME")
-    found = beside(shells.study, design_of(shells.study.model, design, (column, value), layer), factor) if design or column else None
+    found = beside(shells.study, design_of(shells.study.model, design, (column, value), layer, described(folder).keys.encoding), factor) if design or column else None
     path = pages.write(shells, results(shells.study) / "pits.html", shells.table(1000, **rates), title, cut, found)
     out.print(f"{escape(str(path))}: {path.stat().st_size / 1e6:.1f} MB, opens in any browser", soft_wrap=True)
 
 
-def design_of(model: Model, file: Path | None, column: tuple[str | None, str | None], layers: list[str]) -> Design:
-    """The design of a file or of a column."""
+def design_of(model: Model, file: Path | None, column: tuple[str | None, str | None], layers: list[str], encoding: str | None) -> Design:
+    """The design of a file or of a column. `encoding` is that of the table of blocks."""
     from .design import by_column, by_file
-    return by_file(model, file, layers) if file else by_column(model, str(column[0]), column[1])
+    return by_file(model, file, layers, encoding) if file else by_column(model, str(column[0]), column[1])

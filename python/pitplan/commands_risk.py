@@ -38,13 +38,14 @@ def risk(folder: Path = STUDY,
             series = series_of(float(part) for part in factors.split(","))
         except ValueError:
             raise PlanError(f"--factors {factors}: these are no numbers", try_this="--factors 0.8,1,1.2") from None
-        prepare(study, described(folder).economics, realisations, series, metal)
+        told = described(folder)
+        prepare(study, told.economics, realisations, series, metal, told.keys)
     setup = setup_of(study)
     if setup is None:
         raise PlanError("no realisations were asked for over the model that stands there", try_this=command("risk", folder, "--realisations", "FILE"))
     tell_means(study, setup)
     if later:
-        out.print(f"{len(setup.digests)} realisations at {len(setup.factors)} factors; then: {command('submit', folder)}, and {command('risk', folder)} for the tables", soft_wrap=True)
+        out.print(f"{len(setup.digests)} realisations at {len(setup.factors)} factor{'s' * (len(setup.factors) > 1)}; then: {command('submit', folder)}, and {command('risk', folder)} for the tables", soft_wrap=True)
         return
     do_all(study, tasks(study), workers)
     write_risk(Risk(study))

@@ -85,7 +85,7 @@ def print_angles(table: pd.DataFrame, every: int) -> None:
     for bearing, rows in table.groupby("bearing"):
         if bearing % every == 0:
             by_region = rows.set_index("region")
-            lines.append((str(bearing), *(f"{by_region.at[name, column]:{'+' if column == 'error' else ''}.1f}" for name in regions for column in ("asked", "built", "error"))))
+            lines.append((str(bearing), *(f"{round(by_region.at[name, column], 1) + 0.0:{'+' if column == 'error' else ''}.1f}" for name in regions for column in ("asked", "built", "error"))))
     print_columns("degrees of the wall at a bearing", names, lines)
 
 

@@ -1,16 +1,13 @@
 """A designed pit beside the proved best one: does it keep the slopes, where not, what is it worth, how far from the bound.
 
-Whether the design is closed is `pit check`'s own word. Its blocks are put in place of the PIT lines of the certificate of the best
-pit, and `pit check` reads that: REFUSED NotClosed(b, p) names a pair that the design breaks; REFUSED NotTight comes
-only after closedness was looked at, so the design is closed, and isn't the best pit; ACCEPTED says that it is. What it is
-worth is the exact sum over the planner's own table, in whole units, beside the worth of the accepted certificate.
+Whether the design is closed, what it is worth and how far that is from the best pit are `pit value`'s own words: it reads the model's
+files, the design's blocks and the certificate of the best pit, which it checks as `pit check` does. The pairs that a design
+breaks, and the sum of its worth over the planner's own table, are looked up here too, and have to be the same.
 """
 from __future__ import annotations
 
 import gzip
 import hashlib
-import re
-import shutil
 import tempfile
 from dataclasses import dataclass
 from decimal import Decimal
@@ -22,12 +19,12 @@ import numpy.typing as npt
 import pandas as pd
 
 from . import walls
-from .amounts import THOUSAND, spelled
+from .amounts import THOUSAND
 from .design import Design
-from .errors import Disagreement, NotAccepted
+from .errors import Disagreement
 from .next_command import command
-from .program import hint_of
 from .resting import Resting
+from .valued import Valued
 
 if TYPE_CHECKING:
     from .study import Study
@@ -67,7 +64,7 @@ class Comparison:
     factor : int
         Of the price, in thousandths.
     said : str
-        `pit check`'s own words of the design.
+        `pit value`'s own words of the design: ``CLOSED``, or ``OPEN`` and how many pairs it breaks.
     is_closed : bool
         Whether it keeps the slopes.
     worth, bound : str
@@ -115,7 +112,7 @@ def compare(study: Study, design: Design, factor: int = THOUSAND) -> Comparison:
     PlanError
         Where the best pit hasn't been run.
     NotAccepted
-        Where `pit check` says something else of the design than closed or not.
+        Where `pit value` refuses the certificate of the best pit.
     Disagreement
         Where `pit` and this package's own look-ups contradict each other, or a closed design is worth more than the bound.
     """
@@ -123,11 +120,9 @@ def compare(study: Study, design: Design, factor: int = THOUSAND) -> Comparison:
     design = completed(study, resting, design)
     certificate = Certificate(study, factor)
     said, broken = certificate.judge(design.held), resting.broken(design.held)
-    is_closed = agreed(said, broken)
-    bound = study.priced.worth_of(optimum, factor)
-    worth = study.priced.worth_of(design.held, factor)
-    repair = None if is_closed else repaired(certificate, resting, design.held, bound)
-    return Comparison(design, factor, said, is_closed, worth, bound, below(bound, worth) if is_closed else None, repair, optimum,
+    agree(said, design.held, broken, study.priced.worth_of(design.held, factor), study.priced.worth_of(optimum, factor))
+    repair = None if said.is_closed else repaired(certificate, resting, design.held)
+    return Comparison(design, factor, said.said, said.is_closed, said.worth, said.bound, said.gap if said.is_closed else None, repair, optimum,
                       pairs_of(study, broken), walls.worst(study.model, resting, design.held, broken), by_bench(study, design.held, optimum, factor))
 
 
@@ -144,7 +139,7 @@ def completed(study: Study, resting: Resting, design: Design) -> Design:
 
 
 class Certificate:
-    """The certificate of the best pit at a factor, by which `pit check` judges other sets of blocks; made where none is there yet.
+    """The certificate of the best pit at a factor, beside which `pit value` judges other sets of blocks; made where none is there yet.
 
     Raises
     ------
@@ -158,83 +153,61 @@ class Certificate:
         study.mask(factor)
         study.run(factor)                    # its certificate, where none is there yet
 
-    def judge(self, held: Bools) -> str:
-        """What `pit check` says of a set of blocks in place of the best pit's.
+    def judge(self, held: Bools) -> Valued:
+        """What `pit value` says of a set of blocks.
 
         Raises
         ------
         Disagreement
             Where the certificate that is kept isn't the one that was accepted.
         """
-        verdict = self.study.verdict(self.factor)
-        assert verdict is not None           # its mask has been read
-        digest = hashlib.sha256()
         with tempfile.TemporaryDirectory(prefix="pitplan-") as work:
-            path = Path(work) / "design.cert"
-            with gzip.open(self.study.place(self.factor) / "best.cert.gz", "rb") as old, open(path, "wb") as new:
-                for _ in range(4):
-                    line = old.readline()
-                    digest.update(line)
-                    new.write(line)
-                new.write(b"".join(b"PIT %d\n" % b for b in np.flatnonzero(held).tolist()))
-                while (line := old.readline()).startswith(b"PIT "):
-                    digest.update(line)
-                while line:
-                    digest.update(line)
-                    new.write(line)
-                    line = old.read(PIECE)
-            if digest.hexdigest() != verdict["certificate"]:
-                raise Disagreement(f"{self.study.place(self.factor) / 'best.cert.gz'} isn't the certificate that was accepted", try_this=f"take {self.study.place(self.factor)} away, then: {command('shells', self.study.named)}")
-            return self.study.program.run(["check", *self.study.files.words(), "--verbose", path]).strip()
+            design, certificate = Path(work) / "design.txt", Path(work) / "best.cert"
+            design.write_bytes(b"".join(b"%d\n" % b for b in np.flatnonzero(held).tolist()))
+            self.unpack(certificate)
+            return self.study.program.value(self.study.files, design, certificate)
+
+    def unpack(self, to: Path) -> None:
+        """Writes the certificate as it was accepted."""
+        verdict, kept = self.study.verdict(self.factor), self.study.place(self.factor) / "best.cert.gz"
+        digest = hashlib.sha256()
+        with gzip.open(kept, "rb") as old, open(to, "wb") as new:
+            while data := old.read(PIECE):
+                digest.update(data)
+                new.write(data)
+        if verdict is None or digest.hexdigest() != verdict["certificate"]:
+            raise Disagreement(f"{kept} isn't the certificate that was accepted", try_this=f"take {self.study.place(self.factor)} away, then: {command('shells', self.study.named)}")
 
 
-def agreed(said: str, broken: tuple[Any, Any, Any]) -> bool:
-    """Whether `pit` says that a design is closed; what this package looked up has to say the same.
+def agree(said: Valued, held: Bools, broken: tuple[Any, Any, Any], worth: str, bound: str) -> None:
+    """Compares what `pit` says of a set of blocks with what this package looked up and added up.
 
     Raises
     ------
-    NotAccepted
-        Where `pit check` said something else.
     Disagreement
-        Where the two contradict each other.
+        Where the two contradict each other, or a closed set is worth more than the bound.
     """
-    pair = re.fullmatch(r"REFUSED NotClosed\((\d+), (\d+)\)", said)
     blocks, predecessors, _ = broken
-    if pair:
-        here = (blocks == int(pair[1])) & (predecessors == int(pair[2]))
-        if not here.any():
-            raise Disagreement(f"pit check said {said} of the design, and by the slopes that were built that pair isn't broken", try_this="tell the maintainers")
-        return False
-    if said != "REFUSED NotTight" and not said.startswith("ACCEPTED "):
-        raise NotAccepted(f"pit check said {said} of the design", try_this=hint_of(said))
-    if len(blocks):
-        raise Disagreement(f"pit check said {said} of the design: it is closed. By the slopes that were built {len(blocks):,} pairs are broken", try_this="tell the maintainers")
-    return True
-
-
-def below(bound: str, worth: str) -> str:
-    """How far a closed set is below the bound.
-
-    Raises
-    ------
-    Disagreement
-        Where it is above it, which `pit` proves that no closed set is.
-    """
-    gap = Decimal(bound) - Decimal(worth)
-    if gap < 0:
+    first = tuple(zip(blocks[:len(said.needs)].tolist(), predecessors[:len(said.needs)].tolist()))
+    if said.open != len(blocks) or said.needs != first:
+        raise Disagreement(f"pit value says {said.said} of the design, and by the slopes that were built {len(blocks):,} pairs are broken", try_this="tell the maintainers")
+    if (said.count, said.worth, said.bound) != (int(np.count_nonzero(held)), worth, bound) or Decimal(said.gap) != Decimal(bound) - Decimal(worth):
+        raise Disagreement(f"pit value says {said.count:,} blocks worth {said.worth}, {said.gap} below {said.bound}, and the table adds up to {np.count_nonzero(held):,} worth {worth}, beside {bound}",
+                           try_this="tell the maintainers")
+    if said.is_closed and Decimal(said.gap) < 0:
         raise Disagreement(f"a closed set is worth {worth}, and pit proves that none is worth more than {bound}", try_this="tell the maintainers")
-    return spelled(gap)
 
 
-def repaired(certificate: Certificate, resting: Resting, held: Bools, bound: str) -> Repair:
+def repaired(certificate: Certificate, resting: Resting, held: Bools) -> Repair:
     """The least closed set that has a design, and `pit`'s word that it is closed."""
-    study = certificate.study
+    study, factor = certificate.study, certificate.factor
     whole = resting.mended(held)
-    if not agreed(certificate.judge(whole), resting.broken(whole)):
-        raise Disagreement("the mended design isn't closed, by pit check", try_this="tell the maintainers")
-    worth = study.priced.worth_of(whole, certificate.factor)
+    said = certificate.judge(whole)
+    agree(said, whole, resting.broken(whole), study.priced.worth_of(whole, factor), study.priced.worth_of(study.mask(factor), factor))
+    if not said.is_closed:
+        raise Disagreement("the mended design isn't closed, by pit value", try_this="tell the maintainers")
     more = whole & ~held
-    return Repair(whole, int(more.sum()), float(study.model.blocks.tonnes.to_numpy(float)[more].sum()), worth, below(bound, worth))
+    return Repair(whole, int(more.sum()), float(study.model.blocks.tonnes.to_numpy(float)[more].sum()), said.worth, said.gap)
 
 
 def pairs_of(study: Study, broken: tuple[Any, Any, Any]) -> pd.DataFrame:

@@ -10,13 +10,13 @@ if TYPE_CHECKING:
 
 
 def verdict_lines(found: Comparison, currency: str) -> list[str]:
-    """What `pit check` says of the design, whether it keeps the slopes, and how far it is from the bound."""
-    return [f"pit check says of the design: {found.said}", *(closed_lines(found, currency) if found.is_closed else broken_lines(found, currency))]
+    """What `pit value` says of the design, whether it keeps the slopes, and how far it is from the bound."""
+    return [f"pit value says of the design: {found.said}", *(closed_lines(found, currency) if found.is_closed else broken_lines(found, currency))]
 
 
 def closed_lines(found: Comparison, currency: str) -> list[str]:
     """What is said of a design that keeps the slopes."""
-    if found.said.startswith("ACCEPTED"):
+    if (found.design.held == found.optimum).all():
         return ["the design is the best pit"]
     return [f"the design keeps the slopes, and is {money(str(found.gap), currency)} ({found.share(str(found.gap)):.2%}) below the proved bound"]
 

@@ -6,6 +6,10 @@ from collections.abc import Sequence
 from pathlib import Path
 from typing import TYPE_CHECKING, Any
 
+from .later import lazily
+
+lazily("typer.rich_utils")                   # typer loads it with itself, and only help and errors ask for it
+
 import click
 import typer
 from rich.console import Console
@@ -78,14 +82,14 @@ def opened(folder: Path) -> Study:
     PlanError
         Where it wasn't built, or study.toml or the table has changed since.
     """
-    from .program import sha256
+    from .digests import sha256_unless_known
     from .study import Study
     told = described(folder)
     study = Study(told.path.parent, named=folder)
     if study.manifest["keys"] != told.digest:
         raise PlanError(f"{told.path} has changed since the study was built", try_this=command("build", folder))
     source = study.manifest["source"]
-    if source and told.table.is_file() and sha256(told.table) != source["sha256"]:
+    if source and told.table.is_file() and sha256_unless_known(told.table) != source["sha256"]:
         raise PlanError("the table has changed since the study was built", table=told.table, try_this=command("build", folder))
     return study
 

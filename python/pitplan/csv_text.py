@@ -1,6 +1,7 @@
 """Tables as text: CSV and CSV.gz with commas, semicolons or tabs, with or without a byte order mark."""
 from __future__ import annotations
 
+import codecs
 import csv
 import gzip
 import io
@@ -23,6 +24,7 @@ SEPARATORS = ",;\t"
 THOUSANDS = re.compile(r"[+-]?\d{1,3}(([, ]\d{3})+(\.\d+)?|([. ]\d{3})+,\d+)")
 COMMA_DECIMAL = re.compile(r"([+-]?\d*),(\d+(?:[eE][+-]?\d+)?)")
 SMALL, MOST_TIMES = 1 << 26, 200              # bytes that any table may unpack to, and how many times its size a larger one may
+SAY_ENCODING = 'save it as "CSV UTF-8"; or tell init --encoding cp1252, or say encoding = "cp1252" in [model]'
 PLAIN = re.compile(r"[+-]?(\d+\.?\d*|\.\d+)([eE][+-]?\d+)?")
 
 
@@ -105,14 +107,30 @@ def head_of(path: Path, encoding: str = "utf-8-sig", lines: int = 12) -> list[st
         raise PlanError("is a spreadsheet and no text", table=path, try_this='save it as "CSV UTF-8"')
     try:
         text = [line.decode(encoding).rstrip("\r\n") for line in raw]
-    except (UnicodeDecodeError, LookupError) as error:
-        raise PlanError(f"isn't text in {encoding.replace('utf-8-sig', 'UTF-8')}: {error}", table=path,
-                        try_this='save it as "CSV UTF-8", or encoding = "cp1252" in [model]') from None
+    except (UnicodeDecodeError, LookupError):
+        raise no_text(path, encoding) from None
     if not text or not text[0].strip():
         raise PlanError("has no header line", table=path)
     if "\r" in text[0]:
         raise PlanError("a carriage return stands within the header line", table=path, row=-1, try_this='save it as "CSV UTF-8", in which lines end as on Windows or Unix')
     return text
+
+
+def no_text(path: Path, encoding: str) -> PlanError:
+    """The error of a table that isn't text in an encoding: the first row that isn't, and the byte there."""
+    called = encoding.replace("utf-8-sig", "UTF-8")
+    try:
+        codecs.lookup(encoding)
+    except LookupError:
+        return PlanError(f"{encoding!r} is no encoding that is known", table=path, try_this='"utf-8", or "cp1252" as Excel saves in western Europe and Latin America')
+    with suppress(OSError, EOFError, zlib.error), opened(path) as file:
+        for row, line in enumerate(file, -1):
+            try:
+                line.decode(encoding)
+            except UnicodeDecodeError as error:
+                return PlanError(f"isn't text in {called}: the byte {line[error.start]:#04x} stands behind {line[:error.start].decode(encoding, 'replace')[-20:]!r}",
+                                 table=path, row=row, try_this=SAY_ENCODING)
+    return PlanError(f"isn't text in {called}", table=path, try_this=SAY_ENCODING)
 
 
 def separator_of(header: str) -> str:
@@ -144,6 +162,19 @@ def dialect_of(path: Path, encoding: str = "utf-8-sig") -> Dialect:
     counts = [sum(bool(PLAIN.fullmatch(cell.strip().replace(decimal, "."))) for cell in row) for row in rows]
     skip = next((i for i, n in enumerate(counts) if n >= 3), 0)
     return Dialect(separator, decimal, encoding, skip)
+
+
+def dialect_beside(path: Path, encoding: str | None) -> Dialect:
+    """How a table that belongs to a table of blocks is written: in UTF-8 where it is that, or else in the encoding of the table
+    of blocks, since one program saved both."""
+    if encoding:
+        try:
+            with suppress(OSError, EOFError, zlib.error), opened(path) as file:
+                for line in file:
+                    line.decode()
+        except UnicodeDecodeError:
+            return dialect_of(path, encoding)
+    return dialect_of(path)
 
 
 def read_frame(path: Path, dialect: Dialect, words: Collection[str] = ()) -> pd.DataFrame:
@@ -218,9 +249,10 @@ def parsed(path: Path, dialect: Dialect, names: Sequence[str], words: Collection
         raise PlanError("has no rows below its header line", table=path) from None
     except pd.errors.ParserError as error:
         raise uneven(path, str(error), len(names)) from None
-    except (UnicodeDecodeError, EOFError, OSError, zlib.error) as error:
-        raise PlanError(f"can't be read: {error}", table=path,
-                        try_this='save it as "CSV UTF-8", or encoding = "cp1252" in [model]' if isinstance(error, UnicodeDecodeError) else None) from None
+    except UnicodeDecodeError:
+        raise no_text(path, dialect.encoding) from None
+    except (EOFError, OSError, zlib.error) as error:
+        raise PlanError(f"can't be read: {error}", table=path) from None
 
 
 def too_long(path: Path, dialect: Dialect, width: int) -> PlanError:

@@ -11,15 +11,15 @@ import numpy.typing as npt
 import pandas as pd
 
 from .column_names import PLACES, USUAL
-from .csv_text import PLAIN, dialect_of, head_of, names_of, number_column, read_frame
+from .csv_text import PLAIN, dialect_beside, head_of, names_of, number_column, read_frame
 from .errors import PlanError, meant
 from .export_csv import as_written
 from .model import Model
 from .surface import Surface, heights, of_dxf, of_points
 
 Bools = npt.NDArray[np.bool_]
-YES = ("1", "yes", "y", "true", "t", "in", "inside", "pit")
-NO = ("", "0", "no", "n", "false", "f", "out", "outside", "none", "-")
+YES = ("1", "yes", "y", "true", "t", "in", "inside", "pit", "sí", "si", "s", "sim", "oui", "dentro", "verdadero", "verdadeiro", "vrai")
+NO = ("", "0", "no", "n", "false", "f", "out", "outside", "none", "-", "não", "nao", "non", "fuera", "fora", "falso", "faux")
 
 
 @dataclass(frozen=True)
@@ -86,15 +86,15 @@ def by_ids(model: Model, ids: Iterable[Any], name: str = "design", table: object
     return Design(name, held, rowless(model), notes)
 
 
-def by_ids_of(model: Model, path: Path) -> Design:
-    """The blocks whose ids stand in a table, or one in each line of a text.
+def by_ids_of(model: Model, path: Path, encoding: str | None = None) -> Design:
+    """The blocks whose ids stand in a table, or one in each line of a text; `encoding` is that of the table of blocks.
 
     Raises
     ------
     PlanError
         As `by_ids`; and where no column of the table is known as one of ids.
     """
-    dialect = dialect_of(path)
+    dialect = dialect_beside(path, encoding)
     names = names_of(head_of(path, dialect.encoding, 1)[0], dialect.separator)
     folded = {name.lower(): name for name in names}
     own = model.columns.get("id", "")
@@ -110,7 +110,7 @@ def by_ids_of(model: Model, path: Path) -> Design:
     return by_ids(model, ids, path.stem, path.name)
 
 
-def by_file(model: Model, path: Path, layers: Sequence[str] = ()) -> Design:
+def by_file(model: Model, path: Path, layers: Sequence[str] = (), encoding: str | None = None) -> Design:
     """The design of a file of any kind: a DXF or a table of points x, y and z as `by_surface`, ids as `by_ids_of`.
 
     Raises
@@ -120,15 +120,15 @@ def by_file(model: Model, path: Path, layers: Sequence[str] = ()) -> Design:
     """
     if path.suffix.lower() == ".dxf":
         return by_surface(model, path, layers)
-    dialect = dialect_of(path)
+    dialect = dialect_beside(path, encoding)
     names = names_of(head_of(path, dialect.encoding, 1)[0], dialect.separator)
     folded = {name.lower() for name in names}
     if model.columns.get("id", "") in names or len(names) == 1 or folded & set(USUAL["id"]):
-        return by_ids_of(model, path)
+        return by_ids_of(model, path, encoding)
     if not all(folded & set(USUAL[key]) for key in PLACES):
         raise PlanError(f"is it ids of blocks or points of a surface? Its columns are {', '.join(names)}", table=path,
                         try_this=f"call its column of ids {model.columns.get('id', 'id')}, or its columns of coordinates x, y and z")
-    return by_surface(model, path)
+    return by_surface(model, path, encoding=encoding)
 
 
 def by_column(model: Model, column: str, value: str | None = None) -> Design:
@@ -181,7 +181,7 @@ def said(cells: pd.Series, value: str) -> Bools:
     return found
 
 
-def by_surface(model: Model, path: Path, layers: Sequence[str] = ()) -> Design:
+def by_surface(model: Model, path: Path, layers: Sequence[str] = (), encoding: str | None = None) -> Design:
     """The blocks whose centre lies above a surface: triangles of a DXF, or points of a CSV.
 
     Parameters
@@ -191,13 +191,15 @@ def by_surface(model: Model, path: Path, layers: Sequence[str] = ()) -> Design:
         plan (Delaunay). z is an elevation. Where a surface lies over itself, the lowest counts; beside it nothing is dug.
     layers : sequence of str
         Of the DXF that count; all unless told.
+    encoding : str, optional
+        Of the table of blocks, which a CSV may share.
 
     Raises
     ------
     PlanError
         Where the file holds no surface, or it lies beside the model.
     """
-    surface = of_dxf(path, layers) if path.suffix.lower() == ".dxf" else points_of(path)
+    surface = of_dxf(path, layers) if path.suffix.lower() == ".dxf" else points_of(path, encoding)
     low, high = heights(surface, model.grid)
     covered = np.isfinite(low)
     if not covered.any():
@@ -215,12 +217,12 @@ def by_surface(model: Model, path: Path, layers: Sequence[str] = ()) -> Design:
     return Design(path.stem, np.isfinite(height) & (z > height), np.zeros(len(model), bool), notes)
 
 
-def points_of(path: Path) -> Surface:
+def points_of(path: Path, encoding: str | None = None) -> Surface:
     """A table of points as a surface.
 
     Raises PlanError where it has no three columns of numbers, or no three points that span a triangle.
     """
-    dialect = dialect_of(path)
+    dialect = dialect_beside(path, encoding)
     names = names_of(head_of(path, dialect.encoding, 1)[0], dialect.separator)
     if all(PLAIN.fullmatch(name) for name in names):
         raise PlanError("has no header line", table=path, try_this="a first line x,y,z")

@@ -39,7 +39,8 @@ class Metal:
         The share of the price that is paid, from 0 to 1: what the smelter keeps and what is owed as a share of the
         price (a royalty) taken off.
     selling : float
-        What selling a unit of metal costs, whatever its price: counted as a cost of processing, so no factor scales it.
+        What selling a unit of metal costs, whatever its price: counted as a cost of processing, so no factor scales it. A penalty
+        element has a price of 0 and its charge here.
     """
 
     name: str
@@ -53,6 +54,8 @@ class Metal:
 
     def __post_init__(self) -> None:
         metal_in_a_tonne(self.name, self.grade_unit, self.price_unit)
+        if isinstance(self.price, (int, float)) and self.price < 0:       # scaled by the factor, a penalty would fall with the price
+            raise PlanError(f"metal {self.name}: price is {self.price:g}, and has to be a number of at least 0", try_this=f"price = 0, selling = {-self.price:g}, if it is a penalty")
         number(f"metal {self.name}: price", self.price, 0)
         number(f"metal {self.name}: payable", self.payable, 0, 1)
         number(f"metal {self.name}: selling", self.selling, 0)
@@ -254,12 +257,12 @@ def in_whole(name: str, values: Floats, rounding: Decimal, model: Model) -> Whol
 
 def fence_price(priced: Priced, rounding: Decimal) -> int:
     """What digging a forbidden block is made to cost: more than the whole mine brings at the largest factor, so that no best
-    pit has one. `Study.run` looks again whether a pit does.
+    pit has one. Where that is more than `pit` reads, the most that it reads; `Study.adds_up` looks whether a pit has one then.
 
     Raises
     ------
     PlanError
-        Where that is more than the amounts that `pit` reads.
+        Where the mine brings more than half of that at the full price.
     """
     price = exact_sum(priced.revenue) * LARGEST_FACTOR // THOUSAND + 1
     if price * rounding > MOST:

@@ -2,6 +2,7 @@
 reaches the model's floor: what lies below it, ore too, isn't in the model."""
 from __future__ import annotations
 
+from collections.abc import Iterable, Iterator, Sequence
 from typing import TYPE_CHECKING
 
 import numpy as np
@@ -47,25 +48,29 @@ def touching(shells: Shells) -> Bools:
     -------
     bool array of shape (blocks,)
     """
-    study = shells.study
-    m, b = study.model, study.model.blocks
-    place: Ints = np.column_stack([b.ix, b.iy, b.iz]).astype(np.int64)
-    top, low = ground(m)
-    columns = (m.index >= 0).any(axis=2)
-    shaft = enclosed(columns)                # a study with such columns was built only where the planner called them air
-    empty = ~columns & ~shaft
-    found = np.zeros(len(m), bool)
-    inside, size = shells.shell < len(shells.factors), np.array(m.grid.shape[:2])
-    for region, offsets in enumerate(study.manifest["offsets"].values()):
-        for dx, dy, dz in offsets:
-            at = np.flatnonzero(inside & ~found & (study.region == region))
-            to = place[at] + (dx, dy, dz)
-            near = np.clip(to[:, :2], 0, size - 1)
-            beyond = (to[:, :2] != near).any(axis=1) | empty[near[:, 0], near[:, 1]]
-            rock = to[:, 2] <= top[near[:, 0], near[:, 1]]
-            under = (to[:, 2] < low[near[:, 0], near[:, 1]]) & ~shaft[near[:, 0], near[:, 1]]
-            found[at[(beyond & rock) | (~beyond & under)]] = True
+    study, b = shells.study, shells.study.model.blocks
+    x, y, z = (b[name].to_numpy() for name in ("ix", "iy", "iz"))
+    found, inside = np.zeros(len(b), bool), shells.shell < len(shells.factors)
+    for region, highest in enumerate(study.sides):
+        found |= inside & (study.region == region) & (z <= highest[x, y])
     return found
+
+
+def highest_touching(model: Model, regions: Iterable[Sequence[Sequence[int]]]) -> Iterator[Ints]:
+    """For the offsets of each region the highest level at which a block of each column asks for such a place, of shape (nx, ny). Every
+    block below that level asks for one too: the same offset leads it to a lower place of the same column."""
+    top, low = ground(model)
+    columns = (model.index >= 0).any(axis=2)
+    shaft = enclosed(columns)                # a study with such columns was built only where the planner called them air
+    x, y = np.indices(columns.shape)
+    for offsets in regions:
+        highest = np.full(columns.shape, -1)
+        for dx, dy, dz in offsets:
+            near = np.clip(x + dx, 0, columns.shape[0] - 1), np.clip(y + dy, 0, columns.shape[1] - 1)
+            beyond = (near[0] != x + dx) | (near[1] != y + dy) | ~(columns | shaft)[near]
+            within = np.where(shaft[near], -1, low[near] - 1)        # below the lowest row
+            highest = np.maximum(highest, np.where(beyond, top[near], within) - dz)
+        yield highest
 
 
 def on_floor(model: Model) -> Bools:

@@ -17,7 +17,10 @@ from .grid import Floats, Grid
 from .next_command import command
 from .study_template import TEMPLATE
 
-MARKS = ("-99", "-999", "-9999", "-99.0", "-999.0", "-1", "-1.0", "-", "*", "N/A", "n/a", "NA", "absent", "null", "")
+UTF_8 = Dialect().encoding
+MARKS = ("-99", "-999", "-9999", "-99.0", "-999.0", "-1", "-1.0", "-", "--", "*", "N/A", "n/a", "NA", "#N/A", "NaN", "nan", "absent", "null", "NULL", "None",
+         "N/D", "n/d", "ND", "nd", "N.D.", "n.d.", "S/D", "s/d", "SD", "s/i", "S/I", "")
+MOSTLY = 0.9                                 # the share of numbers from which a column is one of numbers with a few words among them
 LIMIT = re.compile(r"<\s*\d*[.,]?\d+")      # below the limit of an assay
 MOST_LIMITS = 20
 # Columns that look like grades, and the units that such a metal usually comes in.
@@ -65,7 +68,7 @@ class Look:
     notes: list[str] = field(default_factory=list)
 
 
-def look_at(table: Path, given: Mapping[str, str] | None = None) -> Look:
+def look_at(table: Path, given: Mapping[str, str] | None = None, encoding: str | None = None) -> Look:
     """Looks at a table of blocks.
 
     Parameters
@@ -74,18 +77,22 @@ def look_at(table: Path, given: Mapping[str, str] | None = None) -> Look:
         CSV, or CSV.gz.
     given : mapping, optional
         The names of columns that aren't the usual ones, under the keys of `column_names.USUAL`.
+    encoding : str, optional
+        Where it isn't UTF-8.
 
     Raises
     ------
     PlanError
         Where it isn't a table, or has no columns that are known as x, y and z.
     """
-    dialect = dialect_of(table)
+    dialect = dialect_of(table, encoding or UTF_8)
+    said = () if encoding is None else ("--encoding", encoding)
     names = which_columns(names_of(head_of(table, dialect.encoding, 1)[0], dialect.separator), given or {}, table.name,
-                          lambda near: command("init", ".", str(table), *(word for key, name in {**(given or {}), **near}.items() for word in ("--column", f"{key}={name}"))))
+                          lambda near: command("init", ".", str(table), *said, *(word for key, name in {**(given or {}), **near}.items() for word in ("--column", f"{key}={name}"))))
     frame = read_frame(table, dialect, [names[key] for key in ("id", "rock") if key in names])
     look = Look(dialect, names, len(frame), columns=[str(name) for name in frame.columns])
-    look.absent = marks_in(frame, names)
+    look.absent, where = marks_in(frame, names)
+    look.notes += [f"{mark or 'an empty cell'} stands for \"not estimated\" in {', '.join(columns)}, and counts as 0" for mark, columns in where.items()]
     x, y, z = (number_column(frame[names[key]], table.name) for key in PLACES)
     find_grid(look, frame, x, y, z)
     look.grades = [str(name) for name in frame.columns if is_grade(frame, str(name), look)]
@@ -100,35 +107,52 @@ def look_at(table: Path, given: Mapping[str, str] | None = None) -> Look:
     return look
 
 
-def marks_in(frame: pd.DataFrame, names: dict[str, str]) -> list[str]:
-    """The cells that seem to stand for "not estimated": as the usual marks, in columns that aren't places or names."""
+def marks_in(frame: pd.DataFrame, names: dict[str, str]) -> tuple[list[str], dict[str, list[str]]]:
+    """The cells that seem to stand for "not estimated", and the columns of each: as the usual marks, in columns that aren't
+    places or names."""
     kept = {names[key] for key in (*PLACES, *SIZES, "id", "rock") if key in names}
-    found: list[str] = []
+    where: dict[str, list[str]] = {}
     for name in frame.columns:
-        values = frame[name]
-        if name in kept:
-            continue
-        if values.dtype.kind in "iuf":
-            if values.isna().any() and not values.isna().all():
-                found.append("")
-            least = float(values.min())
-            if least < 0 and f"{least:g}" in MARKS:
-                found.append(f"{least:g}")
-        elif pd.to_numeric(values, errors="coerce").notna().mean() > 0.5:
-            words = [str(word).strip() for word in values[pd.to_numeric(values, errors="coerce").isna() & values.notna()].unique()]
-            found += [mark for mark in MARKS if mark in words] + sorted(word for word in words if LIMIT.fullmatch(word))[:MOST_LIMITS]
-            found += [""] if values.isna().any() else []
-    return list(dict.fromkeys(found))
+        if name not in kept:
+            for mark in marks_of(frame[name]):
+                where.setdefault(mark, []).append(str(name))
+    return list(where), where
+
+
+def marks_of(values: pd.Series) -> list[str]:
+    """The cells of a column that seem to stand for "not estimated"; none in a column of words."""
+    if values.dtype.kind in "iuf":
+        least = float(values.min())
+        empty = [""] if values.isna().any() and not values.isna().all() else []
+        return empty + ([f"{least:g}"] if least < 0 and f"{least:g}" in MARKS else [])
+    if share_of_numbers(values) <= 0.5:
+        return []
+    words = words_among(values)
+    return [mark for mark in MARKS if mark in words] + sorted(word for word in words if LIMIT.fullmatch(word))[:MOST_LIMITS] + ([""] if values.isna().any() else [])
+
+
+def share_of_numbers(values: pd.Series) -> float:
+    """How many of a column's cells are numbers, as a share of all."""
+    return float(pd.to_numeric(values, errors="coerce").notna().mean())
+
+
+def words_among(values: pd.Series) -> list[str]:
+    """The different cells of a column that are no numbers and aren't empty."""
+    return [str(word).strip() for word in values[pd.to_numeric(values, errors="coerce").isna() & values.notna()].unique()]
 
 
 def is_grade(frame: pd.DataFrame, name: str, look: Look) -> bool:
-    """Whether a column is one of numbers, and is none of those that are known as something else."""
+    """Whether a column is one of numbers, and is none of those that are known as something else. One with a few words among
+    its numbers counts, and is told: `build` refuses these words by their row."""
     if name in look.names.values():
         return False
     try:
         values = number_column(frame[name].iloc[:20000], name, look.absent)
-    except PlanError:
-        return False
+    except PlanError as error:
+        is_one = share_of_numbers(frame[name]) > MOSTLY
+        if is_one:
+            look.notes.append(f"column {name}, row {0 if error.row is None else error.row + 2}: {error.what}; if that stands for \"not estimated\", put it into absent")
+        return is_one
     if metal_of(name) is not None and (values < 0).mean() < 0.5:       # kriging leaves a few below 0: `build` names their row
         return True
     return bool(values.min() >= 0) and len(np.unique(values)) > 12
@@ -217,7 +241,7 @@ def written(look: Look, table: str) -> str:
     return TEMPLATE.substitute(
         table=quoted(table), columns=", ".join(f"{name} = {quoted(column)}" for name, column in look.names.items()), size=size,
         size_told="" if look.size else "; it couldn't be told: fill it in", rotation=f"{look.rotation:g}", absent=", ".join(map(quoted, look.absent)),
-        regularise="true" if look.has_sub_blocks else "false", x=look.names["x"], z=look.names["z"], by_rock=f"; by rock: {{ {by_rock} }}" if by_rock else "",
+        encoding="" if look.dialect.encoding == UTF_8 else f"\nencoding = {quoted(look.dialect.encoding)}", regularise="true" if look.has_sub_blocks else "false", x=look.names["x"], z=look.names["z"], by_rock=f"; by rock: {{ {by_rock} }}" if by_rock else "",
         mill=", ".join(map(quoted, look.rocks[:2])), metals=metals(look))
 
 

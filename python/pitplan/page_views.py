@@ -4,6 +4,7 @@ Each is the same thing to the page: surfaces one after the other, how blocks are
 """
 from __future__ import annotations
 
+import math
 from collections.abc import Mapping, Sequence
 from dataclasses import dataclass, field
 from typing import TYPE_CHECKING, Any
@@ -125,12 +126,19 @@ def ratio(values: Any, places: str = ".2f") -> list[str]:
     return [format(v, places) if np.isfinite(v) else "-" for v in values]
 
 
+def grade_texts(values: Any) -> list[str]:
+    """Grades of one column: with as many decimals as the greatest needs for four digits, so that they stand digit below digit."""
+    found = np.asarray(values, float)
+    most = float(np.abs(found[np.isfinite(found)]).max(initial=0.0))
+    return ratio(found, f",.{max(0, 3 - math.floor(math.log10(most))) if most else 3}f")
+
+
 def rock_and_metal(table: pd.DataFrame, metals: Mapping[str, Mapping[str, str]]) -> Columns:
     """Ore, waste and strip ratio, and of each metal its grade and what is recovered: of a table with columns as `Shells.table`."""
     rock = scale_of(table["ore_t"] + table["waste_t"], "t")
     found = [scaled("Ore", table["ore_t"], rock), scaled("Waste", table["waste_t"], rock), ("Strip ratio (t/t)", ratio(table["strip"]))]
     for metal, units in metals.items():
-        found.append((f"Grade of ore, {metal} ({units['grade_unit']})", ratio(table[f"grade_{metal}"], ".4g")))
+        found.append((f"Grade of ore, {metal} ({units['grade_unit']})", grade_texts(table[f"grade_{metal}"])))
         found.append(scaled(f"Recovered {metal}", table[f"metal_{metal}"], scale_of(table[f"metal_{metal}"], units["price_unit"])))
     return found
 

@@ -9,7 +9,7 @@ import numpy as np
 import numpy.typing as npt
 import pandas as pd
 
-from .amounts import THOUSAND
+from .amounts import THOUSAND, exact_sum
 from .errors import PlanError
 
 if TYPE_CHECKING:
@@ -96,18 +96,28 @@ def table(shells: Shells, base: int, rates: Rates) -> pd.DataFrame:
     """
     p, c = shells.study.priced, Cells.of(shells, base)
     rates = rates.over(float(c.rock.sum()), float(c.ore.sum()) * p.feed)
-    rows = []
+    rows, worths = [], worths_of(shells, base)
     for i, factor in enumerate(shells.factors):
         rock, ore = float(c.rock[:i + 1].sum()), float(c.ore[:i + 1].sum())
         best, worst = (discounted(order(c.rock[:i + 1]), order(c.ore[:i + 1]) * p.feed, order(c.worth[:i + 1]), rates) for order in (by_shell, by_bench))
         row: dict[str, Any] = {"factor": factor / THOUSAND, "blocks": int(c.blocks[:i + 1].sum()), "rock_t": rock, "ore_t": ore, "waste_t": rock - ore,
                                "strip": (rock - ore) / ore if ore else np.nan, "feed_t": ore * p.feed, "worth_at_factor": shells.verdicts[i]["worth"],
-                               "worth_at_base": float(Decimal(p.worth_of(shells.holds(i), base))), "npv_best": best[0], "npv_worst": worst[0], "years": best[1]}
+                               "worth_at_base": float(Decimal(worths[i])), "npv_best": best[0], "npv_worst": worst[0], "years": best[1]}
         for name in p.metal:
             row[f"grade_{name}"] = float(c.graded[name][:i + 1].sum()) / ore if ore else np.nan
             row[f"metal_{name}"] = float(c.metal[name][:i + 1].sum())
         rows.append(row)
     return pd.DataFrame(rows)
+
+
+def worths_of(shells: Shells, base: int) -> list[str]:
+    """What each pit is worth at the factor `base`, exactly: its shells are added up, each once, since a pit has all of the one before it."""
+    p, total, found = shells.study.priced, 0, []
+    worth = p.thousandths(base)
+    for i in range(len(shells.factors)):
+        total += exact_sum(worth[shells.shell == i])
+        found.append(p.spelled(total))
+    return found
 
 
 def by_shell(values: Floats) -> Floats:

@@ -21,6 +21,7 @@ import numpy as np
 import numpy.typing as npt
 
 from .errors import Disagreement, MachineError, NotAccepted, PlanError
+from .valued import Valued
 
 Progress = Callable[[int, int], None]
 Heard = Callable[[str], None]                # a line of `--progress`
@@ -153,15 +154,6 @@ def found_program() -> str:
     return where
 
 
-def sha256(path: Path) -> str:
-    """The SHA-256 of a file, in hexadecimal."""
-    digest = hashlib.sha256()
-    with open(path, "rb") as file:
-        while data := file.read(PIECE):
-            digest.update(data)
-    return digest.hexdigest()
-
-
 class Pit:
     """The program `pit`.
 
@@ -249,6 +241,24 @@ class Pit:
         if len(blocks) != int(found[1]):
             raise NotAccepted(f"pit check counts {found[1]} blocks, and the certificate has {len(blocks)} PIT lines")
         return Accepted(int(found[1]), found[2], blocks, factor, lines.digest.hexdigest(), size, BEGUN)
+
+    def value(self, files: Files, design: Path, certificate: Path) -> Valued:
+        """Lets `pit value` judge a design beside the pit of a certificate, at its factor.
+
+        Parameters
+        ----------
+        design : Path
+            A text with the number of a block in each line.
+        certificate : Path
+            As `pit solve` wrote it.
+
+        Raises
+        ------
+        NotAccepted
+            Where the certificate is refused.
+        """
+        said = self.run(["value", *files.words(), "--verbose", "--best", certificate, design])
+        return Valued.of_answer(said, hint_of(said))
 
     @cached_property
     def states_blocks(self) -> bool:

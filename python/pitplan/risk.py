@@ -25,11 +25,12 @@ import pandas as pd
 
 from . import store
 from .amounts import THOUSAND, Priced, spelled
-from .csv_text import dialect_of
+from .column_names import PLACES
+from .csv_text import dialect_beside, number_column, read_frame
 from .economics import Economics
 from .errors import Disagreement, MachineError, PlanError
 from .grid import Grid
-from .model import Model
+from .model import Model, TableKeys
 from .next_command import command
 from .study import FULL, Study, Told, Verdict, made_whole, mark, sweep, write_blocks
 from .study_file import economics_of
@@ -90,7 +91,7 @@ def setup_of(study: Study) -> Setup | None:
     return found if found.study == study.key else None
 
 
-def prepare(study: Study, economics: Economics, realisations: Path, factors: Sequence[int], metal: str | None = None) -> Setup:
+def prepare(study: Study, economics: Economics, realisations: Path, factors: Sequence[int], metal: str | None = None, keys: TableKeys | None = None) -> Setup:
     """Looks through the realisations, and writes down what is to be run. No pit is found yet.
 
     Parameters
@@ -104,6 +105,8 @@ def prepare(study: Study, economics: Economics, realisations: Path, factors: Seq
         In thousandths.
     metal : str, optional
         Whose grades these are; the first metal unless told.
+    keys : TableKeys, optional
+        How the table of blocks was read: a CSV may have its encoding, and its marks for "not estimated".
 
     Raises
     ------
@@ -113,7 +116,7 @@ def prepare(study: Study, economics: Economics, realisations: Path, factors: Seq
     column = column_of(economics, metal)
     rows = rows_of(study)
     with made_whole(folder_of(study)) as work:
-        grades, file = opened(realisations, work)
+        grades, file = opened(realisations, work, study, keys)
         if grades.ndim != 2 or grades.shape[1] != rows:
             shape = " x ".join(map(str, grades.shape))
             raise PlanError(f"the realisations are {shape}, and the table has {rows:,} rows", table=realisations, try_this="a realisation for each row of the .npy, or a column for each of a CSV")
@@ -142,24 +145,49 @@ def rows_of(study: Study) -> int:
     return len(row_block)
 
 
-def opened(path: Path, work: Path) -> tuple[Any, str]:
+def opened(path: Path, work: Path, study: Study | None = None, keys: TableKeys | None = None) -> tuple[Any, str]:
     """The realisations as an array that is read where it is asked, and the file that has them."""
-    try:
-        if path.suffix == ".npy":
+    if path.suffix == ".npy":
+        try:
             return np.load(path, mmap_mode="r", allow_pickle=False), str(path.resolve())
-        dialect = dialect_of(path)
-        frame = pd.read_csv(path, sep=dialect.separator, decimal=dialect.decimal, encoding=dialect.encoding)
-        wrong = next((name for name in frame.columns if frame[name].dtype.kind not in "iuf"), None)
-        if wrong is not None:
-            bad = int(np.argmax(pd.to_numeric(frame[wrong], errors="coerce").isna().to_numpy()))
-            raise PlanError(f"is no number: {frame[wrong].iloc[bad]!r}", table=path, row=bad, column=wrong)
-        grades = np.ascontiguousarray(frame.to_numpy(np.float32).T)
-        np.save(work / "realisations.npy", grades)
-        return grades, "realisations.npy"
-    except FileNotFoundError:
-        raise PlanError(f"{path} isn't there") from None
-    except (ValueError, UnicodeDecodeError) as error:
-        raise PlanError(f"can't be read as realisations: {error}", table=path) from None
+        except FileNotFoundError:
+            raise PlanError(f"{path} isn't there") from None
+        except ValueError as error:
+            raise PlanError(f"can't be read as realisations: {error}", table=path) from None
+    grades = of_table(path, study.model if study else None, keys)
+    np.save(work / "realisations.npy", grades)
+    return grades, "realisations.npy"
+
+
+def of_table(path: Path, model: Model | None, keys: TableKeys | None) -> Floats:
+    """The realisations of a CSV, a column each. The table's own columns of ids and coordinates may stand beside them: they are
+    left out, and the ids have to be those of the table, row by row.
+
+    Raises
+    ------
+    PlanError
+        Where a cell is no number, an id isn't the table's, or there is no other column.
+    """
+    own = {key: model.columns[key] for key in ("id", *PLACES) if key in model.columns} if model else {}
+    frame = read_frame(path, dialect_beside(path, keys.encoding if keys else None), [own["id"]] if "id" in own else [])
+    if model is not None and own.get("id") in frame.columns:
+        same_ids(frame[own["id"]], model, path)
+    names = [name for name in frame.columns if name not in own.values()]
+    if not names:
+        raise PlanError("has no column of a realisation", table=path)
+    return np.stack([number_column(frame[name], path.name, keys.absent if keys else ()).astype(np.float32) for name in names])
+
+
+def same_ids(found: pd.Series, model: Model, path: Path) -> None:
+    """Refuses realisations whose rows are of other blocks than the table's."""
+    told = model.blocks[model.blocks["row"] >= 0].sort_values("row")["id"].astype(str).to_numpy()
+    given = found.fillna("").astype(str).str.strip().to_numpy()
+    least = min(len(told), len(given))
+    wrong = told[:least] != given[:least]
+    if wrong.any():
+        at = int(np.argmax(wrong))
+        raise PlanError(f"{given[at]!r} stands where the table has {told[at]!r}", table=path, row=int(found.index[at]), column=found.name,
+                        try_this="a row for each row of the table, in its order")
 
 
 def checked(grades: npt.NDArray[Any], number: int, path: Path) -> npt.NDArray[Any]:

@@ -63,7 +63,8 @@ class Shells:
     """The proved pits of a study at a series of factors. A shell is what a pit adds to the one before it.
 
     Every pit is checked again as it is read: the digests of the model's files and of the pit, its count, its worth by the
-    planner's own table, and that it lies within the next.
+    planner's own table, and that it lies within the next. A file that nobody has touched since this process digested it isn't read
+    again (`digests`), and bits that this study has just added up aren't added up again (`Study.mask`).
 
     Parameters
     ----------

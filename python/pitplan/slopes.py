@@ -6,7 +6,7 @@ is run over the whole model, and each block's line is taken from the run of its 
 from __future__ import annotations
 
 import functools
-from collections.abc import Mapping, Sequence
+from collections.abc import Callable, Mapping, Sequence
 from contextlib import ExitStack
 from dataclasses import dataclass, field
 from pathlib import Path
@@ -26,6 +26,7 @@ from .program import Pit
 DEFAULT = "default"
 STEP = 15                               # degrees of bearing between two rows of the table of asked and built angles
 Ints = npt.NDArray[np.int64]
+Heard = Callable[[str, int, int], None]      # a region whose predecessors are begun, which it is of how many
 
 
 @dataclass
@@ -47,6 +48,11 @@ class Slopes:
     levels : int, optional
         How many levels up the offsets may lead; as many as it takes, unless told.
 
+    Attributes
+    ----------
+    heard : function, optional
+        Is told each region as `write_prec` begins it: over a large model each takes seconds.
+
     Raises
     ------
     PlanError
@@ -58,6 +64,7 @@ class Slopes:
     regions: Mapping[str, Angles] | None = None
     safe: bool = False
     levels: int | None = None
+    heard: Heard | None = field(default=None, init=False, repr=False, compare=False)
     _found: dict[tuple[Any, ...], dict[str, Pattern]] = field(default_factory=dict, init=False, repr=False, compare=False)
 
     def __post_init__(self) -> None:
@@ -238,8 +245,10 @@ def write_prec(slopes: Slopes, model: Model, pit: Pit, blocks_file: Path, out: P
     """
     check_limits(slopes, model)
     choice = slopes.region_of(model)
-    parts = []
-    for i, (name, pattern) in enumerate(slopes.patterns(model.grid).items()):
+    parts, patterns = [], slopes.patterns(model.grid)
+    for i, (name, pattern) in enumerate(patterns.items()):
+        if slopes.heard:
+            slopes.heard(name, i + 1, len(patterns))
         settings = out.parent / f"slope-{i}.toml"
         settings.write_text("".join(f"# {line}\n" for line in f"{name}: {pattern}".splitlines()) + search.settings(pattern))
         parts.append(out.with_name(f"{out.name}.{i}.part"))

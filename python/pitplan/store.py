@@ -79,7 +79,7 @@ def load_model(path: Path) -> Model:
         told = told_of(file)
         columns = {name: file[COLUMN + name] if COLUMN + name in file.files else bytes_as_words(file[WORDS + name], told["blocks"]) for name in told["order"]}
         grid = Grid(three(told["origin"]), three(told["size"]), three(told["shape"]), told["rotation"])
-        return Model(pd.DataFrame(columns), grid, told["name"], told["notes"], told["columns"], file["row_block"], told["depth"])
+        return Model(pd.DataFrame(columns, copy=False), grid, told["name"], told["notes"], told["columns"], file["row_block"], told["depth"])
 
 
 def load_priced(path: Path) -> Priced:

@@ -29,13 +29,14 @@ import numpy as np
 import numpy.typing as npt
 import pandas as pd
 
-from . import store
+from . import edges, store
 from .amounts import THOUSAND, Priced, as_text
+from .digests import sha256, sha256_unless_known
 from .economics import Economics
 from .errors import Disagreement, MachineError, PlanError
 from .model import Model
 from .next_command import command
-from .program import ROOM, Accepted, Files, Pit, Stated, sha256
+from .program import ROOM, Accepted, Files, Pit, Stated
 
 if TYPE_CHECKING:
     from .shells import Shells
@@ -96,6 +97,7 @@ class Study:
             raise PlanError(f"{self.where / 'manifest.json'} is damaged", try_this=command("build", self.named)) from None
         self.key: str = self.manifest["key"]
         self.given = program
+        self.added_up = set[tuple[int, str, int, str]]()     # of pits that this object added up and kept: factor, digest of the bits, count, worth
 
     keeps = True                             # the certificate of each pit, packed, beside it
 
@@ -142,9 +144,14 @@ class Study:
         """The region of slopes of each block, of shape (blocks,): an index into ``manifest["offsets"]``."""
         return store.load_region(self.where / "blocks.npz")
 
+    @cached_property
+    def sides(self) -> list[npt.NDArray[np.int64]]:
+        """For each region of slopes how high up a block of each column asks for a place beside or below the model; see `edges.highest_touching`."""
+        return list(edges.highest_touching(self.model, self.manifest["offsets"].values()))
+
     def read_ahead(self) -> None:
         """Reads what the tables of a series will need, while its first pits are looked for."""
-        self.model, self.priced, self.region
+        self.model, self.priced, self.region, self.sides
 
     @classmethod
     def create(cls, folder: str | Path, model: Model, economics: Economics, slopes: Slopes, program: Pit | None = None, keys: str = "") -> Study:
@@ -184,7 +191,8 @@ class Study:
         return cls(folder, pit)
 
     def verify(self) -> None:
-        """Takes the digests of the model's files again.
+        """Takes the digests of the model's files again; of a file that this process has digested and that hasn't been touched since,
+        as `digests` tells it, that digest stands.
 
         Raises
         ------
@@ -193,7 +201,7 @@ class Study:
         """
         for name, digest in self.manifest["files"].items():
             path = self.where / name
-            if not path.is_file() or sha256(path) != digest:
+            if not path.is_file() or sha256_unless_known(path) != digest:
                 raise PlanError(f"{path} isn't the file that the build made" if path.is_file() else f"{path} is gone", try_this=command("build", self.named))
 
     @contextmanager
@@ -261,12 +269,13 @@ class Study:
             return self.kept(work, found, time.time() - began)
 
     def kept(self, work: Path, found: Accepted | Stated, seconds: float) -> Verdict:
-        """Writes a pit and its verdict into a folder that is then renamed to its place."""
+        """Writes a pit that has been added up, and its verdict, into a folder that is then renamed to its place."""
         bits = np.packbits(found.mask)
         np.savez_compressed(work / "pit.npz", bits=bits)
         done = Verdict(factor=found.factor, count=found.count, worth=found.worth, certificate=found.certificate, bits=hashlib.sha256(bits.tobytes()).hexdigest(), model=self.key,
                        pit=self.manifest["pit"], seconds=round(seconds, 2), host=host())
         (work / "verdict.json").write_text(json.dumps(done, indent=1))
+        self.added_up.add((found.factor, done["bits"], found.count, found.worth))
         return done
 
     def run_series(self, factors: Sequence[int], workers: int = 1, told: Told | None = None, sure: Callable[[], None] | None = None) -> None:
@@ -306,14 +315,19 @@ class Study:
         self.adds_up(found.mask, found.count, found.worth, factor)
 
     def adds_up(self, mask: Bools, count: int, worth: str, factor: int) -> None:
-        """Raises Disagreement where a pit's blocks aren't `count`, or the table doesn't add up to `worth` over them."""
-        ours = self.priced.worth_of(mask, factor)
-        if ours != worth or int(mask.sum()) != count:
-            raise Disagreement(f"at factor {factor / THOUSAND:g} pit says {count:,} blocks worth {worth}, and the table adds up to {int(mask.sum()):,} blocks worth {ours}",
+        """Raises Disagreement where a pit's blocks aren't `count`, or the table doesn't add up to `worth` over them; and PlanError
+        where the pit digs a block that `forbid` keeps, which costs the most that `pit` reads and is worth digging all the same."""
+        ours, counted = self.priced.worth_of(mask, factor), int(np.count_nonzero(mask))
+        if ours != worth or counted != count:
+            raise Disagreement(f"at factor {factor / THOUSAND:g} pit says {count:,} blocks worth {worth}, and the table adds up to {counted:,} blocks worth {ours}",
                                try_this="this is a mistake in pitplan or damage on the disk: keep the folder, and tell the maintainers")
+        if (mask & self.priced.at_most()).any():
+            raise PlanError(f"[economics] forbid: at factor {factor / THOUSAND:g} the mine brings so much that blocks are dug that may not be",
+                            try_this="prices and costs in thousands, or no factor as large")
 
     def mask(self, factor: int) -> Bools:
-        """Whether a block is in the pit at a factor (in thousandths), of shape (blocks,), with all checks made again.
+        """Whether a block is in the pit at a factor (in thousandths), of shape (blocks,), with all checks made again. Where these very
+        bits were added up by this object, with the same answer, their sum stands.
 
         Raises
         ------
@@ -330,7 +344,8 @@ class Study:
         if hashlib.sha256(bits.tobytes()).hexdigest() != done["bits"]:
             raise Disagreement(f"{self.place(factor) / 'pit.npz'} isn't what was {'accepted' if done['certificate'] else 'stated'}", try_this=f"take {self.place(factor)} away, then: {command('shells', self.named)}")
         mask: Bools = np.unpackbits(bits, count=self.manifest["blocks"]).astype(bool)
-        self.adds_up(mask, done["count"], done["worth"], factor)
+        if (factor, done["bits"], done["count"], done["worth"]) not in self.added_up:
+            self.adds_up(mask, done["count"], done["worth"], factor)
         return mask
 
     def pit(self, share: float) -> Accepted:

@@ -5,7 +5,7 @@ TEMPLATE = Template("""\
 # What pitplan works on. Every price, cost and angle is an example: put your own in its place.
 
 [model]
-table = $table
+table = $table$encoding
 # which column is what; further keys: dx, dy, dz (the size of a sub-block), tonnes or density, rock, id
 columns = { $columns }
 size = [$size]             # of a block along the model's x, y and z axes, in the unit of the coordinates$size_told

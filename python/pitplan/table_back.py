@@ -2,6 +2,7 @@
 from __future__ import annotations
 
 import gzip
+import io
 import os
 import tempfile
 from collections.abc import Iterable, Iterator
@@ -13,25 +14,27 @@ import numpy.typing as npt
 
 from .amounts import THOUSAND
 from .csv_text import dialect_of, head_of, names_of, opened, separator_of
+from .digests import sha256_unless_known
 from .errors import PlanError
 from .next_command import command
-from .program import sha256
 
 if TYPE_CHECKING:
     from .shells import Shells
 
+Ints = npt.NDArray[np.int64]
 COLUMN = "pit_shell"
+BLANKS = b" \t\n\r\x0b\x0c"                # what `bytes.strip` takes away
 PIECE = 1 << 22                              # bytes of a table that are written at a time
 
 
-def pieces(table: IO[bytes]) -> Iterator[tuple[list[bytes], bytes]]:
-    """Some megabytes of whole records at a time: their lines, and the same as one text."""
-    while lines := table.readlines(PIECE):
-        text = b"".join(lines)
-        while text.count(b'"') % 2 and (line := table.readline()):       # a cell in quotes goes on
-            lines.append(line)
-            text += line
-        yield lines, text
+def pieces(table: IO[bytes]) -> Iterator[bytes]:
+    """Some megabytes of whole records at a time."""
+    while text := table.read(PIECE) + table.readline():
+        more, is_open = [text], text.count(b'"') % 2 if b'"' in text else 0        # to count takes fifty times as long as to look
+        while is_open and (line := table.readline()):        # a cell in quotes goes on
+            more.append(line)
+            is_open ^= line.count(b'"') % 2
+        yield b"".join(more)
 
 
 def records(lines: Iterable[bytes]) -> Iterator[bytes]:
@@ -46,11 +49,24 @@ def records(lines: Iterable[bytes]) -> Iterator[bytes]:
         yield held
 
 
-def plain_end(lines: list[bytes], text: bytes) -> bytes | None:
-    """The line end of a piece that has a record in each line and the same end at each; None for any other piece."""
-    end = b"\r\n" if lines[0].endswith(b"\r\n") else b"\n"
-    same = text.count(end) == len(lines) and text.endswith(end) and text.count(b"\r") == (len(lines) if end == b"\r\n" else 0)
-    return end if same and b'"' not in text and all(map(bytes.strip, lines)) else None
+def plain_ends(text: bytes) -> tuple[bytes, Ints] | None:
+    """The line end of a piece that has a record in each line and the same end at each, and the places behind its lines; None for any
+    other piece."""
+    if b'"' in text or not text.endswith(b"\n"):
+        return None
+    each = np.frombuffer(text, np.uint8)
+    places: Ints = np.flatnonzero(each == ord("\n")) + 1
+    end = b"\r\n" if b"\r" in text else b"\n"
+    if end == b"\r\n" and not (np.count_nonzero(each == ord("\r")) == len(places) and (each[np.maximum(places - 2, 0)] == ord("\r")).all()):
+        return None
+    return None if has_blank_line(text, places) else (end, places)
+
+
+def has_blank_line(text: bytes, places: Ints) -> bool:
+    """Whether one of the lines of a text is blank; such a line begins with a blank or with its end."""
+    starts = np.append(0, places[:-1])
+    is_blank = np.isin(np.frombuffer(text, np.uint8)[starts], np.frombuffer(BLANKS, np.uint8))
+    return any(not text[start:stop].strip() for start, stop in zip(starts[is_blank].tolist(), places[is_blank].tolist()))
 
 
 def with_column(record: bytes, more: bytes) -> bytes:
@@ -84,7 +100,7 @@ def write(shells: Shells, target: Path) -> int:
     path = study.table
     if path is None:
         raise PlanError("the study was made of no file", try_this="shells.of_blocks()")
-    if not path.is_file() or sha256(path) != study.manifest["source"]["sha256"]:
+    if not path.is_file() or sha256_unless_known(path) != study.manifest["source"]["sha256"]:
         raise PlanError("isn't the table that the study was built from" if path.is_file() else "the study's table is gone", table=path, try_this=command("build", study.named))
     header = head_of(path, "latin-1", 1)[0]
     mark = separator_of(header)
@@ -111,8 +127,8 @@ def rewrite(path: Path, target: Path, head: bytes, cells: list[bytes], shell: np
         with opened(path) as old, cast(IO[bytes], gzip.open(name, "wb", 1) if target.suffix == ".gz" else open(name, "wb")) as new:
             new.write(with_column(next(records(old)), head))
             row = 0
-            for lines, text in pieces(old):
-                row += write_piece(new, lines, text, [cells[s] for s in shell[row:row + len(lines)].tolist()], cells[-1])
+            for text in pieces(old):
+                row += write_piece(new, text, cells, shell[row:])
         os.chmod(name, 0o644)
         os.replace(name, target)
     except BaseException:
@@ -120,14 +136,25 @@ def rewrite(path: Path, target: Path, head: bytes, cells: list[bytes], shell: np
         raise
 
 
-def write_piece(new: IO[bytes], lines: list[bytes], text: bytes, cells: list[bytes], blank: bytes) -> int:
-    """Writes the records of a piece with their cells, `blank` where there are no more, and returns how many records they are."""
-    cells += [blank] * (len(lines) - len(cells))
-    end = plain_end(lines, text)
-    if end:                                  # nearly all of a large table: ten times quicker than record by record
-        new.write(end.join(map(bytes.__add__, text[:-len(end)].split(end), cells)) + end)
-        return len(lines)
+def write_piece(new: IO[bytes], text: bytes, cells: list[bytes], shell: npt.NDArray[Any]) -> int:
+    """Writes the records of a piece, each with the cell that `shell` says, the last one where it has no more; returns how many they are."""
+    plain = plain_ends(text)
+    if plain:                                # nearly all of a large table
+        new.write(b"".join(with_cells(text, plain, cells, shell)))
+        return len(plain[1])
     count = 0
-    for count, record in enumerate(records(lines), 1):
-        new.write(with_column(record, cells[count - 1]) if record.strip() else record)
+    for count, record in enumerate(records(io.BytesIO(text)), 1):
+        cell = cells[shell[count - 1]] if count <= len(shell) else cells[-1]
+        new.write(with_column(record, cell) if record.strip() else record)
     return count
+
+
+def with_cells(text: bytes, plain: tuple[bytes, Ints], cells: list[bytes], shell: npt.NDArray[Any]) -> Iterator[bytes]:
+    """The lines of a plain piece, each with its cell: those that have the same one and stand below each other go at once."""
+    end, places = plain
+    kinds = np.append(shell[:len(places)], np.full(max(len(places) - len(shell), 0), len(cells) - 1))
+    last = np.append(np.flatnonzero(np.diff(kinds)), len(places) - 1)          # of each run of lines
+    ends, start = [cell + end for cell in cells], 0
+    for stop, kind in zip(places[last].tolist(), kinds[last].tolist()):
+        yield text[start:stop].replace(end, ends[kind])
+        start = stop

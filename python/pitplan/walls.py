@@ -40,8 +40,8 @@ def away_of(grid: Grid, dx: int, dy: int) -> tuple[float, float]:
 def worst(model: Model, resting: Resting, held: Bools, broken: tuple[Ints, Ints, Ints]) -> pd.DataFrame:
     """The steepest wall of each sector of bearings in which a design breaks the slopes.
 
-    A wall is measured from the centre of a block that the design digs up to the centre of the highest block that stands beside
-    it, over no more levels than the slopes look at (or 6). Bearings are those of the wall seen from the bottom of
+    A wall is measured from the centre of a block that the design digs, and that breaks the slopes in this sector, up to the
+    centre of the highest block that stands beside it, over no more levels than the slopes look at (or 6). Bearings are those of the wall seen from the bottom of
     the pit, clockwise from north.
 
     Parameters
@@ -61,8 +61,9 @@ def worst(model: Model, resting: Resting, held: Bools, broken: tuple[Ints, Ints,
     blocks, _, offsets = broken
     if not len(blocks):
         return pd.DataFrame(columns=list(COLUMNS))
-    lines = steepest(model, resting, held, np.unique(blocks))
-    ways, counts = np.unique(offsets[:, :2], axis=0, return_counts=True)
+    ways, way, counts = np.unique(offsets[:, :2], axis=0, return_inverse=True, return_counts=True)
+    sectors = np.array([sector_of(away_of(model.grid, dx, dy)[1]) if dx or dy else -1 for dx, dy in ways.tolist()])[way.ravel()]
+    lines = steepest(model, resting, held, {int(sector): np.unique(blocks[sectors == sector]) for sector in np.unique(sectors)})
     rows: dict[int, dict[str, Any]] = {}
     for (dx, dy), count in zip(ways.tolist(), counts.tolist()):
         if dx == dy == 0:
@@ -78,8 +79,9 @@ def worst(model: Model, resting: Resting, held: Bools, broken: tuple[Ints, Ints,
     return found.assign(id=model.blocks["id"].to_numpy()[foot], x=x[foot], y=y[foot], bench=z[foot])[list(COLUMNS)]
 
 
-def steepest(model: Model, resting: Resting, held: Bools, foot: Ints) -> dict[int, dict[str, Any]]:
-    """The steepest line of each sector from one of some blocks up to rock that stands.
+def steepest(model: Model, resting: Resting, held: Bools, feet: dict[int, Ints]) -> dict[int, dict[str, Any]]:
+    """The steepest line of each sector from one of the sector's own `feet` up to rock that stands: a block that breaks the slopes
+    elsewhere may lie in a region whose walls may be steeper.
 
     Returns
     -------
@@ -91,18 +93,21 @@ def steepest(model: Model, resting: Resting, held: Bools, foot: Ints) -> dict[in
     place = resting.place[~held & weight]
     np.maximum.at(standing, (place[:, 0], place[:, 1]), place[:, 2])
     levels, reach_x, reach_y = window(resting)
-    x, y, z = resting.place[foot].T
     found: dict[int, dict[str, Any]] = {}
     for dx in range(-reach_x, reach_x + 1):
         for dy in range(-reach_y, reach_y + 1):
+            away, bearing = away_of(grid, dx, dy)
+            sector = sector_of(bearing)
+            foot = feet.get(sector)
+            if foot is None or dx == dy == 0:
+                continue
+            x, y, z = resting.place[foot].T
             inside = (x + dx >= 0) & (x + dx < grid.shape[0]) & (y + dy >= 0) & (y + dy < grid.shape[1])
-            if dx == dy == 0 or not inside.any():
+            if not inside.any():
                 continue
             up = np.minimum(standing[x[inside] + dx, y[inside] + dy] - z[inside], levels)
             at = int(np.argmax(up))
-            away, bearing = away_of(grid, dx, dy)
             angle = math.degrees(math.atan2(int(up[at]) * grid.size[2], away))
-            sector = sector_of(bearing)
             if up[at] > 0 and (sector not in found or angle > found[sector]["steepest"]):
                 found[sector] = {"steepest": angle, "bearing": round(bearing, 6) % 360, "height": int(up[at]) * grid.size[2], "away": away, "block": int(foot[inside][at])}
     outlines = [Outline(wall(grid.size, 45.0, grid.rotation), offsets) for offsets in resting.offsets]

@@ -14,6 +14,13 @@ settings.register_profile("gate", max_examples=int(os.environ.get("EXAMPLES", "1
                           suppress_health_check=list(HealthCheck))
 settings.load_profile("gate")
 
+# The files that take longest come first, so that none of them is left to one processor at the end.
+LONGEST = ("test_page.py", "test_help_texts.py", "test_planning_md.py", "test_engines.py", "test_bundle.py", "test_risk.py")
+
+
+def pytest_collection_modifyitems(items):
+    items.sort(key=lambda item: item.path.name not in LONGEST)
+
 
 @pytest.fixture(scope="session", autouse=True)
 def program():

@@ -87,6 +87,27 @@ def test_formulas_regions_fences_rotation_and_added_blocks_are_worked_out_again(
     assert status == 0 and len(lines) == 1, lines
 
 
+def test_a_table_of_depths_holds(tmp_path):
+    frame = mines.table(7, 6, 4, 3)
+    lines, status = rechecked(bundled(tmp_path, mines.STUDY_TOML.replace("[model]", '[model]\nz = "depth"'), frame.assign(ZC=500 - frame.ZC)))
+    assert status == 0 and len(lines) == 1, lines
+
+
+def test_worths_are_added_up_whatever_pit_says(copy, tmp_path):
+    """A `pit` that says what the bundle does."""
+    told = json.loads((copy / "verdicts.json").read_text())
+    for verdict, change in zip(told, ({"worth": "123456789"}, {"count": 7})):
+        verdict.update(change)
+    (copy / "verdicts.json").write_text(json.dumps(told))
+    summed(copy)
+    said = "\n".join(f"{v['factor']}) echo ACCEPTED {v['count']} {v['worth']};;" for v in told)
+    (tmp_path / "pit").write_text(f"#!/bin/sh\n[ $1 = check ] || exec {os.environ['PIT']} \"$@\"\ncase $(sed -n 's/^PRICE MILL //p') in\n{said}\nesac\n")
+    (tmp_path / "pit").chmod(0o755)
+    ran = subprocess.run([sys.executable, "-I", str(copy / "recheck.py"), str(tmp_path / "pit")], capture_output=True, text=True)
+    wrong = [line for line in ran.stdout.splitlines() if line.startswith("WRONG")]
+    assert ran.returncode == 1 and [bool(re.search("its .* blocks add up to", line)) for line in wrong[:2]] == [True, True] and not any("pit check" in line for line in wrong), ran.stdout
+
+
 def test_sub_blocks_are_said_to_be_no_part_of_it(tmp_path):
     folder = bundled(tmp_path)
     facts = json.loads((folder / "facts.json").read_text())
@@ -97,19 +118,26 @@ def test_sub_blocks_are_said_to_be_no_part_of_it(tmp_path):
     assert ran.returncode == 0 and re.search(r"^look +sub-blocks were added up", ran.stdout, re.M)
 
 
-def test_a_changed_byte_in_any_file_is_found(whole, copy):
-    for path in sorted(path for path in copy.rglob("*") if path.is_file()):
-        kept = path.read_bytes()
-        at = kept.index(b"Checks this bundle") if path.name == "recheck.py" else len(kept) // 2       # the program itself goes on running
+FILES = [bundle.SUMS, "README.txt", "facts.json", "plainly.py", "recheck.py", "study.toml", "table/t.csv", "verdicts.json",
+         *(f"certificates/f{factor:05d}.cert.gz" for factor in (600, 1000, 1200)), *(f"model/{name}" for name in ("manifest.json", "mine.blocks", "mine.prec", "settings.toml", "slope-0.toml")),
+         *(f"tables/{name}.csv" for name in ("benches", "blocks", "pit_by_pit"))]
+
+
+def test_these_are_all_files_of_a_bundle(whole):
+    assert sorted(path.relative_to(whole).as_posix() for path in whole.rglob("*") if path.is_file()) == sorted(FILES)
+
+
+@pytest.mark.parametrize("name", FILES)
+def test_a_changed_byte_is_found_and_its_file_is_named(copy, name):
+    """The first byte, one in the middle, and the last; of recheck.py one of its words, so that it goes on running."""
+    path = copy / name
+    kept = path.read_bytes()
+    for at in [kept.index(b"Checks this bundle")] if name == "recheck.py" else (0, len(kept) // 2, len(kept) - 1):
         path.write_bytes(kept[:at] + bytes([kept[at] ^ 1]) + kept[at + 1:])
         lines, status = rechecked(copy)
-        name = path.relative_to(copy).as_posix()
-        assert status == 1, name
-        if path.name != bundle.SUMS:
-            assert f"WRONG   sha256 of {name}" in lines, (name, lines)
-            assert subprocess.run(["sha256sum", "-c", "--quiet", bundle.SUMS], cwd=copy, capture_output=True).returncode == 1, name
-        path.write_bytes(kept)
-    assert rechecked(copy)[1] == 0
+        told = [line for line in lines if line.startswith(("WRONG   sha256 of", f"WRONG   {bundle.SUMS}"))]
+        assert status == 1 and (len(told) == 1 if name == bundle.SUMS else told == [f"WRONG   sha256 of {name}"]), (at, lines)
+        assert subprocess.run(["sha256sum", "-c", "--quiet", "--strict", bundle.SUMS], cwd=copy, capture_output=True).returncode == 1, at
 
 
 def test_each_changed_line_end_of_the_list_is_found(copy):
@@ -167,6 +195,13 @@ def other_worth(folder):
 def swapped(folder):
     told = json.loads((folder / "verdicts.json").read_text())
     (folder / "verdicts.json").write_text(json.dumps(told[::-1]))
+
+
+def not_nested(folder):
+    """The largest pit stands for the smallest, and the smallest for the largest."""
+    told = json.loads((folder / "verdicts.json").read_text())
+    told[0], told[-1] = {**told[-1], "factor": told[0]["factor"]}, {**told[0], "factor": told[-1]["factor"]}
+    (folder / "verdicts.json").write_text(json.dumps(told))
 
 
 def dearer(folder):
@@ -252,6 +287,8 @@ CHANGES = {
     "rock of a bench": (column("benches.csv", "rock_t", "1.0"), "tables/benches.csv"),
     "the number of a block": (column("blocks.csv", "block", "7"), "tables/blocks.csv"),
     "a worth": (other_worth, "pit check at factor 0.6"),
+    "the digest of a certificate": (told_otherwise("verdicts.json", 0, "certificate", value="0" * 64), "the certificate at factor 0.6 is the one whose pit is shown"),
+    "pits that aren't nested": (not_nested, "the pit at 1 lies within that at 1.2"),
     "the order of the pits": (swapped, "comes behind"),
     "a price": (lambda f: replaced(f / "study.toml", "8500", "8600"), "what each block brings and costs"),
     "a cost": (lambda f: replaced(f / "study.toml", "mining = 2.0", "mining = 2.1"), "what each block brings and costs"),
@@ -337,6 +374,15 @@ def test_a_folder_that_is_there_is_left_alone(whole, tmp_path):
     with pytest.raises(PlanError, match="is there already"):
         bundle.write(Study(whole.parent).shells(told.factors), tmp_path / "there", told.path, told.keys.dialect(told.table))
     assert not list((tmp_path / "there").iterdir())
+
+
+def test_a_table_that_has_changed_since_is_not_bundled(tmp_path):
+    told = read_study_file(mines.written_study(tmp_path / "s"))
+    shells = Study.create(told.path.parent, told.read_model(), told.economics, told.slopes, keys=told.digest).shells(told.factors)
+    told.table.write_text(told.table.read_text().replace("SUL", "OXI", 1))
+    with pytest.raises(PlanError, match="the table that the study was built from isn't there any more"):
+        bundle.write(shells, tmp_path / "b", told.path, told.keys.dialect(told.table), told.rates)
+    assert not (tmp_path / "b").exists()
 
 
 def test_the_command(whole, tmp_path):

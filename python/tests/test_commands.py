@@ -12,6 +12,7 @@ import pytest
 from mines import STUDY_TOML, table, written_study
 from pitplan import first_look
 from pitplan.study_file import read_study_file
+from processes import TOP
 from served import PITPLAN, linked, pitplan
 
 
@@ -107,6 +108,24 @@ def test_help_needs_no_study_and_no_pit(tmp_path):
     assert ran.returncode == 0 and all(name in ran.stdout for name in ("init", "build", "shells"))
 
 
+LOADED = """import sys
+sys.path.insert(0, {!r})
+sys.argv = ["pitplan", {!r}]
+from pitplan.cli import main
+try:
+    main()
+except SystemExit:
+    print(*(name for name in ("pandas.core", "typer.rich_utils", "rich.markdown") if "__file__" in vars(sys.modules.get(name, object))))
+"""
+
+
+def test_a_command_loads_what_it_needs():
+    """What help and errors look like, and pandas, wait until somebody asks for them."""
+    for word, loaded in (("--version", ""), ("--help", "typer.rich_utils rich.markdown")):
+        ran = subprocess.run(["/usr/bin/python3", "-I", "-c", LOADED.format(str(TOP / "python"), word)], capture_output=True, text=True)
+        assert ran.stdout.splitlines()[-1] == loaded, ran.stdout + ran.stderr
+
+
 def test_a_missing_pit_is_told(tmp_path):
     ran = pitplan("build", written_study(tmp_path / "s"), PIT="/nowhere/pit")
     assert ran.returncode == 3 and "PIT in the environment" in ran.stderr
@@ -188,6 +207,38 @@ def test_spanish_names_are_known_and_the_nearest_is_offered(tmp_path):
     f.to_csv(tmp_path / "u.csv", index=False)
     lost = pitplan("init", "u.csv", "--column", "rock=ZONA", cwd=tmp_path)
     assert lost.returncode == 3 and "pitplan init u.csv --column rock=ZONA --column 'x=Coord X' --column y=NORTINGH --column z=NAME\n" in lost.stderr, lost.stderr
+
+
+def test_a_table_as_excel_saves_it_in_peru(tmp_path):
+    f = table(6, 5, 4, 3).rename(columns={"XC": "ESTE", "YC": "NORTE", "ZC": "COTA", "CU": "LEY_ZN", "ROCK": "LITOLOGÍA"})
+    f["LEY_ZN"] = f.LEY_ZN.astype(object)
+    f.loc[3, "LEY_ZN"] = "N/D"
+    f.loc[11, "LITOLOGÍA"] = "Óxido"
+    f.to_csv(tmp_path / "t.csv", index=False, sep=";", decimal=",", encoding="cp1252")
+    lost = pitplan("init", "t.csv", cwd=tmp_path)
+    assert lost.returncode == 3 and "t.csv, row 1: isn't text in UTF-8: the byte 0xcd" in lost.stderr and "--encoding cp1252" in lost.stderr
+    assert "no encoding" in pitplan("init", "t.csv", "--encoding", "ansi1252", cwd=tmp_path).stderr
+    found = pitplan("init", "t.csv", "--encoding", "cp1252", cwd=tmp_path)
+    assert found.returncode == 0 and 'look: N/D stands for "not estimated" in LEY_ZN, and counts as 0' in found.stderr, found.stderr
+    told = read_study_file(tmp_path / "t")
+    assert told.keys.encoding == "cp1252" and list(told.keys.absent) == ["N/D"] and [m.grade for m in told.economics.metals][0] == "LEY_ZN"
+    assert set(told.read_model().blocks.rock) >= {"Óxido"}
+
+
+def test_a_byte_that_is_no_text_is_told_with_its_row(tmp_path):
+    f = table(9, 8, 6, 3)
+    f["ROCK"] = f.ROCK.where(f.index != 100, "Óxido")
+    f.to_csv(tmp_path / "t.csv", index=False, encoding="cp1252")
+    assert "t.csv, row 102: isn't text in UTF-8: the byte 0xd3" in pitplan("init", "t.csv", cwd=tmp_path).stderr
+
+
+def test_a_metal_with_unknown_words_among_its_grades_is_told(tmp_path):
+    f = table(6, 5, 4, 3)
+    f["CU"] = f.CU.astype(object)
+    f.loc[7, "CU"] = "pendiente"
+    f.to_csv(tmp_path / "t.csv", index=False)
+    look = first_look.look_at(tmp_path / "t.csv")
+    assert "CU" in look.grades and look.absent == [] and any("column CU, row 9: the cell is no number: it is 'pendiente'" in note for note in look.notes)
 
 
 def test_a_mark_that_is_told_is_not_asked_for_again(tmp_path):

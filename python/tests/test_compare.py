@@ -1,6 +1,10 @@
 """A designed pit beside the best one: a design that is best, inside, broken, mended; and how designs are read."""
+import csv
+import dataclasses
+import gzip
 import json
 import math
+from contextlib import nullcontext
 from decimal import Decimal
 
 import ezdxf
@@ -9,13 +13,17 @@ import pandas as pd
 import pytest
 from ezdxf.render import MeshBuilder
 from hypothesis import given, strategies as st
+from matplotlib.colors import to_hex
 from matplotlib.tri import LinearTriInterpolator, Triangulation
+from shapely.geometry import Point, Polygon
 
 import pitplan as pp
-from mines import SIZE, costs, study_of, table, written_study
-from pitplan import compare, compare_plan, design, surface
+from mines import SIZE, STUDY_TOML, costs, study_of, table, written_study
+from pitplan import commands_compare, compare, compare_plan, design, surface, walls
 from pitplan.resting import Resting
+from pitplan.valued import Valued
 from pitplan.walls import worst
+from processes import TOP
 from test_commands import pitplan
 
 
@@ -45,7 +53,7 @@ def study(request, tmp_path_factory):
 def test_the_best_pit_itself(study):
     best = study.mask(1000)
     found = compare.compare(study, as_design(study, best))
-    assert found.said == f"ACCEPTED {best.sum()} {study.verdict(1000)['worth']}" and found.is_closed and found.gap == "0" and found.repair is None
+    assert found.said == "CLOSED" and found.is_closed and found.gap == "0" and found.repair is None
     assert found.worth == found.bound == study.verdict(1000)["worth"] and not len(found.pairs) and not len(found.walls) and found.share("0") == 0
     assert (found.benches.left_t == 0).all() and (found.benches.over_t == 0).all() and (found.benches.design_t == found.benches.best_t).all()
 
@@ -55,7 +63,8 @@ def test_a_design_that_keeps_the_slopes(study, factor):
     held, best = study.mask(factor), study.mask(1000)
     assert all(held[p] for b, p in pairs_in(study.prec_file) if held[b]) and (held != best).any()
     found = compare.compare(study, as_design(study, held))
-    assert found.said == "REFUSED NotTight" and found.is_closed and found.repair is None
+    assert found.said == "CLOSED" and found.is_closed and found.repair is None
+    assert found.share(found.gap) == pytest.approx(1 - wanted(study, held) / wanted(study, best))
     assert float(found.worth) == wanted(study, held) and float(found.bound) == wanted(study, best) and float(found.gap) == wanted(study, best) - wanted(study, held) > 0
     b = study.model.blocks
     left, over = best & ~held, held & ~best
@@ -77,9 +86,12 @@ def test_a_design_that_breaks_slopes(study, seed):
     if not broken:
         assert found.is_closed
         return
-    assert found.said == "REFUSED NotClosed(%d, %d)" % next((b, p) for b, p in pairs_in(study.prec_file) if held[b] and not held[p])
+    assert found.said == f"OPEN {len(broken)}"
     assert not found.is_closed and found.gap is None and float(found.worth) == wanted(study, held)
     ids = study.model.blocks["id"]
+    sector = study.model.blocks.set_index("id").SECTOR
+    for wall in found.walls[found.walls.built.notna()].itertuples():      # of the region of its foot
+        assert abs(wall.built - {"EAST": 35, "WEST": 45}[sector[wall.id]]) <= 1
     assert list(zip(found.pairs.id, found.pairs.needs)) == [(ids[b], ids[p]) for b, p in broken] and found.walls.pairs.sum() == len(broken)
     whole, todo = set(), list(np.flatnonzero(held))                     # a plain search upwards
     above = {}
@@ -138,21 +150,62 @@ def test_the_worst_wall_of_a_shaft(tmp_path):
         assert np.isnan(above.bearing).sum() == 1 and above[np.isnan(above.bearing)].steepest.iloc[0] == 90
 
 
-def test_contradictions_are_never_shown(study, monkeypatch):
-    best = study.mask(1000)
+def test_a_wall_is_told_from_a_block_that_breaks_the_slopes_there(tmp_path):
+    made = study_of(tmp_path, table(9, 8, 5, 5), pp.Slopes(55, by="SECTOR", regions={"EAST": 35}))
+    resting, ids, grid = Resting(made), made.model.blocks["id"].to_numpy(), made.model.grid
+    for seed in range(5):
+        held = np.random.default_rng(seed).random(len(made.model)) < 0.3
+        broken = resting.broken(held)
+        sectors = [walls.sector_of(walls.away_of(grid, dx, dy)[1]) if dx or dy else -1 for dx, dy in broken[2][:, :2].tolist()]
+        there = set(zip(ids[broken[0]], sectors))
+        told = worst(made.model, resting, held, broken)
+        assert len(told) > 8 and all((row.id, -1 if np.isnan(row.bearing) else walls.sector_of(row.bearing)) in there for row in told.itertuples())
+
+
+def test_a_design_that_digs_what_may_not_be_dug_is_told(tmp_path):
+    made = study_of(tmp_path, table(6, 5, 4, 3), economics=costs(forbid=["XC < 5010"]))
+    x = made.model.blocks["XC"].to_numpy(float)
+    lines = commands_compare.forbidden_lines(made, x < 5030)
+    first = made.model.blocks["id"].to_numpy()[x < 5010][0]
+    assert len(lines) == 1 and f"digs {int((x < 5010).sum())} blocks that forbid keeps from being dug, as {first}:" in lines[0]
+    assert commands_compare.forbidden_lines(made, x > 5010) == []
+
+
+SAID = "DESIGN 2 11\nOPEN 2\nNEEDS 0 2\nNEEDS 1 2\nBEST 3 1 GAP -10\n"
+
+
+def test_what_pit_value_says_is_read():
+    said = Valued.of_answer(SAID)
+    assert (said.said, said.open, said.needs, said.is_closed) == ("OPEN 2", 2, ((0, 2), (1, 2)), False)
+    assert (said.count, said.worth, said.best_count, said.bound, said.gap) == (2, "11", 3, "1", "-10")
+    said = Valued.of_answer("DESIGN 0 0\nCLOSED\nBEST 3 1.5 GAP 1.5\n")
+    assert (said.said, said.open, said.needs, said.is_closed, said.count, said.gap) == ("CLOSED", 0, (), True, 0, "1.5")
+    for text in ("REFUSED OverCapacity(3)\n", "DESIGN 2 11\nCLOSED\n", SAID + "NEEDS 1 2\n"):
+        with pytest.raises(pp.NotAccepted, match="pit value: " + text.split("(")[0].split("\n")[0]):
+            Valued.of_answer(text)
+
+
+@pytest.mark.parametrize("change, match", [
+    ({}, None), ({"open": 1}, "2 pairs are broken"), ({"needs": ((0, 2), (1, 3))}, "2 pairs are broken"), ({"count": 3}, "the table adds up to 2 worth 11"),
+    ({"worth": "12"}, "pit value says 2 blocks worth 12"), ({"bound": "2"}, "below 2, and"), ({"gap": "-9"}, "-9 below 1")])
+def test_contradictions_are_never_shown(change, match):
+    said, held = dataclasses.replace(Valued.of_answer(SAID), **change), np.array([True, True, False])
+    with pytest.raises(pp.Disagreement, match=match) if match else nullcontext():
+        compare.agree(said, held, (np.array([0, 1]), np.array([2, 2]), np.zeros((2, 3), int)), "11", "1")
+
+
+def test_a_closed_set_above_the_bound_is_never_shown():
     none = (np.empty(0, int),) * 3
-    with pytest.raises(pp.Disagreement, match="isn't broken"):
-        compare.agreed("REFUSED NotClosed(1, 2)", none)
-    with pytest.raises(pp.Disagreement, match="pairs are broken"):
-        compare.agreed("REFUSED NotTight", (np.array([1]), np.array([2]), np.array([[0, 0, 1]])))
-    with pytest.raises(pp.NotAccepted, match="OverCapacity"):
-        compare.agreed("REFUSED OverCapacity(3)", none)
-    with pytest.raises(pp.Disagreement, match="none is worth more"):
-        compare.below("10", "10.5")
+    compare.agree(Valued("CLOSED", 0, (), 2, "11", 3, "11", "0"), np.array([True, True, False]), none, "11", "11")
+    with pytest.raises(pp.Disagreement, match="none is worth more than 1"):
+        compare.agree(Valued("CLOSED", 0, (), 2, "11", 3, "1", "-10"), np.array([True, True, False]), none, "11", "1")
+
+
+def test_another_certificate_is_never_taken(study, monkeypatch):
     certificate = compare.Certificate(study, 1000)
     monkeypatch.setattr(study, "verdict", lambda factor, told=study.verdict(1000): {**told, "certificate": "0" * 64})
     with pytest.raises(pp.Disagreement, match="isn't the certificate that was accepted"):
-        certificate.judge(best)
+        certificate.judge(study.mask(1000))
 
 
 def test_designs_by_ids(tmp_path, study):
@@ -167,6 +220,10 @@ def test_designs_by_ids(tmp_path, study):
     for name in (*files, "list.txt", "headed.txt"):
         found = design.by_ids_of(model, tmp_path / name)
         assert (found.held == held).all() and found.name == name.split(".")[0]
+    pd.DataFrame({"IJK": ids, "DISEÑO": "sí"}).to_csv(tmp_path / "ansi.csv", index=False, sep=";", encoding="cp1252")
+    assert (design.by_file(model, tmp_path / "ansi.csv", encoding="cp1252").held == held).all()
+    with pytest.raises(pp.PlanError, match="ansi.csv, row 1: isn't text in UTF-8"):
+        design.by_ids_of(model, tmp_path / "ansi.csv")
     (tmp_path / "bad.csv").write_text("id\n" + "\n".join([*ids[:3], "b9999", "x"]) + "\n")
     with pytest.raises(pp.PlanError, match=r"bad.csv, row 5: 'b9999' is the id of no block; 2 of 5 are so"):
         design.by_ids_of(model, tmp_path / "bad.csv")
@@ -192,10 +249,10 @@ def test_an_id_of_several_blocks_is_refused(tmp_path):
 def test_designs_by_a_column(tmp_path):
     f = table(5, 5, 3, 2)
     n = np.arange(len(f))
-    f = f.assign(NUMBER=np.where(n % 3 == 0, n % 2 + 1.0, 0.0), WORD=np.where(n % 3 == 0, "Yes", "no"), HOLES=np.where(n % 3 == 0, 1.0, np.nan), PHASE=np.where(n % 2, "PB1", "out"),
+    f = f.assign(NUMBER=np.where(n % 3 == 0, n % 2 + 1.0, 0.0), WORD=np.where(n % 3 == 0, "Yes", "no"), PALABRA=np.where(n % 3 == 0, "Sí", "NO"), HOLES=np.where(n % 3 == 0, 1.0, np.nan), PHASE=np.where(n % 2, "PB1", "out"),
                  MINUS=np.where(n % 3 == 0, 1, -99))
     model = study_of(tmp_path, f, absent=[]).model
-    for name in ("NUMBER", "WORD", "HOLES"):
+    for name in ("NUMBER", "WORD", "PALABRA", "HOLES"):
         assert (design.by_column(model, name).held == (n % 3 == 0)).all()
     assert (design.by_column(model, "PHASE", "PB1").held == (n % 2 == 1)).all() and (design.by_column(model, "NUMBER", "2").held == (f.NUMBER == 2)).all()
     for name, value, said in (("PHASE", None, "column PHASE: 'PB1' says neither yes nor no"), ("MINUS", None, "says neither"), ("PHASE", "PB2", "there are"), ("PHASF", None, "is 'PHASE' meant"),
@@ -261,7 +318,7 @@ def test_a_stepped_surface_with_upright_faces_gives_the_pit_itself(tmp_path, stu
             space.add_3dface([corners[0], corners[1], (*corners[1][:2], corners[1][2] + 15), (*corners[0][:2], corners[0][2] + 15)])
     document.saveas(tmp_path / "d.dxf")
     found = design.by_surface(model, tmp_path / "d.dxf")
-    assert (found.held == held).all() and compare.compare(study, found).said.startswith("ACCEPTED")
+    assert (found.held == held).all() and compare.compare(study, found).gap == "0"
 
 
 def test_surfaces_that_are_none(tmp_path, study):
@@ -304,7 +361,7 @@ def test_air_and_added_rock_are_no_fault_of_a_design_by_ids(tmp_path):
     added = (made.model.blocks.row < 0).to_numpy()
     assert (best & added).any()
     found = compare.compare(made, design.by_ids(made.model, ids), 1200)
-    assert found.said.startswith("ACCEPTED") and any("can't name" in note for note in found.design.notes)
+    assert found.gap == "0" and any("can't name" in note for note in found.design.notes)
 
 
 def test_the_plan_draws_what_both_have(study):
@@ -316,6 +373,9 @@ def test_the_plan_draws_what_both_have(study):
     areas = [sum(abs(np.cross(p.vertices[1] - p.vertices[0], p.vertices[-2] - p.vertices[0])) for p in c.get_paths()) for c in axes.collections]
     assert np.allclose(np.array(areas) / 400, [(mask & level).sum() for mask in (held & best, best & ~held, held & ~best)], atol=1e-3)
     assert (best & ~held & level).sum() > 0
+    kinds = axes.figure.legends[0].get_patches()
+    assert [text.get_text().removesuffix(": none here") for text in axes.figure.legends[0].get_texts()[:3]] == ["In both", "Left by the design", "Beyond the best pit"]
+    assert [(to_hex(c.get_facecolor()[0]), c.get_hatch()) for c in axes.collections] == [(to_hex(p.get_facecolor()), p.get_hatch()) for p in kinds]
 
 
 def test_the_command(tmp_path):
@@ -329,7 +389,7 @@ def test_the_command(tmp_path):
     ids = made.model.blocks["id"]
     pd.DataFrame({"IJK": ids[best]}).to_csv(tmp_path / "best.csv", index=False)
     ran = pitplan("compare", folder, "--ids", tmp_path / "best.csv")
-    assert ran.returncode == 0 and "the design is the best pit" in ran.stdout and f"ACCEPTED {best.sum()}" in ran.stdout, ran.stderr
+    assert ran.returncode == 0 and "the design is the best pit" in ran.stdout and "pit value says of the design: CLOSED" in ran.stdout, ran.stderr
     pd.DataFrame({"IJK": ids[made.mask(600)]}).to_csv(tmp_path / "small.csv", index=False)
     small = pitplan("compare", folder, "--ids", tmp_path / "small.csv", "--bench", "130")
     told = json.loads((folder / "out/compare-small/summary.json").read_text())
@@ -350,3 +410,79 @@ def test_the_command(tmp_path):
     for words, said in (((), "one of --ids FILE"), (("--column", "WHICH", "--ids", tmp_path / "low.csv"), "one of --ids FILE"), (("--column", "WHICH", "--factor", "0.7"), "nearest that have are 0.6, 1")):
         wrong = pitplan("compare", folder, *words)
         assert wrong.returncode == 3 and said in wrong.stderr, wrong.stderr
+
+
+def triangles_in(path):
+    """The triangles of a DXF's 3D faces, by its pairs of lines alone: a code, and what it says. A face has four corners, the last of
+    which may be that before it."""
+    lines = path.read_text().splitlines()
+    faces, is_face = [], False
+    for code, said in zip(map(int, lines[::2]), map(str.strip, lines[1::2])):
+        if code == 0:
+            is_face = said == "3DFACE"
+            if is_face:
+                faces.append({})
+        elif is_face:
+            faces[-1][code] = said
+    corners = [[tuple(float(face[10 * axis + i]) for axis in (1, 2, 3)) for i in range(4)] for face in faces]
+    return [triangle for a, b, c, d in corners for triangle in ((a, b, c), (a, c, d)) if len(set(triangle)) == 3]
+
+
+def lowest_over(triangles, places):
+    """The lowest elevation of triangles over each place (east, north), by shapely and the plane through three corners; upright ones
+    are over none."""
+    found = dict.fromkeys(places, math.inf)
+    points = np.array(list(found))
+    for triangle in triangles:
+        plan = Polygon([corner[:2] for corner in triangle])
+        if plan.area < 1e-6:
+            continue
+        least, most = np.array(plan.bounds[:2]), np.array(plan.bounds[2:])
+        a, b, c = map(np.array, triangle)
+        normal = np.cross(b - a, c - a)
+        for place in map(tuple, points[((points >= least) & (points <= most)).all(axis=1)].tolist()):
+            if plan.intersects(Point(place)):
+                found[place] = min(found[place], a[2] - (normal[:2] @ (np.array(place) - a[:2])) / normal[2])
+    return found
+
+
+def dollars(row):
+    """What a block is worth at the full price, by the costs of the study below: in decimals, which are exact."""
+    tonnes = Decimal(row["SG"]) * 20 * 20 * 10
+    revenue, processing, mining = (tonnes * each for each in (Decimal(row["CU"]) / 100 * Decimal("0.85") * 8501, 9, Decimal("2.2")))
+    return max(round(revenue) - round(processing), 0) - round(mining)
+
+
+HILL = STUDY_TOML.replace('"t.csv"', f'"{TOP / "examples/hill.csv"}"').replace("[20, 20, 15]", '[20, 20, 10]\nrotation = 30\nabsent = ["-99"]').replace(
+    "mining = 2.0", "mining = 2.2").replace("8500", "8501").replace("{ OXI = 7.5, SUL = 9.0 }", "9.0").replace("[0.6, 1.0, 1.2]", "[1.0]")
+
+
+def test_the_figures_of_a_design_by_faces_come_out_by_another_way(tmp_path):
+    """Count, worth and tonnes of the example's design from its DXF, the table and the certificate, without a reader of this package."""
+    folder = written_study(tmp_path / "s", text=HILL)
+    assert pitplan("build", folder).returncode == 0 == pitplan("shells", folder, "--certificates").returncode
+    ran = pitplan("compare", folder, "--surface", TOP / "examples/hill-design.dxf")
+    assert ran.returncode == 1, ran.stderr
+    with open(TOP / "examples/hill.csv", newline="") as file:
+        rows = list(csv.DictReader(file))
+    tonnes = [float(row["SG"]) * 20 * 20 * 10 for row in rows]
+    worth = list(map(dollars, rows))
+    triangles = triangles_in(TOP / "examples/hill-design.dxf")
+    ground = lowest_over(triangles, {(float(row["XC"]), float(row["YC"])) for row in rows})
+    above = [float(row["ZC"]) - ground[float(row["XC"]), float(row["YC"])] for row in rows]
+    assert min(map(abs, above)) > 1e-4       # no centre lies on a face
+    designed = {b for b, height in enumerate(above) if height > 0}
+    text = gzip.decompress((folder / "runs/base/f01000/best.cert.gz").read_bytes()).decode()
+    best = {int(line[4:]) for line in text.splitlines() if line.startswith("PIT ")}
+    pairs = [(b, p) for b, p in pairs_in(folder / "model/mine.prec") if b in designed and p not in designed]
+    told = json.loads((folder / "out/compare-hill-design/summary.json").read_text())
+    assert (told["blocks"], int(told["worth"]), told["best_blocks"], int(told["bound"]), told["broken_pairs"]) == (
+        len(designed), sum(worth[b] for b in designed), len(best), sum(worth[b] for b in best), len(pairs))
+    for name, blocks in (("tonnes", designed), ("best_tonnes", best), ("left_tonnes", best - designed), ("over_tonnes", designed - best)):
+        assert told[name] == pytest.approx(sum(tonnes[b] for b in blocks)) and blocks, name
+    benches = pd.read_csv(folder / "out/compare-hill-design/benches.csv").set_index("bench")
+    for bench in {float(rows[b]["ZC"]) for b in designed | best}:
+        for name, blocks in (("left", best - designed), ("over", designed - best)):
+            here = [b for b in blocks if float(rows[b]["ZC"]) == bench]
+            assert benches[f"{name}_t"][bench] == pytest.approx(sum(tonnes[b] for b in here)) and benches[f"{name}_worth"][bench] == sum(worth[b] for b in here)
+    assert f"{len(designed):,} blocks" in ran.stdout and f"{sum(worth[b] for b in designed):,}" in ran.stdout

@@ -137,6 +137,34 @@ def test_spelled():
     assert rounding_of(0.1) == Decimal("0.1")
 
 
+# By hand, blocks of 10,000 tonnes: a kilogram of arsenic in the concentrate costs 2.50; or a tonne of concentrate, of 28 % copper, costs
+# 2.50 for each 0.1 % of arsenic in it above 0.2 %. The second block's concentrate has 0.9 * 0.01 / (0.88 * 2.8 / 28) = 0.102 %.
+PENALTIES = pd.DataFrame({"XC": [0.0, 20.0, 40.0], "YC": 0.0, "ZC": 0.0, "TONNES": 10000.0, "CU": [1.0, 2.8, 0.0], "AS": [2000.0, 100.0, 100.0], "ROCK": "SUL"})
+ARSENIC = pp.Metal("arsenic", "AS", price=0, grade_unit="ppm", price_unit="kg", recovery=0.9, selling=2.5)
+BY_CONCENTRATE = "9.0 + 2.5 / 0.1 * max(0, 0.9 * AS / 10000 - 0.2 * 0.88 * CU / 28)"
+
+
+def test_a_penalty_element(frame):
+    dirty = model_of(PENALTIES)
+    by_kilogram, by_concentrate = costs(metals=(COPPER, ARSENIC)).priced(dirty), costs(processing=BY_CONCENTRATE).priced(dirty)
+    assert by_kilogram.metal["arsenic"].tolist() == pytest.approx([18000, 900, 900]) and by_kilogram.processing.tolist() == [135000, 92250, 92250]
+    assert by_concentrate.processing.tolist() == [133429, 90000, 92250]
+    for priced in (by_kilogram, by_concentrate):
+        assert priced.revenue.tolist() == [722500, 2023000, 0] and priced.milled(1000).tolist() == [True, True, False]
+        assert (priced.thousandths(500) + priced.mining * 1000).tolist() == [361250000 - priced.processing[0] * 1000, 1011500000 - priced.processing[1] * 1000, 0]      # the factor is of the price alone
+    assert "try: price = 0, selling = 2.5, if it is a penalty" in refusal(pp.Metal, "arsenic", "AS", -2.5, grade_unit="ppm", price_unit="kg")
+    diluted = costs(processing=f"9.0 + ({BY_CONCENTRATE} - 9.0) / 1.25", dilution=0.25).priced(dirty)         # the feed is leaner, and there is more of it
+    assert (diluted.processing - by_concentrate.processing).tolist() == [22500, 22500, 22500]
+
+
+@pytest.mark.parametrize("values, shown", [([178.4, 52.12, math.nan], ["178.40", "52.12", ""]), ([52.12, 0.133, 0.0], ["52.120", "0.133", "0.000"]), ([99.9994, 1.0], ["99.999", "1.000"]),
+                                           ([99.9996, 1.0], ["100.00", "1.00"]), ([1308.64, 48.7], ["1,308.6", "48.7"]), ([999.996, 0.5], ["1,000.0", "0.5"]), ([9999.96], ["10,000"]),
+                                           ([14770.4, 0.0], ["14,770", "0"]), ([-178.4, 52.12], ["-178.40", "52.12"]), ([5041, 12], ["5,041", "12"]), ([math.nan], [""])])
+def test_a_column_of_a_table_has_one_number_of_decimals(values, shown):
+    from pitplan.commands_build import cells_of
+    assert cells_of(values) == shown
+
+
 def test_the_grade_tonnage_of_each_rock(frame, model):
     from pitplan.tonnage import by_rock
     economics = costs()
@@ -147,6 +175,8 @@ def test_the_grade_tonnage_of_each_rock(frame, model):
         t = frame.TONNES[here & ore]
         assert lines.blocks[rock] == here.sum() and lines.Mt[rock] == pytest.approx(frame.TONNES[here].sum() / 1e6)
         assert lines["ore Mt"][rock] == pytest.approx(t.sum() / 1e6) and lines["copper %"][rock] == pytest.approx((t * frame.CU[here & ore]).sum() / t.sum())
+        assert lines["copper t"][rock] == pytest.approx((t * frame.CU[here & ore]).sum() * 0.01 * 0.85)
+    assert (~ore & (frame.CU > 0)).any()      # there is metal that isn't worth treating
 
 
 def test_a_rock_that_no_block_has_is_told(tmp_path):

@@ -17,7 +17,7 @@ from vtkmodules.vtkFiltersVerdict import vtkCellSizeFilter
 from vtkmodules.vtkIOXML import vtkXMLUnstructuredGridReader
 
 import pitplan as pp
-from mines import SIZE, STUDY_TOML, shells_of, study_of, table, written_study
+from mines import SIZE, STUDY_TOML, costs, shells_of, study_of, table, written_study
 from pitplan import export_csv, export_dxf, export_gpkg, export_vtu, outlines
 from pitplan.whole_file import whole_file
 from test_commands import pitplan
@@ -212,6 +212,16 @@ def test_csv_of_blocks(tmp_path, turned):
     assert export_csv.write(shells, tmp_path / "y.csv") == shells.holds(3).sum()
     plain = export_csv.safe(export_csv.table_of(shells, ["CU"], is_whole=True)).to_csv(index=False)
     assert (tmp_path / "x.csv").read_text() == plain                      # numbers that are spelled once are spelled as pandas does
+
+
+def test_worths_and_ways_of_blocks_are_the_table_s_in_cents_too(tmp_path):
+    f = table(6, 5, 4, 3)
+    shells = study_of(tmp_path, f, economics=costs(rounding=0.01)).shells([1000])
+    export_csv.write(shells, tmp_path / "x.csv", is_whole=True)
+    found = pd.read_csv(tmp_path / "x.csv")
+    revenue, processing = (np.rint(100 * v) for v in (f.TONNES * f.CU * 0.01 * 0.85 * 8500, f.TONNES * f.ROCK.map({"OXI": 7.5, "SUL": 9.0})))
+    assert np.abs(100 * found.worth - (np.maximum(revenue - processing, 0) - np.rint(200 * f.TONNES))).max() < 1e-3
+    assert (found["to"] == np.where(revenue > processing, "mill", "waste")).all() and (found.worth % 1 != 0).any()
 
 
 def test_words_that_a_spreadsheet_would_run_arent_written_as_formulas(tmp_path):

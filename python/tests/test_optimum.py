@@ -31,7 +31,7 @@ def places_of(rows):
     return [tuple(round((float(row[axis]) - least) / size) for axis, least, size in zip(("XC", "YC", "ZC"), low, (20, 20, 15))) for row in rows]
 
 
-def best_worth(rows, offsets_of, share):
+def best_worth(rows, offsets_of, share, worth_of=worth_of):
     """The worth of the best closed set: all revenue less igraph's maximum flow."""
     at = {place: b for b, place in enumerate(places_of(rows))}
     worth = [worth_of(row, share) for row in rows]
@@ -65,6 +65,30 @@ def test_with_regions_too(tmp_path_factory, nx, ny, nz, seed):
     offsets = study.manifest["offsets"]
     assert len(offsets) == 2
     assert float(found.worth) == pytest.approx(best_worth(rows_of(folder / "t.csv"), lambda row: offsets["EAST" if row["SECTOR"] == "EAST" else "default"], 1.0), abs=1e-4)
+
+
+def with_a_penalty(row, share):
+    """`worth_of` where each kilogram of arsenic in the concentrate costs 2.50, whatever copper brings."""
+    tonnes = float(row["TONNES"])
+    revenue = round(tonnes * float(row["CU"]) * 0.01 * 0.85 * 8500)
+    processing = round(tonnes * {"OXI": 7.5, "SUL": 9.0}[row["ROCK"]] + tonnes * float(row["AS"]) / 1000 * 0.9 * 2.5)
+    return max(revenue * share - processing, 0) - round(tonnes * 2.0)
+
+
+@pytest.mark.parametrize("share", [0.6, 1.0, 1.35])
+def test_a_penalty_element_moves_the_pit(tmp_path, share):
+    frame = table(6, 6, 4, 11)
+    frame["AS"] = np.random.default_rng(3).integers(0, 9000, len(frame))
+    by_kilogram = {"metals": (pp.Metal("copper", "CU", price=8500, recovery=0.85), pp.Metal("arsenic", "AS", price=0, grade_unit="ppm", price_unit="kg", recovery=0.9, selling=2.5))}
+    by_formula = {"processing": "where(ROCK == 'OXI', 7.5, 9.0) + 2.5 * 0.9 * AS / 1000"}
+    pits = []
+    for name, economics in (("none", costs()), ("metal", costs(**by_kilogram)), ("formula", costs(**by_formula))):
+        (tmp_path / name).mkdir()
+        study = study_of(tmp_path / name, frame, economics=economics)
+        pits.append(study.pit(share))
+        offsets = study.manifest["offsets"]["default"]
+    assert float(pits[1].worth) == pytest.approx(best_worth(rows_of(tmp_path / "metal" / "t.csv"), lambda row: offsets, share, with_a_penalty), abs=1e-4)
+    assert pits[1].worth == pits[2].worth and (pits[1].mask == pits[2].mask).all() and float(pits[1].worth) < float(pits[0].worth)
 
 
 @given(SIZES, SIZES, st.integers(1, 4), st.integers(0, 10 ** 6), st.floats(-180, 180))

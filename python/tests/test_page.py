@@ -200,7 +200,7 @@ def test_facts_of_a_design_and_of_the_best_pit(design_view, shells, compared):
         assert number(told["Blocks"]) == mask.sum() and told["Worth at factor 1.00, exact ($)"].replace(",", "") == worth
         assert has(told, "Ore", b.tonnes[mask & milled].sum()) and has(told, "Waste", b.tonnes[mask & ~milled].sum())
     said = text_of(design_view, "said")
-    assert f"pit check says of the design: {compared.said}" in said and "breaks the slopes" in said and f"{int(compared.repair.gap):,}" in said
+    assert f"pit value says of the design: {compared.said}" in said and "breaks the slopes" in said and f"{int(compared.repair.gap):,}" in said
     benches = np.array([[number(cell) for cell in row] for row in rows_of(design_view, 1)])
     for column, mask in ((1, compared.design.held), (2, compared.optimum), (3, compared.optimum & ~compared.design.held), (5, compared.design.held & ~compared.optimum)):
         wanted = [b.tonnes[mask & (b.iz == (z - 100) / 15)].sum() for z in benches[:, 0]]

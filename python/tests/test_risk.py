@@ -16,6 +16,7 @@ import pytest
 import pitplan as pp
 from mines import SIZE, costs, study_of, table, written_study
 from pitplan import local, risk
+from pitplan.model import TableKeys
 from pitplan.task import Task, Tasks, task_of, wanted
 from processes import command, gone, waited_for
 from test_runs import slow_pit
@@ -62,6 +63,7 @@ def test_blocks_of_a_likelihood_are_a_closed_pit_and_nested(tmp_path):
         below = None
         for share in (1.0, *reversed(risk.TENTHS)):
             mask = found.pit(share, factor)
+            assert (mask == (10 * found.hits[found.at(factor)].astype(int) >= round(10 * share) * 8)).all()       # at least so many of the 8
             said = judged(study, mask, tmp_path)
             assert said.startswith("ACCEPTED") or "NotTight" in said, said
             assert below is None or not (below & ~mask).any()
@@ -96,6 +98,22 @@ def test_each_realisation_is_the_study_with_its_grades(tmp_path):
             assert (risk.realisation(study, r).mask(factor) == pit.mask).all()
     likely = sum(risk.realisation(study, r).mask(1000).astype(int) for r in range(3)) / 3
     assert (found.likelihood(1000) == likely).all()
+
+
+def test_the_grades_may_be_those_of_another_metal(tmp_path):
+    """The same file, first as grades of copper and then of gold: pits of the one aren't those of the other."""
+    frame = table(6, 5, 4, 3)
+    economics = costs(metals=(pp.Metal("copper", "CU", price=8500, recovery=0.85), pp.Metal("gold", "AU", price=60, grade_unit="g/t", price_unit="g", recovery=0.7)))
+    study = prepared(tmp_path, 2, frame, economics, [1000])
+    done(study)
+    assert risk.prepare(study, economics, tmp_path / "sims.npy", [1000], "gold").column == "AU"
+    assert [task.name for task in Tasks(study.folder).left(risk.tasks(study))] == ["0", "1"]
+    found = done(study)
+    for r in range(2):
+        (tmp_path / str(r)).mkdir()
+        pit = study_of(tmp_path / str(r), frame.assign(AU=np.load(tmp_path / "sims.npy")[r].astype(float)), economics=economics).pit(1.0)
+        assert found.runs.blocks[r] == pit.count and found.runs.worth[r] == float(pit.worth)
+        assert (risk.realisation(study, r).mask(1000) == pit.mask).all()
 
 
 def test_a_certificate_of_a_realisation_is_written_into_scratch_and_not_packed(tmp_path, program, monkeypatch):
@@ -146,6 +164,10 @@ def test_what_risk_says_is_added_up_by_pandas(tmp_path):
     for row in found.table().itertuples():
         worths = found.runs[found.runs.factor == row.factor].worth
         assert (row.worth_least, row.worth_most) == (worths.min(), worths.max()) and row.worth_p50 == worths.median()
+        for name in ("blocks", "rock_t", "worth"):
+            of = found.runs[found.runs.factor == row.factor][name]
+            told = [getattr(row, f"{name}_{key}") for key in ("least", "p10", "p50", "p90", "most", "mean")]
+            assert told == pytest.approx([*np.percentile(of, [0, 10, 50, 90, 100]), of.mean()]), name
     pits = found.pits(1000)
     assert (pits.worth_mean <= pits.best_mean).all() and pits.blocks.is_monotonic_decreasing
     assert pits.rock_t.iloc[0] == pytest.approx(study.model.blocks.tonnes[found.pit(0.1)].sum())
@@ -166,6 +188,20 @@ def test_realisations_go_by_row(tmp_path, keys):
     assert (one.priced.mining == study.priced.mining).all()
 
 
+def test_realisations_go_by_row_where_lines_hold_no_blocks(tmp_path):
+    """Lines of descriptions and blank lines are rows of the table too, and so of the realisations."""
+    frame = table(6, 5, 4, 3)
+    lines = frame.to_csv(index=False).splitlines()
+    rows = np.r_[1:6, 7:len(frame) + 2]                       # a line of descriptions, and a blank one behind five blocks
+    (tmp_path / "t.csv").write_text("\n".join([lines[0], "Types:,double,double,double,double,double,double,name,name", *lines[1:6], "", *lines[6:]]) + "\n")
+    study = pp.Study.create(tmp_path / "s", pp.read_table(tmp_path / "t.csv", size=SIZE), costs(), pp.Slopes(45))
+    grades = np.full((1, len(frame) + 2), 99, np.float32)
+    grades[0, rows] = frame.CU
+    np.save(tmp_path / "sims.npy", grades)
+    risk.prepare(study, costs(), tmp_path / "sims.npy", [1000])
+    assert np.abs(risk.realisation(study, 0).priced.revenue - study.priced.revenue).max() <= 1
+
+
 def test_a_csv_is_the_same_as_an_npy(tmp_path):
     frame = table(6, 5, 4, 3)
     study = prepared(tmp_path, 3, frame)
@@ -181,6 +217,37 @@ def test_a_csv_of_realisations_may_have_semicolons_and_decimal_commas(tmp_path, 
     pd.DataFrame(grades, columns=[f"s{i}" for i in range(2 * copies)]).to_csv(tmp_path / "sims.csv", index=False, sep=separator, decimal=decimal)
     found, _ = risk.opened(tmp_path / "sims.csv", tmp_path)
     assert (found == grades.T).all()
+
+
+def test_a_csv_may_name_its_blocks_and_has_to_name_the_tables(tmp_path):
+    frame = table(6, 5, 4, 3)
+    study = prepared(tmp_path, 3, frame)
+    digests = risk.setup_of(study).digests
+    names = study.model.columns
+    sims = pd.DataFrame(np.load(tmp_path / "sims.npy").T, columns=["s1", "s2", "s3"])
+    beside = pd.concat([frame[[names[key] for key in ("id", "x", "y", "z")]].reset_index(drop=True), sims], axis=1)
+    beside.to_csv(tmp_path / "sims.csv", index=False, sep=";", decimal=",")
+    assert risk.prepare(study, costs(), tmp_path / "sims.csv", [1000]).digests == digests
+    beside.iloc[[0, 1, 3, 2, *range(4, len(beside))]].to_csv(tmp_path / "sims.csv", index=False)
+    with pytest.raises(pp.PlanError, match=f"row 4, column {names['id']}: .* stands where the table has"):
+        risk.prepare(study, costs(), tmp_path / "sims.csv", [1000])
+    beside.drop(columns=["s1", "s2", "s3"]).to_csv(tmp_path / "sims.csv", index=False)
+    with pytest.raises(pp.PlanError, match="has no column of a realisation"):
+        risk.prepare(study, costs(), tmp_path / "sims.csv", [1000])
+
+
+def test_marks_of_the_table_count_in_realisations_and_others_are_told_by_their_row(tmp_path):
+    frame = table(6, 5, 4, 3)
+    study = prepared(tmp_path, 3, frame)
+    sims = pd.DataFrame(np.load(tmp_path / "sims.npy").T, columns=["s1", "año 2", "s3"]).astype(object)
+    sims.iloc[7, 1] = "N/D"
+    sims.to_csv(tmp_path / "sims.csv", index=False, sep=";", decimal=",", encoding="cp1252")
+    with pytest.raises(pp.PlanError, match="isn't text in UTF-8"):
+        risk.prepare(study, costs(), tmp_path / "sims.csv", [1000])
+    with pytest.raises(pp.PlanError, match="row 9, column año 2: the cell is no number: it is 'N/D'"):
+        risk.prepare(study, costs(), tmp_path / "sims.csv", [1000], keys=TableKeys(encoding="cp1252"))
+    found, _ = risk.opened(tmp_path / "sims.csv", tmp_path, study, TableKeys(encoding="cp1252", absent=["N/D"]))
+    assert found[1, 7] == 0 and (found[0] == np.load(tmp_path / "sims.npy")[0]).all()
 
 
 def test_cells_that_are_no_grades_are_told(tmp_path):
@@ -322,6 +389,8 @@ def test_a_section_has_the_likelihood_of_its_blocks(tmp_path):
     row = 3
     figure = section(found, 1000, row)
     shown = figure.axes[0].collections[0].get_array()
+    light = np.asarray(figure.axes[0].collections[0].cmap(np.linspace(0, 1, 20)))[:, :3] @ [0.2126, 0.7152, 0.0722]
+    assert (np.diff(light) < 0).all() and figure.axes[0].collections[0].get_clim() == (0, 1)      # the likelier, the darker
     shown = np.ma.filled(shown, np.nan).ravel()
     here = found.likelihood(1000)[found.study.model.blocks.iy.to_numpy() == row]
     assert sorted(shown[~np.isnan(shown)]) == pytest.approx(sorted(here[here > 0]))

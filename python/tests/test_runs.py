@@ -140,6 +140,15 @@ def test_a_changed_model_has_no_pits(tmp_path):
     assert len(new.shells([600, 800]).verdicts) == 2
 
 
+def test_a_pit_in_another_factor_s_folder_is_none(tmp_path):
+    study = shells_of(tmp_path).study
+    shutil.copytree(study.place(800), study.place(900))
+    assert study.verdict(800) and study.verdict(900) is None
+    with pytest.raises(pp.PlanError, match="0.9 hasn't been run over this model"):
+        pp.Shells(study, [800, 900])
+    assert study.shells([800, 900]).verdicts[1]["factor"] == 900
+
+
 def test_a_build_that_fails_leaves_the_study_as_it_was(tmp_path):
     old = shells_of(tmp_path).study
     with pytest.raises(pp.PlanError):
@@ -245,6 +254,26 @@ def test_forbidden_blocks_stay(tmp_path):
     for share in (1.35, 10.0):
         assert not (study.pit(share).mask & fence).any()
     assert (free & fence).any() and study.pit(1.35).count > 0
+
+
+def test_a_rich_block_below_a_forbidden_one_stays_at_every_factor(tmp_path):
+    """What lies below is all that the mine brings, at ten times the price as well."""
+    f = table(1, 1, 3, 1).sort_values("ZC", ignore_index=True)
+    f = f.assign(CU=np.where(f.ZC == f.ZC.min(), 80.0, 0.0))
+    study = study_of(tmp_path, f, economics=costs(forbid=["ZC > 110"]))
+    assert study.pit(10.0).count == 0 and study_of(tmp_path, f).pit(10.0).count == len(f)
+
+
+def test_a_pit_that_digs_what_is_forbidden_is_never_shown(tmp_path):
+    """The most that `pit` reads for a block is 10^12: less than this mine brings at ten times the price."""
+    f = table(1, 1, 3, 1).sort_values("ZC", ignore_index=True)
+    f = f.assign(CU=np.where(f.ZC == f.ZC.min(), 80.0, 0.0))
+    study = study_of(tmp_path, f, economics=costs(metals=(pp.Metal("copper", "CU", price=8500 * 3000, recovery=0.85),), forbid=["ZC > 110"]))
+    assert 1e11 < study.priced.revenue.sum() < 5e11 and study.pit(1.0).count == 0
+    for found in (lambda: study.run(10_000), lambda: study.shells([1000, 10_000])):
+        with pytest.raises(pp.PlanError, match="forbid: at factor 10 the mine brings so much that blocks are dug that may not be"):
+            found()
+    assert study.verdict(10_000) is None
 
 
 def test_a_model_comes_back_from_its_file(tmp_path):

@@ -204,7 +204,17 @@ def test_a_packed_table_of_the_usual_kind_is_read(tmp_path):
     assert len(pp.read_table(tmp_path / "t.csv.gz", size=mines.SIZE)) == len(frame)
 
 
-@pytest.mark.parametrize("data", [b"\x1f\x8b\x08\x00", b"\x1f\x8b no", gzip.compress(b"XC,YC,ZC\n1,2,3\n" * 2000)[:60], gzip.compress(b"XC,YC\n" * 2000)[:20] + b"\x00" * 50])
+# Names of their own: a packed text holds the second in which it was packed, and each process of
+# pytest-xdist has to collect the same names.
+DAMAGED = {
+    "ends within its header": b"\x1f\x8b\x08\x00",
+    "no method": b"\x1f\x8b no",
+    "cut off": gzip.compress(b"XC,YC,ZC\n1,2,3\n" * 2000, mtime=0)[:60],
+    "overwritten by zeros": gzip.compress(b"XC,YC\n" * 2000, mtime=0)[:20] + b"\x00" * 50,
+}
+
+
+@pytest.mark.parametrize("data", DAMAGED.values(), ids=DAMAGED.keys())
 def test_a_packed_table_that_is_damaged_is_told(tmp_path, data):
     (tmp_path / "t.csv.gz").write_bytes(data)
     with pytest.raises(PlanError):

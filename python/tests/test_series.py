@@ -1,8 +1,11 @@
 """Pits of a series from one run of `pit shells --by-block`: against certificates, with planted mistakes, cut off, and by an older `pit`."""
+import hashlib
+import json
 import os
 import random
 import signal
 import subprocess
+import time
 
 import numpy as np
 import pandas as pd
@@ -12,7 +15,7 @@ from hypothesis import strategies as st
 
 import pitplan as pp
 from mines import SIZE, costs, shells_of, study_of, table, written_study
-from pitplan import table_back
+from pitplan import digests, table_back
 from pitplan.page_views import CERTIFIED, STATED
 from pitplan.program import Pit, Stated
 from pitplan.status import RUNNING, states
@@ -84,6 +87,47 @@ def test_files_that_arent_those_of_the_build_give_no_pit(tmp_path):
     with pytest.raises(pp.PlanError, match="isn't the file that the build made"):
         study.shells(SERIES)
     assert list((study.folder / "runs/base").iterdir()) == []
+
+
+def test_what_changes_between_two_readings_is_found(tmp_path, monkeypatch):
+    """Files that were digested once aren't read again, and one that was changed since is found, whatever its time of writing says."""
+    reads, read = [], digests.sha256
+    monkeypatch.setattr(digests, "SETTLED", 0)
+    monkeypatch.setattr(digests, "sha256", lambda path: reads.append(path.name) or read(path))
+    study = study_of(tmp_path, table(6, 5, 4, 3))
+    time.sleep(0.05)
+    study.shells(SERIES)
+    assert sorted(reads) == sorted(study.manifest["files"])
+    pp.Shells(study, SERIES)
+    assert len(reads) == len(study.manifest["files"])        # each of them once
+    for name in study.manifest["files"]:
+        path, time_of_it = study.where / name, (study.where / name).stat()
+        whole = path.read_bytes()
+        for text in (whole[:-1] + bytes([whole[-1] ^ 1]), whole):
+            with open(path, "r+b") as file:
+                file.write(text)
+            os.utime(path, ns=(time_of_it.st_atime_ns, time_of_it.st_mtime_ns))
+            time.sleep(0.05)
+            if text != whole:
+                with pytest.raises(pp.PlanError, match="isn't the file that the build made"):
+                    pp.Shells(study, SERIES)
+        pp.Shells(study, SERIES)             # as it was
+
+
+def test_a_pit_that_was_changed_after_it_was_added_up_is_added_up_again(tmp_path):
+    """The bits and their digest in the verdict are changed together; so is the worth, so that the verdict agrees with itself."""
+    study = study_of(tmp_path, table(6, 5, 4, 3))
+    study.shells(SERIES)
+    place = study.place(800)
+    kept = json.loads((place / "verdict.json").read_text())
+    mask = study.mask(800)
+    mask[np.flatnonzero(mask)[0]] = False
+    bits = np.packbits(mask)
+    np.savez_compressed(place / "pit.npz", bits=bits)
+    for more in ({}, {"count": kept["count"] - 1}):
+        (place / "verdict.json").write_text(json.dumps(kept | {"bits": hashlib.sha256(bits.tobytes()).hexdigest()} | more))
+        with pytest.raises(pp.Disagreement, match="adds up to"):
+            study.mask(800)
 
 
 def test_more_factors_than_one_run_takes(tmp_path, monkeypatch):

@@ -1,14 +1,17 @@
 """The tables of the shells, against sums by hand; the planner's own table back; where a pit touches the model's side."""
 import gzip
 from decimal import Decimal
+from types import SimpleNamespace
 
 import numpy as np
 import pandas as pd
 import pytest
+from scipy import ndimage
 
 import pitplan as pp
 from mines import SIZE, costs, shells_of, study_of, table
-from pitplan import commands_shells, pit_by_pit, table_back
+from pitplan import commands_shells, edges, pit_by_pit, risk, table_back
+from pitplan.task import Tasks
 
 GOLD = pp.Metal("gold", "AU", price=60, grade_unit="g/t", price_unit="g", recovery=0.7)
 
@@ -57,6 +60,18 @@ def test_discounting_by_hand(two_metals):
         assert said == pytest.approx(total)
     assert found.npv_best >= found.npv_worst and found.years == pytest.approx(sum(
         max(p.TONNES.sum() / 1e5, p.TONNES[p.ore].sum() * 0.99 / 5e4) for _, p in f[f["shell"] <= 2].groupby(["shell", "level"])))
+
+
+def test_rates_that_are_not_told_take_the_largest_pit_in_15_years(two_metals):
+    shells, folder = two_metals
+    f = pd.read_csv(folder / "t.csv")[shells.holds(3)]
+    revenue = np.rint(f.TONNES * 0.9 * f.CU * 0.01 * 0.85 * 8500 + f.TONNES * 0.9 * f.AU * 0.7 * 60)
+    ore = f.TONNES[revenue > np.rint(f.TONNES * 0.9 * 1.1 * f.ROCK.map({"OXI": 7.5, "SUL": 9.0}))].sum()
+    rates = {"mining_rate": f.TONNES.sum() / 15, "mill_rate": ore * 0.9 * 1.1 / 15}
+    for own in ((), ("mining_rate",), ("mill_rate",), tuple(rates)):
+        found, wanted = (shells.table(discount=0.1, **told) for told in ({name: rates[name] for name in own}, rates))
+        for column in ("npv_best", "npv_worst", "years"):
+            assert np.allclose(found[column], wanted[column], rtol=1e-9), (own, column)
 
 
 def test_benches_add_up_to_pits(two_metals):
@@ -133,6 +148,25 @@ def test_cells_with_line_ends_and_packed_tables(tmp_path):
     assert back.drop(columns="pit_shell").equals(f) and (back.pit_shell.notna() == shells.holds(0)).all()
 
 
+RECORDS = [b"%d,x,2.5", b"%d,y,", b"\t%d,1", b"", b" \t", b'%d,"said ""so""\n, twice",1', b'%d,"\n\n",1', b"%d,in\rside,3"]
+
+
+@pytest.mark.parametrize("kinds, end", [(RECORDS[:2], b"\n"), (RECORDS[:3], b"\r\n"), (RECORDS[:4], b"\n"), (RECORDS[:5], b"\r\n"), (RECORDS, b"\n"), (RECORDS, b"\r\n")])
+def test_each_record_gets_its_own_cell(tmp_path, monkeypatch, kinds, end):
+    """Plain lines, blank lines, cells in quotes with line ends, and a carriage return within a line, in pieces of any length."""
+    cells = [b",0.4", b",0.85", b",1", b","]
+    for seed in range(60):
+        r = np.random.default_rng(seed)
+        rows = [kind % n if b"%d" in kind else kind for n, kind in enumerate(map(kinds.__getitem__, r.integers(0, len(kinds), r.integers(0, 40))))]
+        shell = np.repeat(r.integers(0, 3, len(rows)), r.choice([1, 4]))[:max(0, len(rows) - seed % 3)]
+        last = end if r.random() < 0.7 else b""
+        (tmp_path / "t.csv").write_bytes(end.join([b"a,b,c", *rows]) + last)
+        monkeypatch.setattr(table_back, "PIECE", int(r.choice([1, 9, 40, 1 << 22])))
+        table_back.rewrite(tmp_path / "t.csv", tmp_path / "back.csv", b",pit_shell", cells, shell)
+        wanted = [row + (cells[shell[n]] if n < len(shell) else cells[-1]) if row.strip() else row for n, row in enumerate(rows)]
+        assert (tmp_path / "back.csv").read_bytes() == end.join([b"a,b,c,pit_shell", *wanted]) + last, seed
+
+
 def test_sub_blocks_get_the_shell_of_their_whole_block(tmp_path):
     f = table(5, 5, 3, 7)
     whole = f.assign(XINC=20.0, YINC=20.0, ZINC=15.0)
@@ -165,14 +199,36 @@ def test_a_column_of_that_name_is_kept(tmp_path):
     assert pd.read_csv(tmp_path / "back.csv").columns[-2:].tolist() == ["pit_shell", "pit_shell_2"]
 
 
+def test_tables_of_blocks_name_rows_as_a_spreadsheet_counts_them(tmp_path):
+    """By the lines of the text: a line of descriptions, a blank line, and blocks that no row is for."""
+    f = table(6, 5, 4, 3)
+    lines = f.to_csv(index=False).splitlines()
+    lines[1:1] = ["Types:,double,double,double,double,double,double,name,name"]
+    lines[7:7] = [""]
+    (tmp_path / "t.csv").write_text("\n".join(lines) + "\n")
+    study = pp.Study.create(tmp_path / "s", pp.read_table(tmp_path / "t.csv", size=SIZE, widen=1), costs(), pp.Slopes(45))
+    shells = study.shells([800, 1000])
+    np.save(tmp_path / "sims.npy", np.zeros((1, len(lines) - 1), np.float32))
+    risk.prepare(study, costs(), tmp_path / "sims.npy", [1000])
+    Tasks(study.folder).do(risk.tasks(study)[0])
+    for found in (shells.of_blocks(), pp.Phases(shells).of_blocks(), risk.Risk(study).of_blocks()):
+        own = found[found["row"] > 0]
+        assert [lines[row - 1].split(",")[0] for row in own["row"]] == own["id"].tolist() == f.IJK.tolist()
+        assert len(found) > len(own) and (found["row"][len(own):] == 0).all()
+
+
+def leading_out(study, only=None):
+    """Whether each block has an offset that leads out of the sides of a box that is full up to a flat ground; by the slopes of its
+    region, or of one for all."""
+    b, (nx, ny, nz), offsets = study.model.blocks, study.model.grid.shape, study.manifest["offsets"]
+    for x, y, z, name in zip(b.ix, b.iy, b.iz, b["SECTOR"] if "SECTOR" in b else ["default"] * len(b)):
+        own = offsets.get(only or name, offsets["default"])
+        yield any(z + c < nz and not (0 <= x + a < nx and 0 <= y + b < ny) for a, b, c in own)
+
+
 def touched_by_hand(shells, i):
-    """Blocks of a pit whose offsets lead out of the box of a model that is full up to a flat ground."""
-    m = shells.study.model
-    (nx, ny, nz), offsets = m.grid.shape, shells.study.manifest["offsets"]["default"]
-    found = 0
-    for x, y, z, held in zip(m.blocks.ix, m.blocks.iy, m.blocks.iz, shells.holds(i)):
-        found += bool(held) and any(z + c < nz and not (0 <= x + a < nx and 0 <= y + b < ny) for a, b, c in offsets)
-    return found
+    """Blocks of a pit whose offsets lead out of such a box."""
+    return int(np.count_nonzero(shells.holds(i) & np.array(list(leading_out(shells.study)))))
 
 
 def flat(nx, ny, nz, rich):
@@ -188,6 +244,15 @@ def test_where_a_pit_touches_the_side_of_the_model(tmp_path):
         assert shells.touches_edge(0) == touched_by_hand(shells, 0) and (shells.touches_edge(0) > 0) == touches, name
 
 
+def test_the_side_is_looked_at_by_the_slopes_of_each_block_s_region(tmp_path):
+    """Of each block of a full box, of which one half has flat slopes: these lead out of the box from further within."""
+    frame = flat(9, 8, 4, (4, 4, 0)).assign(SECTOR=lambda f: np.where(f.XC < 80, "WEST", "EAST"))
+    study = study_of(tmp_path, frame, pp.Slopes(50, by="SECTOR", regions={"EAST": 25}))
+    every = SimpleNamespace(study=study, factors=[1000], shell=np.zeros(len(frame), np.int16))
+    steep, low = (np.array(list(leading_out(study, only=name))) for name in ("default", "EAST"))
+    assert (edges.touching(every) == np.array(list(leading_out(study)))).all() and (low > steep).any() and (low >= steep).all()
+
+
 def test_a_notch_in_the_side_and_low_ground_beside_a_pit(tmp_path):
     f = flat(13, 13, 5, (6, 6, 0))
     notch = f[~((f.XC <= 80) & (f.YC.between(100, 140)))]       # columns that are missing from the west side up to the pit
@@ -196,6 +261,44 @@ def test_a_notch_in_the_side_and_low_ground_beside_a_pit(tmp_path):
     assert study_of(tmp_path, valley).shells([1000]).touches_edge(0) == 0
     bottom = f[~((f.XC <= 100) & (f.ZC < 50))]        # no rows below: a wall would need them
     assert study_of(tmp_path, bottom).shells([1000]).touches_edge(0) > 0
+
+
+def asks_for(place, where, offsets, top, low):
+    """Whether one of a block's offsets leads to a place that isn't in the model and isn't air, place by place.
+
+    `where` says what a column is: "rows", "shaft", or nothing where it has no row and the way out is free; there and beyond the sides
+    the ground goes on as in the nearest column.
+    """
+    (nx, ny), found = top.shape, False
+    for offset in offsets:
+        x, y, z = (a + b for a, b in zip(place, offset))
+        near = min(max(x, 0), nx - 1), min(max(y, 0), ny - 1)
+        if near != (x, y) or not where[near]:
+            found |= z <= top[near]
+        elif where[near] == "rows":
+            found |= z < low[near]
+    return found
+
+
+@pytest.mark.parametrize("seed", range(80))
+def test_each_block_that_touches_the_side(seed):
+    r = np.random.default_rng(seed)
+    shape = tuple(map(int, r.integers(1, 8, 3)))
+    there = (r.random(shape) < r.choice([0.6, 0.9, 1])) & (r.random(shape[:2]) < r.choice([0.7, 0.9, 1]))[:, :, None]
+    there[0, 0, 0] = True
+    places = np.argwhere(there)
+    r.shuffle(places)
+    n = len(places)
+    blocks = pd.DataFrame({**dict(zip(("ix", "iy", "iz"), places.T.astype(np.int32))), "tonnes": r.choice([0.0, 5.0], n, p=[0.2, 0.8])})
+    model = pp.Model(blocks, pp.Grid((0.0, 0.0, 0.0), (1.0, 1.0, 1.0), shape))
+    offsets = [[[*map(int, r.integers(-2, 3, 2)), int(r.integers(1, 4))] for _ in range(r.integers(1, 6))] for _ in range(2)]
+    region, shell = r.integers(0, 2, n), r.integers(0, 3, n)
+    free, _ = ndimage.label(np.pad(~there.any(axis=2), 1, constant_values=True))
+    where = np.where(there.any(axis=2), "rows", np.where(free[1:-1, 1:-1] == free[0, 0], "", "shaft"))
+    top, low = edges.ground(model)
+    shells = SimpleNamespace(study=SimpleNamespace(model=model, region=region, sides=list(edges.highest_touching(model, offsets))), shell=shell, factors=[600, 1000])
+    wanted = [bool(shell[b] < 2 and asks_for(places[b], where, offsets[region[b]], top, low)) for b in range(n)]
+    assert edges.touching(shells).tolist() == wanted
 
 
 def with_air(f, levels):

@@ -136,7 +136,7 @@ def test_the_command_shows_and_draws(tmp_path):
     for name, angles in (("few", "45\nlevels = 1"), ("dent", "[[0, 35], [45, 55], [90, 35], [180, 45], [270, 55]]")):
         cannot = written_study(tmp_path / name, text=STUDY_TOML.replace("angles = 45", f"angles = {angles}"))
         told = [pitplan(word, cannot) for word in ("slopes", "build")]                # the build says it too, and goes on
-        assert told[0].stderr == told[1].stderr and [ran.returncode for ran in told] == [0, 0]
+        assert "slopes of default, 1 of 1\n" + told[0].stderr == told[1].stderr and [ran.returncode for ran in told] == [0, 0]
         said[name] = told[0].stderr
     assert "default: 0.5 degrees on average and 1 at the worst bearing can't be held with blocks of 20 x 20 x 15 and levels = 1;" in said["few"] and "try: more levels" in said["few"]
     bearing, asked, built = map(float, re.search(r"err most at bearing (\d+): ([\d.]+) degrees are asked for there, ([\d.]+) are built", said["dent"]).groups())
@@ -144,3 +144,18 @@ def test_the_command_shows_and_draws(tmp_path):
     wrong = written_study(tmp_path / "u", text=STUDY_TOML.replace("angles = 45", "angles = 450"))
     ran = pitplan("slopes", wrong)
     assert ran.returncode == 3 and "from 5 to 89 degrees" in ran.stderr and "Traceback" not in ran.stderr
+
+
+def test_each_region_is_told_as_it_is_begun(tmp_path, monkeypatch):
+    model, events, run = model_of(tmp_path, table(4, 4, 3, 2)), [], Pit.slopes
+    slopes = pp.Slopes(45, by="SECTOR", regions={"EAST": 38, "WEST": 40})
+    slopes.heard = lambda *told: events.append(told)
+    monkeypatch.setattr(Pit, "slopes", lambda self, *words: events.append("pit slopes") or run(self, *words))
+    written(tmp_path, slopes, model)
+    assert events == [("default", 1, 3), "pit slopes", ("EAST", 2, 3), "pit slopes", ("WEST", 3, 3), "pit slopes"]
+
+
+def test_a_build_off_a_terminal_has_a_line_for_each_region(tmp_path):
+    text = STUDY_TOML.replace("angles = 45", 'angles = 45\nby = "SECTOR"\nregions = { EAST = 38 }')
+    ran = pitplan("build", written_study(tmp_path / "s", text=text))
+    assert ran.returncode == 0 and ran.stderr.splitlines()[:2] == ["slopes of default, 1 of 2", "slopes of EAST, 2 of 2"], ran.stderr

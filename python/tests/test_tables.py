@@ -187,7 +187,8 @@ def test_sub_blocks_are_refused_or_add_up(tmp_path_factory, seed, part):
 
 def test_sub_blocks_weigh_by_density_and_size(tmp_path):
     f = pd.DataFrame({"XC": [10, 10, 30.], "YC": 10., "ZC": [2.5, 7.5, 5.], "XINC": 20., "YINC": 20., "ZINC": [5, 5, 10.], "DENSITY": [2.0, 3.0, 2.5], "CU": [1.0, 0.0, 0.5], "ROCK": ["A", "B", "A"]})
-    model = read(tmp_path, f, size=(20, 20, 10), regularise=True)
+    model = read(tmp_path, f.assign(ID=["a", "b", "c"]), size=(20, 20, 10), regularise=True)
+    assert model.blocks["id"].tolist() == ["a", "c"] and model.blocks["row"].tolist() == [0, 2]      # both of the first row, whichever is the heaviest
     assert model.blocks.tonnes.tolist() == [10000, 10000] and model.blocks.CU.round(6).tolist() == [0.4, 0.5] and model.blocks.rock.tolist() == ["B", "A"]
 
 
@@ -243,6 +244,41 @@ def test_missing_rows_are_told_apart(tmp_path):
     assert (last.tonnes, last.rock, last["row"], last.XC, last.YC, last.ZC) == (15000, "SUL", -1, at.XC, at.YC, at.ZC)
     assert costs().priced(rock).revenue[-1] == 0      # what was filled in is never ore
     assert len(read(tmp_path, f.drop(inside), missing="air")) == len(f) - len(inside)
+
+
+def test_what_fills_a_hole_has_the_columns_of_the_block_above(tmp_path):
+    f = table(5, 5, 4, 8)
+    hole = hole_in(f)
+    at = f.loc[hole[0]]
+    column = f[(f.XC == at.XC) & (f.YC == at.YC)].set_index("ZC")
+    above, below = (column.loc[at.ZC + step] for step in (15, -15))
+    last = read(tmp_path, f.drop(hole), missing="rock", fill={"tonnes": 15000.0, "rock": "SUL"}).blocks.iloc[-1]
+    assert (last.CU, last.AU, last.SECTOR) == (above.CU, above.AU, above.SECTOR) and last.CU != below.CU
+    assert last.CU == above.CU and last.TONNES == above.TONNES != last.tonnes == 15000
+
+
+def test_blocks_that_are_added_to_a_table_of_depths_have_depths_there(tmp_path):
+    """Else a cost by depth, as a formula has it, would be that of another level."""
+    f = table(5, 5, 4, 8)
+    deep = f.assign(ZC=500 - f.ZC).drop(hole_in(f))
+    model = read(tmp_path, deep, z="depth", missing="rock", fill={"tonnes": 15000.0, "rock": "SUL"}, widen=1)
+    added = model.blocks["row"] < 0
+    assert added.sum() > 20 and (model.blocks.ZC == 400 - 15 * model.blocks.iz).all()        # the lowest centre is 100 up: 400 down
+    mining = costs(mining="1 + 0.01 * ZC").priced(model).mining
+    assert np.abs(mining - model.blocks.tonnes * (1 + 0.01 * (400 - 15 * model.blocks.iz))).max() <= 0.501
+
+
+def test_added_columns_are_those_of_the_nearest_column(tmp_path):
+    f = table(6, 5, 4, 4)
+    model = read(tmp_path, f, widen=2)
+    added = model.blocks[model.blocks["row"] < 0]
+    source = f.assign(place=list(zip(f.XC, f.YC, f.ZC))).set_index("place")
+    near = list(zip(added.XC.clip(f.XC.min(), f.XC.max()), added.YC.clip(f.YC.min(), f.YC.max()), added.ZC))
+    for column, own in (("TONNES", "tonnes"), ("ROCK", "rock"), ("SECTOR", "SECTOR")):
+        assert source[column][near].tolist() == added[own].tolist()
+    high = f.groupby(["XC", "YC"]).size()
+    around = [(x, y) for x in 5000 + 20.0 * np.arange(-2, 8) for y in 9000 + 20.0 * np.arange(-2, 7)]
+    assert len(added) == sum(high[float(np.clip(x, f.XC.min(), f.XC.max())), float(np.clip(y, f.YC.min(), f.YC.max()))] for x, y in around) - len(f)
 
 
 def test_widened(tmp_path):

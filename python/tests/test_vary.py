@@ -1,6 +1,7 @@
 """What-ifs: each is the study that a planner would write by hand with that one thing changed."""
 import dataclasses
 
+import numpy as np
 import pandas as pd
 import pytest
 
@@ -105,6 +106,9 @@ def test_the_command_and_its_chart(tmp_path):
     axes = vary.tornado(frame).axes[0]
     assert sorted(label.get_text() for label in axes.get_yticklabels()) == ["mining", "price", "slope"]
     assert len(axes.patches) == 6
+    base, unit = frame.worth.iloc[0], 1e6 if "million" in axes.get_xlabel() else 1e3
+    ends = sorted(tuple(sorted((bar.get_x(), bar.get_x() + bar.get_width()))) for bar in axes.patches)
+    assert np.allclose(ends, sorted(tuple(sorted((base / unit, worth / unit))) for worth in frame.worth.iloc[1:]))
     widths = sorted(abs(bar.get_width()) for bar in axes.patches)
     expected = sorted(abs(frame.difference.iloc[1:]))
     assert widths[-1] / widths[0] == pytest.approx(expected[-1] / expected[0]) if expected[0] else True

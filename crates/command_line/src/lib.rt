@@ -16,6 +16,7 @@ mod series_options;
 mod shells_command;
 mod slopes_command;
 mod solve_command;
+mod value_command;
 mod version;
 mod wrong_word;
 
@@ -28,4 +29,5 @@ pub use request::{Request, request_of};
 pub use series_options::{SeriesCommand, SeriesWords};
 pub use slopes_command::{OffsetsWords, SlopesWords};
 pub use solve_command::SolveWords;
+pub use value_command::ValueWords;
 pub use wrong_word::{Commanded, NamedOption, WrongWord, declined_for};

@@ -6,7 +6,7 @@ use std::alloc::{AllocError, Global};
 /// The exit statuses, for each command's help.
 pub const STATUSES: &str = "Exit status:
   0  done: the answer is on standard output
-  1  no: the certificate doesn't prove its pit, the run gave no pit, or the trace isn't that of a whole run
+  1  no: the certificate doesn't prove its pit, the run gave no pit, the design needs other blocks, or the trace isn't that of a whole run
   2  usage: a wrong use of the command line
   3  a file is wrong, its numbers are too large, or a pattern gives nothing for it: standard error names the fault, and the line of the file if it has one
   4  memory or a thread was refused, or a file or the output failed

@@ -10,6 +10,7 @@ use crate::series_options::{SeriesCommand, SeriesWords, series_words};
 use crate::shells_command::shells_command;
 use crate::slopes_command::{SlopesWords, slopes_command, slopes_words};
 use crate::solve_command::{SolveWords, solve_command, solve_words};
+use crate::value_command::{ValueWords, value_command, value_words};
 use crate::version::VERSION;
 use clap::error::ErrorKind;
 use clap::{Command, Error};
@@ -31,6 +32,8 @@ pub enum Request<'a> {
     Slopes(SlopesWords<'a>),
     /// A mine is to be solved.
     Solve(SolveWords<'a>),
+    /// A design is to be judged.
+    Value(ValueWords<'a>),
 }
 
 /// Reads the words, of which the first is the program's name.
@@ -81,6 +84,7 @@ fn parsed<'a>(alloc: Global, words: &'a [String]) -> Result<Request<'a>, Error> 
         }
         Some(("slopes", words)) => Ok(Request::Slopes(slopes_words(words))),
         Some(("solve", words)) => Ok(Request::Solve(solve_words(words))),
+        Some(("value", words)) => Ok(Request::Value(value_words(words))),
         _ => Err(pit_command(alloc)?.error(ErrorKind::MissingSubcommand, "a command is missing")?),
     }
 }
@@ -96,6 +100,7 @@ fn pit_command<'a>(alloc: Global) -> Result<Command<'a>, AllocError> {
     let command = with_command(command, solve_command(alloc))?;
     let command = with_command(command, shells_command(alloc))?;
     let command = with_command(command, report_command(alloc))?;
+    let command = with_command(command, value_command(alloc))?;
     with_command(command, replay_command(alloc))
 }
 

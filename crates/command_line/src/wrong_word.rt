@@ -8,6 +8,7 @@ use crate::series_options::SeriesCommand;
 use crate::shells_command::shells_command;
 use crate::slopes_command::slopes_command;
 use crate::solve_command::solve_command;
+use crate::value_command::value_command;
 use clap::error::ErrorKind;
 use clap::{Command, Error};
 use std::alloc::{AllocError, Global};
@@ -21,6 +22,8 @@ pub enum Commanded {
     Solve,
     /// `replay`.
     Replay,
+    /// `value`.
+    Value,
     /// `shells` or `report`.
     Series(SeriesCommand),
 }
@@ -94,6 +97,7 @@ fn command_of<'a>(alloc: Global, command: Commanded) -> Result<Command<'a>, Allo
         Commanded::Slopes => (slopes_command(alloc), "pit slopes"),
         Commanded::Solve => (solve_command(alloc), "pit solve"),
         Commanded::Replay => (replay_command(alloc), "pit replay"),
+        Commanded::Value => (value_command(alloc), "pit value"),
         Commanded::Series(SeriesCommand::Shells) => (shells_command(alloc), "pit shells"),
         Commanded::Series(SeriesCommand::Report) => (report_command(alloc), "pit report"),
     };

@@ -67,7 +67,7 @@ line_failed texts c old new j engine.Device h k = (tt, inr (j, h, k))
 -- ---- a check, where the readers tell their bytes
 
 -- a fault of the texts of the mine is one of their check
-fails : (texts : MineTexts) (c : List ℕ) (e : EngineFault) → MineFails texts e → Fails texts c e
+pub fails : (texts : MineTexts) (c : List ℕ) (e : EngineFault) → MineFails texts e → Fails texts c e
 fails texts c (engine.Upit q) h = h
 fails texts c (engine.Settings q) h = h
 fails texts c (engine.Blocks q) h = h

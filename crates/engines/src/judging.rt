@@ -117,8 +117,11 @@ fn judge_stream<R: Threads + Sync, C: CountedRead>(
     }
 }
 
-// The header of a certificate for a mine of n blocks.
-fn header_for<C: CountedRead>(stream: &mut CertStream<C>, n: u32) -> Result<Header, EngineFault>
+/// The header of a certificate for a mine of n blocks.
+///
+/// # Errors
+/// `Certificate` with the first fault of the header, or where it has another number of blocks; `Device` where a read fails.
+pub fn header_for<C: CountedRead>(stream: &mut CertStream<C>, n: u32) -> Result<Header, EngineFault>
     requires count { C.failed stream.old.lines.from < 2 ^ 64 - 1 }
     requires fresh { IsFresh stream.old }
     ensures read { IfSome (C.remaining stream.old.lines.from) (λ c. MatchResult result
@@ -166,8 +169,12 @@ fn judgement_of(fault: StreamFault) -> Result<Judgement, EngineFault>
     }
 }
 
-// What the certificate proves, where its header is read and the blocks are worth so many billionths.
-fn judge_in<C: CountedRead>(
+/// What the certificate proves, where its header is read and the blocks are worth so many billionths.
+///
+/// # Errors
+/// `Certificate` with the first fault behind the header; `Model` where an amount of the net doesn't fit; `Device` where a read
+/// fails, and `Memory` where memory is refused.
+pub fn judge_in<C: CountedRead>(
     alloc: Global,
     group: Group,
     nanos: Vec<i128>,

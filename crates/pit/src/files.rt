@@ -9,7 +9,8 @@ use crate::pairs_bound::{PairsBound, offsets_of};
 use crate::settings_reasons::KeptText;
 use crate::slopes_words::selection_asked;
 use crate::told::output;
-use command_line::{CheckWords, ReplayWords, SeriesCommand, SeriesWords, SlopesWords};
+use command_line::{CheckWords, ReplayWords, SeriesCommand, SeriesWords, SlopesWords, ValueWords};
+use design_engines::{ValueFault, compare_engine, value_engine};
 use engines::{
     Effort, EngineFault, PatternChoice, Verdict, check_engine, slopes_engine,
     slopes_from_settings_engine,
@@ -19,6 +20,7 @@ use pseudoflow::Progress;
 use replay_engines::{ReplayAsked, replay_engine};
 use report_engines::report_engine;
 use shell_engines::{SeriesOutputs, SeriesProgress, shells_engine};
+use shells::Factor;
 use slope::Up;
 use std::rt::Files;
 use std::sync::Wait;
@@ -47,6 +49,35 @@ pub fn replay_files<'a, R: Files + Print + Eprint + Threads + Sync + AllocGlobal
     let mut trace = file(rt, words.verbose, words.trace)?;
     let mut out = Counted::new(output(rt, words.verbose, None));
     replay_engine(rt, rt.alloc(), &mut mine, &mut trace, asked, &mut out)
+}
+
+/// Judges the design of a file over the mine of files, beside the pit of a certificate where one is named.
+pub fn value_files<'a, R: Files + Print + Eprint + Threads + Sync + AllocGlobal>(
+    rt: &'a R,
+    words: ValueWords<'a>,
+    factor: Factor,
+) -> Result<Verdict, ValueFault> {
+    let mut mine = open_mine(rt, words.verbose, words.prec, words.model)?;
+    let mut design = file(rt, words.verbose, words.design)?;
+    let alloc = rt.alloc();
+    match words.best {
+        Some(best) => {
+            let mut certificate = file(rt, words.verbose, best)?;
+            let mut out = Counted::new(output(rt, words.verbose, None));
+            compare_engine(
+                rt,
+                alloc,
+                &mut mine,
+                &mut design,
+                &mut certificate,
+                &mut out,
+            )
+        }
+        None => {
+            let mut out = Counted::new(output(rt, words.verbose, None));
+            value_engine(rt, alloc, &mut mine, &mut design, factor, &mut out)
+        }
+    }
 }
 
 /// Draws the shells of the mine of files of settings, blocks and precedence, or makes its bench table.

@@ -24,18 +24,21 @@ mod told;
 use advice::advise_on_workers;
 use command_line::{
     Commanded, Declined, OffsetsWords, ReplayWords, Request, SeriesWords, SlopesWords, SolveWords,
-    WrongWord, declined_for, request_of,
+    ValueWords, WrongWord, declined_for, request_of,
 };
+use design_engines::{DesignProblem, ValueFault, write_problem};
 use effort_words::effort_for_series;
 use engines::{EngineFault, Unwatched, Verdict, status, stored_check, write_fault};
-use files::{check_files, listed_slopes_files, replay_files, series_files, slopes_file};
+use files::{
+    check_files, listed_slopes_files, replay_files, series_files, slopes_file, value_files,
+};
 use fixed_worth::Counted;
 use progress::{Meter, PROGRESS_ALONE, Tells};
 use reasons::{tell_choice, tell_slope_reason};
 use series_words::table_over_an_input;
 use shells::Factor;
 use slopes_words::{pattern_asked, up_asked};
-use solve_options::{factor_asked, replay_asked};
+use solve_options::{factor_asked, replay_asked, value_factor_asked};
 use solving::solve_files;
 use solving_asked::{SolvingAsked, solving_asked};
 use std::process::ExitCode;
@@ -47,11 +50,16 @@ use std::{env, io};
 // The exit status where the words are wrong.
 const USAGE: u8 = 2;
 
-// How the program ends where no fault stands.
+// The exit status where a design is wrong, as any other input.
+const FAULTY: u8 = 3;
+
+// How the program ends where no fault of another input than a design stands.
 #[derive(Clone, Copy)]
 enum Ending {
     // An engine answered.
     Answered(Verdict),
+    // A design could not be judged.
+    Misdrawn(DesignProblem),
     // A help text or the version was printed, or what is wrong with the words; with this exit status.
     Printed(u8),
 }
@@ -61,6 +69,10 @@ fn main(rt: HostRuntime) -> ExitCode {
     match run(&rt) {
         Ok(Ending::Answered(verdict)) => ExitCode::from(status(&Ok(verdict))),
         Ok(Ending::Printed(status)) => ExitCode::from(status),
+        Ok(Ending::Misdrawn(problem)) => {
+            let _ = write_problem(problem, &mut errors);
+            ExitCode::from(FAULTY)
+        }
         Err(fault) => {
             // Where standard error fails too, the status alone says what was wrong.
             let _ = write_fault(&fault, &mut errors);
@@ -100,6 +112,7 @@ fn answer<R: Files + Print + Eprint + Clock + Threads + Wait + Sync + AllocGloba
         Request::Solve(words) => solve(rt, words),
         Request::Series(words) => series(rt, words),
         Request::Slopes(words) => slopes(rt, words),
+        Request::Value(words) => value(rt, words),
     }
 }
 
@@ -151,6 +164,22 @@ fn replay<R: Files + Print + Eprint + Threads + Sync + AllocGlobal>(
     match replay_asked(words) {
         Ok(asked) => Ok(Ending::Answered(replay_files(rt, words, asked)?)),
         Err(wrong) => refused(rt, wrong),
+    }
+}
+
+// Judges a design over the mine of files.
+fn value<R: Files + Print + Eprint + Threads + Sync + AllocGlobal>(
+    rt: &R,
+    words: ValueWords<'_>,
+) -> Result<Ending, EngineFault> {
+    let factor = match value_factor_asked(words) {
+        Ok(factor) => factor,
+        Err(wrong) => return refused(rt, wrong),
+    };
+    match value_files(rt, words, factor) {
+        Ok(verdict) => Ok(Ending::Answered(verdict)),
+        Err(ValueFault::Design(problem)) => Ok(Ending::Misdrawn(problem)),
+        Err(ValueFault::Engine(fault)) => Err(fault),
     }
 }
 

@@ -1,7 +1,9 @@
-//! What the words of `solve` and `replay` ask for, or the word that names nothing that there is.
+//! What the words of `solve`, `replay` and `value` ask for, or the word that names nothing that there is.
 
 use audit_engines::room_named;
-use command_line::{Commanded, ModelWords, NamedOption, ReplayWords, SolveWords, WrongWord};
+use command_line::{
+    Commanded, ModelWords, NamedOption, ReplayWords, SolveWords, ValueWords, WrongWord,
+};
 use engines::{Method, factor_named, group_named};
 use ordered_group::Group;
 use replay_engines::ReplayAsked;
@@ -47,6 +49,15 @@ pub fn replay_asked<'a>(words: ReplayWords<'a>) -> Result<ReplayAsked, WrongWord
     let group = group_asked(Commanded::Replay, words.group)?;
     let factor = factor_asked(Commanded::Replay, words.model, words.factor)?;
     Ok(ReplayAsked { factor, group })
+}
+
+// The factor at which a design is judged, where no word says: revenues in full.
+const FULL: &str = "1000";
+
+/// The factor at which a design is judged.
+pub fn value_factor_asked<'a>(words: ValueWords<'a>) -> Result<Factor, WrongWord<'a>> {
+    let word = words.factor.unwrap_or(FULL);
+    factor_asked(Commanded::Value, words.model, Some(word))
 }
 
 // The most steps of a trace, where no word says.

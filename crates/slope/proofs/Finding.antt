@@ -1,60 +1,47 @@
 -- Finding blocks by their places.
-use Rattle.std.proofs.Common.{Option, MatchOption, ◌≡◌, ◌≢◌, ℕ, ◌+◌, ◌<◌, inl, inr, ℤ, ◌+ℤ◌, ◌-ℤ◌, Bool, true, false, Some, None, sym, refl, ap, subst, ◌∙◌, arith, below_more}
-use Rattle.std.specs.Ordering.{is_eq, ordering_then, int_cmp}
-use Rattle.std.specs.BTreeMap.{BTreeMap, get, Updates}
-use Rattle.std.proofs.lemmas.Bool.{and_parts, cases_Bool}
+use Rattle.std.proofs.Common.{◌≡◌, ◌≢◌, ℕ, ◌<◌, inl, inr, ℤ, ◌+ℤ◌, ◌-ℤ◌, List, length, get_or, Ok, Err, sym, ap, subst, ◌∙◌, arith}
+use Rattle.std.proofs.lemmas.Bool.{cases_order}
+use Rattle.std.proofs.lemmas.List.{get_or_default}
 use Rattle.std.proofs.lemmas.Int.{ints}
-use Rattle.std.proofs.lemmas.Option.{none-some, same_Some}
 use Rattle.blocks_file.specs.declared.place.Place.{Place}
 use Rattle.blocks_file.specs.Denotes.{BlocksView}
 use Rattle.slope.specs.Places.{place_of, AreApartBelow}
-use Rattle.slope.specs.Offsets.{Offset}
+use Rattle.slope.specs.Offsets.{Offset, Before, IsRising}
 use Rattle.slope.specs.Slopes.{upward, offset_between}
-use Rattle.slope.specs.Internal.{place_cmp, IsPlace, IsIndex}
+use Rattle.slope.specs.Internal.{place_key, IsIndex, IsFinding}
 use Rattle.slope.specs.declared.up.Up.{Up}
 use Rattle.slope.specs.declared.up.Up.TheVariants.{PlusZ, MinusZ}
-use Rattle.prec_file.proofs.Sorting.{then_tie}
-use Rattle.slope.proofs.OffsetSorting.{same_number}
+use Rattle.slope.proofs.OffsetSorting.{before_itself}
 
--- places that tie are one place
-pub place_same : (p q : Place) → is_eq (place_cmp p q) ≡ true → p ≡ q
-place_same p q h =
-    let t = and_parts _ _ (then_tie (int_cmp p.x q.x) (ordering_then (int_cmp p.y q.y) (int_cmp p.z q.z)) ∙ h) in
-    let u = and_parts _ _ (then_tie (int_cmp p.y q.y) (int_cmp p.z q.z) ∙ t.1) in
-    let a = same_number p.x q.x t.0 in
-    let b = same_number p.y q.y u.0 in
-    let d = same_number p.z q.z u.1 in
+-- places of one key are one place
+pub key_same : (p q : Place) → place_key p ≡ place_key q → p ≡ q
+key_same p q e =
+    let a = ap (λ (k : Offset). k.2) e in
+    let b = ap (λ (k : Offset). k.1) e in
+    let d = ap (λ (k : Offset). k.0) e in
     λ i. record { x = a i; y = b i; z = d i }
 
--- blocks that an index finds have places of their own
-pub places_apart : (m : BlocksView) (c : ℕ) (index : BTreeMap Place ℕ) → IsIndex m c index → AreApartBelow m c
-places_apart m c index h i j l r e =
-    let same : Some i ≡ Some j = sym (h.finds i (omega arith)) ∙ ap (get place_cmp index) e ∙ h.finds j r in
-    let same' = same_Some i j same in
-    omega arith
-
-module _ (m : BlocksView) (b : ℕ) (old new : BTreeMap Place ℕ) (p : Place) (h : IsIndex m b old) (here : place_of m b ≡ p) (fits : IsPlace p) (absent : get place_cmp old p ≡ None) (u : Updates place_cmp old new p (Some b)) where
-  elsewhere : (k : ℕ) → k < b → is_eq (place_cmp p (place_of m k)) ≡ false
-  elsewhere k l = elim (cases_Bool (is_eq (place_cmp p (place_of m k)))) [
-    | inl e ↦ absurd (none-some k (sym absent ∙ ap (get place_cmp old) (place_same p (place_of m k) e) ∙ h.finds k l))
-    | inr e ↦ e
+-- a key stands at one place of keys that rise
+one_key : (keys : List Offset) (i j : ℕ) (d : Offset) → IsRising keys → i < length keys → j < length keys → get_or keys i d ≡ get_or keys j d → i ≡ j
+one_key keys i j d r k l e = elim (cases_order i j) [
+  | inl same ↦ same
+  | inr w ↦ elim w [
+    | inl below ↦ absurd (before_itself (get_or keys j d) (subst (λ x. Before x (get_or keys j d)) e (r.rises i j d below l)))
+    | inr above ↦ absurd (before_itself (get_or keys j d) (subst (Before (get_or keys j d)) e (r.rises j i d above k)))
   ]
+]
 
-  found : (q : Place) (k : ℕ) (t : Bool) → is_eq (place_cmp p q) ≡ t → get place_cmp new q ≡ Some k → (k < b + 1) × (place_of m k ≡ q)
-  found q k true e g =
-      let s = place_same p q e in
-      let v : Some b ≡ Some k = sym (u.1) ∙ ap (get place_cmp new) s ∙ g in
-      let w = same_Some b k v in
-      (omega arith, ap (place_of m) (sym w) ∙ here ∙ s)
-  found q k false e g = let o = h.only q k (sym (u.2 q e) ∙ g) in (let l = o.0 in omega arith, o.1)
-
-  -- the index with one block more
-  pub index_more : IsIndex m (b + 1) new
-  index_more = record {
-    finds = below_more (λ k. get place_cmp new (place_of m k) ≡ Some k) b (λ k l. u.2 (place_of m k) (elsewhere k l) ∙ h.finds k l) (ap (get place_cmp new) here ∙ u.1);
-    only = λ q k g. found q k (is_eq (place_cmp p q)) refl g;
-    fits = below_more (λ k. IsPlace (place_of m k)) b h.fits (let P : Place → Type 0 = λ q. IsPlace q in subst P (sym here) fits);
-  }
+-- blocks that an index finds have places of their own
+pub places_apart : (m : BlocksView) (keys : List Offset) (blocks : List ℕ) → IsIndex m keys blocks → AreApartBelow m m.blocks
+places_apart m keys blocks h i j l r e =
+    let p = h.finds i (omega (arith, l, r)) in
+    let q = h.finds j r in
+    let d = place_key (place_of m i) in
+    let kp = sym (h.stands p.0 d 0 p.1).1 ∙ ap (λ b. place_key (place_of m b)) (p.2 0) in
+    let kq = sym (h.stands q.0 d 0 q.1).1 ∙ ap (λ b. place_key (place_of m b)) (q.2 0) in
+    let s = one_key keys p.0 q.0 d h.rising p.1 q.1 (kp ∙ ap place_key e ∙ sym kq) in
+    let same : i ≡ j = sym (p.2 0) ∙ ap (λ k. get_or blocks k 0) s ∙ q.2 0 in
+    omega (arith, same, l)
 
 same_height : (up : Up) (x y : ℤ) → upward up x ≡ upward up y → x ≡ y
 same_height PlusZ x y e = e
@@ -71,15 +58,21 @@ one_place up from p q e =
     let d : p.z ≡ q.z = omega (arith, ints, ez) in
     λ i. record { x = a i; y = b i; z = d i }
 
--- what the index finds at an offset
-pub found_at : (m : BlocksView) (index : BTreeMap Place ℕ) (up : Up) (from to : Place) (offset : Offset) → IsIndex m m.blocks index → offset_between up from to ≡ offset → (o : Option ℕ) → o ≡ get place_cmp index to →
-    MatchOption o ((p : ℕ) → p < m.blocks → offset_between up from (place_of m p) ≢ offset) (λ p. (p < m.blocks) × (offset_between up from (place_of m p) ≡ offset))
-found_at m index up from to offset h at None g = λ p l e.
+-- the block at the place of a key that was found
+pub found_at : (m : BlocksView) (keys : List Offset) (blocks : List ℕ) (up : Up) (from to : Place) (offset : Offset) → IsIndex m keys blocks → offset_between up from to ≡ offset → (i d : ℕ) → IsFinding keys (place_key to) (Ok i) →
+    (get_or blocks i d < m.blocks) × (offset_between up from (place_of m (get_or blocks i d)) ≡ offset)
+found_at m keys blocks up from to offset h at i d f =
+    let s = h.stands i (place_key to) d f.0 in
+    (s.0, ap (offset_between up from) (key_same (place_of m (get_or blocks i d)) to (s.1 ∙ f.1)) ∙ at)
+
+-- no block is at the place of a key that isn't there
+pub none_at : (m : BlocksView) (keys : List Offset) (blocks : List ℕ) (up : Up) (from to : Place) (offset : Offset) → IsIndex m keys blocks → offset_between up from to ≡ offset → (i : ℕ) → IsFinding keys (place_key to) (Err i) →
+    (p : ℕ) → p < m.blocks → offset_between up from (place_of m p) ≢ offset
+none_at m keys blocks up from to offset h at i f p l e =
     let same = one_place up from to (place_of m p) (at ∙ sym e) in
-    none-some p (g ∙ ap (get place_cmp index) same ∙ h.finds p l)
-found_at m index up from to offset h at (Some k) g =
-    let o = h.only to k (sym g) in
-    (o.0, ap (offset_between up from) o.1 ∙ at)
+    let q = h.finds p l in
+    let key = sym (h.stands q.0 (place_key to) 0 q.1).1 ∙ ap (λ b. place_key (place_of m b)) (q.2 0) ∙ ap place_key (sym same) in
+    f.1 (q.0, q.1, get_or_default keys q.0 (place_key to) (place_key to) q.1 ∙ key)
 
 module _ (up : Up) (from to : Place) (offset : Offset) (e : offset_between up from to ≡ offset) where
   pub first_of : from.x +ℤ offset.0 ≡ to.x

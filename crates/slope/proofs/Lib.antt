@@ -6,6 +6,9 @@ pub mod Finding
 pub mod PairSteps
 pub mod Narrow
 pub mod OffsetFinding
+pub mod KeyFinding
+pub mod EntryOrder
+pub mod Repeats
+pub mod Reordering
 pub mod TwoSteps
 pub mod Reduction
-pub mod Seeing

@@ -1,5 +1,5 @@
 -- Finding an offset among those of a pattern.
-use Rattle.std.proofs.Common.{◌≡◌, ◌↔◌, Bool, true, false, IsTrue, ℕ, ◌+◌, ◌<◌, ◌≤◌, ℤ, ◌<ℤ◌, inl, inr, List, length, get_or, Result, Ok, Err, MatchResult, Contains, sym, refl, ap, subst, ◌∙◌, arith, Ordering}
+use Rattle.std.proofs.Common.{◌≡◌, ◌↔◌, Bool, true, false, IsTrue, ℕ, ◌≤◌, ◌<ℤ◌, inl, inr, List, length, get_or, Result, Ok, Err, MatchResult, Contains, sym, refl, ap, ◌∙◌, arith, Ordering}
 use Rattle.std.specs.declared.cmp.Ordering.TheVariants.{Less, Equal, Greater}
 use Rattle.std.specs.Ordering.{MatchOrdering, ordering_then, ordering_reverse, ordering_index, int_cmp, is_eq}
 use Rattle.std.specs.Result.{is_ok}
@@ -7,7 +7,6 @@ use Rattle.std.specs.List.Sorted.{IsBinarySearchResult, IsNonDecreasingBy, IsSea
 use Rattle.std.proofs.lemmas.Cmp.{int_ranked}
 use Rattle.std.proofs.lemmas.Int.{ints}
 use Rattle.std.proofs.lemmas.Bool.{cases_lt}
-use Rattle.std.proofs.lemmas.List.{get_or_default}
 use Rattle.std.proofs.lemmas.List.Sorted.{IsNonDecreasingBy-from_default}
 use Rattle.slope.specs.Offsets.{Offset, Before, IsRising}
 use Rattle.slope.proofs.OffsetSorting.{offset_cmp, offset_ties, offset_same, offsets_total}

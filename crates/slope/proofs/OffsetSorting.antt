@@ -1,11 +1,13 @@
 -- Sorting offsets, and dropping repeats.
-use Rattle.std.proofs.Common.{◌≡◌, ℕ, zero, suc, ◌<◌, ℤ, ◌<ℤ◌, ◌&&◌, Bool, true, inl, inr, List, [], ◌∷◌, length, get_or, sym, refl, ap, subst, ◌∙◌, arith, Ordering}
+use Rattle.std.proofs.Common.{◌≡◌, ℕ, zero, suc, ◌<◌, ℤ, ◌<ℤ◌, ◌&&◌, Bool, true, false, inl, inr, List, [], ◌∷◌, length, get_or, sym, refl, ap, subst, ◌∙◌, arith, Ordering}
 use Rattle.std.specs.declared.cmp.Ordering.TheVariants.{Less, Equal, Greater}
 use Rattle.std.specs.Ordering.{MatchOrdering, is_eq, ordering_then, int_cmp, int_eq, eq_by_cmp}
 use Rattle.std.specs.Cmp.{IsTotalOrder, IsEquivalence}
 use Rattle.std.specs.List.Sorted.{IsStrictlySortedBy}
 use Rattle.std.proofs.lemmas.Cmp.{int_ranked, then_total, on_total, int_cmp_total, eq_by_cmp_equiv}
 use Rattle.std.proofs.lemmas.Bool.{and_parts}
+use Rattle.std.proofs.lemmas.Bool.Decides.{Decides-and, Decides-int_eq}
+use Rattle.std.proofs.lemmas.Int.{ints}
 use Rattle.std.proofs.lemmas.List.Elements.{All-from_recursion}
 use Rattle.prec_file.proofs.Sorting.{then_tie}
 use Rattle.slope.specs.Offsets.{Offset, IsRising, Before}
@@ -41,6 +43,15 @@ offset_same x y h =
     let d = same_number x.2 y.2 p.1 in
     λ i. (a i, b i, d i)
 
+clash : (b : Bool) → b ≡ true → b ≡ false → ⊥
+clash true k e = absurd cc
+clash false k e = absurd cc
+
+pub offset_differs : (x y : Offset) → offset_eq x y ≡ false → x ≡ y → ⊥
+offset_differs x y h e =
+    let numbers = Decides-and (int_eq x.0 y.0 && int_eq x.1 y.1) (int_eq x.2 y.2) (Decides-and (int_eq x.0 y.0) (int_eq x.1 y.1) (Decides-int_eq x.0 y.0) (Decides-int_eq x.1 y.1)) (Decides-int_eq x.2 y.2) in
+    clash (offset_eq x y) (numbers.1 ((ap (λ (o : Offset). o.0) e, ap (λ (o : Offset). o.1) e), ap (λ (o : Offset). o.2) e)) h
+
 pub offsets_alike : IsEquivalence offset_eq
 offsets_alike =
     let e : eq_by_cmp offset_cmp ≡ offset_eq = λ i x y. (sym (offset_ties x y)) i in
@@ -56,7 +67,7 @@ less_before x y Equal Equal Greater h k l e = absurd cc
 less_before x y Equal Greater q h k l e = absurd cc
 less_before x y Greater p q h k l e = absurd cc
 
-before : (x y : Offset) → offset_cmp x y ≡ Less → Before x y
+pub before : (x y : Offset) → offset_cmp x y ≡ Less → Before x y
 before x y e = less_before x y (int_cmp x.0 y.0) (int_cmp x.1 y.1) (int_cmp x.2 y.2) (int_ranked x.0 y.0 _ refl) (int_ranked x.1 y.1 _ refl) (int_ranked x.2 y.2 _ refl) e
 
 rises : (os : List Offset) → IsStrictlySortedBy offset_cmp os → (i j : ℕ) (d : Offset) → i < j → j < length os → Before (get_or os i d) (get_or os j d)
@@ -68,3 +79,18 @@ rises (o ∷ os) s (suc i) (suc j) d h l = rises os s.1 i j d (omega arith) (ome
 
 pub rising_from_sorted : (os : List Offset) → IsStrictlySortedBy offset_cmp os → IsRising os
 rising_from_sorted os s = record { rises = rises os s }
+
+-- offsets go one way
+pub before_itself : (x : Offset) → Before x x → ⊥
+before_itself x (inl h) = omega (arith, ints, h)
+before_itself x (inr (e, inl h)) = omega (arith, ints, h)
+before_itself x (inr (e, inr (f, h))) = omega (arith, ints, h)
+
+pub before_trans : (x y z : Offset) → Before x y → Before y z → Before x z
+before_trans x y z (inl a) (inl b) = inl (omega (arith, ints, a, b))
+before_trans x y z (inl a) (inr (f, b)) = inl (omega (arith, ints, a, f))
+before_trans x y z (inr (e, a)) (inl b) = inl (omega (arith, ints, e, b))
+before_trans x y z (inr (e, inl a)) (inr (f, inl b)) = inr (e ∙ f, inl (omega (arith, ints, a, b)))
+before_trans x y z (inr (e, inl a)) (inr (f, inr (g, b))) = inr (e ∙ f, inl (omega (arith, ints, a, g)))
+before_trans x y z (inr (e, inr (h, a))) (inr (f, inl b)) = inr (e ∙ f, inl (omega (arith, ints, h, b)))
+before_trans x y z (inr (e, inr (h, a))) (inr (f, inr (g, b))) = inr (e ∙ f, inr (h ∙ g, omega (arith, ints, a, b)))

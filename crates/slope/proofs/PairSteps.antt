@@ -6,6 +6,7 @@ use Rattle.std.proofs.lemmas.List.{take_more, get_or_default, get_or-take, lengt
 use Rattle.std.proofs.Math.Seq.{take-length}
 use Rattle.std.proofs.lemmas.List.Elements.{Contains-append_left, Contains-push, Contains-push_cases, All-contains, All-contains_itself, All-weaker}
 use Rattle.prec_file.specs.declared.limits.TheConstants.{MOST_PAIRS}
+use Rattle.blocks_file.specs.declared.place.Place.{Place}
 use Rattle.blocks_file.specs.Denotes.{BlocksView}
 use Rattle.prec_file.specs.Rests.{RestsView, IsKnown, ArePairsOf}
 use Rattle.slope.specs.Offsets.{Offset, IsPattern, IsRising, IsUpward, Before}
@@ -13,18 +14,14 @@ use Rattle.slope.specs.Places.{place_of, AreApartBelow}
 use Rattle.slope.specs.Slopes.{upward, offset_between, IsSlopePair, IsSelected, AreSlopes, SlopeFaultStands}
 use Rattle.slope.specs.declared.selection.Selection.{Selection}
 use Rattle.slope.specs.declared.selection.Selection.TheVariants.{Every, Reduced}
-use Rattle.slope.specs.Internal.{AreListed, Collects, IsPairBelow, IsPairUpTo, PairFaultStands, PairRefusalStands}
+use Rattle.slope.specs.Internal.{SurroundingsView, ArePlacesOf, StandsAt, StandsNone, offset_at, AreListed, Collects, IsPairBelow, IsPairUpTo, PairFaultStands, PairRefusalStands}
 use Rattle.slope.specs.declared.up.Up.{Up}
 use Rattle.slope.specs.declared.up.Up.TheVariants.{PlusZ, MinusZ}
 use Rattle.slope.specs.declared.slope_fault.SlopeFault.{SlopeFault}
 use Rattle.slope.specs.declared.slope_fault.SlopeFault.TheVariants.{SamePlace, TooMany, NoMemory}
 use Rattle.slope.proofs.Gathering.{collected_same, collected_more, too_many}
+use Rattle.slope.proofs.OffsetSorting.{before_itself}
 use Rattle.slope.proofs.Finding.{one_place}
-
-not_itself : (x : Offset) → Before x x → ⊥
-not_itself x (inl h) = omega (arith, ints, h)
-not_itself x (inr (e, inl h)) = omega (arith, ints, h)
-not_itself x (inr (e, inr (f, h))) = omega (arith, ints, h)
 
 -- an offset is none of those in front of it
 fresh : (os : List Offset) → IsRising os → (i : ℕ) (d : Offset) → i < length os → Contains (take i os) (get_or os i d) → ⊥
@@ -33,7 +30,7 @@ fresh os r i d l (k, m, e) =
     let size = length-take-le i os (omega arith) in
     let below : k < i = omega arith in
     let same : get_or os k d ≡ x = get_or_default os k d x (omega arith) ∙ sym (get_or-take i os k x below) ∙ e in
-    not_itself x (subst (λ y. Before y x) same (r.rises k i d below l))
+    before_itself x (subst (λ y. Before y x) same (r.rises k i d below l))
 
 -- selected pairs are slope pairs
 pub slope_of : (s : Selection) (m : BlocksView) (os : List Offset) (up : Up) (q : ℕ × ℕ) → IsSelected s m os up q → IsSlopePair m os up q
@@ -43,6 +40,21 @@ slope_of Reduced m os up q h = h.0
 -- a block and the one at an offset of the pattern are a slope pair
 pub slope_at : (m : BlocksView) (os : List Offset) (up : Up) (b p i : ℕ) (d : Offset) → i < length os → b < m.blocks → p < m.blocks → offset_between up (place_of m b) (place_of m p) ≡ get_or os i d → IsSlopePair m os up (b, p)
 slope_at m os up b p i d l known top at = record { bottom = known; top = top; offset = subst (Contains os) (sym at) (i, l, get_or_default os i _ d l) }
+
+-- what stands around a block tells its pairs
+module _ (v : SurroundingsView) (m : BlocksView) (os : List Offset) (up : Up) (same : ArePlacesOf v m os up) (b : ℕ) (known : b < m.blocks) (from : v.from ≡ place_of m b) (i : ℕ) (l : i < length os) where
+  is_as : v ≡ record { model = m; offsets = os; up = up; from = v.from }
+  is_as = λ j. record { model = same.of_model j; offsets = same.of_offsets j; up = same.of_up j; from = v.from }
+
+  pub every_at : (p : ℕ) → StandsAt v i p → IsSelected Every m os up (b, p) × (offset_between up (place_of m b) (place_of m p) ≡ offset_at os i)
+  every_at p h =
+      let stands = subst (λ x. StandsAt x i p) is_as h in
+      let at = ap (λ (f : Place). offset_between up f (place_of m p)) (sym from) ∙ stands.there in
+      (slope_at m os up b p i _ l known stands.known at, at)
+
+  pub every_passed : StandsNone v i → (p : ℕ) → IsSelected Every m os up (b, p) → offset_between up (place_of m b) (place_of m p) ≢ offset_at os i
+  every_passed h p selected at =
+      subst (λ x. StandsNone x i) is_as h p (record { known = selected.top; there = ap (λ (f : Place). offset_between up f (place_of m p)) from ∙ at })
 
 module _ (m : BlocksView) (os : List Offset) (up : Up) (s : Selection) (b : ℕ) (ps : List (ℕ × ℕ)) where
   pub block_begun : Collects (IsPairBelow m os up s b) ps → Collects (IsPairUpTo m os up s b 0) ps

@@ -1,5 +1,5 @@
 -- Pairs that lead over a third block, and the steps of a pattern that add up to another.
-use Rattle.std.proofs.Common.{◌≡◌, ◌≢◌, ◌⊎◌, ℕ, ◌<◌, ℤ, ◌-ℤ◌, ◌+◌, List, [], ◌∷◌, ◌++◌, length, length-append, get_or, Contains, refl, sym, ap, subst, ◌∙◌, arith, inl, inr}
+use Rattle.std.proofs.Common.{◌≡◌, ◌≢◌, ◌⊎◌, ℕ, ◌<◌, ℤ, ◌-ℤ◌, ◌+◌, List, [], ◌∷◌, ◌++◌, length, length-append, get_or, Contains, sym, ap, subst, ◌∙◌, arith, inl, inr}
 use Rattle.std.proofs.lemmas.Int.{ints}
 use Rattle.std.proofs.lemmas.Bool.{cases_lt}
 use Rattle.std.proofs.lemmas.List.Elements.{Contains-append_left, Contains-push, Contains-push_cases}
@@ -10,7 +10,7 @@ use Rattle.blocks_file.specs.declared.place.Place.{Place}
 use Rattle.blocks_file.specs.Denotes.{BlocksView}
 use Rattle.slope.specs.Offsets.{Offset}
 use Rattle.slope.specs.Places.{place_of}
-use Rattle.slope.specs.Slopes.{upward, offset_between, IsSlopePair, IsSelected, LeadsOver}
+use Rattle.slope.specs.Slopes.{upward, offset_between, IsSelected, LeadsOver}
 use Rattle.slope.specs.declared.selection.Selection.TheVariants.{Reduced}
 use Rattle.slope.specs.Internal.{offset_at, rest_after, IsFirstStep, AreFirstSteps, AreStepsOfEach, SurroundingsView, ArePlacesOf, StandsAt, StandsNone, StandsAtSome, StandsAtNone}
 use Rattle.slope.specs.declared.up.Up.{Up}

@@ -1,18 +1,15 @@
 -- What only the functions of this crate say to one another: lists as they are gathered, a cone level by level, the index
 -- of places, and the pairs block by block.
-use Rattle.std.specs.Prelude.{◌≡◌, ◌≢◌, ℕ, ◌<◌, ◌≤◌, ◌*◌, ◌/◌, ℤ, pos, ◌-ℤ◌, ◌≤ℤ◌, ◌<ℤ◌, ◌⊎◌, List, length, take, AllPairs, Contains, Some, FitsSigned, slice_index_or}
+use Rattle.std.specs.Prelude.{◌≡◌, ◌≢◌, ℕ, ◌<◌, ◌≤◌, ◌+◌, ◌-◌, ◌*◌, ◌/◌, ℤ, pos, ◌-ℤ◌, ◌≤ℤ◌, ◌<ℤ◌, ◌⊎◌, List, length, take, AllPairs, Contains, Option, Some, None, Result, Ok, Err, FitsSigned, slice_index_or}
 use Rattle.std.specs.Global.{Vec}
 use Rattle.std.specs.Int.{w32}
-use Rattle.std.specs.Ordering.{int_cmp, ordering_then}
-use Rattle.std.specs.declared.cmp.Ordering.{Ordering}
-use Rattle.std.specs.BTreeMap.{BTreeMap, get}
 use Rattle.prec_file.specs.declared.limits.TheConstants.{MOST_PAIRS}
 use Rattle.slope.specs.declared.pattern.TheConstants.{MOST_OFFSETS, MOST_CONE_NUMBER}
 use Rattle.blocks_file.specs.declared.place.Place.{Place}
 use Rattle.blocks_file.specs.Denotes.{BlocksView}
 use Rattle.slope.specs.Lists.{AreMoreThan}
 use Rattle.prec_file.specs.Rests.{RestsView}
-use Rattle.slope.specs.Offsets.{Offset, IsPattern}
+use Rattle.slope.specs.Offsets.{Offset, Before, IsRising, IsPattern}
 use Rattle.slope.specs.Patterns.{IsNear}
 use Rattle.slope.specs.Places.{place_of, AreApartBelow}
 use Rattle.slope.specs.Slopes.{IsSelected, IsFirstRepeat, offset_between}
@@ -67,15 +64,88 @@ RefusalStands offsets pattern.NoMemory = length offsets < MOST_OFFSETS
 abbrev pub IsPlace : Place → Type 0
 IsPlace p = FitsSigned w32 p.x × FitsSigned w32 p.y × FitsSigned w32 p.z
 
--- Places go by x, then by y, and then by z.
-abbrev pub place_cmp : Place → Place → Ordering
-place_cmp p q = ordering_then (int_cmp p.x q.x) (ordering_then (int_cmp p.y q.y) (int_cmp p.z q.z))
+-- The key of a place: its level, its row, and where it is in the row. Keys go as offsets do.
+abbrev pub place_key : Place → Offset
+place_key p = (p.z, p.y, p.x)
 
--- The index finds each block below c by its place, and nothing else. The places are read from the model, and fit.
-pub record IsIndex (m : BlocksView) (c : ℕ) (index : BTreeMap Place ℕ) : Type 0 where
-  pub finds : (b : ℕ) → b < c → get place_cmp index (place_of m b) ≡ Some b
-  pub only : (p : Place) (b : ℕ) → get place_cmp index p ≡ Some b → (b < c) × (place_of m b ≡ p)
+-- A key, and the block there.
+abbrev pub Entry : Type 0
+Entry = Offset × ℕ
+
+-- Entry i of a list.
+abbrev pub entry_at : List Entry → ℕ → Entry
+entry_at entries i = slice_index_or entries i ((pos 0, pos 0, pos 0), 0)
+
+-- The entry of a block.
+abbrev pub entry_of : BlocksView → ℕ → Entry
+entry_of m b = (place_key (place_of m b), b)
+
+-- The entries of the first c blocks, in their order. The places are read from the model, and fit.
+pub record AreEntries (m : BlocksView) (c : ℕ) (entries : List Entry) : Type 0 where
+  pub as_many : length entries ≡ c
+  pub each : (b : ℕ) (d : Entry) → b < c → slice_index_or entries b d ≡ entry_of m b
   pub fits : (b : ℕ) → b < c → IsPlace (place_of m b)
+
+-- The entries of all blocks, in some order.
+pub record AreEntriesOf (m : BlocksView) (entries : List Entry) : Type 0 where
+  pub held : (b : ℕ) → b < m.blocks → Contains entries (entry_of m b)
+  pub only : (e : Entry) → Contains entries e → (e.1 < m.blocks) × (e ≡ entry_of m e.1)
+  pub fits : (b : ℕ) → b < m.blocks → IsPlace (place_of m b)
+
+-- By key, and where keys are equal by block.
+abbrev pub BeforeEntry : Entry → Entry → Type 0
+BeforeEntry d e = Before d.0 e.0 ⊎ ((d.0 ≡ e.0) × (d.1 < e.1))
+
+-- Each entry is before all later ones.
+pub record AreInOrder (entries : List Entry) : Type 0 where
+  pub rises : AllPairs BeforeEntry entries
+
+-- Entry k and the next one have one key.
+pub record IsRepeatAt (entries : List Entry) (k : ℕ) : Type 0 where
+  pub inside : k + 1 < length entries
+  pub same : (entry_at entries k).0 ≡ (entry_at entries (k + 1)).0
+
+-- No entry has the key of the next one.
+abbrev pub HaveNoRepeat : List Entry → Type 0
+HaveNoRepeat entries = (k : ℕ) → IsRepeatAt entries k → ⊥
+
+-- The blocks of two neighbours that have one key, of which the second is the least that there is, among the first c neighbours.
+pub record IsEarliestAmong (entries : List Entry) (c : ℕ) (repeat : ℕ × ℕ) : Type 0 where
+  pub place : ℕ
+  pub stands : IsRepeatAt entries place
+  pub first : (entry_at entries place).1 ≡ repeat.0
+  pub again : (entry_at entries (place + 1)).1 ≡ repeat.1
+  pub least : (k : ℕ) → k + 1 < c → IsRepeatAt entries k → repeat.1 ≤ (entry_at entries (k + 1)).1
+
+-- The same among all.
+abbrev pub IsEarliestRepeat : List Entry → ℕ × ℕ → Type 0
+IsEarliestRepeat entries = IsEarliestAmong entries (length entries)
+
+-- Of two repeats the one whose second block is less.
+abbrev pub IsEarlierRepeat : Option (ℕ × ℕ) → ℕ × ℕ → ℕ × ℕ → Type 0
+IsEarlierRepeat None other result = result ≡ other
+IsEarlierRepeat (Some repeat) other result = ((result ≡ repeat) ⊎ (result ≡ other)) × (result.1 ≤ repeat.1) × (result.1 ≤ other.1)
+
+-- The keys rise, and each block is found by the key of its place, and nothing else.
+pub record IsIndex (m : BlocksView) (keys : List Offset) (blocks : List ℕ) : Type 0 where
+  pub rising : IsRising keys
+  pub as_many : length blocks ≡ length keys
+  pub stands : (i : ℕ) (d : Offset) (e : ℕ) → i < length keys → (slice_index_or blocks i e < m.blocks) × (place_key (place_of m (slice_index_or blocks i e)) ≡ slice_index_or keys i d)
+  pub finds : (b : ℕ) → b < m.blocks → (i : ℕ) × (i < length keys) × ((e : ℕ) → slice_index_or blocks i e ≡ b)
+  pub fits : (b : ℕ) → b < m.blocks → IsPlace (place_of m b)
+
+-- The list ends at a place, or what stands there is above the key.
+abbrev pub IsEndOrBelow : List Offset → Offset → ℕ → Type 0
+IsEndOrBelow keys key at = (at ≡ length keys) ⊎ Before key (slice_index_or keys at key)
+
+-- The list begins at a place, or what stands in front of it is below the key.
+abbrev pub IsStartOrAbove : List Offset → Offset → ℕ → Type 0
+IsStartOrAbove keys key at = (at ≡ 0) ⊎ Before (slice_index_or keys (at - 1) key) key
+
+-- What a search for a key tells: where it stands, or that it isn't among the keys, and a place to look on from.
+abbrev pub IsFinding : List Offset → Offset → Result ℕ ℕ → Type 0
+IsFinding keys key (Ok i) = (i < length keys) × (slice_index_or keys i key ≡ key)
+IsFinding keys key (Err i) = (i ≤ length keys) × (Contains keys key → ⊥)
 
 -- The fault of the places stands.
 abbrev pub IndexFaultStands : BlocksView → SlopeFault → Type 0
@@ -168,9 +238,10 @@ IsSight v i sight.Nothing = StandsNone v i
 IsSight v i (sight.Block p) = StandsAt v i p
 
 -- The index is that of the model, and what was seen stands there.
-pub record AreSeen (v : SurroundingsView) (index : BTreeMap Place ℕ) (seen : List Sight) : Type 0 where
-  pub indexed : IsIndex v.model v.model.blocks index
+pub record AreSeen (v : SurroundingsView) (keys : List Offset) (blocks : List ℕ) (seen : List Sight) (guesses : List ℕ) : Type 0 where
+  pub indexed : IsIndex v.model keys blocks
   pub one_each : length seen ≡ length v.offsets
+  pub guessed : length guesses ≡ length v.offsets
   pub each : (i : ℕ) (d : Sight) → i < length v.offsets → IsSight v i (slice_index_or seen i d)
 
 -- A block stands at one of these offsets.

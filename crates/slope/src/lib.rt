@@ -9,7 +9,8 @@
 //! Above it, callers may count on this: a pattern holds exactly the offsets of its definition, each once and in order;
 //! the pairs are exactly those of all pairs of blocks whose places differ by an offset, over whole numbers without
 //! bound, and the reduced pairs exactly those of them that lead over no third block; each fault is answered exactly where
-//! it stands. The time is that of a lookup for each block and each offset, and for reduced pairs of far fewer.
+//! it stands. Places are sorted once. An offset is looked up at each block, and for reduced pairs at far fewer; where blocks
+//! are numbered row by row and level by level, the next lookup of an offset begins where the last one ended.
 #![tactic(auto)]
 
 mod cone;
@@ -19,6 +20,7 @@ mod offset_places;
 mod pattern;
 mod pattern_fault;
 mod place_index;
+mod place_search;
 mod reducing;
 mod selection;
 mod sight;

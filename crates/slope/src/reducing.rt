@@ -8,7 +8,7 @@ ghost use Rattle.slope.specs.Slopes.{IsSelected};
 ghost use Rattle.slope.specs.Internal.{ArePlacesOf, AreStepsOfEach, Collects, IsIndex, IsPairBelow, PairFaultStands};
 
 use crate::place_index::PlaceIndex;
-use crate::slope_pairs::add;
+use crate::slope_pairs::{add, sort_from};
 use crate::surroundings::Surroundings;
 use crate::two_steps::first_steps;
 use crate::{Selection, SlopeFault, Up};
@@ -33,12 +33,14 @@ fn add_reduced(
         (λ _. Collects (IsPairBelow around.old.model around.old.offsets around.old.up Selection.Reduced (block + 1)) pairs.new.items × (length pairs.new.items ≤ MOST_PAIRS))
         (PairFaultStands around.old.model around.old.offsets around.old.up Selection.Reduced) }
 {
+    let first = pairs.len();
     around.stand_on(block);
     for i in 0..steps.len() {
         if let Some(other) = around.direct(i, &steps[i]) {
             add(pairs, (block, other))?;
         }
     }
+    sort_from(pairs, first);
     Ok(())
 }
 
@@ -51,7 +53,7 @@ pub(crate) fn reduced_pairs(
     up: Up,
 ) -> Result<Vec<(u32, u32)>, SlopeFault>
     requires pattern { IsPattern offsets.now }
-    requires index { IsIndex model.now model.now.blocks index.now }
+    requires index { IsIndex model.now index.now.keys.items index.now.blocks.items }
     ensures { MatchResult result
         (λ pairs. Collects (IsSelected Selection.Reduced model.now offsets.now up) pairs.items × (length pairs.items ≤ MOST_PAIRS))
         (PairFaultStands model.now offsets.now up Selection.Reduced) }

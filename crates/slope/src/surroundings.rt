@@ -4,14 +4,16 @@ ghost use Rattle.std.specs.Prelude.{◌≡◌, ◌<◌, ◌⊎◌, true, false, 
 ghost use Rattle.slope.specs.Places.{place_of};
 ghost use Rattle.slope.specs.Internal.{ArePlacesOf, AreFirstSteps, IsIndex, StandsAt, StandsNone, StandsAtSome, StandsAtNone, offset_at};
 
-use crate::place_index::{PlaceIndex, block_at};
+use crate::place_index::PlaceIndex;
+use crate::place_search::block_at;
 use crate::sight::Sight;
 use crate::{SlopeFault, Up};
 use blocks_file::{BlockModel, Place};
 use std::alloc::Global;
 use std::marker::Model;
 
-// What stands around a place, each offset looked up once at most: most of the reduced pairs are told by few lookups.
+// What stands around a place, each offset looked up once at most: most of the reduced pairs are told by few lookups. Blocks
+// that are asked for in their order mostly stand, at one offset, one after the other in the index.
 #[derive(Drop)]
 pub(crate) struct Surroundings<'a> {
     index: &'a PlaceIndex,
@@ -20,6 +22,8 @@ pub(crate) struct Surroundings<'a> {
     up: Up,
     from: Place,
     seen: Vec<Sight>,
+    // at each offset, where the next block is looked for first
+    guesses: Vec<usize>,
 }
 
 impl<'a> Model for Surroundings<'a> {
@@ -29,7 +33,7 @@ impl<'a> Model for Surroundings<'a> {
 
     ghost view = { λ s. record { model = s.model.now; offsets = s.offsets.now; up = s.up; from = s.from } };
 
-    ghost invariant = { λ s. AreSeen (record { model = s.model.now; offsets = s.offsets.now; up = s.up; from = s.from }) s.index.now s.seen.items };
+    ghost invariant = { λ s. AreSeen (record { model = s.model.now; offsets = s.offsets.now; up = s.up; from = s.from }) s.index.now.keys.items s.index.now.blocks.items s.seen.items s.guesses.items };
 }
 
 impl<'a> Surroundings<'a> {
@@ -41,18 +45,22 @@ impl<'a> Surroundings<'a> {
         offsets: &'a [(i32, i32, i32)],
         up: Up,
     ) -> Result<Surroundings<'a>, SlopeFault>
-        requires { IsIndex model.now model.now.blocks index.now }
+        requires { IsIndex model.now index.now.keys.items index.now.blocks.items }
         ensures { MatchResult result (λ s. ArePlacesOf s model.now offsets.now up) (λ e. e ≡ SlopeFault.NoMemory) }
     {
         let from = Place { x: 0, y: 0, z: 0 };
-        match vec![in alloc; Sight::Unasked; offsets.len()] {
-            Ok(seen) => Ok(Surroundings {
+        let Ok(seen) = vec![in alloc; Sight::Unasked; offsets.len()] else {
+            return Err(SlopeFault::NoMemory);
+        };
+        match vec![in alloc; 0; offsets.len()] {
+            Ok(guesses) => Ok(Surroundings {
                 index,
                 model,
                 offsets,
                 up,
                 from,
                 seen,
+                guesses,
             }),
             Err(_) => Err(SlopeFault::NoMemory),
         }
@@ -69,14 +77,22 @@ impl<'a> Surroundings<'a> {
     }
 
     // The block at offset i.
-    fn at(&mut self, i: usize) -> Option<u32>
+    pub(crate) fn at(&mut self, i: usize) -> Option<u32>
         requires { i < length self.old.offsets }
         ensures same { self.new ≡ self.old }
         ensures stands { MatchOption result (StandsNone self.old i) (StandsAt self.old i) }
     {
         match self.seen[i] {
             Sight::Unasked => {
-                let found = block_at(self.index, self.model, self.from, self.offsets[i], self.up);
+                let (found, next) = block_at(
+                    self.index,
+                    self.model,
+                    self.from,
+                    self.offsets[i],
+                    self.up,
+                    self.guesses[i],
+                );
+                self.guesses[i] = next;
                 self.seen[i] = match found {
                     Some(block) => Sight::Block(block),
                     None => Sight::Nothing,

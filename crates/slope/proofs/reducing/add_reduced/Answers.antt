@@ -1,9 +1,10 @@
-use Rattle.std.proofs.Common.{◌≡◌, ◌≤◌, ◌<◌, ◌+◌, ℕ, List, Vec, Global, length, arith, sym, ap, subst, ◌∙◌, pos}
+use Rattle.std.proofs.Common.{◌≤◌, ◌<◌, ◌+◌, ℕ, List, Vec, Global, length, arith, sym, ap, subst, ◌∙◌, pos}
 use Rattle.std.proofs.lemmas.Result.{err_from_is_err_and}
+use Rattle.std.proofs.lemmas.List.Sorted.{length_permutation}
 use Rattle.prec_file.specs.declared.limits.TheConstants.{MOST_PAIRS}
 use Rattle.slope.specs.declared.selection.Selection.TheVariants.{Reduced}
-use Rattle.slope.specs.Places.{place_of}
 use Rattle.slope.specs.Internal.{SurroundingsView, ArePlacesOf, Collects, IsPairUpTo}
+use Rattle.slope.proofs.Reordering.{collected_moved}
 use Rattle.slope.proofs.PairSteps.{block_begun, block_ended, offset_taken, offset_passed, refused}
 use Rattle.slope.proofs.TwoSteps.{selected_at, passed_at}
 use Rattle.slope.proofs.reducing.add_reduced.Goals as goal
@@ -51,4 +52,8 @@ loop-i-preserved c =
     ]
 
 pub returns-clause-made : goal.returns-clause-made
-returns-clause-made c = (block_ended _ _ _ _ _ _ c.loop-i.i (omega (arith, c.requires.steps.as_many)) c.loop-i.invariant.2, c.loop-i.invariant.3)
+returns-clause-made c =
+    let moved = c.sort_from.ensures in
+    let few = c.loop-i.invariant.3 in
+    let size = length_permutation _ _ moved in
+    (collected_moved _ _ _ moved (block_ended _ _ _ _ _ _ c.loop-i.i (omega (arith, c.requires.steps.as_many)) c.loop-i.invariant.2), omega (arith, size, few))

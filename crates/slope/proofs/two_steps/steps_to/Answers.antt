@@ -1,4 +1,4 @@
-use Rattle.std.proofs.Common.{◌≡◌, ◌+◌, ℕ, List, Vec, Global, Contains, ap, subst, sym, ◌∙◌, arith}
+use Rattle.std.proofs.Common.{◌+◌, ℕ, List, Vec, Global, Contains, ap, subst, sym, ◌∙◌}
 use Rattle.std.proofs.lemmas.Bool.{iff_false}
 use Rattle.slope.specs.Offsets.{Offset}
 use Rattle.slope.specs.Internal.{rest_after, offset_at, AreFirstSteps}

@@ -1,0 +1,79 @@
+//! The command `value`.
+
+use crate::options::{
+    ModelWords, STATUSES, file_word, model_options, model_words, named_option, number_option,
+    text_of, verbose_option, with_options,
+};
+use clap::{Arg, ArgMatches, Command};
+use std::alloc::{AllocError, Global};
+
+const ABOUT: &str = "Judges a design: what are its blocks worth, and do they need others?";
+
+const USAGE: &str =
+    "pit value --prec <FILE> (--upit <FILE> | --blocks <FILE> --settings <FILE>) [OPTIONS] <DESIGN>";
+
+const DETAILS: &str = "Judges a design: a set of blocks that somebody drew. OPEN has the status 1.
+
+Answers:
+  DESIGN count worth           how many blocks the design has, and what they are worth
+  CLOSED                       it contains all predecessors of each of its blocks
+  OPEN pairs                   so many times a block of it needs one outside
+  NEEDS block predecessor      the first 20 of those
+  BEST count worth GAP amount  with --best: the pit of the certificate, which `pit check` would accept, and what it is worth more than the design
+
+With --best a certificate that `pit check` would refuse gives its line alone, REFUSED and the reason, with the status 1.";
+
+const DESIGN_HELP: &str =
+    "The blocks, a line for each: its number, or PIT and its number; of a certificate the lines PIT are taken";
+
+const BEST_HELP: &str =
+    "A certificate of the best pit, with which the design is compared: a PITCERT text. With --blocks it names the factor, and --factor can't be given";
+
+const FACTOR_HELP: &str =
+    "The share of the revenues that counts, in thousandths, from 0 to 10000, with --blocks; 1000 by default";
+
+/// The files of a design and its mine, where they were given the factor and the certificate of the best pit, and whether it
+/// is told why a file failed.
+#[derive(Clone, Copy)]
+pub struct ValueWords<'a> {
+    pub prec: &'a str,
+    pub model: ModelWords<'a>,
+    pub factor: Option<&'a str>,
+    pub best: Option<&'a str>,
+    pub design: &'a str,
+    pub verbose: bool,
+}
+
+/// The command.
+pub fn value_command<'a>(alloc: Global) -> Result<Command<'a>, AllocError> {
+    let command = Command::new(alloc, "value")
+        .about(ABOUT)
+        .long_about(DETAILS)
+        .after_help(STATUSES)
+        .override_usage(USAGE);
+    let command = with_options(command, model_options(alloc))?;
+    with_options(command, design_options(alloc))
+}
+
+// At what factor the design is judged, with what it is compared, its file, and whether it is told why one failed.
+fn design_options<'a>(alloc: Global) -> Result<Vec<Arg<'a>>, AllocError> {
+    let factor = number_option(alloc, "factor", "FACTOR", FACTOR_HELP)
+        .requires_arg("blocks")?
+        .conflicts_with("upit")?
+        .conflicts_with("best")?;
+    let best = named_option(alloc, "best", "CERT", BEST_HELP);
+    let design = file_word(alloc, "design", "DESIGN", DESIGN_HELP);
+    Ok(vec![in alloc; factor, best, design, verbose_option(alloc)]?)
+}
+
+/// The words that were given.
+pub fn value_words<'a>(words: &ArgMatches<'a>) -> ValueWords<'a> {
+    ValueWords {
+        prec: text_of(words, "prec"),
+        model: model_words(words),
+        factor: words.get_str("factor"),
+        best: words.get_str("best"),
+        design: text_of(words, "design"),
+        verbose: words.get_flag("verbose"),
+    }
+}

@@ -1,0 +1,6 @@
+-- What is told of a design, of the parts that the program holds.
+use Rattle.design_engines.specs.declared.valued.Valued.{Valued}
+use Rattle.design_engines.specs.Designs.{DesignView}
+
+abbrev pub told : Valued → DesignView
+told v = record { count = v.count; worth = v.worth; leading = v.open.count; needs = v.open.first.items }

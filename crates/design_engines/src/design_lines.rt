@@ -1,0 +1,77 @@
+//! The lines of a design.
+
+ghost use Rattle.std.specs.Prelude.{◌≡◌, ◌+◌, ◌-◌, ◌^◌, ◌<◌, ◌↔◌, ◌++◌, ℕ, OnOk, IfOk, IfErr, IsErrOf};
+ghost use Rattle.std.specs.Io.KnownBytes.{Appends};
+ghost use Rattle.std.specs.String.{string_bytes};
+ghost use Rattle.engines.specs.Checking.{LineFails};
+ghost use Rattle.design_engines.specs.Designs.{design_text, open_text, needs_line, needs_text};
+ghost use Rattle.design_engines.specs.Told.{told};
+
+use crate::valued::Valued;
+use design_value::OpenPairs;
+use engines::EngineFault;
+use fixed_worth::{CountedWrite, Nanos, write_text};
+use std::alloc::{AllocError, Global};
+
+/// Writes the lines of a design: `DESIGN`, the number of blocks and what they are worth; and `CLOSED`, or `OPEN` and the
+/// number of pairs that lead out, with a line `NEEDS` for each of the first.
+///
+/// # Errors
+/// `Memory` where memory is refused: then nothing was written. `Device` where a write fails: the writer then has a prefix.
+pub(crate) fn write_design<W: CountedWrite>(
+    alloc: Global,
+    valued: &Valued,
+    out: &mut W,
+) -> Result<(), EngineFault>
+    requires { W.failed out.old < 2 ^ 64 - 1 }
+    ensures lines { OnOk result (Appends (W.contents out.old) (W.contents out.new) (design_text (told valued.now))) }
+    ensures fault { IfErr result (LineFails (W.contents out.old) (W.contents out.new) (design_text (told valued.now))) }
+    ensures device { IsErrOf result EngineFault.Device ↔ (W.failed out.new ≡ W.failed out.old + 1) }
+    ensures kept { ¬ IsErrOf result EngineFault.Device → W.failed out.new ≡ W.failed out.old }
+{
+    let text = text_of(alloc, valued)?;
+    write_text(out, text.as_bytes())?;
+    Ok(())
+}
+
+/// The lines of a design.
+///
+/// # Errors
+/// Memory was refused.
+pub(crate) fn text_of(alloc: Global, valued: &Valued) -> Result<String, AllocError>
+    ensures { IfOk result (λ text. string_bytes text ≡ design_text (told valued.now)) }
+{
+    let count = valued.count;
+    let worth = Nanos(valued.worth);
+    let open = text_of_open(alloc, &valued.open)?;
+    format!(in alloc; "DESIGN {count} {worth}\n{open}")
+}
+
+fn text_of_open(alloc: Global, open: &OpenPairs) -> Result<String, AllocError>
+    ensures { IfOk result (λ text. string_bytes text ≡ open_text open.now.count open.now.first.items) }
+{
+    let count = open.count;
+    if count == 0 {
+        return format!(in alloc; "CLOSED\n");
+    }
+    let needs = text_of_needs(alloc, open.first.as_slice())?;
+    format!(in alloc; "OPEN {count}\n{needs}")
+}
+
+fn text_of_needs(alloc: Global, pairs: &[(u32, u32)]) -> Result<String, AllocError>
+    ensures { IfOk result (λ text. string_bytes text ≡ needs_text pairs.now) }
+{
+    let mut text = String::new(alloc);
+    for i in 0..pairs.len() {
+        let (b, p) = pairs[i];
+        text = with_needed(alloc, &text, b, p)?;
+    }
+    Ok(text)
+}
+
+// The text, and the line of a pair behind it.
+fn with_needed(alloc: Global, text: &String, b: u32, p: u32) -> Result<String, AllocError>
+    ensures { IfOk result (λ more. string_bytes more ≡ string_bytes text.now ++ needs_line (b, p)) }
+{
+    format!(in alloc; "{text}NEEDS {b} {p}\n")
+}

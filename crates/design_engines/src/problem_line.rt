@@ -1,0 +1,80 @@
+//! The line of what is wrong with a design, made without memory.
+
+ghost use Rattle.std.specs.Prelude.{◌≡◌, ◌+◌, ◌-◌, ◌^◌, ◌<◌, ◌≤◌, ◌++◌, length, OnOk, OnErr};
+ghost use Rattle.std.specs.Io.KnownBytes.{Appends};
+ghost use Rattle.fixed_worth.specs.Device.{ReceivedPrefix};
+ghost use Rattle.fixed_worth.specs.FaultText.{at_line};
+ghost use Rattle.design_file.specs.FaultText.{design_fault_text};
+ghost use Rattle.design_engines.specs.FaultText.{design_problem_text, design_problem_words, design_problem_line};
+
+use crate::value_fault::DesignProblem;
+use design_file::DesignFault;
+use fixed_worth::{CountedWrite, ShortLine, WriteFault, write_text};
+
+/// Writes the line of what is wrong with a design: `fault: design `, and the problem. It takes no memory.
+///
+/// [`WriteFault::Device`] where a write failed: the writer has then received a prefix of the line.
+///
+/// `out` must have counted fewer than 2^64 - 1 failures, so that one more can be counted.
+pub fn write_problem<W: CountedWrite>(problem: DesignProblem, out: &mut W) -> Result<(), WriteFault>
+    requires { W.failed out.old < 2 ^ 64 - 1 }
+    ensures line { OnOk result (Appends (W.contents out.old) (W.contents out.new) (design_problem_line problem)) }
+    ensures kept { OnOk result (W.failed out.new ≡ W.failed out.old) }
+    ensures prefix { OnErr result (ReceivedPrefix (W.contents out.old) (W.contents out.new) (design_problem_line problem)) }
+    ensures counted { OnErr result (W.failed out.new ≡ W.failed out.old + 1) }
+{
+    let mut line = ShortLine::new();
+    line.push(b"fault: ");
+    push_words(&mut line, problem);
+    line.push(b"\n");
+    write_text(out, line.as_bytes())
+}
+
+// The word for what has the fault, and the problem.
+fn push_words(line: &mut ShortLine, problem: DesignProblem)
+    requires { length line.old ≤ 16 }
+    ensures text { line.new ≡ line.old ++ design_problem_words problem }
+    ensures length { length line.new ≤ length line.old + 70 }
+{
+    line.push(b"design ");
+    push_problem(line, problem);
+}
+
+fn push_problem(line: &mut ShortLine, problem: DesignProblem)
+    requires { length line.old ≤ 64 }
+    ensures text { line.new ≡ line.old ++ design_problem_text problem }
+    ensures length { length line.new ≤ length line.old + 60 }
+{
+    match problem {
+        DesignProblem::InputTooLong => line.push(b"InputTooLong"),
+        DesignProblem::TooLarge => line.push(b"TooLarge"),
+        DesignProblem::Fault(fault) => push_fault(line, fault),
+    }
+}
+
+fn push_fault(line: &mut ShortLine, fault: DesignFault)
+    requires { length line.old ≤ 64 }
+    ensures text { line.new ≡ line.old ++ design_fault_text fault }
+    ensures length { length line.new ≤ length line.old + 60 }
+{
+    match fault {
+        DesignFault::Text(n) => push_at(line, b"Text", n),
+        DesignFault::Number(n) => push_at(line, b"Number", n),
+        DesignFault::UnknownBlock(n) => push_at(line, b"UnknownBlock", n),
+        DesignFault::Repeated(n) => push_at(line, b"Repeated", n),
+        DesignFault::NoMemory => line.push(b"NoMemory"),
+    }
+}
+
+// A name, and a line's number in parentheses.
+fn push_at(line: &mut ShortLine, name: &[u8], number: u64)
+    requires room { length line.old ≤ 64 }
+    requires short { length name.now ≤ 16 }
+    ensures text { line.new ≡ line.old ++ at_line name.now number }
+    ensures length { length line.new ≤ length line.old + 60 }
+{
+    line.push(name);
+    line.push(b"(");
+    line.push_number(u128::from(number));
+    line.push(b")");
+}

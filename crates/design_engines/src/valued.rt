@@ -1,0 +1,29 @@
+//! What a design comes to.
+
+ghost use Rattle.std.specs.Prelude.{◌≡◌};
+ghost use Rattle.design_engines.specs.Designs.{verdict_for};
+
+use design_value::OpenPairs;
+use engines::Verdict;
+
+/// What a design comes to in a mine.
+#[derive(Drop)]
+pub(crate) struct Valued {
+    /// How many blocks it has.
+    pub count: u32,
+    /// What they are worth, in billionths.
+    pub worth: i128,
+    /// The pairs that lead from a block of it to one outside.
+    pub open: OpenPairs,
+}
+
+/// How an engine ends with a design out of which so many pairs lead.
+pub(crate) fn verdict_where(leading: u64) -> Verdict
+    ensures { result ≡ verdict_for leading }
+{
+    if leading == 0 {
+        Verdict::Done
+    } else {
+        Verdict::No
+    }
+}
