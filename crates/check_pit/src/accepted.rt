@@ -1,7 +1,6 @@
 //! Accepted pits.
 
-ghost use Rattle.std.specs.Prelude.{◌≡◌, ℕ, ◌<◌, length, All};
-ghost use Rattle.ordered_group.specs.Amount.{AtMost};
+ghost use Rattle.std.specs.Prelude.{◌≡◌};
 ghost use Rattle.closure_net.specs.Network.{holds_of};
 ghost use Rattle.closure_net.specs.Closure.{IsClosed, IsGreatest, group_worth};
 ghost use Rattle.check_pit.specs.Checks.{IsOfNet};
@@ -15,30 +14,27 @@ use std::marker::Model;
 #[derive(Drop)]
 pub struct Accepted<'a, G: OrderedGroup> {
     net: &'a Net<G>,
-    pit: &'a Pit,
-    worth: G,
+    on_graph: AcceptedPit<'a, G>,
 }
 
 impl<'a, G: OrderedGroup> Model for Accepted<'a, G> {
-    ghost use Rattle.check_pit.specs.Accepted.{AcceptedView, IsAccepted};
+    ghost use Rattle.std.specs.Prelude.{◌≡◌};
+    ghost use Rattle.check_pit.specs.Accepted.{AcceptedView};
 
     ghost Value = { AcceptedView };
 
-    ghost view = { λ a. record { net = a.net.now; pit = a.pit.now; worth = G.parts_of a.worth } };
+    ghost view = { λ a. a.on_graph };
 
-    ghost invariant = { λ a. IsAccepted (record { net = a.net.now; pit = a.pit.now; worth = G.parts_of a.worth }) };
+    ghost invariant = { λ a. a.on_graph.net ≡ a.net.now };
 }
 
 impl<'a, G: OrderedGroup> Accepted<'a, G> {
-    // What a check has shown.
-    pub(crate) fn new(net: &'a Net<G>, pit: &'a Pit, worth: G) -> Accepted<'a, G>
-        requires of_net { IsOfNet net.now pit.now }
-        requires greatest { IsGreatest net.now (holds_of pit.now) }
-        requires worth { G.parts_of worth ≡ group_worth net.now.worths (holds_of pit.now) }
-        ensures net { result.net ≡ net.now }
-        ensures pit { result.pit ≡ pit.now }
+    // The net with the pit that a check of its graph has shown.
+    pub(crate) fn new(net: &'a Net<G>, on_graph: AcceptedPit<'a, G>) -> Accepted<'a, G>
+        requires { on_graph.net ≡ net.now }
+        ensures { result ≡ on_graph.entry }
     {
-        Accepted { net, pit, worth }
+        Accepted { net, on_graph }
     }
 
     /// The net.
@@ -47,6 +43,8 @@ impl<'a, G: OrderedGroup> Accepted<'a, G> {
         ensures closed { IsClosed self.now.net.pairs (holds_of self.now.pit) }
         ensures greatest { IsGreatest self.now.net (holds_of self.now.pit) }
     {
+        // proof: what is known of the pit
+        let _pit = self.on_graph.pit();
         self.net
     }
 
@@ -57,7 +55,7 @@ impl<'a, G: OrderedGroup> Accepted<'a, G> {
         ensures closed { IsClosed self.now.net.pairs (holds_of self.now.pit) }
         ensures greatest { IsGreatest self.now.net (holds_of self.now.pit) }
     {
-        self.pit
+        self.on_graph.pit()
     }
 
     /// What the pit sums to: the greatest sum of a closed set.
@@ -66,13 +64,13 @@ impl<'a, G: OrderedGroup> Accepted<'a, G> {
         ensures set { G.parts_of result ≡ group_worth self.now.net.worths (holds_of self.now.pit) }
         ensures greatest { IsGreatest self.now.net (holds_of self.now.pit) }
     {
-        self.worth
+        self.on_graph.worth()
     }
 
     /// The same pit, with the net's graph alone.
-    pub fn on_graph(&self) -> AcceptedPit<'a, G>
-        ensures { result ≡ self.now }
+    pub fn on_graph(&self) -> &AcceptedPit<'a, G>
+        ensures { result.now ≡ self.now }
     {
-        AcceptedPit::new(self.net.graph(), self.pit, self.worth)
+        &self.on_graph
     }
 }

@@ -214,7 +214,7 @@ pub fn check_stream<'a, R: CountedRead, G: OrderedGroup>(
     ensures memory { stream.old.fault ≡ None → room.old.is_pit ≡ false → length net.now.worths ≤ room.old.space → ¬ IsErrOf result (StreamFault.Cert CertFault.NoMemory) }
 {
     match check_graph(stream, net.graph(), room) {
-        Ok(accepted) => Ok(Accepted::new(net, accepted.pit(), accepted.worth())),
+        Ok(accepted) => Ok(Accepted::new(net, accepted)),
         Err(fault) => Err(fault),
     }
 }

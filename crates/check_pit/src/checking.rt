@@ -11,6 +11,7 @@ ghost use Rattle.check_pit.specs.Checks.{ProvesPit, Sizes, IsSound, NoneBelowZer
 ghost use Rattle.check_pit.specs.Balances.{BalanceFault};
 
 use crate::accepted::Accepted;
+use crate::accepted_pit::AcceptedPit;
 use crate::closing::first_open;
 use crate::pit_fault::PitFault;
 use crate::sums::{balance_of, pit_worth, residual_of_source};
@@ -154,5 +155,6 @@ pub fn check<'a, G: OrderedGroup>(
     if !same(worth, room) {
         return Err(PitFault::NotTight);
     }
-    Ok(Accepted::new(net, pit, worth))
+    let on_graph = AcceptedPit::new(net.graph(), pit, worth);
+    Ok(Accepted::new(net, on_graph))
 }

@@ -5,7 +5,7 @@ ghost use Rattle.closure_net.specs.Network.{holds_of};
 ghost use Rattle.closure_net.specs.Closure.{IsClosed};
 ghost use Rattle.check_pit.specs.Closing.{HoldsAbove, IsLacking, IsFirstOpen};
 
-use prec_file::PredecessorsRef;
+use prec_file::Predecessors;
 
 // Marks the blocks of a list, and no other.
 pub(crate) fn mark(marks: &mut [bool], blocks: &[u32])
@@ -22,7 +22,7 @@ pub(crate) fn mark(marks: &mut [bool], blocks: &[u32])
 }
 
 // The first block that b rests on and that has no mark.
-fn first_lacking(predecessors: &PredecessorsRef<'_>, marks: &[bool], b: u32) -> Option<u32>
+fn first_lacking(predecessors: &Predecessors, marks: &[bool], b: u32) -> Option<u32>
     requires size { length marks.now ≡ predecessors.now.blocks }
     requires known { b < predecessors.now.blocks }
     ensures { MatchOption result
@@ -41,7 +41,7 @@ fn first_lacking(predecessors: &PredecessorsRef<'_>, marks: &[bool], b: u32) -> 
 }
 
 // The first pair whose block has a mark while its predecessor has none.
-pub(crate) fn first_open(predecessors: &PredecessorsRef<'_>, marks: &[bool]) -> Option<(u32, u32)>
+pub(crate) fn first_open(predecessors: &Predecessors, marks: &[bool]) -> Option<(u32, u32)>
     requires { length marks.now ≡ predecessors.now.blocks }
     ensures { MatchOption result
         (IsClosed predecessors.now.pairs (λ b. slice_index_or marks.now b false))

@@ -13,10 +13,10 @@ use crate::header_lines::in_line;
 use crate::stream_fault::StreamFault;
 use crate::stream_lines::StreamLines;
 use fixed_worth::CountedRead;
-use prec_file::PredecessorsRef;
+use prec_file::Predecessors;
 
 // Whether the model has the pair of a line, where the line is of one.
-fn is_of_model(rests: &PredecessorsRef<'_>, line: &BodyLine) -> bool
+fn is_of_model(rests: &Predecessors, line: &BodyLine) -> bool
     requires { spec.is_end line.now.kind ≡ false → line.now.block < rests.now.blocks }
     ensures { result ≡ spec.is_of_model (has_pair rests.now.pairs) line.now.kind line.now }
 {
@@ -28,7 +28,7 @@ fn is_of_model(rests: &PredecessorsRef<'_>, line: &BodyLine) -> bool
 
 // The line of this number that a text is, behind another one.
 fn line_behind(
-    rests: &PredecessorsRef<'_>,
+    rests: &Predecessors,
     counts: bool,
     previous: Option<BodyLine>,
     number: u64,
@@ -54,7 +54,7 @@ fn line_behind(
 /// the line, which isn't passed then.
 pub fn next_line<R: CountedRead>(
     lines: &mut StreamLines<R>,
-    rests: &PredecessorsRef<'_>,
+    rests: &Predecessors,
     counts: bool,
     previous: Option<BodyLine>,
 ) -> Result<BodyLine, StreamFault>

@@ -9,7 +9,7 @@ ghost use Rattle.closure_net.specs.FaultStands.{WorthsFaultStands};
 use crate::net::NetFault;
 use crate::worths::{opposite_part, worths_of_blocks};
 use ordered_group::{OrderedGroup, positive_part};
-use prec_file::{Predecessors, PredecessorsRef};
+use prec_file::Predecessors;
 use std::alloc::Global;
 use std::marker::Model;
 
@@ -58,11 +58,11 @@ impl<G: OrderedGroup> Graph<G> {
     }
 
     /// The same graph, lent.
-    pub fn lent(&self) -> GraphRef<'_, G>
+    pub fn as_ref(&self) -> GraphRef<'_, G>
         ensures { result ≡ self.now }
     {
         GraphRef {
-            predecessors: self.predecessors.lent(),
+            predecessors: &self.predecessors,
             worths: &self.worths,
         }
     }
@@ -71,7 +71,7 @@ impl<G: OrderedGroup> Graph<G> {
 /// A graph that is another's: a [`Graph`] or a [`crate::Net`] lends it.
 #[derive(Drop)]
 pub struct GraphRef<'a, G: OrderedGroup> {
-    predecessors: PredecessorsRef<'a>,
+    predecessors: &'a Predecessors,
     worths: &'a [G],
 }
 
@@ -81,16 +81,16 @@ impl<'a, G: OrderedGroup> Model for GraphRef<'a, G> {
 
     ghost Value = { NetView };
 
-    ghost view = { λ g. net_view g.predecessors.pairs (map G.parts_of g.worths.now) };
+    ghost view = { λ g. net_view g.predecessors.now.pairs (map G.parts_of g.worths.now) };
 
-    ghost invariant = { λ g. IsNetParts g.predecessors (map G.parts_of g.worths.now) };
+    ghost invariant = { λ g. IsNetParts g.predecessors.now (map G.parts_of g.worths.now) };
 }
 
 impl<'a, G: OrderedGroup> GraphRef<'a, G> {
     // What a net lends.
-    pub(crate) fn of_parts(predecessors: PredecessorsRef<'a>, worths: &'a [G]) -> GraphRef<'a, G>
-        requires { IsNetParts predecessors (map G.parts_of worths.now) }
-        ensures { result ≡ net_view predecessors.entry.pairs (map G.parts_of worths.now) }
+    pub(crate) fn of_parts(predecessors: &'a Predecessors, worths: &'a [G]) -> GraphRef<'a, G>
+        requires { IsNetParts predecessors.now (map G.parts_of worths.now) }
+        ensures { result ≡ net_view predecessors.now.pairs (map G.parts_of worths.now) }
     {
         GraphRef {
             predecessors,
@@ -131,11 +131,11 @@ impl<'a, G: OrderedGroup> GraphRef<'a, G> {
     }
 
     /// What rests on what.
-    pub fn predecessors(&self) -> &PredecessorsRef<'a>
+    pub fn predecessors(&self) -> &'a Predecessors
         ensures blocks { result.now.blocks ≡ length self.now.worths }
         ensures pairs { result.now.pairs ≡ self.now.pairs }
     {
-        &self.predecessors
+        self.predecessors
     }
 
     /// What each block is worth.

@@ -69,6 +69,6 @@ pub(crate) fn value_of(
         Some(worth) => worth,
         None => return Err(ValueFault::Design(DesignProblem::TooLarge)),
     };
-    let open = open_pairs_of(alloc, marks, &rests.lent())?;
+    let open = open_pairs_of(alloc, marks, rests)?;
     Ok(Valued { count, worth, open })
 }

@@ -8,7 +8,7 @@ ghost use Rattle.design_value.specs.Sums.{marked_in};
 ghost use Rattle.design_value.specs.OpenPairs.{AreOpen, leads_out};
 
 use fixed_worth::MOST_BLOCKS;
-use prec_file::PredecessorsRef;
+use prec_file::Predecessors;
 use std::alloc::{AllocError, Global};
 
 /// How many pairs (b, p) lead from a block b of a set to a predecessor p outside, and the first 20 of them, by b and then by
@@ -55,7 +55,7 @@ fn pass_block(
     leading: &mut OpenPairs,
     marks: &[bool],
     b: u32,
-    rests: &PredecessorsRef<'_>,
+    rests: &Predecessors,
 ) -> Result<(), AllocError>
     requires known { b < rests.now.blocks }
     requires all { length marks.now ≡ rests.now.blocks }
@@ -80,7 +80,7 @@ fn pass_block(
 pub fn open_pairs_of(
     alloc: Global,
     marks: &[bool],
-    rests: &PredecessorsRef<'_>,
+    rests: &Predecessors,
 ) -> Result<OpenPairs, AllocError>
     requires { length marks.now ≡ rests.now.blocks }
     ensures { IfOk result (λ leading. AreOpen (marked_in marks.now) rests.now.pairs leading.count leading.first.items) }

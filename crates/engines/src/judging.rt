@@ -216,7 +216,7 @@ fn judge_by<G: OrderedGroup, C: CountedRead>(
 {
     let net = Graph::<G>::of_worths(alloc, rests, &nanos)?;
     drop(nanos);
-    judge_for(alloc, net.lent(), stream)
+    judge_for(alloc, net.as_ref(), stream)
 }
 
 // The same, where the graph of the mine's net is made.
@@ -285,7 +285,7 @@ pub fn size_of<G: OrderedGroup>(accepted: &Accepted<'_, G>) -> u32
     ensures most { result ≤ length accepted.now.net.worths }
     ensures ascending { IsAscending accepted.now.pit }
 {
-    size_of_pit(&accepted.on_graph())
+    size_of_pit(accepted.on_graph())
 }
 
 /// The worth of an accepted pit of this many blocks, in billionths.
@@ -294,7 +294,7 @@ pub fn worth_of<G: OrderedGroup>(accepted: &Accepted<'_, G>, count: u32) -> i128
     ensures worth { result ≡ G.set_worth (group_worth accepted.now.net.worths (holds_of accepted.now.pit)) (length accepted.now.net.worths) count }
     ensures greatest { IsGreatest accepted.now.net (holds_of accepted.now.pit) }
 {
-    worth_of_pit(&accepted.on_graph(), count)
+    worth_of_pit(accepted.on_graph(), count)
 }
 
 // The two numbers of an amount fit the machine's.

@@ -81,7 +81,7 @@ pub fn write_slopes<W: CountedWrite>(rests: &Predecessors, out: &mut W) -> Resul
     ensures prefix { IfErr result (λ _. ReceivedPrefix (W.contents out.old) (W.contents out.new) (prec_text rests.now)) }
     ensures counted { IfErr result (λ _. W.failed out.new ≡ W.failed out.old + 1) }
 {
-    match write_predecessors(&rests.lent(), out) {
+    match write_predecessors(rests, out) {
         Ok(()) => Ok(()),
         Err(PrecWriteFault::Device) => Err(EngineFault::Device),
         // a block rests on no more blocks than a pattern has offsets, which are few

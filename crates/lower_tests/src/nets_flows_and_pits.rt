@@ -121,7 +121,7 @@ fn graph_of_text(alloc: Global) -> Result<Graph<WorthSize>, Fail> {
 
 fn graph_tells(alloc: Global) -> Result<bool, Fail> {
     let graph = graph_of_text(alloc)?;
-    Ok(is_two_on_waste(&graph.lent()))
+    Ok(is_two_on_waste(&graph.as_ref()))
 }
 
 fn net_tells(alloc: Global) -> Result<bool, Fail> {

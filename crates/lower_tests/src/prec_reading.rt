@@ -1,7 +1,7 @@
 ghost use Rattle.std.specs.Prelude.{◌≡◌, IfOk};
 
 use prec_file::{
-    PrecFault, Predecessors, PredecessorsRef, Rests, RestsFault, read_listed, read_prec,
+    PrecFault, Predecessors, Rests, RestsFault, read_listed, read_prec,
 };
 use std::alloc::Global;
 use std::fmt::{Debug, Display};
@@ -67,7 +67,7 @@ fn three_in_text(alloc: Global, text: &[u8]) -> Result<Predecessors, Fail>
 }
 
 // Whether block 1 rests on block 2, and block 2 on block 0 by pair 1.
-fn tells_its_predecessors(blocks: &PredecessorsRef<'_>) -> bool {
+fn tells_its_predecessors(blocks: &Predecessors) -> bool {
     if blocks.len() != 3 {
         return false;
     }
@@ -81,7 +81,7 @@ fn tells_its_predecessors(blocks: &PredecessorsRef<'_>) -> bool {
 // Whether a text tells these predecessors.
 fn lists_them(alloc: Global, text: &[u8]) -> Result<bool, Fail> {
     let held = three_in_text(alloc, text)?;
-    Ok(held.len() == 3 && tells_its_predecessors(&held.lent()))
+    Ok(held.len() == 3 && tells_its_predecessors(&held))
 }
 
 #[test]

@@ -56,7 +56,7 @@ fn predecessors_alone_are_written(rt: HostRuntime) -> Result<(), Fail> {
     let alloc: Global = rt.alloc();
     let predecessors = read_listed(alloc, b"2 1 0\n1 1 2\n", 3)?.into_predecessors(alloc)?;
     let mut out = Counted::new(Vec::new(alloc));
-    write_predecessors(&predecessors.lent(), &mut out)
+    write_predecessors(&predecessors, &mut out)
         .ok()
         .ok_or("written")?;
     let received = out.into_inner();

@@ -388,14 +388,13 @@ fn predecessors_alone(rt: HostRuntime) -> Result<(), Fail> {
     let cube = model(alloc, CUBE)?;
     let predecessors = predecessors_of(alloc, &cube, &five, Up::PlusZ, Selection::Every)?;
     equal(&rt, predecessors.len(), 18);
-    let lent = predecessors.lent();
-    if lent.len() == 18 {
+    if predecessors.len() == 18 {
         let above: &[u32] = &[9, 10, 12];
-        equal(&rt, lent.above(0), above);
+        equal(&rt, predecessors.above(0), above);
         let above: &[u32] = &[10, 12, 13, 14, 16];
-        equal(&rt, lent.above(4), above);
+        equal(&rt, predecessors.above(4), above);
         let above: &[u32] = &[];
-        equal(&rt, lent.above(13), above);
+        equal(&rt, predecessors.above(13), above);
     }
     Ok(())
 }

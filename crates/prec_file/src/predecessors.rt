@@ -1,10 +1,11 @@
 //! Who rests on whom, by block alone.
 
-ghost use Rattle.std.specs.Prelude.{◌≡◌, ◌≤◌, All, IfOk, length};
-ghost use Rattle.prec_file.specs.Rests.{IsRests, AreApart, IsKnown, IsRising};
+ghost use Rattle.std.specs.Prelude.{◌≡◌, ◌<◌, ◌≤◌, All, IfOk, MatchOption, length, map, slice_index_or};
+ghost use Rattle.std.specs.List.{Contains};
+ghost use Rattle.prec_file.specs.Rests.{IsRests, AreApart, IsKnown, IsRising, first_of, above_of};
 
-use crate::PredecessorsRef;
 use crate::first_pairs::firsts_of;
+use crate::index::part;
 use crate::limits::MOST_PAIRS;
 use crate::pair_order::predecessors_in;
 use fixed_worth::MOST_BLOCKS;
@@ -63,6 +64,32 @@ impl Predecessors {
         })
     }
 
+    // The same predecessors with memory of their own, beside another list of the same pairs.
+    pub(crate) fn copy(
+        &self,
+        alloc: Global,
+        pairs: &Vec<(u32, u32)>,
+    ) -> Result<Predecessors, AllocError>
+        requires { pairs.now.items ≡ self.now.pairs }
+        ensures { IfOk result (λ r. r ≡ self.now) }
+    {
+        let firsts = Vec::from_slice(alloc, &self.firsts)?;
+        let predecessors = Vec::from_slice(alloc, &self.predecessors)?;
+        Ok(Predecessors {
+            blocks: self.blocks,
+            firsts,
+            predecessors,
+            pairs: Snapshot::of(pairs),
+        })
+    }
+
+    // The predecessor of each pair.
+    pub(crate) fn of_all(&self) -> &[u32]
+        ensures { result.now ≡ map (λ p. p.1) self.now.pairs }
+    {
+        &self.predecessors
+    }
+
     /// How many blocks there are.
     pub fn len(&self) -> u32
         ensures is { result ≡ self.now.blocks }
@@ -71,10 +98,33 @@ impl Predecessors {
         self.blocks
     }
 
-    /// The same pairs, lent.
-    pub fn lent(&self) -> PredecessorsRef<'_>
-        ensures { result ≡ self.now }
+    /// The number of b's first pair, or of the first pair of the blocks behind b where b has none.
+    pub fn first(&self, b: u32) -> u32
+        requires { b < self.now.blocks }
+        ensures { result ≡ first_of self.now.pairs b }
     {
-        PredecessorsRef::of_parts(self.blocks, &self.firsts, &self.predecessors, &self.pairs)
+        self.firsts[b as usize]
+    }
+
+    /// The blocks that b rests on, ascending: those of the pairs from `first(b)` on.
+    pub fn above(&self, b: u32) -> &[u32]
+        requires { b < self.now.blocks }
+        ensures { result.now ≡ above_of self.now.pairs b }
+    {
+        let from = self.firsts[b as usize];
+        let to = self.firsts[b as usize + 1];
+        part(&self.predecessors, from, to)
+    }
+
+    /// The number of the pair (b, p), if there is one.
+    pub fn find(&self, b: u32, p: u32) -> Option<u32>
+        requires { b < self.now.blocks }
+        ensures { MatchOption result
+            (¬ (Contains self.now.pairs (b, p)))
+            (λ k. (k < length self.now.pairs) × (slice_index_or self.now.pairs k (0, 0) ≡ (b, p))) }
+    {
+        let first = self.firsts[b as usize];
+        let i = self.above(b).binary_search(&p).ok()?;
+        Some(first + i as u32)
     }
 }

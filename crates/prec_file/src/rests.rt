@@ -1,29 +1,22 @@
 //! Who rests on whom, by block and by predecessor.
 
-ghost use Rattle.std.specs.Prelude.{◌≡◌, ℕ, ◌+◌, ◌<◌, ◌≤◌, All, IfOk, MatchResult, MatchOption, length, slice_index_or};
+ghost use Rattle.std.specs.Prelude.{◌≡◌, ◌<◌, ◌≤◌, All, IfOk, MatchResult, MatchOption, length, slice_index_or};
 ghost use Rattle.std.specs.List.{Contains};
 ghost use Rattle.prec_file.specs.Rests.{IsRests, AreApart, IsKnown, KnownAt, IsFirstNot, IsRising, ArePairsOf, first_of, above_of, below_of};
 ghost use Rattle.prec_file.specs.FaultStands.{FaultStands};
 
-use crate::first_pairs::firsts_of;
 use crate::index::{filled_by, part, starts_of};
 use crate::limits::MOST_PAIRS;
-use crate::pair_order::predecessors_in;
-use crate::{ListedPairs, PredecessorsRef, RestsFault};
+use crate::{ListedPairs, Predecessors, RestsFault};
 use fixed_worth::MOST_BLOCKS;
 use std::alloc::{AllocError, Global};
 use std::marker::Model;
-use std::snapshot::Snapshot;
 
 /// Pairs (b, p) of n blocks, in which b rests on p: each once, ordered by b and then by p.
 #[derive(Drop)]
 pub struct Rests {
-    blocks: u32,
+    predecessors: Predecessors,
     pairs: Vec<(u32, u32)>,
-    // at each block up to n, the number of its first pair
-    firsts: Vec<u32>,
-    // the predecessor of each pair
-    predecessors: Vec<u32>,
     // at each block up to n, how many pairs have a predecessor below it
     starts: Vec<u32>,
     // the numbers of the pairs, by predecessor
@@ -36,9 +29,9 @@ impl Model for Rests {
 
     ghost Value = { RestsView };
 
-    ghost view = { λ r. record { blocks = r.blocks; pairs = r.pairs.items } };
+    ghost view = { λ r. r.predecessors };
 
-    ghost invariant = { λ r. IsIndexed r.blocks r.pairs.items r.firsts.items r.predecessors.items r.starts.items r.filled.items };
+    ghost invariant = { λ r. IsIndexed r.predecessors r.pairs.items r.starts.items r.filled.items };
 }
 
 // The two indexes of pairs in order.
@@ -50,15 +43,12 @@ pub(crate) fn indexed(alloc: Global, n: u32, pairs: Vec<(u32, u32)>) -> Result<R
     requires apart { AreApart pairs.items }
     ensures { IfOk result (λ r. (r.blocks ≡ n) × (r.pairs ≡ pairs.items)) }
 {
-    let firsts = firsts_of(alloc, n, &pairs)?;
-    let predecessors = predecessors_in(alloc, &pairs)?;
-    let starts = starts_of(alloc, n, &predecessors)?;
-    let filled = filled_by(alloc, n, &predecessors, &starts)?;
+    let predecessors = Predecessors::of_pairs(alloc, n, &pairs)?;
+    let starts = starts_of(alloc, n, predecessors.of_all())?;
+    let filled = filled_by(alloc, n, predecessors.of_all(), &starts)?;
     Ok(Rests {
-        blocks: n,
-        pairs,
-        firsts,
         predecessors,
+        pairs,
         starts,
         filled,
     })
@@ -105,26 +95,22 @@ impl Rests {
         ensures { IfOk result (λ r. r ≡ self.now) }
     {
         let pairs = Vec::from_slice(alloc, &self.pairs)?;
-        let firsts = Vec::from_slice(alloc, &self.firsts)?;
-        let predecessors = Vec::from_slice(alloc, &self.predecessors)?;
+        let predecessors = self.predecessors.copy(alloc, &pairs)?;
         let starts = Vec::from_slice(alloc, &self.starts)?;
         let filled = Vec::from_slice(alloc, &self.filled)?;
         Ok(Rests {
-            blocks: self.blocks,
-            pairs,
-            firsts,
             predecessors,
+            pairs,
             starts,
             filled,
         })
     }
 
-    /// The same pairs by block alone, lent.
-    pub fn predecessors(&self) -> PredecessorsRef<'_>
-        ensures { result ≡ self.now }
+    /// The same pairs by block alone.
+    pub fn predecessors(&self) -> &Predecessors
+        ensures { result.now ≡ self.now }
     {
-        let pairs = Snapshot::of(&self.pairs);
-        PredecessorsRef::of_parts(self.blocks, &self.firsts, &self.predecessors, &pairs)
+        &self.predecessors
     }
 
     /// How many blocks there are.
@@ -132,13 +118,15 @@ impl Rests {
         ensures is { result ≡ self.now.blocks }
         ensures all { IsRests self.now }
     {
-        self.blocks
+        self.predecessors.len()
     }
 
     /// How many pairs there are.
     pub fn pairs(&self) -> u32
         ensures { result ≡ length self.now.pairs }
     {
+        // proof: what is known of all pairs, that they are few
+        let _blocks = self.predecessors.len();
         self.pairs.len() as u32
     }
 
@@ -155,7 +143,7 @@ impl Rests {
         requires { b < self.now.blocks }
         ensures { result ≡ first_of self.now.pairs b }
     {
-        self.predecessors().first(b)
+        self.predecessors.first(b)
     }
 
     /// The blocks that b rests on, ascending: those of the pairs from `first(b)` on.
@@ -163,7 +151,7 @@ impl Rests {
         requires { b < self.now.blocks }
         ensures { result.now ≡ above_of self.now.pairs b }
     {
-        self.predecessors().above(b)
+        self.predecessors.above(b)
     }
 
     /// The numbers of the pairs in which a block rests on p, ascending.
@@ -183,6 +171,6 @@ impl Rests {
             (¬ (Contains self.now.pairs (b, p)))
             (λ k. (k < length self.now.pairs) × (slice_index_or self.now.pairs k (0, 0) ≡ (b, p))) }
     {
-        self.predecessors().find(b, p)
+        self.predecessors.find(b, p)
     }
 }

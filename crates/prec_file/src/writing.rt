@@ -7,14 +7,14 @@ ghost use Rattle.fixed_worth.specs.Device.{ReceivedPrefix, SentOrHeld};
 ghost use Rattle.prec_file.specs.Rests.{IsFirstNot};
 ghost use Rattle.prec_file.specs.Written.{prec_text, line_of, spaced, IsNarrowAt, AreNarrow, WriteFaultStands};
 
-use crate::{PrecWriteFault, PredecessorsRef, Rests};
+use crate::{PrecWriteFault, Predecessors, Rests};
 use fixed_worth::{CountedWrite, Page, WriteFault, WrittenNumber};
 
 // The most predecessors of a block: with eight digits each, its line stays below the reader's limit of 65,536 bytes.
 const WIDEST: usize = 7_000;
 
 // The first block that rests on too many.
-fn first_wide(rests: &PredecessorsRef<'_>) -> Option<u32>
+fn first_wide(rests: &Predecessors) -> Option<u32>
     ensures { MatchOption result (AreNarrow rests.now) (λ b. IsFirstNot (IsNarrowAt rests.now) rests.now.blocks b) }
 {
     for b in 0..rests.len() {
@@ -90,7 +90,7 @@ fn put_rest<W: CountedWrite>(page: &mut Page, out: &mut W, above: &[u32]) -> Res
 fn put_line<W: CountedWrite>(
     page: &mut Page,
     out: &mut W,
-    rests: &PredecessorsRef<'_>,
+    rests: &Predecessors,
     block: u32,
 ) -> Result<(), WriteFault>
     requires known { block < rests.now.blocks }
@@ -106,7 +106,7 @@ fn put_line<W: CountedWrite>(
 }
 
 // Writes the lines of all blocks.
-fn write_lines<W: CountedWrite>(rests: &PredecessorsRef<'_>, out: &mut W) -> Result<(), WriteFault>
+fn write_lines<W: CountedWrite>(rests: &Predecessors, out: &mut W) -> Result<(), WriteFault>
     requires { W.failed out.old < 2 ^ 64 - 1 }
     ensures sent { OnOk result (Appends (W.contents out.old) (W.contents out.new) (prec_text rests.now)) }
     ensures kept { OnOk result (W.failed out.new ≡ W.failed out.old) }
@@ -129,7 +129,7 @@ fn write_lines<W: CountedWrite>(rests: &PredecessorsRef<'_>, out: &mut W) -> Res
 ///
 /// `out` must have counted fewer than 2^64 - 1 failures, so that one more can be counted.
 pub fn write_predecessors<W: CountedWrite>(
-    rests: &PredecessorsRef<'_>,
+    rests: &Predecessors,
     out: &mut W,
 ) -> Result<(), PrecWriteFault>
     requires { W.failed out.old < 2 ^ 64 - 1 }
@@ -157,5 +157,5 @@ pub fn write_prec<W: CountedWrite>(rests: &Rests, out: &mut W) -> Result<(), Pre
     ensures narrow { OnOk result (AreNarrow rests.now) }
     ensures fault { IfErr result (λ e. WriteFaultStands rests.now (W.contents out.old) (W.contents out.new) (W.failed out.old) (W.failed out.new) e) }
 {
-    write_predecessors(&rests.predecessors(), out)
+    write_predecessors(rests.predecessors(), out)
 }
