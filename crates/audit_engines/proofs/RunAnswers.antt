@@ -13,7 +13,7 @@ use Rattle.workers.specs.declared.auditing.AuditEnd.TheVariants.{NoFlow, History
 use Rattle.trace_file.specs.Written.{trace_text}
 use Rattle.check_pit.specs.Checks.{IsSound, FaultStands}
 use Rattle.check_pit.specs.declared.pit_fault.PitFault.{PitFault}
-use Rattle.check_pit.specs.declared.header.Price.{Price}
+use Rattle.certificate_file.specs.declared.header.Price.{Price}
 use Rattle.check_pit.proofs.Tightness.{refused_for_size_only}
 use Rattle.engines.specs.declared.judgement.Verdict.{Verdict}
 use Rattle.engines.specs.declared.judgement.Verdict.TheVariants.{No}

@@ -10,7 +10,7 @@ use Rattle.workers.specs.Auditing.{IsSomeHistory, IsAudit, IsCutOffAfter, Overfl
 use Rattle.trace_file.specs.Written.{trace_text}
 use Rattle.check_pit.specs.Checks.{IsOfNet, FaultStands}
 use Rattle.check_pit.specs.declared.pit_fault.PitFault.TheVariants as pit_fault
-use Rattle.check_pit.specs.declared.header.Price.{Price}
+use Rattle.certificate_file.specs.declared.header.Price.{Price}
 use Rattle.engines.specs.declared.judgement.Verdict.{Verdict}
 use Rattle.engines.specs.declared.judgement.Verdict.TheVariants.{Done, No}
 use Rattle.engines.specs.declared.engine_fault.EngineFault.{EngineFault}

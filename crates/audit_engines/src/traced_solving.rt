@@ -1,7 +1,7 @@
 //! The engine of `solve` with a trace: the bytes of a mine in, the trace of a run and a certificate of its best pit out.
 
 ghost use Rattle.std.specs.Prelude.{◌≡◌, ◌+◌, ◌-◌, ◌^◌, ◌<◌, IsErrOf};
-ghost use Rattle.check_pit.specs.ReadBack.{IsPrice};
+ghost use Rattle.certificate_file.specs.ReadBack.{IsPrice};
 ghost use Rattle.engines.specs.ReadMines.{AreRead, IsGroupNamed};
 ghost use Rattle.engines.specs.MineInputs.{ForTexts, CanCount, NoneFailed, OneFailed};
 ghost use Rattle.engines.specs.Mines.{MineTexts, price_wanted};

@@ -4,7 +4,7 @@ ghost use Rattle.std.specs.Prelude.{◌≡◌, ◌+◌, ◌-◌, ◌^◌, ◌<�
 ghost use Rattle.std.specs.Io.KnownBytes.{Appends};
 ghost use Rattle.machine_law.specs.declared.events.Event.{Event};
 ghost use Rattle.machine_law.specs.declared.events.TheConstants.{MOST_EVENTS};
-ghost use Rattle.check_pit.specs.ReadBack.{IsPrice};
+ghost use Rattle.certificate_file.specs.ReadBack.{IsPrice};
 ghost use Rattle.workers.specs.Auditing.{IsAudit};
 ghost use Rattle.trace_file.specs.Written.{trace_text};
 ghost use Rattle.audit_engines.specs.Tracing.{TellsRun, TracesNet};

@@ -1,16 +1,16 @@
 -- Reading a stream's body line after line: what was read of it begins with the lines that were taken, whatever follows.
 use Rattle.std.proofs.Common.{◌≡◌, ℕ, ◌+◌, ◌<◌, Bool, true, false, cond, eqb, List, [], ◌∷◌, ◌++◌, length, take, drop, Option, Some, None, Ok, Err, refl, sym, ap, ◌∙◌, subst, arith, append-nil, append_assoc}
-use Rattle.check_pit.specs.declared.cert_fault.CertFault.{CertFault}
-use Rattle.check_pit.specs.declared.cert_fault.CertFault.TheVariants as fault
-use Rattle.check_pit.specs.declared.body_lines.BodyLine.{BodyLine}
-use Rattle.check_pit.specs.Pieces.{Piece, onto_piece, pieces_of, piece_at, no_line}
-use Rattle.check_pit.specs.BodyLines.{line_of, is_end, may_follow, next_line, end_fault, fault_from, body_fault, lines_in, lines_from}
-use Rattle.check_pit.specs.Certificate.{has_pair}
+use Rattle.certificate_file.specs.declared.cert_fault.CertFault.{CertFault}
+use Rattle.certificate_file.specs.declared.cert_fault.CertFault.TheVariants as fault
+use Rattle.certificate_file.specs.declared.body_lines.BodyLine.{BodyLine}
+use Rattle.certificate_file.specs.Pieces.{Piece, onto_piece, pieces_of, piece_at, no_line}
+use Rattle.certificate_file.specs.BodyLines.{line_of, is_end, may_follow, next_line, end_fault, fault_from, body_fault, lines_in, lines_from}
+use Rattle.certificate_file.specs.Certificate.{has_pair}
 use Rattle.check_pit.specs.StreamLines.{IsLine}
 use Rattle.check_pit.specs.TakenLines.{held_piece}
-use Rattle.check_pit.proofs.Going.{text_read, sound}
+use Rattle.certificate_file.proofs.Going.{text_read, sound}
 use Rattle.check_pit.proofs.HeldLines.{line_held}
-use Rattle.check_pit.proofs.Order.{InOrder, Good, met}
+use Rattle.certificate_file.proofs.Order.{InOrder, Good, met}
 
 -- The last of some lines, or else this one.
 abbrev pub last_line : Option BodyLine → List BodyLine → Option BodyLine

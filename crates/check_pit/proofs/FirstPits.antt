@@ -1,11 +1,11 @@
 -- The PIT lines with which the lines of a certificate begin.
 use Rattle.std.proofs.Common.{◌≡◌, ℕ, Bool, true, false, not, List, [], ◌∷◌, ◌++◌, Option, Some, None, refl, ap, ◌∙◌, append_assoc, append-nil}
-use Rattle.check_pit.specs.declared.body_lines.LineKind.{LineKind}
-use Rattle.check_pit.specs.declared.body_lines.LineKind.TheVariants.{Pit, Source, Rest, Sink, End}
-use Rattle.check_pit.specs.declared.body_lines.BodyLine.{BodyLine}
-use Rattle.check_pit.specs.BodyLines.{may_follow}
+use Rattle.certificate_file.specs.declared.body_lines.LineKind.{LineKind}
+use Rattle.certificate_file.specs.declared.body_lines.LineKind.TheVariants.{Pit, Source, Rest, Sink, End}
+use Rattle.certificate_file.specs.declared.body_lines.BodyLine.{BodyLine}
+use Rattle.certificate_file.specs.BodyLines.{may_follow}
 use Rattle.check_pit.specs.StreamChecks.{is_pit, is_behind_pits, first_pits}
-use Rattle.check_pit.proofs.Order.{InOrder}
+use Rattle.certificate_file.proofs.Order.{InOrder}
 use Rattle.check_pit.proofs.Beginnings.{last_line}
 
 -- Lines that are all PIT lines.

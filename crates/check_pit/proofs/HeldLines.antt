@@ -8,11 +8,11 @@ use Rattle.fixed_worth.proofs.Cuts.{position_none}
 use Rattle.std.proofs.lemmas.List.Quantifiers.{position-Some}
 use Rattle.std.proofs.lemmas.Bool.Decides.{nat_tests}
 use Rattle.fixed_worth.specs.declared.limits.TheConstants.{LINE_BYTES}
-use Rattle.check_pit.specs.declared.cert_fault.CertFault.TheVariants as fault
-use Rattle.check_pit.specs.Pieces.{Piece, onto_piece, pieces_of, piece_at, no_line}
+use Rattle.certificate_file.specs.declared.cert_fault.CertFault.TheVariants as fault
+use Rattle.certificate_file.specs.Pieces.{Piece, onto_piece, pieces_of, piece_at, no_line}
 use Rattle.check_pit.specs.StreamView.{LineView}
 use Rattle.check_pit.specs.StreamLines.{Reads}
-use Rattle.check_pit.proofs.Splits.{cut_off}
+use Rattle.certificate_file.proofs.Splits.{cut_off}
 
 onto_text : (b : ℕ) (ps : List Piece) → (piece_at (onto_piece b ps) 0).text ≡ b ∷ (piece_at ps 0).text
 onto_text b [] = refl

@@ -15,17 +15,17 @@ use Rattle.closure_net.specs.Network.{NetView, IsAscending, holds_of}
 use Rattle.closure_net.specs.Closure.{group_worth}
 use Rattle.closure_net.specs.Flows.{Balanced, source_residual, inflow, outflow}
 use Rattle.closure_net.proofs.Holding.{place_of}
-use Rattle.check_pit.specs.declared.body_lines.LineKind.{LineKind}
-use Rattle.check_pit.specs.declared.body_lines.LineKind.TheVariants.{Source, Rest, Sink}
-use Rattle.check_pit.specs.declared.body_lines.BodyLine.{BodyLine}
-use Rattle.check_pit.specs.BodyLines.{lines_in, is_of_model}
-use Rattle.check_pit.specs.Certificate.{Denotes, has_pair, pit_of, amount_of, given, gives_source, gives_rest, gives_sink}
+use Rattle.certificate_file.specs.declared.body_lines.LineKind.{LineKind}
+use Rattle.certificate_file.specs.declared.body_lines.LineKind.TheVariants.{Source, Rest, Sink}
+use Rattle.certificate_file.specs.declared.body_lines.BodyLine.{BodyLine}
+use Rattle.certificate_file.specs.BodyLines.{lines_in, is_of_model}
+use Rattle.certificate_file.specs.Certificate.{Denotes, has_pair, pit_of, amount_of, given, gives_source, gives_rest, gives_sink}
 use Rattle.check_pit.specs.Checks.{NoneBelowZero, AllWithin}
 use Rattle.check_pit.specs.LineSums.{balance_of, residual_behind, worth_of_blocks, flow_of, keeps_by, KeepLimits}
 use Rattle.check_pit.specs.LineLaws.{LineSumsTell}
-use Rattle.check_pit.proofs.Order.{InOrder, Good, in_order_weaker, stands_in_order, ascending, known}
-use Rattle.check_pit.proofs.LineOrder.{Has, has_good, Proper, good_is_proper, found}
-use Rattle.check_pit.proofs.SameLines.{tells_source, tells_sink, tells_rest, source_so, sink_so, rest_so}
+use Rattle.certificate_file.proofs.Order.{InOrder, Good, in_order_weaker, stands_in_order, ascending, known}
+use Rattle.certificate_file.proofs.LineOrder.{Has, has_good, Proper, good_is_proper, found}
+use Rattle.certificate_file.proofs.SameLines.{tells_source, tells_sink, tells_rest, source_so, sink_so, rest_so}
 use Rattle.check_pit.proofs.LineSums.{sum_giving, sum_given, sources_of_lines, end_sum, ends_of_lines, balance_is}
 
 -- what the pit is worth, block by block

@@ -8,15 +8,15 @@ use Rattle.ordered_group.specs.Sums.{total, where_so}
 use Rattle.ordered_group.proofs.Totals.{plus-zero_left, where_so-zero, where_so-plus, total-same, total-plus, total-zero, total-none, total-one}
 use Rattle.prec_file.specs.Rests.{IsRising}
 use Rattle.prec_file.proofs.Pairs.{is_pair, tells_pair, pair_told}
-use Rattle.check_pit.specs.declared.body_lines.LineKind.{LineKind}
-use Rattle.check_pit.specs.declared.body_lines.LineKind.TheVariants.{Pit, Source, Rest, Sink, End}
-use Rattle.check_pit.specs.declared.body_lines.BodyLine.{BodyLine}
-use Rattle.check_pit.specs.BodyLines.{is_of_model}
-use Rattle.check_pit.specs.Certificate.{has_pair, amount_of, given, gives_source, gives_rest, gives_sink, is_source, is_rest, is_sink}
+use Rattle.certificate_file.specs.declared.body_lines.LineKind.{LineKind}
+use Rattle.certificate_file.specs.declared.body_lines.LineKind.TheVariants.{Pit, Source, Rest, Sink, End}
+use Rattle.certificate_file.specs.declared.body_lines.BodyLine.{BodyLine}
+use Rattle.certificate_file.specs.BodyLines.{is_of_model}
+use Rattle.certificate_file.specs.Certificate.{has_pair, amount_of, given, gives_source, gives_rest, gives_sink, is_source, is_rest, is_sink}
 use Rattle.check_pit.specs.LineSums.{brings_by, balance_of, source_by, source_sum}
-use Rattle.check_pit.proofs.Additions.{one_place}
-use Rattle.check_pit.proofs.Order.{InOrder}
-use Rattle.check_pit.proofs.LineOrder.{Has, has_good, all_above, Tells, none_gives}
+use Rattle.certificate_file.proofs.Additions.{one_place}
+use Rattle.certificate_file.proofs.Order.{InOrder}
+use Rattle.certificate_file.proofs.LineOrder.{Has, has_good, all_above, Tells, none_gives}
 
 -- the amounts of the lines that give
 abbrev pub sum_giving : (BodyLine → Bool) → List BodyLine → Amount

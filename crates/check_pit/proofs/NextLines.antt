@@ -7,23 +7,23 @@ use Rattle.std.specs.Result.{result_err}
 use Rattle.std.proofs.lemmas.List.{length-take-le}
 use Rattle.std.proofs.lemmas.Bool.Decides.{nat_tests}
 use Rattle.fixed_worth.specs.declared.limits.TheConstants.{LINE_BYTES}
-use Rattle.check_pit.specs.declared.cert_fault.CertFault.{CertFault}
-use Rattle.check_pit.specs.declared.cert_fault.CertFault.TheVariants as fault
-use Rattle.check_pit.specs.declared.cert_fault.LineFault.{LineFault}
-use Rattle.check_pit.specs.declared.cert_fault.LineFault.TheVariants.{Text, Number}
-use Rattle.check_pit.specs.declared.body_lines.LineKind.TheVariants.{Rest}
-use Rattle.check_pit.specs.declared.body_lines.BodyLine.{BodyLine}
+use Rattle.certificate_file.specs.declared.cert_fault.CertFault.{CertFault}
+use Rattle.certificate_file.specs.declared.cert_fault.CertFault.TheVariants as fault
+use Rattle.certificate_file.specs.declared.cert_fault.LineFault.{LineFault}
+use Rattle.certificate_file.specs.declared.cert_fault.LineFault.TheVariants.{Text, Number}
+use Rattle.certificate_file.specs.declared.body_lines.LineKind.TheVariants.{Rest}
+use Rattle.certificate_file.specs.declared.body_lines.BodyLine.{BodyLine}
 use Rattle.check_pit.specs.declared.pit_fault.PitFault.{PitFault}
 use Rattle.check_pit.specs.declared.stream_fault.StreamFault.{StreamFault}
 use Rattle.check_pit.specs.declared.stream_fault.StreamFault.TheVariants.{Device, InputTooLong, Cert, Pit}
-use Rattle.check_pit.specs.Pieces.{Piece, pieces_of, piece_at, no_line, in_line, unless_fault, read_line}
-use Rattle.check_pit.specs.Header.{◌>>=◌}
-use Rattle.check_pit.specs.BodyLines.{line_of, is_of_model, may_follow, in_order, in_model, line_behind, next_line}
-use Rattle.check_pit.specs.Certificate.{has_pair}
+use Rattle.certificate_file.specs.Pieces.{Piece, pieces_of, piece_at, no_line, in_line, unless_fault, read_line}
+use Rattle.certificate_file.specs.Header.{◌>>=◌}
+use Rattle.certificate_file.specs.BodyLines.{line_of, is_of_model, may_follow, in_order, in_model, line_behind, next_line}
+use Rattle.certificate_file.specs.Certificate.{has_pair}
 use Rattle.check_pit.specs.StreamView.{LineView}
 use Rattle.check_pit.specs.StreamLines.{Reads, IsLine}
 use Rattle.check_pit.specs.TakenLines.{held_piece, PassesLine, GoesBehind, TakesLine, LacksLine, FaultIs, NoNextLine}
-use Rattle.check_pit.proofs.Additions.{absent, present}
+use Rattle.certificate_file.proofs.Additions.{absent, present}
 use Rattle.check_pit.proofs.Beginnings.{no_line_next}
 use Rattle.check_pit.proofs.HeldLines.{line_held}
 

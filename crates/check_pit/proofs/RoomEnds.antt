@@ -6,8 +6,8 @@ use Rattle.ordered_group.specs.Sums.{amount_at}
 use Rattle.prec_file.specs.Rests.{IsFirstNot}
 use Rattle.closure_net.specs.Network.{NetView, holds_of}
 use Rattle.closure_net.specs.Flows.{Balanced, IsTight}
-use Rattle.check_pit.specs.declared.body_lines.BodyLine.{BodyLine}
-use Rattle.check_pit.specs.Certificate.{pit_of}
+use Rattle.certificate_file.specs.declared.body_lines.BodyLine.{BodyLine}
+use Rattle.certificate_file.specs.Certificate.{pit_of}
 use Rattle.check_pit.specs.LineSums.{flow_of}
 use Rattle.check_pit.specs.LineLaws.{LinesTell}
 use Rattle.check_pit.specs.Rooms.{RoomView, AreSumsOf, IsFirstUnbalanced, TellsTight}

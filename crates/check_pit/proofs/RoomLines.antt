@@ -13,9 +13,9 @@ use Rattle.closure_net.specs.Network.{NetView, IsAscending}
 use Rattle.closure_net.proofs.Ascending.{apart_by_places}
 use Rattle.check_pit.specs.declared.pit_fault.PitFault.{PitFault}
 use Rattle.check_pit.specs.declared.pit_fault.PitFault.TheVariants.{TooLarge}
-use Rattle.check_pit.specs.declared.body_lines.LineKind.TheVariants.{Pit, Source, Rest, Sink}
-use Rattle.check_pit.specs.declared.body_lines.BodyLine.{BodyLine}
-use Rattle.check_pit.specs.Certificate.{amount_of}
+use Rattle.certificate_file.specs.declared.body_lines.LineKind.TheVariants.{Pit, Source, Rest, Sink}
+use Rattle.certificate_file.specs.declared.body_lines.BodyLine.{BodyLine}
+use Rattle.certificate_file.specs.Certificate.{amount_of}
 use Rattle.check_pit.specs.LineSums.{keeps_by}
 use Rattle.check_pit.specs.Rooms.{RoomView, MayPut, TakesBlock, WithLine, SumOverflowsWith, RefusedWhere, PutsLine, RefusesLine, with_balance, with_left}
 use Rattle.check_pit.proofs.RoomSums.{puts_line, refuses_line, with_source, with_sink}

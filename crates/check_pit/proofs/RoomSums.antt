@@ -10,10 +10,10 @@ use Rattle.ordered_group.proofs.Steps.{fits_same}
 use Rattle.closure_net.specs.Network.{NetView}
 use Rattle.check_pit.specs.declared.pit_fault.PitFault.{PitFault}
 use Rattle.check_pit.specs.declared.pit_fault.PitFault.TheVariants.{WrongSize, NotClosed, Negative, OverCapacity, Unbalanced, NotTight, TooLarge}
-use Rattle.check_pit.specs.declared.body_lines.LineKind.{LineKind}
-use Rattle.check_pit.specs.declared.body_lines.LineKind.TheVariants.{Pit, Source, Rest, Sink, End}
-use Rattle.check_pit.specs.declared.body_lines.BodyLine.{BodyLine}
-use Rattle.check_pit.specs.Certificate.{block_if_pit, pit_of, amount_of}
+use Rattle.certificate_file.specs.declared.body_lines.LineKind.{LineKind}
+use Rattle.certificate_file.specs.declared.body_lines.LineKind.TheVariants.{Pit, Source, Rest, Sink, End}
+use Rattle.certificate_file.specs.declared.body_lines.BodyLine.{BodyLine}
+use Rattle.certificate_file.specs.Certificate.{block_if_pit, pit_of, amount_of}
 use Rattle.check_pit.specs.LineSums.{brings_by, balance_of, source_by, source_sum, worth_of_blocks, residual_behind, SomeLineSumOverflows}
 use Rattle.std.specs.Option.{is_some}
 use Rattle.check_pit.specs.PitLists.{blocks_of}

@@ -5,18 +5,18 @@ use Rattle.std.specs.Io.KnownBytes.{Consumes}
 use Rattle.std.proofs.KnownBytes.{Consumes-nil, Consumes-trans}
 use Rattle.std.proofs.lemmas.List.{length-append}
 use Rattle.ordered_group.specs.declared.groups.Group.{Group}
-use Rattle.check_pit.specs.declared.header.Price.{Price}
-use Rattle.check_pit.specs.declared.header.Version.{Version}
-use Rattle.check_pit.specs.declared.cert_fault.CertFault.{CertFault}
+use Rattle.certificate_file.specs.declared.header.Price.{Price}
+use Rattle.certificate_file.specs.declared.header.Version.{Version}
+use Rattle.certificate_file.specs.declared.cert_fault.CertFault.{CertFault}
 use Rattle.check_pit.specs.declared.stream_fault.StreamFault.{StreamFault}
-use Rattle.check_pit.specs.Pieces.{Piece, pieces_of, piece_at, read_line}
-use Rattle.check_pit.specs.Header.{header_of, version_in, blocks_in, price_in, group_in}
-use Rattle.check_pit.specs.Written.{header_with}
+use Rattle.certificate_file.specs.Pieces.{Piece, pieces_of, piece_at, read_line}
+use Rattle.certificate_file.specs.Header.{header_of, version_in, blocks_in, price_in, group_in}
+use Rattle.certificate_file.specs.Written.{header_with}
 use Rattle.check_pit.specs.StreamView.{LineView}
 use Rattle.check_pit.specs.StreamLines.{ReadsBytes}
 use Rattle.check_pit.specs.TakenLines.{held_piece, PassesLine, TakesLine, LacksLine, NoPitFault}
 use Rattle.check_pit.specs.StreamHeaders.{GivesHeader, LacksHeader}
-use Rattle.check_pit.proofs.HeaderLines.{all_ok}
+use Rattle.certificate_file.proofs.HeaderLines.{all_ok}
 use Rattle.check_pit.proofs.HeldLines.{line_held}
 use Rattle.check_pit.proofs.NextLines.{fault_as}
 

@@ -4,19 +4,19 @@ use Rattle.std.specs.Io.KnownBytes.{IsAtEnd}
 use Rattle.std.proofs.KnownBytes.{Consumes-nil, Consumes-trans}
 use Rattle.std.proofs.lemmas.List.{length-append}
 use Rattle.closure_net.specs.Network.{NetView}
-use Rattle.check_pit.specs.declared.cert_fault.CertFault.{CertFault}
+use Rattle.certificate_file.specs.declared.cert_fault.CertFault.{CertFault}
 use Rattle.check_pit.specs.declared.stream_fault.StreamFault.{StreamFault}
 use Rattle.fixed_worth.specs.declared.limits.TheConstants.{MOST_BYTES}
-use Rattle.check_pit.specs.declared.body_lines.BodyLine.{BodyLine}
-use Rattle.check_pit.specs.Pieces.{Piece, pieces_of, piece_at}
-use Rattle.check_pit.specs.BodyLines.{is_end, next_line, lines_in}
-use Rattle.check_pit.specs.Certificate.{UnlessMemory, has_pair}
+use Rattle.certificate_file.specs.declared.body_lines.BodyLine.{BodyLine}
+use Rattle.certificate_file.specs.Pieces.{Piece, pieces_of, piece_at}
+use Rattle.certificate_file.specs.BodyLines.{is_end, next_line, lines_in}
+use Rattle.certificate_file.specs.Certificate.{UnlessMemory, has_pair}
 use Rattle.check_pit.specs.StreamView.{LineView}
 use Rattle.check_pit.specs.StreamLines.{ReadsBytes}
 use Rattle.check_pit.specs.TakenLines.{held_piece, PassesLine, TakesLine, LacksLine, NoPitFault}
 use Rattle.check_pit.specs.StreamChecks.{ReadsOn, fault_of_body, lines_of_body, LinesBegin, IsWhole, BodyRefused, BodyFails}
-use Rattle.check_pit.proofs.Going.{always}
-use Rattle.check_pit.proofs.Order.{Met, met}
+use Rattle.certificate_file.proofs.Going.{always}
+use Rattle.certificate_file.proofs.Order.{Met, met}
 use Rattle.check_pit.proofs.Beginnings.{BeginsWith, begins, reads_on, takes_line, Ends, takes_end, ends_on, ends_whole, wrong_at}
 use Rattle.check_pit.proofs.NextLines.{fault_as}
 

@@ -12,17 +12,17 @@ use Rattle.closure_net.specs.Network.{NetView, IsAscending, holds_of}
 use Rattle.closure_net.specs.Closure.{IsClosed, IsGreatest, group_worth}
 use Rattle.closure_net.specs.Flows.{Balanced}
 use Rattle.closure_net.proofs.Duality.{greatest_from_tight}
-use Rattle.check_pit.specs.declared.cert_fault.CertFault.{CertFault}
+use Rattle.certificate_file.specs.declared.cert_fault.CertFault.{CertFault}
 use Rattle.check_pit.specs.declared.pit_fault.PitFault.{PitFault}
 use Rattle.check_pit.specs.declared.pit_fault.PitFault.TheVariants as pit_fault
 use Rattle.check_pit.specs.declared.stream_fault.StreamFault.{StreamFault}
 use Rattle.check_pit.specs.declared.stream_fault.StreamFault.TheVariants as stream
-use Rattle.check_pit.specs.declared.body_lines.LineKind.{LineKind}
-use Rattle.check_pit.specs.declared.body_lines.LineKind.TheVariants.{Pit, Source, Rest, Sink, End}
-use Rattle.check_pit.specs.declared.body_lines.BodyLine.{BodyLine}
-use Rattle.check_pit.specs.Pieces.{pieces_of}
-use Rattle.check_pit.specs.BodyLines.{rank, line_of, is_end, is_of_model, may_follow, body_fault, lines_in}
-use Rattle.check_pit.specs.Certificate.{has_pair, pit_of, block_if_pit}
+use Rattle.certificate_file.specs.declared.body_lines.LineKind.{LineKind}
+use Rattle.certificate_file.specs.declared.body_lines.LineKind.TheVariants.{Pit, Source, Rest, Sink, End}
+use Rattle.certificate_file.specs.declared.body_lines.BodyLine.{BodyLine}
+use Rattle.certificate_file.specs.Pieces.{pieces_of}
+use Rattle.certificate_file.specs.BodyLines.{rank, line_of, is_end, is_of_model, may_follow, body_fault, lines_in}
+use Rattle.certificate_file.specs.Certificate.{has_pair, pit_of, block_if_pit}
 use Rattle.check_pit.specs.Checks.{ProvesPit}
 use Rattle.check_pit.specs.LineSums.{worth_of_blocks, keeps_by, KeepLimits}
 use Rattle.check_pit.specs.LineLaws.{LinesTell}
@@ -31,8 +31,8 @@ use Rattle.check_pit.specs.StreamView.{LineView}
 use Rattle.check_pit.specs.StreamLines.{Reads}
 use Rattle.check_pit.specs.TakenLines.{TakesLine}
 use Rattle.check_pit.specs.StreamChecks.{is_pit, is_behind_pits, ReadsOn, fault_of_body, lines_of_body, flow_by, first_pits, LinesBegin, IsWhole, HasPit, BodyRefused, BodyFails, BodyProves, ClosesPit, IsOpenPit, SumsSettle, SumsFail, IsDone, EndFails}
-use Rattle.check_pit.proofs.Going.{Sound, sound, text_read}
-use Rattle.check_pit.proofs.Order.{InOrder, Good, stands_in_order, later_pits, ascending, known}
+use Rattle.certificate_file.proofs.Going.{Sound, sound, text_read}
+use Rattle.certificate_file.proofs.Order.{InOrder, Good, stands_in_order, later_pits, ascending, known}
 use Rattle.check_pit.proofs.LineSums.{pair_place}
 use Rattle.check_pit.proofs.LineFlows.{worth_is, sums_tell}
 use Rattle.check_pit.proofs.RoomSums.{block_first, pit_more}

@@ -1,21 +1,11 @@
 -- How faults are printed.
 use Rattle.std.specs.Prelude.{ℕ, List, ◌++◌, codes, decimal}
 pub use Rattle.fixed_worth.specs.FaultText.{at_line}
-use Rattle.check_pit.specs.declared.cert_fault.CertFault.{CertFault}
-use Rattle.check_pit.specs.declared.cert_fault.CertFault.TheVariants.{Text, Number, OutOfOrder, UnknownPair, Truncated, NoMemory}
+use Rattle.certificate_file.specs.FaultText.{fault_text}
 use Rattle.check_pit.specs.declared.pit_fault.PitFault.{PitFault}
 use Rattle.check_pit.specs.declared.pit_fault.PitFault.TheVariants.{WrongSize, NotClosed, Negative, OverCapacity, Unbalanced, NotTight, TooLarge}
 use Rattle.check_pit.specs.declared.stream_fault.StreamFault.{StreamFault}
 use Rattle.check_pit.specs.declared.stream_fault.StreamFault.TheVariants as stream
-
--- of a text that is no certificate: the fault's name, and the line's number in parentheses where there is one
-abbrev pub fault_text : CertFault → List ℕ
-fault_text (Text k) = at_line (codes "Text") k
-fault_text (Number k) = at_line (codes "Number") k
-fault_text (OutOfOrder k) = at_line (codes "OutOfOrder") k
-fault_text (UnknownPair k) = at_line (codes "UnknownPair") k
-fault_text Truncated = codes "Truncated"
-fault_text NoMemory = codes "NoMemory"
 
 -- of a pit and a flow: the fault's name, and in parentheses the blocks that it names
 abbrev pub pit_fault_text : PitFault → List ℕ

@@ -4,10 +4,10 @@ use Rattle.ordered_group.specs.Amount.{zero_amount}
 use Rattle.prec_file.specs.Rests.{IsRests}
 use Rattle.closure_net.specs.Network.{NetView, holds_of}
 use Rattle.closure_net.specs.Flows.{Balanced, IsTight}
-use Rattle.check_pit.specs.declared.body_lines.BodyLine.{BodyLine}
-use Rattle.check_pit.specs.Pieces.{Piece}
-use Rattle.check_pit.specs.BodyLines.{body_fault, lines_in}
-use Rattle.check_pit.specs.Certificate.{Denotes, has_pair, pit_of}
+use Rattle.certificate_file.specs.declared.body_lines.BodyLine.{BodyLine}
+use Rattle.certificate_file.specs.Pieces.{Piece}
+use Rattle.certificate_file.specs.BodyLines.{body_fault, lines_in}
+use Rattle.certificate_file.specs.Certificate.{Denotes, has_pair, pit_of}
 use Rattle.check_pit.specs.Checks.{NoneBelowZero, AllWithin}
 use Rattle.check_pit.specs.LineSums.{balance_of, worth_of_blocks, residual_behind, flow_of, KeepLimits}
 

@@ -4,10 +4,10 @@ use Rattle.std.specs.List.{range_with_len}
 use Rattle.ordered_group.specs.Amount.{Amount, zero_amount, plus, minus, AtMost, FitsPair, positive, negative}
 use Rattle.ordered_group.specs.Sums.{total, where_so, amount_at}
 use Rattle.closure_net.specs.Network.{NetView, FlowView, flow_view}
-use Rattle.check_pit.specs.declared.body_lines.LineKind.{LineKind}
-use Rattle.check_pit.specs.declared.body_lines.LineKind.TheVariants.{Pit, Source, Rest, Sink, End}
-use Rattle.check_pit.specs.declared.body_lines.BodyLine.{BodyLine}
-use Rattle.check_pit.specs.Certificate.{pit_of, amount_of, given, gives_source, gives_rest, gives_sink}
+use Rattle.certificate_file.specs.declared.body_lines.LineKind.{LineKind}
+use Rattle.certificate_file.specs.declared.body_lines.LineKind.TheVariants.{Pit, Source, Rest, Sink, End}
+use Rattle.certificate_file.specs.declared.body_lines.BodyLine.{BodyLine}
+use Rattle.certificate_file.specs.Certificate.{pit_of, amount_of, given, gives_source, gives_rest, gives_sink}
 
 -- what a line of a kind brings block b, less what it takes from it
 abbrev pub brings_by : LineKind → BodyLine → ℕ → Amount

@@ -7,20 +7,20 @@ use Rattle.prec_file.specs.Rests.{IsFirstNot}
 use Rattle.closure_net.specs.Network.{NetView, FlowView, holds_of}
 use Rattle.closure_net.specs.Closure.{IsClosed}
 use Rattle.closure_net.specs.Flows.{Balanced, IsTight}
-use Rattle.check_pit.specs.declared.cert_fault.CertFault.{CertFault}
-use Rattle.check_pit.specs.declared.cert_fault.CertFault.TheVariants as fault
+use Rattle.certificate_file.specs.declared.cert_fault.CertFault.{CertFault}
+use Rattle.certificate_file.specs.declared.cert_fault.CertFault.TheVariants as fault
 use Rattle.check_pit.specs.declared.pit_fault.PitFault.{PitFault}
 use Rattle.check_pit.specs.declared.pit_fault.PitFault.TheVariants.{WrongSize, NotClosed, Negative, OverCapacity, Unbalanced, NotTight, TooLarge}
 use Rattle.check_pit.specs.declared.stream_fault.StreamFault.{StreamFault}
 use Rattle.check_pit.specs.declared.stream_fault.StreamFault.TheVariants.{Device, InputTooLong, Cert}
 use Rattle.check_pit.specs.declared.stream_fault.StreamFault.TheVariants as stream
 use Rattle.fixed_worth.specs.declared.limits.TheConstants.{MOST_BYTES}
-use Rattle.check_pit.specs.declared.body_lines.LineKind.{LineKind}
-use Rattle.check_pit.specs.declared.body_lines.LineKind.TheVariants.{Pit, Source, Rest, Sink, End}
-use Rattle.check_pit.specs.declared.body_lines.BodyLine.{BodyLine}
-use Rattle.check_pit.specs.Pieces.{pieces_of}
-use Rattle.check_pit.specs.BodyLines.{body_fault, lines_in}
-use Rattle.check_pit.specs.Certificate.{Denotes, UnlessMemory, has_pair, pit_of}
+use Rattle.certificate_file.specs.declared.body_lines.LineKind.{LineKind}
+use Rattle.certificate_file.specs.declared.body_lines.LineKind.TheVariants.{Pit, Source, Rest, Sink, End}
+use Rattle.certificate_file.specs.declared.body_lines.BodyLine.{BodyLine}
+use Rattle.certificate_file.specs.Pieces.{pieces_of}
+use Rattle.certificate_file.specs.BodyLines.{body_fault, lines_in}
+use Rattle.certificate_file.specs.Certificate.{Denotes, UnlessMemory, has_pair, pit_of}
 use Rattle.check_pit.specs.Checks.{ProvesPit}
 use Rattle.check_pit.specs.Closing.{IsFirstOpen}
 use Rattle.check_pit.specs.LineSums.{KeepLimits, flow_of}

@@ -1,12 +1,12 @@
 -- The header of a stream.
 use Rattle.std.specs.Prelude.{◌≡◌, ℕ, ◌+◌, List, ◌++◌, length, drop, Option, Ok, Err}
 use Rattle.std.specs.Io.KnownBytes.{Consumes}
-use Rattle.check_pit.specs.declared.header.Header.{Header}
+use Rattle.certificate_file.specs.declared.header.Header.{Header}
 use Rattle.check_pit.specs.declared.stream_fault.StreamFault.{StreamFault}
 use Rattle.check_pit.specs.StreamView.{LineView}
 use Rattle.check_pit.specs.TakenLines.{FaultIs, NoPitFault}
-use Rattle.check_pit.specs.Pieces.{pieces_of}
-use Rattle.check_pit.specs.Header.{header_of}
+use Rattle.certificate_file.specs.Pieces.{pieces_of}
+use Rattle.certificate_file.specs.Header.{header_of}
 
 -- These bytes were read, and the four lines of the header passed. It is the header of the text, whatever follows, whose other
 -- lines are those of what is held.

@@ -1,15 +1,15 @@
 -- Lines that are taken from a stream, by what a line with its number gives.
 use Rattle.std.specs.Prelude.{◌≡◌, ℕ, ◌+◌, ◌<◌, ◌≤◌, true, List, [], ◌++◌, length, take, drop, Option, Result, Ok, Err}
 use Rattle.std.specs.Io.KnownBytes.{Consumes, IsAtEnd}
-use Rattle.check_pit.specs.declared.cert_fault.CertFault.{CertFault}
-use Rattle.check_pit.specs.declared.cert_fault.CertFault.TheVariants as fault
+use Rattle.certificate_file.specs.declared.cert_fault.CertFault.{CertFault}
+use Rattle.certificate_file.specs.declared.cert_fault.CertFault.TheVariants as fault
 use Rattle.check_pit.specs.declared.pit_fault.PitFault.{PitFault}
 use Rattle.check_pit.specs.declared.stream_fault.StreamFault.{StreamFault}
 use Rattle.check_pit.specs.declared.stream_fault.StreamFault.TheVariants.{Device, InputTooLong, Cert, Pit}
 use Rattle.fixed_worth.specs.declared.limits.TheConstants.{MOST_BYTES}
 use Rattle.check_pit.specs.StreamView.{LineView}
 use Rattle.check_pit.specs.StreamLines.{Reads, IsLine}
-use Rattle.check_pit.specs.Pieces.{Piece, pieces_of, piece_at}
+use Rattle.certificate_file.specs.Pieces.{Piece, pieces_of, piece_at}
 
 -- the first bytes of what is held, as a line that its line feed ends
 abbrev pub held_piece : ℕ → List ℕ → Piece

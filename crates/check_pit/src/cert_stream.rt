@@ -7,14 +7,13 @@ ghost use Rattle.check_pit.specs.StreamHeaders.{GivesHeader, LacksHeader};
 
 use crate::accepted::Accepted;
 use crate::accepted_pit::AcceptedPit;
-use crate::cert_fault::CertFault;
-use crate::header::Header;
 use crate::room::Room;
 use crate::stream_bytes::StreamBytes;
 use crate::stream_checking::check_lines;
 use crate::stream_fault::StreamFault;
 use crate::stream_header::read_header;
 use crate::stream_lines::StreamLines;
+use certificate_file::{CertFault, Header};
 use closure_net::{GraphRef, Net};
 use fixed_worth::CountedRead;
 use ordered_group::OrderedGroup;

@@ -1,9 +1,9 @@
 ghost use Rattle.std.specs.Prelude.{◌≤◌, length, IfOk};
-ghost use Rattle.check_pit.specs.Certificate.{Covers};
+ghost use Rattle.certificate_file.specs.Certificate.{Covers};
 
 use crate::check_tests::{is_printed, rests_of, same};
-use crate::reading::header;
 use crate::{CertFault, Certificate, Header, Price, read_certificate, write_certificate};
+use certificate_file::header;
 use closure_net::Flow;
 use fixed_worth::{Counted, MOST_BLOCKS};
 use ordered_group::{Group, OrderedGroup, Worth, WorthSize};

@@ -3,9 +3,9 @@
 ghost use Rattle.std.specs.Prelude.{◌≡◌, ◌<◌, length, IfOk};
 
 use crate::PitFault;
-use crate::body_lines::{BodyLine, LineKind};
 use crate::check_tests::{same, three_blocks};
 use crate::room::Room;
+use certificate_file::{BodyLine, LineKind};
 use closure_net::Net;
 use ordered_group::WorthSize;
 use std::alloc::Global;

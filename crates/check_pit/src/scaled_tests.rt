@@ -2,8 +2,8 @@
 
 use crate::certificate_tests::{fault_in, is_written_as, read_over, rests};
 use crate::check_tests::same;
-use crate::reading::header;
 use crate::{CertFault, Certificate, check};
+use certificate_file::header;
 use closure_net::Net;
 use ordered_group::{Group, OrderedGroup, Scaled, WorthSize};
 use prec_file::Rests;

@@ -2,16 +2,14 @@
 
 ghost use Rattle.std.specs.Prelude.{◌≡◌, ◌+◌, ◌-◌, ◌^◌, ◌<◌, ◌≤◌, true, false, length, IsErrOf, MatchResult};
 ghost use Rattle.fixed_worth.specs.declared.limits.TheConstants.{LINE_BYTES};
-ghost use Rattle.check_pit.specs.BodyLines as spec;
-ghost use Rattle.check_pit.specs.Certificate.{has_pair};
+ghost use Rattle.certificate_file.specs.BodyLines as spec;
+ghost use Rattle.certificate_file.specs.Certificate.{has_pair};
 ghost use Rattle.check_pit.specs.StreamLines.{IsLine};
 ghost use Rattle.check_pit.specs.TakenLines.{TakesLine, LacksLine, NoNextLine, held_piece};
 
-use crate::body_lines::{BodyLine, LineKind, line_of, may_follow};
-use crate::cert_fault::CertFault;
-use crate::header_lines::in_line;
 use crate::stream_fault::StreamFault;
 use crate::stream_lines::StreamLines;
+use certificate_file::{BodyLine, CertFault, LineKind, in_line, line_of, may_follow};
 use fixed_worth::CountedRead;
 use prec_file::Predecessors;
 

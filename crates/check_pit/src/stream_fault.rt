@@ -1,7 +1,7 @@
 //! Why a stream of a certificate is refused.
 
-use crate::cert_fault::CertFault;
 use crate::pit_fault::PitFault;
+use certificate_file::CertFault;
 use std::error::Error;
 use std::fmt;
 

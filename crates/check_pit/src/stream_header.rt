@@ -2,16 +2,14 @@
 
 ghost use Rattle.std.specs.Prelude.{◌≡◌, ◌+◌, ◌-◌, ◌^◌, ◌<◌, length, None, Ok, Err, IsErrOf, MatchResult};
 ghost use Rattle.check_pit.specs.declared.stream_fault.StreamFault.TheVariants as fault;
-ghost use Rattle.check_pit.specs.Pieces.{read_line};
-ghost use Rattle.check_pit.specs.Header as spec;
+ghost use Rattle.certificate_file.specs.Pieces.{read_line};
+ghost use Rattle.certificate_file.specs.Header as spec;
 ghost use Rattle.check_pit.specs.TakenLines.{GoesBehind, TakesLine, LacksLine};
 ghost use Rattle.check_pit.specs.StreamHeaders.{GivesHeader, LacksHeader};
 
-use crate::cert_fault::CertFault;
-use crate::header::{Header, Price, Version};
-use crate::header_lines::{blocks_in, group_in, in_line, price_in, version_in};
 use crate::stream_fault::StreamFault;
 use crate::stream_lines::StreamLines;
+use certificate_file::{CertFault, Header, Price, Version, blocks_in, group_in, in_line, price_in, version_in};
 use fixed_worth::CountedRead;
 use ordered_group::Group;
 

@@ -7,9 +7,9 @@ ghost use Rattle.std.specs.Prelude.{◌≡◌, ℕ, ◌+◌, ◌^◌, ◌-◌, �
 ghost use Rattle.fixed_worth.specs.declared.limits.TheConstants.{LINE_BYTES, MOST_BYTES};
 ghost use Rattle.check_pit.specs.StreamLines.{Reads, IsLine, NoLine, MoreOrEnd, DoneOrNot, NotDone};
 
-use crate::cert_fault::CertFault;
 use crate::stream_bytes::StreamBytes;
 use crate::stream_fault::StreamFault;
+use certificate_file::CertFault;
 use fixed_worth::{CountedRead, LINE_BYTES, MOST_BYTES, first_line_feed};
 use std::alloc::{AllocError, Global};
 use std::marker::Model;

@@ -1,8 +1,8 @@
 //! Lines of texts that a device gives a few bytes at a time.
 
-use crate::cert_fault::CertFault;
 use crate::stream_fault::StreamFault;
 use crate::stream_lines::StreamLines;
+use certificate_file::CertFault;
 use fixed_worth::{Counted, Failing, Failure};
 use std::alloc::Global;
 use std::test::Fail;

@@ -1,7 +1,7 @@
 -- From the header of a certificate and what stands behind it to what is told beside a design, where the device tells its bytes.
 use Rattle.std.proofs.Common.{◌≡◌, ℕ, ℤ, Bool, List, Option, Err, sym, ap, ◌∙◌, refl, IfSome}
 use Rattle.prec_file.specs.Rests.{RestsView}
-use Rattle.check_pit.specs.declared.header.Header.{Header}
+use Rattle.certificate_file.specs.declared.header.Header.{Header}
 use Rattle.check_pit.specs.StreamView.{LineView}
 use Rattle.engines.specs.declared.engine_fault.EngineFault.{EngineFault}
 use Rattle.engines.specs.declared.engine_fault.EngineFault.TheVariants as engine

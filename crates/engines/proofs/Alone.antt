@@ -7,7 +7,7 @@ use Rattle.prec_file.proofs.OneListing.{one_listing}
 use Rattle.closure_net.specs.Network.{NetView, FlowView, IsNet}
 use Rattle.closure_net.specs.Mine.{IsNetOf}
 use Rattle.closure_net.proofs.SameLists.{same_at_default}
-use Rattle.check_pit.specs.Certificate.{lines_of_text, Denotes}
+use Rattle.certificate_file.specs.Certificate.{lines_of_text, Denotes}
 use Rattle.engines.specs.Mines.{MineTexts, precedence_of, mine_of}
 use Rattle.engines.proofs.Listed.{listed_pairs}
 

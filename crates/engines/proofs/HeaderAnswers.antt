@@ -2,10 +2,10 @@
 use Rattle.std.proofs.Common.{◌≡◌, ◌≢◌, ℕ, List, [], ◌++◌, length, drop, Option, Some, None, Ok, refl, sym, ap, ◌∙◌, subst, arith, IfSome, inl, inr}
 use Rattle.std.proofs.lemmas.List.{length-append}
 use Rattle.std.specs.Io.KnownBytes.{Consumes}
-use Rattle.check_pit.specs.declared.cert_fault.CertFault.TheVariants as cert
-use Rattle.check_pit.specs.declared.header.Header.{Header}
-use Rattle.check_pit.specs.Header.{header_of}
-use Rattle.check_pit.specs.Pieces.{pieces_of}
+use Rattle.certificate_file.specs.declared.cert_fault.CertFault.TheVariants as cert
+use Rattle.certificate_file.specs.declared.header.Header.{Header}
+use Rattle.certificate_file.specs.Header.{header_of}
+use Rattle.certificate_file.specs.Pieces.{pieces_of}
 use Rattle.check_pit.specs.StreamHeaders.{ReadsHeader, GivesHeader}
 use Rattle.check_pit.specs.StreamView.{LineView}
 use Rattle.engines.specs.declared.engine_fault.EngineFault.{EngineFault}

@@ -10,11 +10,11 @@ use Rattle.closure_net.specs.Network.{NetView, FlowView, net_view, IsNet, holds_
 use Rattle.closure_net.specs.Closure.{IsGreatest, group_worth}
 use Rattle.closure_net.specs.Mine.{IsNetOf}
 use Rattle.check_pit.specs.Checks.{ProvesPit}
-use Rattle.check_pit.specs.Certificate.{fault_of, lines_of_text, IsRead, Denotes, UnlessMemory}
-use Rattle.check_pit.specs.declared.header.Price.{Price}
-use Rattle.check_pit.specs.declared.header.Header.{Header}
-use Rattle.check_pit.specs.Pieces.{pieces_of}
-use Rattle.check_pit.specs.Header.{header_of}
+use Rattle.certificate_file.specs.Certificate.{fault_of, lines_of_text, IsRead, Denotes, UnlessMemory}
+use Rattle.certificate_file.specs.declared.header.Price.{Price}
+use Rattle.certificate_file.specs.declared.header.Header.{Header}
+use Rattle.certificate_file.specs.Pieces.{pieces_of}
+use Rattle.certificate_file.specs.Header.{header_of}
 use Rattle.engines.specs.Limits.{IsWithinLimit}
 use Rattle.engines.specs.Mines.{MineTexts, precedence_of, price_wanted, mine_of, DenoteMine}
 use Rattle.engines.specs.Readings.{IsHeader, Reads}
@@ -23,8 +23,8 @@ use Rattle.engines.specs.FaultStands.{AreWorths, BodyFails, NetFails, Fails}
 use Rattle.closure_net.specs.FaultStands.{WorthsFaultStands}
 use Rattle.closure_net.specs.declared.net.NetFault.{NetFault}
 use Rattle.closure_net.specs.declared.net.NetFault.TheVariants as net
-use Rattle.check_pit.specs.declared.cert_fault.CertFault.{CertFault}
-use Rattle.check_pit.specs.declared.cert_fault.CertFault.TheVariants as cert
+use Rattle.certificate_file.specs.declared.cert_fault.CertFault.{CertFault}
+use Rattle.certificate_file.specs.declared.cert_fault.CertFault.TheVariants as cert
 use Rattle.engines.specs.EngineFaults.{of_certificate, of_model}
 use Rattle.engines.specs.ReadMines.{AreRead, IsGroupNamed}
 use Rattle.engines.proofs.Told.{size_told, worth_told}

@@ -4,15 +4,15 @@ use lib.Chars.{codes}
 use Rattle.fixed_worth.specs.declared.limits.TheConstants.{MOST_BLOCKS}
 use Rattle.ordered_group.specs.declared.groups.Group.{Group}
 use Rattle.ordered_group.specs.Group.{group_of}
-use Rattle.check_pit.specs.declared.header.Header.{Header}
-use Rattle.check_pit.specs.declared.header.Wanted.{Wanted}
-use Rattle.check_pit.specs.declared.cert_fault.LineFault.{LineFault}
-use Rattle.check_pit.specs.declared.cert_fault.LineFault.TheVariants.{Text}
-use Rattle.check_pit.specs.Pieces.{Piece, piece_at, read_line, words_of, number_below, unless_fault, in_line, no_line}
-use Rattle.check_pit.specs.Header.{header_for, version_in, blocks_in, price_in, group_in, blocks_said, wanted_blocks, is_same_group, group_named, group_said, or_number, value_behind}
-use Rattle.check_pit.proofs.Going.{text_read}
-use Rattle.check_pit.proofs.HeaderLines.{all_ok}
-use Rattle.check_pit.proofs.Wants.{joined}
+use Rattle.certificate_file.specs.declared.header.Header.{Header}
+use Rattle.certificate_file.specs.declared.header.Wanted.{Wanted}
+use Rattle.certificate_file.specs.declared.cert_fault.LineFault.{LineFault}
+use Rattle.certificate_file.specs.declared.cert_fault.LineFault.TheVariants.{Text}
+use Rattle.certificate_file.specs.Pieces.{Piece, piece_at, read_line, words_of, number_below, unless_fault, in_line, no_line}
+use Rattle.certificate_file.specs.Header.{header_for, version_in, blocks_in, price_in, group_in, blocks_said, wanted_blocks, is_same_group, group_named, group_said, or_number, value_behind}
+use Rattle.certificate_file.proofs.Going.{text_read}
+use Rattle.certificate_file.proofs.HeaderLines.{all_ok}
+use Rattle.certificate_file.proofs.Wants.{joined}
 
 number_alone : (w : Wanted) (k n : ℕ) (t : Bool) → or_number (cond t (Some k) None) ≡ Ok n → or_number (Some k) ≡ Ok n
 number_alone w k n true h = h

@@ -6,9 +6,9 @@ use Rattle.fixed_worth.specs.Device.{ReceivedPrefix}
 use Rattle.ordered_group.specs.declared.groups.Group.{Group}
 use Rattle.closure_net.specs.Network.{NetView, FlowView}
 use Rattle.check_pit.specs.Checks.{IsSound}
-use Rattle.check_pit.specs.ReadBack.{IsReadBack}
-use Rattle.check_pit.specs.Written.{header_with, text_of}
-use Rattle.check_pit.specs.declared.header.Price.{Price}
+use Rattle.certificate_file.specs.ReadBack.{IsReadBack}
+use Rattle.certificate_file.specs.Written.{header_with, text_of}
+use Rattle.certificate_file.specs.declared.header.Price.{Price}
 use Rattle.engines.specs.declared.judgement.Verdict.{Verdict}
 use Rattle.engines.specs.declared.judgement.Verdict.TheVariants.{Done}
 use Rattle.engines.specs.declared.engine_fault.EngineFault.{EngineFault}

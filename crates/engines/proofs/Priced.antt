@@ -16,18 +16,18 @@ use Rattle.settings_file.specs.Settings.{SettingsView, ReadsSettings, first_miss
 use Rattle.settings_file.proofs.Known.{settings_are, settings_read}
 use Rattle.prec_file.specs.Records as prec
 use Rattle.shells.specs.Prices.{PricesView, plain_costs, mill_costs, NoneNegative, PricesFaultStands, blocks_of, worth_at, worths_at}
-use Rattle.check_pit.specs.Pieces.{Piece, piece_at, read_line, words_of, number_below}
-use Rattle.check_pit.specs.Header.{header_of, price_in, price_said, mill_said, or_number, factor_of, mill_of, value_behind, value_behind_both, version_in, blocks_in, group_in}
-use Rattle.check_pit.specs.ReadBack.{IsPrice}
-use Rattle.check_pit.specs.declared.header.Header.{Header}
-use Rattle.check_pit.specs.declared.header.Price.{Price}
-use Rattle.check_pit.specs.declared.header.Price.TheVariants.{Objective, Factor}
-use Rattle.check_pit.specs.declared.header.Price.TheVariants as price_mill
-use Rattle.check_pit.specs.declared.header.Version.{Version}
-use Rattle.check_pit.specs.declared.header.Version.TheVariants.{One, Two}
-use Rattle.check_pit.specs.declared.cert_fault.LineFault.{LineFault}
-use Rattle.check_pit.proofs.Going.{text_read, below_limit}
-use Rattle.check_pit.proofs.Wants.{joined}
+use Rattle.certificate_file.specs.Pieces.{Piece, piece_at, read_line, words_of, number_below}
+use Rattle.certificate_file.specs.Header.{header_of, price_in, price_said, mill_said, or_number, factor_of, mill_of, value_behind, value_behind_both, version_in, blocks_in, group_in}
+use Rattle.certificate_file.specs.ReadBack.{IsPrice}
+use Rattle.certificate_file.specs.declared.header.Header.{Header}
+use Rattle.certificate_file.specs.declared.header.Price.{Price}
+use Rattle.certificate_file.specs.declared.header.Price.TheVariants.{Objective, Factor}
+use Rattle.certificate_file.specs.declared.header.Price.TheVariants as price_mill
+use Rattle.certificate_file.specs.declared.header.Version.{Version}
+use Rattle.certificate_file.specs.declared.header.Version.TheVariants.{One, Two}
+use Rattle.certificate_file.specs.declared.cert_fault.LineFault.{LineFault}
+use Rattle.certificate_file.proofs.Going.{text_read, below_limit}
+use Rattle.certificate_file.proofs.Wants.{joined}
 use Rattle.engines.specs.Mines.{priced_texts}
 use Rattle.engines.specs.declared.engine_fault.EngineFault.{EngineFault}
 use Rattle.engines.specs.declared.engine_fault.EngineFault.TheVariants as engine

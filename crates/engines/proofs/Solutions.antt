@@ -9,7 +9,7 @@ use Rattle.closure_net.specs.Mine.{IsNetOf}
 use Rattle.closure_net.specs.FaultStands.{WorthsFaultStands}
 use Rattle.closure_net.specs.declared.net.NetFault.{NetFault}
 use Rattle.closure_net.specs.declared.net.NetFault.TheVariants as net_fault
-use Rattle.check_pit.specs.Pieces.{pieces_of}
+use Rattle.certificate_file.specs.Pieces.{pieces_of}
 use Rattle.check_pit.proofs.Duality.{duality}
 use Rattle.engines.specs.declared.judgement.Verdict.{Verdict}
 use Rattle.engines.specs.declared.judgement.Verdict.TheVariants.{Done, No}

@@ -9,24 +9,24 @@ use Rattle.closure_net.specs.Network.{NetView, FlowView, holds_of}
 use Rattle.closure_net.specs.Closure.{IsClosed}
 use Rattle.closure_net.specs.Flows.{Balanced, IsFlow, IsTight}
 use Rattle.closure_net.specs.Mine.{IsNetOf}
-use Rattle.check_pit.specs.declared.header.Header.{Header}
-use Rattle.check_pit.specs.declared.body_lines.LineKind.{LineKind}
-use Rattle.check_pit.specs.declared.body_lines.LineKind.TheVariants.{Pit, Source, Rest, Sink, End}
-use Rattle.check_pit.specs.declared.body_lines.BodyLine.{BodyLine}
+use Rattle.certificate_file.specs.declared.header.Header.{Header}
+use Rattle.certificate_file.specs.declared.body_lines.LineKind.{LineKind}
+use Rattle.certificate_file.specs.declared.body_lines.LineKind.TheVariants.{Pit, Source, Rest, Sink, End}
+use Rattle.certificate_file.specs.declared.body_lines.BodyLine.{BodyLine}
 use Rattle.check_pit.specs.declared.pit_fault.PitFault.{PitFault}
 use Rattle.check_pit.specs.declared.pit_fault.PitFault.TheVariants.{WrongSize, NotClosed, Negative, OverCapacity, Unbalanced, NotTight, TooLarge}
-use Rattle.check_pit.specs.BodyLines.{body_fault, is_of_model}
-use Rattle.check_pit.specs.Certificate.{Denotes, amount_of, body_of, fault_behind, fault_of, gives_rest, gives_sink, gives_source, has_pair, is_rest, is_sink, is_source, lines_of_text, pit_of, wanted_for}
+use Rattle.certificate_file.specs.BodyLines.{body_fault, is_of_model}
+use Rattle.certificate_file.specs.Certificate.{Denotes, amount_of, body_of, fault_behind, fault_of, gives_rest, gives_sink, gives_source, has_pair, is_rest, is_sink, is_source, lines_of_text, pit_of, wanted_for}
 use Rattle.check_pit.specs.Checks.{ProvesPit}
-use Rattle.check_pit.specs.Header.{header_for}
+use Rattle.certificate_file.specs.Header.{header_for}
 use Rattle.check_pit.specs.LineSums.{keeps_by}
-use Rattle.check_pit.specs.Pieces.{pieces_of}
+use Rattle.certificate_file.specs.Pieces.{pieces_of}
 use Rattle.check_pit.specs.Rooms.{IsNegative, IsOver}
 use Rattle.check_pit.proofs.LineFlows.{denoted}
-use Rattle.check_pit.proofs.LineOrder.{Has, has_good, Proper, given_by, good_is_proper}
-use Rattle.check_pit.proofs.NamedHeaders.{header_named}
-use Rattle.check_pit.proofs.Order.{InOrder, Good, in_order_weaker, stands_in_order}
-use Rattle.check_pit.proofs.SameLines.{pair_place, tells_rest, tells_sink, tells_source}
+use Rattle.certificate_file.proofs.LineOrder.{Has, has_good, Proper, given_by, good_is_proper}
+use Rattle.certificate_file.proofs.NamedHeaders.{header_named}
+use Rattle.certificate_file.proofs.Order.{InOrder, Good, in_order_weaker, stands_in_order}
+use Rattle.certificate_file.proofs.SameLines.{pair_place, tells_rest, tells_sink, tells_source}
 use Rattle.engines.specs.Mines.{MineTexts, mine_of, price_wanted}
 use Rattle.engines.specs.Readings.{Reads, block_by, counts_by}
 use Rattle.engines.specs.Refusals.{LinesBegin, SomeSumLeaves, TextRefused, flow_for, lines_for}

@@ -3,12 +3,12 @@ use Rattle.std.proofs.Common.{◌≡◌, ◌≢◌, ℕ, ◌≤◌, ℤ, List, O
 use Rattle.std.specs.Prelude.{MatchOption}
 use Rattle.fixed_worth.specs.declared.limits.TheConstants.{MOST_FACTOR}
 use Rattle.prec_file.specs.Rests.{RestsView}
-use Rattle.check_pit.specs.declared.header.Header.{Header}
-use Rattle.check_pit.specs.declared.header.Price.{Price}
-use Rattle.check_pit.specs.declared.header.Price.TheVariants.{Objective, Factor, Mill}
-use Rattle.check_pit.specs.Header.{header_of}
-use Rattle.check_pit.specs.Pieces.{pieces_of}
-use Rattle.check_pit.specs.ReadBack.{IsPrice}
+use Rattle.certificate_file.specs.declared.header.Header.{Header}
+use Rattle.certificate_file.specs.declared.header.Price.{Price}
+use Rattle.certificate_file.specs.declared.header.Price.TheVariants.{Objective, Factor, Mill}
+use Rattle.certificate_file.specs.Header.{header_of}
+use Rattle.certificate_file.specs.Pieces.{pieces_of}
+use Rattle.certificate_file.specs.ReadBack.{IsPrice}
 use Rattle.check_pit.specs.StreamView.{LineView}
 use Rattle.engines.specs.declared.engine_fault.EngineFault.{EngineFault}
 use Rattle.engines.specs.declared.engine_fault.EngineFault.TheVariants as engine

@@ -9,26 +9,26 @@ use Rattle.prec_file.specs.Rests.{IsFirstNot}
 use Rattle.closure_net.specs.Network.{NetView, IsNet, IsAscending, holds_of}
 use Rattle.closure_net.specs.Flows.{Balanced, IsTight}
 use Rattle.closure_net.specs.Mine.{IsNetOf}
-use Rattle.check_pit.specs.declared.cert_fault.CertFault.{CertFault}
-use Rattle.check_pit.specs.declared.cert_fault.CertFault.TheVariants as cert
-use Rattle.check_pit.specs.declared.header.Price.{Price}
-use Rattle.check_pit.specs.declared.body_lines.BodyLine.{BodyLine}
+use Rattle.certificate_file.specs.declared.cert_fault.CertFault.{CertFault}
+use Rattle.certificate_file.specs.declared.cert_fault.CertFault.TheVariants as cert
+use Rattle.certificate_file.specs.declared.header.Price.{Price}
+use Rattle.certificate_file.specs.declared.body_lines.BodyLine.{BodyLine}
 use Rattle.check_pit.specs.declared.pit_fault.PitFault.{PitFault}
 use Rattle.check_pit.specs.declared.pit_fault.PitFault.TheVariants.{WrongSize, NotClosed, Negative, OverCapacity, Unbalanced, NotTight, TooLarge}
 use Rattle.check_pit.specs.declared.stream_fault.StreamFault.{StreamFault}
 use Rattle.check_pit.specs.declared.stream_fault.StreamFault.TheVariants as stream
-use Rattle.check_pit.specs.Pieces.{pieces_of}
-use Rattle.check_pit.specs.BodyLines.{body_fault, lines_in}
-use Rattle.check_pit.specs.Certificate.{Denotes, UnlessMemory, fault_behind, fault_of, has_pair, pit_of, wanted_for}
-use Rattle.check_pit.specs.Header.{header_for}
+use Rattle.certificate_file.specs.Pieces.{pieces_of}
+use Rattle.certificate_file.specs.BodyLines.{body_fault, lines_in}
+use Rattle.certificate_file.specs.Certificate.{Denotes, UnlessMemory, fault_behind, fault_of, has_pair, pit_of, wanted_for}
+use Rattle.certificate_file.specs.Header.{header_for}
 use Rattle.check_pit.specs.LineSums.{flow_of}
 use Rattle.check_pit.specs.Checks.{ProvesPit}
 use Rattle.check_pit.specs.StreamView.{LineView}
 use Rattle.check_pit.specs.StreamChecks.{first_pits, ReadsOn, fault_of_body, lines_of_body, IsWhole, BodyRefused, BodyFails, BodyProves}
 use Rattle.check_pit.specs.StreamChecks as checks
-use Rattle.check_pit.proofs.NamedHeaders.{header_named}
-use Rattle.check_pit.proofs.Order.{stands_in_order, ascending, known}
-use Rattle.check_pit.proofs.Whole.{spelled}
+use Rattle.certificate_file.proofs.NamedHeaders.{header_named}
+use Rattle.certificate_file.proofs.Order.{stands_in_order, ascending, known}
+use Rattle.certificate_file.proofs.Whole.{spelled}
 use Rattle.engines.specs.Limits.{IsWithinLimit, IsTooLong}
 use Rattle.engines.specs.Mines.{MineTexts, DenoteMine, mine_of, price_wanted}
 use Rattle.engines.specs.Readings.{IsHeader}

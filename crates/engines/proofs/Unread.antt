@@ -17,9 +17,9 @@ use Rattle.upit_file.specs.declared.upit_fault.UpitFault.{UpitFault}
 use Rattle.closure_net.specs.Network.{NetView}
 use Rattle.closure_net.specs.Mine.{IsNetOf}
 use Rattle.closure_net.specs.declared.net.NetFault.{NetFault}
-use Rattle.check_pit.specs.declared.header.Header.{Header}
-use Rattle.check_pit.specs.Certificate.{fault_of}
-use Rattle.check_pit.specs.declared.cert_fault.CertFault.{CertFault}
+use Rattle.certificate_file.specs.declared.header.Header.{Header}
+use Rattle.certificate_file.specs.Certificate.{fault_of}
+use Rattle.certificate_file.specs.declared.cert_fault.CertFault.{CertFault}
 use Rattle.engines.specs.declared.engine_fault.Problem.{Problem}
 use Rattle.engines.specs.declared.engine_fault.Problem.TheVariants as problem
 use Rattle.blocks_file.specs.declared.blocks_fault.BlocksFault.{BlocksFault}

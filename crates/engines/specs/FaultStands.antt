@@ -8,12 +8,12 @@ use Rattle.upit_file.specs.Records as upit
 use Rattle.upit_file.specs.declared.upit_fault.UpitFault.{UpitFault}
 use Rattle.prec_file.specs.Records as prec
 use Rattle.prec_file.specs.declared.prec_fault.PrecFault.{PrecFault}
-use Rattle.check_pit.specs.declared.cert_fault.CertFault.{CertFault}
-use Rattle.check_pit.specs.declared.cert_fault.CertFault.TheVariants as certificate_fault
-use Rattle.check_pit.specs.declared.header.Header.{Header}
-use Rattle.check_pit.specs.Pieces.{pieces_of}
-use Rattle.check_pit.specs.Header.{header_of}
-use Rattle.check_pit.specs.Certificate.{fault_of}
+use Rattle.certificate_file.specs.declared.cert_fault.CertFault.{CertFault}
+use Rattle.certificate_file.specs.declared.cert_fault.CertFault.TheVariants as certificate_fault
+use Rattle.certificate_file.specs.declared.header.Header.{Header}
+use Rattle.certificate_file.specs.Pieces.{pieces_of}
+use Rattle.certificate_file.specs.Header.{header_of}
+use Rattle.certificate_file.specs.Certificate.{fault_of}
 use Rattle.closure_net.specs.Network.{NetView, IsNet}
 use Rattle.closure_net.specs.Mine.{IsNetOf}
 use Rattle.engines.specs.declared.engine_fault.Problem.{Problem}

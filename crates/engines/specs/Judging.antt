@@ -1,9 +1,9 @@
 -- What judging a certificate gives.
 use Rattle.std.specs.Prelude.{◌≡◌, ℕ, ◌+◌, false, List, [], ◌++◌, length, drop, Option, Some, None, Result, Ok, Err}
-use Rattle.check_pit.specs.Pieces.{pieces_of}
-use Rattle.check_pit.specs.Header.{header_of}
-use Rattle.check_pit.specs.declared.header.Header.{Header}
-use Rattle.check_pit.specs.declared.cert_fault.CertFault.{CertFault}
+use Rattle.certificate_file.specs.Pieces.{pieces_of}
+use Rattle.certificate_file.specs.Header.{header_of}
+use Rattle.certificate_file.specs.declared.header.Header.{Header}
+use Rattle.certificate_file.specs.declared.cert_fault.CertFault.{CertFault}
 use Rattle.check_pit.specs.declared.stream_fault.StreamFault.{StreamFault}
 use Rattle.check_pit.specs.declared.stream_fault.StreamFault.TheVariants as stream
 use Rattle.check_pit.specs.StreamView.{LineView}

@@ -4,8 +4,8 @@ use Rattle.closure_net.specs.Mine.{Mine}
 use Rattle.prec_file.specs.Records as prec
 use Rattle.prec_file.specs.Rests.{has_pair}
 use Rattle.upit_file.specs.Records as upit
-use Rattle.check_pit.specs.declared.header.Price.{Price}
-use Rattle.check_pit.specs.declared.header.Price.TheVariants.{Objective}
+use Rattle.certificate_file.specs.declared.header.Price.{Price}
+use Rattle.certificate_file.specs.declared.header.Price.TheVariants.{Objective}
 use Rattle.shells.specs.Prices.{price_of, worth_at}
 use Rattle.engines.specs.Limits.{IsWithinLimit}
 use Rattle.engines.specs.PricedTexts.{table_of, PricesRead}

@@ -10,7 +10,7 @@ use Rattle.blocks_file.specs.FaultText.{blocks_fault_text}
 use Rattle.slope.specs.FaultText.{pattern_fault_text, slope_fault_text}
 use Rattle.settings_file.specs.FaultText.{settings_fault_text}
 use Rattle.shells.specs.FaultText.{prices_fault_text}
-use Rattle.check_pit.specs.FaultText.{fault_text}
+use Rattle.certificate_file.specs.FaultText.{fault_text}
 use Rattle.check_pit.specs.FaultText.{pit_fault_text}
 use Rattle.trace_file.specs.FaultText.{fault_text as trace_fault_text}
 use Rattle.engines.specs.declared.judgement.Judgement.{Judgement}

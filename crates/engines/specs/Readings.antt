@@ -6,9 +6,9 @@ use Rattle.ordered_group.specs.declared.groups.Group.{Group}
 use Rattle.ordered_group.specs.declared.groups.Group.TheVariants.{Worth, Pair, Scaled}
 use Rattle.closure_net.specs.Network.{NetView, FlowView, IsNet, IsAscending}
 use Rattle.closure_net.specs.Mine.{Mine, IsRichest, IsBest, IsNetOf}
-use Rattle.check_pit.specs.Pieces.{pieces_of}
-use Rattle.check_pit.specs.Header.{header_of}
-use Rattle.check_pit.specs.Certificate.{fault_of, lines_of_text, Denotes}
+use Rattle.certificate_file.specs.Pieces.{pieces_of}
+use Rattle.certificate_file.specs.Header.{header_of}
+use Rattle.certificate_file.specs.Certificate.{fault_of, lines_of_text, Denotes}
 use Rattle.engines.specs.Mines.{MineTexts, price_wanted, mine_of, DenoteMine}
 
 -- what one block counts as, and whether an amount has a count

@@ -4,10 +4,10 @@ use Rattle.ordered_group.specs.declared.groups.Group.{Group}
 use Rattle.prec_file.specs.Rests.{IsFirstNot}
 use Rattle.closure_net.specs.Network.{NetView, FlowView, holds_of}
 use Rattle.closure_net.specs.Flows.{Balanced, IsTight}
-use Rattle.check_pit.specs.declared.body_lines.BodyLine.{BodyLine}
+use Rattle.certificate_file.specs.declared.body_lines.BodyLine.{BodyLine}
 use Rattle.check_pit.specs.declared.pit_fault.PitFault.{PitFault}
 use Rattle.check_pit.specs.declared.pit_fault.PitFault.TheVariants.{WrongSize, NotClosed, Negative, OverCapacity, Unbalanced, NotTight, TooLarge}
-use Rattle.check_pit.specs.Certificate.{fault_of, lines_of_text, pit_of}
+use Rattle.certificate_file.specs.Certificate.{fault_of, lines_of_text, pit_of}
 use Rattle.check_pit.specs.Closing.{IsFirstOpen}
 use Rattle.check_pit.specs.LineSums.{KeepLimits, flow_of, SomeLineSumOverflows}
 use Rattle.check_pit.specs.Rooms.{LineRefused}

@@ -10,9 +10,9 @@ use Rattle.workers.specs.Runs.{Settles, IsCutOff, SomeStepOverflows}
 use Rattle.workers.specs.declared.solving.SolveFault.{SolveFault}
 use Rattle.workers.specs.declared.solving.SolveFault.TheVariants as run
 use Rattle.check_pit.specs.Checks.{IsOfNet, IsSound, FaultStands}
-use Rattle.check_pit.specs.ReadBack.{IsReadBack}
+use Rattle.certificate_file.specs.ReadBack.{IsReadBack}
 use Rattle.check_pit.specs.declared.pit_fault.PitFault.TheVariants as pit_fault
-use Rattle.check_pit.specs.declared.header.Price.{Price}
+use Rattle.certificate_file.specs.declared.header.Price.{Price}
 use Rattle.engines.specs.declared.judgement.Verdict.{Verdict}
 use Rattle.engines.specs.declared.judgement.Verdict.TheVariants.{Done, No}
 use Rattle.engines.specs.declared.engine_fault.EngineFault.{EngineFault}

@@ -1,8 +1,8 @@
 -- What the blocks of a mine are worth, whether its texts give values or prices.
 use Rattle.std.specs.Prelude.{ℕ, ℤ, pos, ◌*ℤ◌, List, length, map}
 use Rattle.upit_file.specs.Records.{UpitView}
-use Rattle.check_pit.specs.declared.header.Price.{Price}
-use Rattle.check_pit.specs.declared.header.Price.TheVariants.{Objective, Factor, Mill}
+use Rattle.certificate_file.specs.declared.header.Price.{Price}
+use Rattle.certificate_file.specs.declared.header.Price.TheVariants.{Objective, Factor, Mill}
 use Rattle.shells.specs.Prices.{PricesView, blocks_of, price_of, worths_at}
 use Rattle.engines.specs.declared.worths.Worths.{Worths}
 use Rattle.engines.specs.declared.worths.Worths.TheVariants.{Values, Prices}

@@ -2,8 +2,8 @@
 
 ghost use Rattle.std.specs.Prelude.{◌≡◌, ◌≢◌, ◌+◌, ◌-◌, ◌^◌, ◌<◌, ◌≤◌, ℕ, List, [], length, Some, Ok, Err, IfSome, IfOk, MatchResult, IsErrOf};
 ghost use Rattle.std.specs.Thread.{IsSync};
-ghost use Rattle.check_pit.specs.Pieces.{pieces_of};
-ghost use Rattle.check_pit.specs.Header.{header_of};
+ghost use Rattle.certificate_file.specs.Pieces.{pieces_of};
+ghost use Rattle.certificate_file.specs.Header.{header_of};
 ghost use Rattle.closure_net.specs.Network.{holds_of, IsAscending};
 ghost use Rattle.ordered_group.specs.Amount.{FitsPair};
 ghost use Rattle.closure_net.specs.Closure.{group_worth, IsGreatest};

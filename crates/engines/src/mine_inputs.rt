@@ -1,7 +1,7 @@
 //! The inputs of a mine, of either kind, and reading them.
 
 ghost use Rattle.std.specs.Prelude.{◌≡◌, ◌+◌, ◌-◌, ◌^◌, ◌<◌, ℕ, List, IfOk, IfSome, MatchResult, IsErrOf};
-ghost use Rattle.check_pit.specs.ReadBack.{IsPrice};
+ghost use Rattle.certificate_file.specs.ReadBack.{IsPrice};
 ghost use Rattle.engines.specs.FaultStands.{MineFails};
 ghost use Rattle.engines.specs.MineInputs.{ForTexts, ForWorths, CanCount, WorthsCanCount, NoneFailed, NoWorthsFailed, OneFailed, OneWorthsFailed};
 ghost use Rattle.engines.specs.Mines.{mine_texts, priced_texts, price_wanted};

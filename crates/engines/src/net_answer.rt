@@ -4,7 +4,7 @@ ghost use Rattle.std.specs.Prelude.{◌≡◌, ◌+◌, ◌-◌, ◌^◌, ◌<�
 ghost use Rattle.std.specs.Io.KnownBytes.{Appends};
 ghost use Rattle.fixed_worth.specs.Device.{ReceivedPrefix};
 ghost use Rattle.check_pit.specs.Checks.{IsSound};
-ghost use Rattle.check_pit.specs.ReadBack.{IsPrice};
+ghost use Rattle.certificate_file.specs.ReadBack.{IsPrice};
 ghost use Rattle.engines.specs.NetAnswers.{SendsCertificate, SendsNo};
 
 use crate::certify::Solution;

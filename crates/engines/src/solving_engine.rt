@@ -2,7 +2,7 @@
 
 ghost use Rattle.std.specs.Prelude.{◌≡◌, ◌+◌, ◌-◌, ◌^◌, ◌<◌, ◌↔◌, ℕ, List, IsErrOf};
 ghost use Rattle.engines.specs.ReadMines.{AreRead, IsGroupNamed};
-ghost use Rattle.check_pit.specs.ReadBack.{IsPrice};
+ghost use Rattle.certificate_file.specs.ReadBack.{IsPrice};
 ghost use Rattle.engines.specs.MineInputs.{ForTexts, CanCount, NoneFailed, OneFailed};
 ghost use Rattle.engines.specs.Mines.{MineTexts, price_wanted};
 ghost use Rattle.engines.specs.Solving.{Solves};

@@ -2,7 +2,7 @@
 
 ghost use Rattle.std.specs.Prelude.{◌≡◌, ◌≢◌, ◌≤◌, ◌*ℤ◌, ℕ, pos, IfOk, MatchOption};
 ghost use Rattle.fixed_worth.specs.declared.limits.TheConstants.{MOST_FACTOR};
-ghost use Rattle.check_pit.specs.ReadBack.{IsPrice};
+ghost use Rattle.certificate_file.specs.ReadBack.{IsPrice};
 ghost use Rattle.engines.specs.Worths.{blocks_valued, nanos_at, price_at, billionths_of, factor_at};
 
 use check_pit::Price;

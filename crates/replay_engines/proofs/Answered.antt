@@ -3,7 +3,7 @@ use Rattle.std.proofs.Common.{◌≡◌, ℕ, ℤ, List, ◌∙◌, Option, Resu
 use Rattle.prec_file.specs.Rests.{RestsView}
 use Rattle.ordered_group.specs.declared.groups.Group.{Group}
 use Rattle.machine_law.specs.declared.events.Event.{Event}
-use Rattle.check_pit.specs.declared.header.Price.{Price}
+use Rattle.certificate_file.specs.declared.header.Price.{Price}
 use Rattle.engines.specs.declared.judgement.Verdict.{Verdict}
 use Rattle.engines.specs.declared.engine_fault.EngineFault.{EngineFault}
 use Rattle.engines.specs.declared.engine_fault.EngineFault.TheVariants as engine

@@ -3,8 +3,8 @@ use Rattle.std.specs.Prelude.{◌≡◌, ℕ, ◌<◌, ◌≤◌, ℤ, pos, ◌*
 use Rattle.std.specs.Int.{int_max}
 use Rattle.std.specs.List.{range_with_len}
 use Rattle.fixed_worth.specs.declared.limits.TheConstants.{MOST_BLOCKS}
-use Rattle.check_pit.specs.declared.header.Price.{Price}
-use Rattle.check_pit.specs.declared.header.Price.TheVariants.{Factor, Mill}
+use Rattle.certificate_file.specs.declared.header.Price.{Price}
+use Rattle.certificate_file.specs.declared.header.Price.TheVariants.{Factor, Mill}
 use Rattle.shells.specs.declared.prices_fault.PricesFault.{PricesFault}
 use Rattle.shells.specs.declared.prices_fault.PricesFault.TheVariants.{WrongLength, NegativeRevenue}
 

@@ -2,7 +2,7 @@
 
 ghost use Rattle.std.specs.Prelude.{◌≡◌, ◌<◌, ◌≤◌, ◌^◌, ◌*◌, ◌+◌, pos, ◌*ℤ◌, ◌-ℤ◌, ◌↔◌, unsigned_abs, IsTrue};
 ghost use Rattle.std.specs.Int.{int_max};
-ghost use Rattle.check_pit.specs.ReadBack.{IsPrice};
+ghost use Rattle.certificate_file.specs.ReadBack.{IsPrice};
 ghost use Rattle.shells.specs.Prices.{AreCharged, price_of, worth_after};
 ghost use Rattle.shells.specs.Internal.{shown_costs};
 

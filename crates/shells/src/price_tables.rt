@@ -1,7 +1,7 @@
 //! Tables of prices.
 
 ghost use Rattle.std.specs.Prelude.{◌≡◌, ◌≢◌, ◌<◌, ◌≤◌, ◌≤ℤ◌, ℕ, pos, length, IfOk, MatchOption, MatchResult};
-ghost use Rattle.check_pit.specs.ReadBack.{IsPrice};
+ghost use Rattle.certificate_file.specs.ReadBack.{IsPrice};
 ghost use Rattle.shells.specs.Prices.{plain_costs, mill_costs, blocks_of, price_of, worth_at, worths_at, number_at, IsTable, IsFirstNegative, PricesFaultStands};
 ghost use Rattle.shells.specs.Internal.{shown_costs};
 

@@ -7,9 +7,9 @@ use Rattle.closure_net.specs.Network.{NetView, FlowView, IsNet, holds_of}
 use Rattle.machine_law.specs.Quiet.{IsSolved}
 use Rattle.word_runner.specs.Tells.{IsSolvedBy}
 use Rattle.check_pit.specs.Checks.{IsSound, FaultStands}
-use Rattle.check_pit.specs.Written.{header_with, text_of}
+use Rattle.certificate_file.specs.Written.{header_with, text_of}
 use Rattle.check_pit.specs.declared.pit_fault.PitFault.{PitFault}
-use Rattle.check_pit.specs.declared.header.Price.{Price}
+use Rattle.certificate_file.specs.declared.header.Price.{Price}
 use Rattle.check_pit.proofs.Tightness.{refused_for_size_only}
 use Rattle.engines.specs.declared.judgement.Verdict.{Verdict}
 use Rattle.engines.specs.declared.judgement.Verdict.TheVariants.{No}

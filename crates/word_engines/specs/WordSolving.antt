@@ -5,7 +5,7 @@ use Rattle.fixed_worth.specs.Device.{ReceivedPrefix}
 use Rattle.ordered_group.specs.declared.groups.Group.{Group}
 use Rattle.ordered_group.specs.declared.groups.Group.TheVariants.{Scaled}
 use Rattle.closure_net.specs.Network.{NetView}
-use Rattle.check_pit.specs.declared.header.Price.{Price}
+use Rattle.certificate_file.specs.declared.header.Price.{Price}
 use Rattle.engines.specs.declared.judgement.Verdict.{Verdict}
 use Rattle.engines.specs.declared.judgement.Verdict.TheVariants.{Done, No}
 use Rattle.engines.specs.declared.engine_fault.EngineFault.{EngineFault}

@@ -1,6 +1,6 @@
 use Rattle.std.proofs.Common.{arith, below_more}
 use Rattle.closure_net.proofs.Views.{length_view}
-use Rattle.check_pit.proofs.Amounts.{opposite_here, within_there}
+use Rattle.certificate_file.proofs.Amounts.{opposite_here, within_there}
 use Rattle.check_pit.proofs.checking.first_over.Goals as goal
 
 pub is_within-requires-after_bounds : goal.is_within-requires-after_bounds

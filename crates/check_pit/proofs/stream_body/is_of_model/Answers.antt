@@ -1,5 +1,5 @@
 use Rattle.std.proofs.Common.{◌∙◌}
-use Rattle.check_pit.specs.Certificate.{has_pair}
+use Rattle.certificate_file.specs.Certificate.{has_pair}
 use Rattle.check_pit.proofs.NextLines.{found_or_not, rest_of_model}
 use Rattle.check_pit.proofs.stream_body.is_of_model.Goals as goal
 

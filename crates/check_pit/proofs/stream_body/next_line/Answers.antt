@@ -1,6 +1,6 @@
 use Rattle.std.proofs.Common.{◌+◌, true, ℕ, List, sym, ap, ◌∙◌}
-use Rattle.check_pit.specs.BodyLines.{next_line}
-use Rattle.check_pit.specs.Certificate.{has_pair}
+use Rattle.certificate_file.specs.BodyLines.{next_line}
+use Rattle.certificate_file.specs.Certificate.{has_pair}
 use Rattle.check_pit.specs.TakenLines.{held_piece}
 use Rattle.check_pit.proofs.NextLines.{line_wrong, next_reads}
 use Rattle.check_pit.proofs.stream_body.next_line.Goals as goal

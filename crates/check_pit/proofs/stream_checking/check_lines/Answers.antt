@@ -1,6 +1,6 @@
 use Rattle.std.proofs.Common.{rules, length, [], ◌∷◌, ◌++◌, refl, sym, ◌∙◌}
 use Rattle.std.proofs.lemmas.Result.{err_from_is_err_and}
-use Rattle.check_pit.specs.Certificate.{has_pair}
+use Rattle.certificate_file.specs.Certificate.{has_pair}
 use Rattle.check_pit.proofs.NextLines.{lacks_no_memory}
 use Rattle.check_pit.proofs.StreamReadings.{reads_nothing, reading_begins, reading_on, reading_lacks, line_met}
 use Rattle.check_pit.proofs.StreamRooms.{summed_begins, summed_on, blocks_ascend, met_sound, may_put, line_refused, pit_open, end_answered}

@@ -1,5 +1,5 @@
 use Rattle.std.proofs.Common.{◌≡◌, ℕ, ◌-◌, ◌^◌, List, length}
-use Rattle.check_pit.specs.declared.body_lines.BodyLine.{BodyLine}
+use Rattle.certificate_file.specs.declared.body_lines.BodyLine.{BodyLine}
 use Rattle.check_pit.proofs.StreamReadings.{Reading}
 use Rattle.check_pit.proofs.StreamRooms.{Summed}
 use Rattle.check_pit.proofs.stream_checking.check_lines.Given as goal

@@ -1,6 +1,6 @@
 use Rattle.std.proofs.Common.{None, ap, ◌+◌, ◌∙◌}
-use Rattle.check_pit.specs.Pieces.{in_line}
-use Rattle.check_pit.specs.Header.{group_in}
+use Rattle.certificate_file.specs.Pieces.{in_line}
+use Rattle.certificate_file.specs.Header.{group_in}
 use Rattle.check_pit.proofs.NextLines.{line_given}
 use Rattle.check_pit.proofs.stream_header.read_group.Goals as goal
 

@@ -2,7 +2,7 @@ use Rattle.std.proofs.Common.{arith, below_more}
 use Rattle.closure_net.proofs.Views.{length_view, at_view}
 use Rattle.ordered_group.proofs.Steps.{total_step, fits_there, fits_same}
 use Rattle.closure_net.specs.Flows.{residual_at}
-use Rattle.check_pit.proofs.Amounts.{residual_here}
+use Rattle.certificate_file.proofs.Amounts.{residual_here}
 use Rattle.check_pit.proofs.sums.residual_of_source.Goals as goal
 
 pub loop-b-preserved : goal.loop-b-preserved

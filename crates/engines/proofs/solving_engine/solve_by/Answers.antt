@@ -1,6 +1,6 @@
 use Rattle.std.proofs.Common.{◌∙◌, subst}
 use Rattle.std.proofs.lemmas.Result.{err_from_is_err_and}
-use Rattle.check_pit.specs.declared.header.Price.{Price}
+use Rattle.certificate_file.specs.declared.header.Price.{Price}
 use Rattle.engines.specs.Certifying.{IsSolution}
 use Rattle.engines.specs.Solving.{SolvesNet}
 use Rattle.engines.proofs.Judged.{read_as}

@@ -1,7 +1,7 @@
 use Rattle.std.proofs.Common.{refl, subst}
 use Rattle.std.proofs.lemmas.Result.{err_from_is_err_and}
 use Rattle.ordered_group.specs.Block.{scaled_block, scaled_worth}
-use Rattle.check_pit.specs.declared.header.Price.{Price}
+use Rattle.certificate_file.specs.declared.header.Price.{Price}
 use Rattle.engines.specs.Certifying.{IsSolution}
 use Rattle.engines.specs.Readings.{counts_by}
 use Rattle.engines.specs.ReadMines.{IsGroupNamed}

@@ -1,7 +1,7 @@
 use Rattle.std.proofs.Common.{rules}
 use Rattle.ordered_group.specs.Amount.{AtMost, negative}
 use Rattle.ordered_group.specs.Sums.{amount_at}
-use Rattle.check_pit.specs.Certificate.{amount_of}
+use Rattle.certificate_file.specs.Certificate.{amount_of}
 use Rattle.check_pit.proofs.RoomLines.{sink_put}
 use Rattle.check_pit.proofs.room.Room.put_sink.Goals as goal
 

@@ -1,7 +1,7 @@
 use Rattle.std.proofs.Common.{rules, arith, length, ◌<◌}
 use Rattle.ordered_group.specs.Amount.{AtMost, positive}
 use Rattle.ordered_group.specs.Sums.{amount_at}
-use Rattle.check_pit.specs.Certificate.{amount_of}
+use Rattle.certificate_file.specs.Certificate.{amount_of}
 use Rattle.check_pit.proofs.RoomLines.{source_put}
 use Rattle.check_pit.proofs.room.Room.put_source.Goals as goal
 

@@ -1,0 +1,248 @@
+-- Reading line after line: what a line that is read says, and what is left.
+use Rattle.std.proofs.Common.{◌≡◌, ℕ, get_or, ◌+◌, ◌<◌, Bool, true, false, cond, ltb, ℤ, pos, negsuc, ◌⊎◌, inl, inr, List, [], ◌∷◌, ◌++◌, length, Option, Some, None, Result, Ok, Err, refl, sym, ap, ◌∙◌, subst, arith, append_assoc}
+use Rattle.std.specs.Prelude.{unwrap_or}
+use Rattle.std.specs.Ordering.{int_eq}
+use Rattle.std.specs.Result.{result_unwrap_or}
+use Rattle.std.proofs.lemmas.Bool.Decides.{nat_tests, Decides-int_eq}
+use Rattle.fixed_worth.specs.declared.numerals.NumberFault.{NumberFault}
+use Rattle.fixed_worth.specs.Numeral.{plain_of}
+use Rattle.ordered_group.specs.Amount.{Amount, zero_amount}
+use Rattle.ordered_group.specs.Sums.{amount_at}
+use Rattle.certificate_file.specs.declared.cert_fault.CertFault.{CertFault}
+use Rattle.certificate_file.specs.declared.cert_fault.CertFault.TheVariants as fault
+use Rattle.certificate_file.specs.declared.cert_fault.LineFault.{LineFault}
+use Rattle.certificate_file.specs.declared.cert_fault.LineFault.TheVariants.{Text, Number}
+use Rattle.certificate_file.specs.declared.body_lines.LineKind.{LineKind}
+use Rattle.certificate_file.specs.declared.body_lines.LineKind.TheVariants.{Pit, Source, Rest, Sink, End}
+use Rattle.certificate_file.specs.declared.body_lines.BodyLine.{BodyLine}
+use Rattle.certificate_file.specs.Pieces.{Piece, Unread, Passed, read_line, in_line, no_line, unless_fault, within, number_below, words_of}
+use Rattle.certificate_file.specs.BodyLines.{kind_of, amount_said, amount_in, is_amount, numbered_line, pit_line, block_line, rest_line, end_line, line_with, line_of_words, line_of, is_end, is_of_model, may_follow, line_behind, next_line, end_fault, fault_from, body_fault, lines_in}
+use Rattle.certificate_file.specs.Certificate.{Covers, UnlessMemory, has_pair, pit_of, block_if_pit, given, gives_source, gives_rest, gives_sink, is_rest, amount_of}
+use Rattle.certificate_file.specs.Gathered.{Gathered, Adds}
+
+-- A line that is read has what its text gives.
+in_line_ok : {A : Type 0} (k : ℕ) (r : Result A LineFault) (x : A) → in_line k r ≡ Ok x → r ≡ Ok x
+in_line_ok k (Ok a) x h = cc
+in_line_ok k (Err Text) x h = cc
+in_line_ok k (Err Number) x h = cc
+
+unless_ok : {A : Type 0} (o : Option CertFault) (r : Result A CertFault) (x : A) → unless_fault o r ≡ Ok x → r ≡ Ok x
+unless_ok (Some e) r x h = cc
+unless_ok None r x h = h
+
+pub text_read : {A : Type 0} (f : List ℕ → Result A LineFault) (k : ℕ) (p : Piece) (x : A) → read_line f k p ≡ Ok x → f p.text ≡ Ok x
+text_read f k p x h = in_line_ok k (f p.text) x (unless_ok (no_line k p) (in_line k (f p.text)) x h)
+
+-- What the numbers of a line are.
+number_limit : (limit j k : ℕ) (t : Bool) → ltb j limit ≡ t → cond t (Some j) None ≡ Some k → k < limit
+number_limit limit j k true e h =
+    let same : j ≡ k = ap (λ (o : Option ℕ). unwrap_or o k) h in
+    grind (arith, nat_tests)
+number_limit limit j k false e h = cc
+
+within_limit : (limit k : ℕ) (r : Result ℤ NumberFault) → within limit r ≡ Some k → k < limit
+within_limit limit k (Ok (pos j)) h = number_limit limit j k (ltb j limit) refl h
+within_limit limit k (Ok (negsuc j)) h = cc
+within_limit limit k (Err e) h = cc
+
+pub below_limit : (limit k : ℕ) (word : List ℕ) → number_below limit word ≡ Some k → k < limit
+below_limit limit k word h = within_limit limit k (plain_of word) h
+
+-- A line of the body, by what it is made of.
+pub record Numbered (kind : LineKind) (b o : Option ℕ) (a : Option (ℤ × ℤ)) (line : BodyLine) : Type 0 where
+  pub kind_is : line.kind ≡ kind
+  pub block_is : b ≡ Some line.block
+  pub other_is : o ≡ Some line.other
+  pub amount_is : a ≡ Some (line.worth, line.count)
+
+pub numbered : (kind : LineKind) (b o : Option ℕ) (a : Option (ℤ × ℤ)) (line : BodyLine) → numbered_line kind b o a ≡ Ok line → Numbered kind b o a line
+numbered kind (Some b) (Some o) (Some a) line h =
+    let made : BodyLine = record { kind = kind; block = b; other = o; worth = a.0; count = a.1 } in
+    let e : made ≡ line = ap (λ (r : Result BodyLine LineFault). result_unwrap_or r line) h in
+    record {
+      kind_is = sym (ap (λ (l : BodyLine). l.kind) e);
+      block_is = ap (λ (l : BodyLine). Some l.block) e;
+      other_is = ap (λ (l : BodyLine). Some l.other) e;
+      amount_is = ap (λ (l : BodyLine). Some (l.worth, l.count)) e;
+    }
+numbered kind (Some b) (Some o) None line h = absurd cc
+numbered kind (Some b) None a line h = absurd cc
+numbered kind None o a line h = absurd cc
+
+-- A count is zero where the group has none.
+abbrev pub Counted : Bool → ℤ → Type 0
+Counted counts c = (counts ≡ true) ⊎ (c ≡ pos 0)
+
+counted_by : (counts : Bool) (w c : ℤ) (t : Bool) → int_eq c (pos 0) ≡ t → is_amount counts w c ≡ true → Counted counts c
+counted_by counts w c true e h = inr ((Decides-int_eq c (pos 0)).0 e)
+counted_by counts w c false e h = inl (rw e at h)
+
+counted_said : (counts : Bool) (w c : ℤ) (a : ℤ × ℤ) (t : Bool) → is_amount counts w c ≡ t → cond t (Some (w, c)) None ≡ Some a → Counted counts a.1
+counted_said counts w c a true e h =
+    let same : c ≡ a.1 = ap (λ (o : Option (ℤ × ℤ)). (unwrap_or o a).1) h in
+    subst (Counted counts) same (counted_by counts w c (int_eq c (pos 0)) refl e)
+counted_said counts w c a false e h = absurd cc
+
+counted_in : (counts : Bool) (r s : Result ℤ NumberFault) (a : ℤ × ℤ) → amount_said counts r s ≡ Some a → Counted counts a.1
+counted_in counts (Ok w) (Ok c) a h = counted_said counts w c a (is_amount counts w c) refl h
+counted_in counts (Ok w) (Err e) a h = absurd cc
+counted_in counts (Err d) (Ok c) a h = absurd cc
+counted_in counts (Err d) (Err e) a h = absurd cc
+
+-- A line of such a kind has an amount.
+abbrev pub carries : LineKind → Bool
+carries Pit = false
+carries Source = true
+carries Rest = true
+carries Sink = true
+carries End = false
+
+amount_tested : (counts : Bool) (w c : ℤ) (a : ℤ × ℤ) (t : Bool) → is_amount counts w c ≡ t → cond t (Some (w, c)) None ≡ Some a → is_amount counts a.0 a.1 ≡ true
+amount_tested counts w c a true e h = subst (λ (x : ℤ × ℤ). is_amount counts x.0 x.1 ≡ true) (ap (λ (o : Option (ℤ × ℤ)). unwrap_or o a) h) e
+amount_tested counts w c a false e h = absurd cc
+
+amount_said_so : (counts : Bool) (r s : Result ℤ NumberFault) (a : ℤ × ℤ) → amount_said counts r s ≡ Some a → is_amount counts a.0 a.1 ≡ true
+amount_said_so counts (Ok w) (Ok c) a h = amount_tested counts w c a (is_amount counts w c) refl h
+amount_said_so counts (Ok w) (Err e) a h = absurd cc
+amount_said_so counts (Err d) (Ok c) a h = absurd cc
+amount_said_so counts (Err d) (Err e) a h = absurd cc
+
+amount_parts : (line : BodyLine) (a : ℤ × ℤ) → Some a ≡ Some (line.worth, line.count) → amount_of line ≡ record { w = a.0; c = a.1 }
+amount_parts line a h = sym (ap (λ (o : Option (ℤ × ℤ)). record { w = (unwrap_or o a).0; c = (unwrap_or o a).1 }) h)
+
+abbrev no_parts : ℤ × ℤ
+no_parts = (pos 0, pos 0)
+
+no_amount : (line : BodyLine) → Some no_parts ≡ Some (line.worth, line.count) → amount_of line ≡ zero_amount
+no_amount line h = amount_parts line no_parts h
+
+not_carried : (line : BodyLine) (kind : LineKind) {P : Type 0} → line.kind ≡ kind → carries kind ≡ false → carries line.kind ≡ true → P
+not_carried line kind e f h = absurd (let z : true ≡ false = sym h ∙ ap carries e ∙ f in cc)
+
+-- What a reader may rely on: where the line is not the last one, its block is one of n; only a REST line has a predecessor; and the count fits the group.
+pub record Sound (counts : Bool) (n : ℕ) (line : BodyLine) : Type 0 where
+  pub block : is_end line.kind ≡ false → line.block < n
+  pub other : is_rest line.kind ≡ false → line.other ≡ 0
+  pub none : line.kind ≡ Pit → amount_of line ≡ zero_amount
+  pub some : carries line.kind ≡ true → is_amount counts line.worth line.count ≡ true
+  pub count : Counted counts line.count
+
+abbrev refused : Result BodyLine LineFault
+refused = Err Text
+
+pub no_line_is : (line : BodyLine) {P : Type 0} → refused ≡ Ok line → P
+no_line_is line h = absurd cc
+
+none_other : (o : Option ℕ) (line : BodyLine) → o ≡ Some line.other → o ≡ Some 0 → line.other ≡ 0
+none_other o line e f = ap (λ (x : Option ℕ). unwrap_or x 0) (sym e ∙ f)
+
+sound_amount : (counts : Bool) (n : ℕ) (kind : LineKind) (b w c : List ℕ) (o : Option ℕ) (line : BodyLine) → Numbered kind (number_below n b) o (amount_in counts w c) line → (is_rest kind ≡ false → o ≡ Some 0) → carries kind ≡ true → Sound counts n line
+sound_amount counts n kind b w c o line m z y = record {
+  other = λ e. none_other o line m.other_is (z (sym (ap is_rest m.kind_is) ∙ e));
+  none = λ e. absurd (let f : true ≡ false = sym y ∙ ap carries (sym m.kind_is ∙ e) in cc);
+  some = λ _. amount_said_so counts (plain_of w) (plain_of c) (line.worth, line.count) m.amount_is;
+  block = λ _. below_limit n line.block b m.block_is;
+  count = counted_in counts (plain_of w) (plain_of c) (line.worth, line.count) m.amount_is;
+}
+
+sound_pit : (counts : Bool) (n : ℕ) (words : List (List ℕ)) (line : BodyLine) → pit_line n words ≡ Ok line → Sound counts n line
+sound_pit counts n [] line h = no_line_is line h
+sound_pit counts n (b ∷ []) line h =
+    let m = numbered Pit (number_below n b) (Some 0) (Some (pos 0, pos 0)) line h in
+    record { block = λ _. below_limit n line.block b m.block_is; other = λ _. none_other (Some 0) line m.other_is refl; none = λ _. no_amount line m.amount_is; some = λ h. not_carried line _ m.kind_is refl h; count = inr (sym (ap (λ (o : Option (ℤ × ℤ)). (unwrap_or o (pos 0, pos 0)).1) m.amount_is)) }
+sound_pit counts n (b ∷ w ∷ ws) line h = no_line_is line h
+
+sound_block : (counts : Bool) (n : ℕ) (kind : LineKind) (words : List (List ℕ)) (line : BodyLine) → carries kind ≡ true → block_line counts n kind words ≡ Ok line → Sound counts n line
+sound_block counts n kind [] line y h = no_line_is line h
+sound_block counts n kind (b ∷ []) line y h = no_line_is line h
+sound_block counts n kind (b ∷ w ∷ []) line y h = no_line_is line h
+sound_block counts n kind (b ∷ w ∷ c ∷ []) line y h = sound_amount counts n kind b w c (Some 0) line (numbered kind (number_below n b) (Some 0) (amount_in counts w c) line h) (λ _. refl) y
+sound_block counts n kind (b ∷ w ∷ c ∷ d ∷ ds) line y h = no_line_is line h
+
+sound_rest : (counts : Bool) (n : ℕ) (words : List (List ℕ)) (line : BodyLine) → rest_line counts n words ≡ Ok line → Sound counts n line
+sound_rest counts n [] line h = no_line_is line h
+sound_rest counts n (b ∷ []) line h = no_line_is line h
+sound_rest counts n (b ∷ p ∷ []) line h = no_line_is line h
+sound_rest counts n (b ∷ p ∷ w ∷ []) line h = no_line_is line h
+sound_rest counts n (b ∷ p ∷ w ∷ c ∷ []) line h = sound_amount counts n Rest b w c (number_below n p) line (numbered Rest (number_below n b) (number_below n p) (amount_in counts w c) line h) (λ e. absurd (let z : true ≡ false = e in cc)) refl
+sound_rest counts n (b ∷ p ∷ w ∷ c ∷ d ∷ ds) line h = no_line_is line h
+
+sound_end : (counts : Bool) (n : ℕ) (words : List (List ℕ)) (line : BodyLine) → end_line words ≡ Ok line → Sound counts n line
+sound_end counts n [] line h =
+    let m = numbered End (Some 0) (Some 0) (Some (pos 0, pos 0)) line h in
+    record { block = λ e. absurd (let z : true ≡ false = sym (ap is_end m.kind_is) ∙ e in cc); other = λ _. none_other (Some 0) line m.other_is refl; none = λ _. no_amount line m.amount_is; some = λ h. not_carried line _ m.kind_is refl h; count = inr (sym (ap (λ (o : Option (ℤ × ℤ)). (unwrap_or o (pos 0, pos 0)).1) m.amount_is)) }
+sound_end counts n (w ∷ ws) line h = no_line_is line h
+
+sound_with : (counts : Bool) (n : ℕ) (o : Option LineKind) (words : List (List ℕ)) (line : BodyLine) → line_with counts n o words ≡ Ok line → Sound counts n line
+sound_with counts n None words line h = no_line_is line h
+sound_with counts n (Some Pit) words line h = sound_pit counts n words line h
+sound_with counts n (Some Source) words line h = sound_block counts n Source words line refl h
+sound_with counts n (Some Rest) words line h = sound_rest counts n words line h
+sound_with counts n (Some Sink) words line h = sound_block counts n Sink words line refl h
+sound_with counts n (Some End) words line h = sound_end counts n words line h
+
+sound_words : (counts : Bool) (n : ℕ) (words : List (List ℕ)) (line : BodyLine) → line_of_words counts n words ≡ Ok line → Sound counts n line
+sound_words counts n [] line h = no_line_is line h
+sound_words counts n (key ∷ words) line h = sound_with counts n (kind_of key) words line h
+
+pub sound : (counts : Bool) (n : ℕ) (text : List ℕ) (line : BodyLine) → line_of counts n text ≡ Ok line → Sound counts n line
+sound counts n text line h = sound_words counts n (words_of text) line h
+
+-- What is gathered, with what is left, is what all lines say; and what is wrong is wrong with what is left.
+pub record Going (counts : Bool) (n : ℕ) (pairs : List (ℕ × ℕ)) (all : Unread) (start : Gathered) (previous : Option BodyLine) (left : Unread) (so : Gathered) : Type 0 where
+  pub same_fault : body_fault counts n (has_pair pairs) previous left.number left.pieces ≡ body_fault counts n (has_pair pairs) None all.number all.pieces
+  pub pit : so.pit ++ pit_of (lines_in counts n left.pieces) ≡ start.pit ++ pit_of (lines_in counts n all.pieces)
+  pub source : (b : ℕ) → b < n → given (gives_source b) (amount_at so.flow.source b) (lines_in counts n left.pieces) ≡ given (gives_source b) (amount_at start.flow.source b) (lines_in counts n all.pieces)
+  pub rest : (k : ℕ) → k < length pairs → given (gives_rest (get_or pairs k (0, 0))) (amount_at so.flow.rest k) (lines_in counts n left.pieces) ≡ given (gives_rest (get_or pairs k (0, 0))) (amount_at start.flow.rest k) (lines_in counts n all.pieces)
+  pub sink : (b : ℕ) → b < n → given (gives_sink b) (amount_at so.flow.sink b) (lines_in counts n left.pieces) ≡ given (gives_sink b) (amount_at start.flow.sink b) (lines_in counts n all.pieces)
+  pub covers : Covers n (length pairs) so.flow
+
+-- One line on.
+fault_at : (counts : Bool) (n : ℕ) (has : ℕ → ℕ → Bool) (previous : Option BodyLine) (left : Unread) (p : Piece) (ps : List Piece) → left.pieces ≡ p ∷ ps
+    → body_fault counts n has previous left.number left.pieces ≡ fault_from (end_fault (left.number + 1) ps) (λ line. body_fault counts n has (Some line) (left.number + 1) ps) (next_line counts n has previous (left.number + 1) p)
+fault_at counts n has previous left p ps e = ap (body_fault counts n has previous left.number) e
+
+lines_at : (counts : Bool) (n : ℕ) (left : Unread) (p : Piece) (ps : List Piece) (line : BodyLine) → left.pieces ≡ p ∷ ps → line_of counts n p.text ≡ Ok line → lines_in counts n left.pieces ≡ cond (is_end line.kind) [] (line ∷ lines_in counts n ps)
+lines_at counts n left p ps line e f = rw (e, f) refl
+
+behind_ok : (counts : Bool) (n : ℕ) (previous : Option BodyLine) (k : ℕ) (p : Piece) (line : BodyLine) → read_line (line_of counts n) k p ≡ Ok line → may_follow previous line ≡ true → line_behind counts n previous k p ≡ Ok line
+behind_ok counts n previous k p line e f = rw (e, f) refl
+
+next_ok : (counts : Bool) (n : ℕ) (has : ℕ → ℕ → Bool) (previous : Option BodyLine) (k : ℕ) (p : Piece) (line : BodyLine) → line_behind counts n previous k p ≡ Ok line → is_of_model has line.kind line ≡ true → next_line counts n has previous k p ≡ Ok line
+next_ok counts n has previous k p line e f = rw (e, f) refl
+
+pit_joins : (kind : LineKind) (b : ℕ) (bs : List ℕ) → block_if_pit kind b [] ++ bs ≡ block_if_pit kind b bs
+pit_joins Pit b bs = refl
+pit_joins Source b bs = refl
+pit_joins Rest b bs = refl
+pit_joins Sink b bs = refl
+pit_joins End b bs = refl
+
+pub goes_on : (counts : Bool) (n : ℕ) (pairs : List (ℕ × ℕ)) (all : Unread) (start : Gathered) (previous : Option BodyLine) (left next : Unread) (so later : Gathered) (line : BodyLine) → Going counts n pairs all start previous left so → Passed (line_of counts n) left next line
+    → may_follow previous line ≡ true → is_end line.kind ≡ false → is_of_model (has_pair pairs) line.kind line ≡ true → Covers n (length pairs) later.flow → Adds n pairs (line ∷ []) so later → Going counts n pairs all start (Some line) next later
+goes_on counts n pairs all start previous left next so later line g p f e m c a =
+    let has : ℕ → ℕ → Bool = has_pair pairs in
+    let read = subst (λ (k : ℕ). read_line (line_of counts n) k p.piece ≡ Ok line) p.number p.read in
+    let ok = next_ok counts n has previous (left.number + 1) p.piece line (behind_ok counts n previous (left.number + 1) p.piece line read f) m in
+    let lines : lines_in counts n left.pieces ≡ line ∷ lines_in counts n next.pieces = lines_at counts n left p.piece next.pieces line p.pieces (text_read (line_of counts n) next.number p.piece line p.read) ∙ ap (λ (t : Bool). cond t [] (line ∷ lines_in counts n next.pieces)) e in
+    let now : body_fault counts n has previous left.number left.pieces ≡ body_fault counts n has (Some line) (left.number + 1) next.pieces =
+    fault_at counts n has previous left p.piece next.pieces p.pieces
+    ∙ ap (fault_from (end_fault (left.number + 1) next.pieces) (λ l. body_fault counts n has (Some l) (left.number + 1) next.pieces)) ok
+    ∙ ap (λ (t : Bool). cond t (end_fault (left.number + 1) next.pieces) (body_fault counts n has (Some line) (left.number + 1) next.pieces)) e in
+    record {
+      same_fault = ap (λ (k : ℕ). body_fault counts n has (Some line) k next.pieces) p.number ∙ sym now ∙ g.same_fault;
+      pit = ap (λ (bs : List ℕ). bs ++ pit_of (lines_in counts n next.pieces)) a.pit ∙ append_assoc so.pit (block_if_pit line.kind line.block []) (pit_of (lines_in counts n next.pieces)) ∙ ap (λ (bs : List ℕ). so.pit ++ bs) (pit_joins line.kind line.block (pit_of (lines_in counts n next.pieces)))
+          ∙ sym (ap (λ (ls : List BodyLine). so.pit ++ pit_of ls) lines) ∙ g.pit;
+      source = λ b h. ap (λ (x : Amount). given (gives_source b) x (lines_in counts n next.pieces)) (a.source b h) ∙ sym (ap (given (gives_source b) (amount_at so.flow.source b)) lines) ∙ g.source b h;
+      rest = λ k h. ap (λ (x : Amount). given (gives_rest (get_or pairs k (0, 0))) x (lines_in counts n next.pieces)) (a.rest k h) ∙ sym (ap (given (gives_rest (get_or pairs k (0, 0))) (amount_at so.flow.rest k)) lines) ∙ g.rest k h;
+      sink = λ b h. ap (λ (x : Amount). given (gives_sink b) x (lines_in counts n next.pieces)) (a.sink b h) ∙ sym (ap (given (gives_sink b) (amount_at so.flow.sink b)) lines) ∙ g.sink b h;
+      covers = c;
+    }
+
+pub always : (e : CertFault) {P : Type 0} → P → UnlessMemory e P
+always fault.NoMemory h = tt
+always (fault.Text k) h = h
+always (fault.Number k) h = h
+always (fault.OutOfOrder k) h = h
+always (fault.UnknownPair k) h = h
+always fault.Truncated h = h

@@ -1,0 +1,161 @@
+-- A text that is put line after line.
+use Rattle.std.proofs.Common.{◌≡◌, ℕ, zero, suc, ◌+◌, ◌<◌, Bool, true, false, cond, List, [], ◌∷◌, ◌++◌, length, map, get_or, drop, Option, Result, Ok, Err, refl, sym, ap, ◌∙◌, subst, append_assoc, append-nil, add-one, drop-cons, arith}
+use Rattle.std.specs.Result.{OnOk, OnErr}
+use Rattle.std.specs.Io.KnownBytes.{Appends}
+use Rattle.fixed_worth.specs.Device.{ReceivedPrefix, SentOrHeld}
+use Rattle.fixed_worth.proofs.Pieces.{all_held, held_more, held_more_prefix, prefix_of_first, held_both, held_sent, held_prefix, prefix_in_first, prefix_in_second}
+use Rattle.ordered_group.specs.Amount.{Amount, zero_amount, is_zero}
+use Rattle.closure_net.specs.Network.{FlowView}
+use Rattle.certificate_file.specs.declared.body_lines.LineKind.TheVariants.{Source, Sink}
+use Rattle.certificate_file.specs.declared.body_lines.BodyLine.{BodyLine}
+use Rattle.certificate_file.specs.Written.{spaced, line_words, body_text, amount_lines, pit_at, block_at, pair_at, flow_lines}
+
+-- Of all that is to be put, behind what was held at first, this is left.
+pub record Put (a b : Option (List ℕ)) (first now left all : List ℕ) : Type 0 where
+  pub done : List ℕ
+  pub held : SentOrHeld a b now (first ++ done)
+  pub whole : done ++ left ≡ all
+
+pub put_begins : (a : Option (List ℕ)) (first all : List ℕ) → Put a a first first all all
+put_begins a first all = record { done = []; held = subst (SentOrHeld a a first) (sym (append-nil first)) (all_held a first); whole = refl }
+
+pub put_more : (a b c : Option (List ℕ)) (first now next piece left all : List ℕ) → Put a b first now (piece ++ left) all → SentOrHeld b c next (now ++ piece) → Put a c first next left all
+put_more a b c first now next piece left all p h = record {
+  done = p.done ++ piece;
+  held = subst (SentOrHeld a c next) (append_assoc first p.done piece) (held_more a b c now next (first ++ p.done) piece p.held h);
+  whole = append_assoc p.done piece left ∙ p.whole;
+}
+
+pub put_failed : (a b c : Option (List ℕ)) (first now piece left all : List ℕ) → Put a b first now (piece ++ left) all → ReceivedPrefix b c (now ++ piece) → ReceivedPrefix a c (first ++ all)
+put_failed a b c first now piece left all p h =
+    let part : ReceivedPrefix a c ((first ++ p.done) ++ piece) = held_more_prefix a b c now (first ++ p.done) piece p.held h in
+    let more : ReceivedPrefix a c (((first ++ p.done) ++ piece) ++ left) = prefix_of_first a c ((first ++ p.done) ++ piece) left part in
+    let same : ((first ++ p.done) ++ piece) ++ left ≡ first ++ all = append_assoc (first ++ p.done) piece left ∙ append_assoc first p.done (piece ++ left) ∙ ap (λ (t : List ℕ). first ++ t) p.whole in
+    subst (ReceivedPrefix a c) same more
+
+-- What is left to put, one line on.
+pub line_first : (l : BodyLine) (ls : List BodyLine) → body_text (l ∷ ls) ≡ (spaced (line_words l) ++ (10 ∷ [])) ++ body_text ls
+line_first l ls = sym (append_assoc (spaced (line_words l)) (10 ∷ []) (body_text ls))
+
+pub none_written : (line : ℕ → Amount → BodyLine) (k : ℕ) (xs : List Amount) (x : Amount) → k < length xs → get_or xs k zero_amount ≡ x → is_zero x ≡ true → body_text (amount_lines line k (drop k xs)) ≡ body_text (amount_lines line (k + 1) (drop (k + 1) xs))
+none_written line k xs x h e z =
+    let d : drop k xs ≡ x ∷ drop (k + 1) xs = drop-cons xs k zero_amount h ∙ ap (λ (y : Amount). y ∷ drop (suc k) xs) e ∙ ap (λ (n : ℕ). x ∷ drop n xs) (sym (add-one k)) in
+    ap (λ (ys : List Amount). body_text (amount_lines line k ys)) d ∙ ap (λ (t : Bool). body_text (cond t (amount_lines line (k + 1) (drop (k + 1) xs)) (line k x ∷ amount_lines line (k + 1) (drop (k + 1) xs)))) z
+
+pub one_written : (line : ℕ → Amount → BodyLine) (k : ℕ) (xs : List Amount) (x : Amount) → k < length xs → get_or xs k zero_amount ≡ x → is_zero x ≡ false → body_text (amount_lines line k (drop k xs)) ≡ (spaced (line_words (line k x)) ++ (10 ∷ [])) ++ body_text (amount_lines line (k + 1) (drop (k + 1) xs))
+one_written line k xs x h e z =
+    let d : drop k xs ≡ x ∷ drop (k + 1) xs = drop-cons xs k zero_amount h ∙ ap (λ (y : Amount). y ∷ drop (suc k) xs) e ∙ ap (λ (n : ℕ). x ∷ drop n xs) (sym (add-one k)) in
+    ap (λ (ys : List Amount). body_text (amount_lines line k ys)) d ∙ ap (λ (t : Bool). body_text (cond t (amount_lines line (k + 1) (drop (k + 1) xs)) (line k x ∷ amount_lines line (k + 1) (drop (k + 1) xs)))) z
+    ∙ line_first (line k x) (amount_lines line (k + 1) (drop (k + 1) xs))
+
+-- The steps of the loops over amounts.
+pub at_map : {X : Type 0} (f : X → Amount) (xs : List X) (k : ℕ) (x : X) → k < length xs → x ≡ get_or xs k x → get_or (map f xs) k zero_amount ≡ f x
+at_map f [] k x h e = absurd (omega arith)
+at_map f (y ∷ ys) zero x h e = ap f (sym e)
+at_map f (y ∷ ys) (suc k) x h e = at_map f ys k x (omega arith) e
+
+pub line_put : (line : ℕ → Amount → BodyLine) (xs : List Amount) (k : ℕ) (x : Amount) (l : BodyLine) (a b c : Option (List ℕ)) (first now next all : List ℕ) → k < length xs → get_or xs k zero_amount ≡ x → is_zero x ≡ false → l ≡ line k x
+    → Put a b first now (body_text (amount_lines line k (drop k xs))) all → SentOrHeld b c next (now ++ (spaced (line_words l) ++ (10 ∷ []))) → Put a c first next (body_text (amount_lines line (k + 1) (drop (k + 1) xs))) all
+line_put line xs k x l a b c first now next all h e z same p s =
+    put_more a b c first now next (spaced (line_words (line k x)) ++ (10 ∷ [])) (body_text (amount_lines line (k + 1) (drop (k + 1) xs))) all
+    (subst (λ (t : List ℕ). Put a b first now t all) (one_written line k xs x h e z) p)
+    (subst (λ (m : BodyLine). SentOrHeld b c next (now ++ (spaced (line_words m) ++ (10 ∷ [])))) same s)
+
+pub line_failed : (line : ℕ → Amount → BodyLine) (xs : List Amount) (k : ℕ) (x : Amount) (l : BodyLine) (a b c : Option (List ℕ)) (first now all : List ℕ) → k < length xs → get_or xs k zero_amount ≡ x → is_zero x ≡ false → l ≡ line k x
+    → Put a b first now (body_text (amount_lines line k (drop k xs))) all → ReceivedPrefix b c (now ++ (spaced (line_words l) ++ (10 ∷ []))) → ReceivedPrefix a c (first ++ all)
+line_failed line xs k x l a b c first now all h e z same p s =
+    put_failed a b c first now (spaced (line_words (line k x)) ++ (10 ∷ [])) (body_text (amount_lines line (k + 1) (drop (k + 1) xs))) all
+    (subst (λ (t : List ℕ). Put a b first now t all) (one_written line k xs x h e z) p)
+    (subst (λ (m : BodyLine). ReceivedPrefix b c (now ++ (spaced (line_words m) ++ (10 ∷ [])))) same s)
+
+pub line_skipped : (line : ℕ → Amount → BodyLine) (xs : List Amount) (k : ℕ) (x : Amount) (a b : Option (List ℕ)) (first now all : List ℕ) → k < length xs → get_or xs k zero_amount ≡ x → is_zero x ≡ true
+    → Put a b first now (body_text (amount_lines line k (drop k xs))) all → Put a b first now (body_text (amount_lines line (k + 1) (drop (k + 1) xs))) all
+line_skipped line xs k x a b first now all h e z p = subst (λ (t : List ℕ). Put a b first now t all) (none_written line k xs x h e z) p
+
+-- The steps of the loop over the blocks of the pit.
+block_written : (bs : List ℕ) (k : ℕ) → k < length bs → body_text (map pit_at (drop k bs)) ≡ (spaced (line_words (pit_at (get_or bs k 0))) ++ (10 ∷ [])) ++ body_text (map pit_at (drop (k + 1) bs))
+block_written bs k h =
+    let d : drop k bs ≡ get_or bs k 0 ∷ drop (k + 1) bs = drop-cons bs k 0 h ∙ ap (λ (n : ℕ). get_or bs k 0 ∷ drop n bs) (sym (add-one k)) in
+    ap (λ (xs : List ℕ). body_text (map pit_at xs)) d ∙ line_first (pit_at (get_or bs k 0)) (map pit_at (drop (k + 1) bs))
+
+pub block_put : (bs : List ℕ) (k : ℕ) (a b c : Option (List ℕ)) (first now next all : List ℕ) → k < length bs → Put a b first now (body_text (map pit_at (drop k bs))) all
+    → SentOrHeld b c next (now ++ (spaced (line_words (pit_at (get_or bs k 0))) ++ (10 ∷ []))) → Put a c first next (body_text (map pit_at (drop (k + 1) bs))) all
+block_put bs k a b c first now next all h p s =
+    put_more a b c first now next (spaced (line_words (pit_at (get_or bs k 0))) ++ (10 ∷ [])) (body_text (map pit_at (drop (k + 1) bs))) all (subst (λ (t : List ℕ). Put a b first now t all) (block_written bs k h) p) s
+
+pub block_failed : (bs : List ℕ) (k : ℕ) (a b c : Option (List ℕ)) (first now all : List ℕ) → k < length bs → Put a b first now (body_text (map pit_at (drop k bs))) all
+    → ReceivedPrefix b c (now ++ (spaced (line_words (pit_at (get_or bs k 0))) ++ (10 ∷ []))) → ReceivedPrefix a c (first ++ all)
+block_failed bs k a b c first now all h p s =
+    put_failed a b c first now (spaced (line_words (pit_at (get_or bs k 0))) ++ (10 ∷ [])) (body_text (map pit_at (drop (k + 1) bs))) all (subst (λ (t : List ℕ). Put a b first now t all) (block_written bs k h) p) s
+
+-- Three texts, put one behind the other.
+pub three_held : (a b c d : Option (List ℕ)) (p q r s x y z all : List ℕ) → x ++ (y ++ z) ≡ all → SentOrHeld a b q (p ++ x) → SentOrHeld b c r (q ++ y) → SentOrHeld c d s (r ++ z) → SentOrHeld a d s (p ++ all)
+three_held a b c d p q r s x y z all e h i j =
+    subst (λ (t : List ℕ). SentOrHeld a d s (p ++ t)) (append_assoc x y z ∙ e) (held_both a c d p r s (x ++ y) z (held_both a b c p q r x y h i) j)
+
+pub first_failed : (a b : Option (List ℕ)) (p x y z all : List ℕ) → x ++ (y ++ z) ≡ all → ReceivedPrefix a b (p ++ x) → ReceivedPrefix a b (p ++ all)
+first_failed a b p x y z all e h = subst (λ (t : List ℕ). ReceivedPrefix a b (p ++ t)) e (prefix_in_first a b p x (y ++ z) h)
+
+pub second_failed : (a b c : Option (List ℕ)) (p q x y z all : List ℕ) → x ++ (y ++ z) ≡ all → SentOrHeld a b q (p ++ x) → ReceivedPrefix b c (q ++ y) → ReceivedPrefix a c (p ++ all)
+second_failed a b c p q x y z all e h i =
+    subst (λ (t : List ℕ). ReceivedPrefix a c (p ++ t)) (append_assoc x y z ∙ e) (prefix_in_first a c p (x ++ y) z (prefix_in_second a b c p q x y h i))
+
+pub third_failed : (a b c d : Option (List ℕ)) (p q r x y z all : List ℕ) → x ++ (y ++ z) ≡ all → SentOrHeld a b q (p ++ x) → SentOrHeld b c r (q ++ y) → ReceivedPrefix c d (r ++ z) → ReceivedPrefix a d (p ++ all)
+third_failed a b c d p q r x y z all e h i j =
+    subst (λ (t : List ℕ). ReceivedPrefix a d (p ++ t)) (append_assoc x y z ∙ e) (prefix_in_second a c d p r (x ++ y) z (held_both a b c p q r x y h i) j)
+
+-- The text of lines that stand behind others.
+pub body_append : (ls ms : List BodyLine) → body_text (ls ++ ms) ≡ body_text ls ++ body_text ms
+body_append [] ms = refl
+body_append (l ∷ ls) ms = ap (λ (t : List ℕ). spaced (line_words l) ++ (10 ∷ t)) (body_append ls ms) ∙ sym (append_assoc (spaced (line_words l)) (10 ∷ body_text ls) (body_text ms))
+
+pub flow_parts : (ls ms ns : List BodyLine) → body_text ls ++ (body_text ms ++ body_text ns) ≡ body_text (ls ++ (ms ++ ns))
+flow_parts ls ms ns = ap (λ (t : List ℕ). body_text ls ++ t) (sym (body_append ms ns)) ∙ sym (body_append ls (ms ++ ns))
+
+pub body_parts : (ls ms : List BodyLine) (end : List ℕ) → body_text ls ++ (body_text ms ++ end) ≡ body_text (ls ++ ms) ++ end
+body_parts ls ms end = sym (append_assoc (body_text ls) (body_text ms) end) ∙ ap (λ (t : List ℕ). t ++ end) (sym (body_append ls ms))
+
+-- What holds, holds where there is an error.
+pub on_err : {X Y P : Type 0} (r : Result X Y) → P → OnErr r P
+on_err (Ok x) h = tt
+on_err (Err e) h = h
+
+pub on_ok : {X Y P : Type 0} (r : Result X Y) → P → OnOk r P
+on_ok (Ok x) h = h
+on_ok (Err e) h = tt
+
+-- The three parts of a flow.
+abbrev pub sources : List Amount → List ℕ
+sources xs = body_text (amount_lines (block_at Source) 0 xs)
+
+abbrev pub over_pairs : List (ℕ × ℕ) → List Amount → List ℕ
+over_pairs pairs xs = body_text (amount_lines (pair_at pairs) 0 xs)
+
+abbrev pub sinks : List Amount → List ℕ
+sinks xs = body_text (amount_lines (block_at Sink) 0 xs)
+
+flow_is : (pairs : List (ℕ × ℕ)) (flow : FlowView) (xs ys zs : List Amount) → xs ≡ flow.source → ys ≡ flow.rest → zs ≡ flow.sink → sources xs ++ (over_pairs pairs ys ++ sinks zs) ≡ body_text (flow_lines pairs flow)
+flow_is pairs flow xs ys zs e f g =
+    ap (λ (us : List Amount). sources us ++ (over_pairs pairs ys ++ sinks zs)) e ∙ ap (λ (us : List Amount). sources flow.source ++ (over_pairs pairs us ++ sinks zs)) f ∙ ap (λ (us : List Amount). sources flow.source ++ (over_pairs pairs flow.rest ++ sinks us)) g
+    ∙ flow_parts (amount_lines (block_at Source) 0 flow.source) (amount_lines (pair_at pairs) 0 flow.rest) (amount_lines (block_at Sink) 0 flow.sink)
+
+pub flow_first_failed : (pairs : List (ℕ × ℕ)) (flow : FlowView) (xs : List Amount) (a b : Option (List ℕ)) (p : List ℕ) → xs ≡ flow.source → ReceivedPrefix a b (p ++ sources xs) → ReceivedPrefix a b (p ++ body_text (flow_lines pairs flow))
+flow_first_failed pairs flow xs a b p e h = first_failed a b p (sources xs) (over_pairs pairs flow.rest) (sinks flow.sink) _ (flow_is pairs flow xs flow.rest flow.sink e refl refl) h
+
+pub flow_second_failed : (pairs : List (ℕ × ℕ)) (flow : FlowView) (xs ys : List Amount) (a b c : Option (List ℕ)) (p q : List ℕ) → xs ≡ flow.source → ys ≡ flow.rest → SentOrHeld a b q (p ++ sources xs) → ReceivedPrefix b c (q ++ over_pairs pairs ys) → ReceivedPrefix a c (p ++ body_text (flow_lines pairs flow))
+flow_second_failed pairs flow xs ys a b c p q e f h i = second_failed a b c p q (sources xs) (over_pairs pairs ys) (sinks flow.sink) _ (flow_is pairs flow xs ys flow.sink e f refl) h i
+
+pub flow_third_failed : (pairs : List (ℕ × ℕ)) (flow : FlowView) (xs ys zs : List Amount) (a b c d : Option (List ℕ)) (p q r : List ℕ) → xs ≡ flow.source → ys ≡ flow.rest → zs ≡ flow.sink
+    → SentOrHeld a b q (p ++ sources xs) → SentOrHeld b c r (q ++ over_pairs pairs ys) → ReceivedPrefix c d (r ++ sinks zs) → ReceivedPrefix a d (p ++ body_text (flow_lines pairs flow))
+flow_third_failed pairs flow xs ys zs a b c d p q r e f g h i j = third_failed a b c d p q r (sources xs) (over_pairs pairs ys) (sinks zs) _ (flow_is pairs flow xs ys zs e f g) h i j
+
+pub flow_held : (pairs : List (ℕ × ℕ)) (flow : FlowView) (xs ys zs : List Amount) (a b c d : Option (List ℕ)) (p q r s : List ℕ) → xs ≡ flow.source → ys ≡ flow.rest → zs ≡ flow.sink
+    → SentOrHeld a b q (p ++ sources xs) → SentOrHeld b c r (q ++ over_pairs pairs ys) → SentOrHeld c d s (r ++ sinks zs) → SentOrHeld a d s (p ++ body_text (flow_lines pairs flow))
+flow_held pairs flow xs ys zs a b c d p q r s e f g h i j = three_held a b c d p q r s (sources xs) (over_pairs pairs ys) (sinks zs) _ (flow_is pairs flow xs ys zs e f g) h i j
+
+-- A header before the rest.
+pub both_sent : (a b c d : Option (List ℕ)) (p q x y : List ℕ) → SentOrHeld a b p ([] ++ x) → SentOrHeld b c q (p ++ y) → Appends c d q → Appends a d (x ++ y)
+both_sent a b c d p q x y h i j = held_sent a c d q (x ++ y) (held_both a b c [] p q x y h i) j
+
+pub last_failed : (a b c d : Option (List ℕ)) (p q x y : List ℕ) → SentOrHeld a b p ([] ++ x) → SentOrHeld b c q (p ++ y) → ReceivedPrefix c d q → ReceivedPrefix a d (x ++ y)
+last_failed a b c d p q x y h i j = held_prefix a c d q (x ++ y) (held_both a b c [] p q x y h i) j

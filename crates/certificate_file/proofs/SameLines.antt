@@ -1,0 +1,195 @@
+-- Two lists of lines in order that say the same are the same.
+use Rattle.std.proofs.Common.{◌≡◌, ℕ, suc, ◌<◌, Bool, true, false, eqb, ◌⊎◌, inl, inr, List, [], ◌∷◌, length, get_or, Option, refl, sym, ap, ◌∙◌, subst, arith}
+use Rattle.std.proofs.lemmas.Bool.{eqb-true, eq-eqb}
+use Rattle.std.specs.Prelude.{◌&&◌, ◌||◌}
+use Rattle.std.specs.Ordering.{nat_cmp, ordering_then}
+use Rattle.std.proofs.lemmas.Bool.Decides.{nat_tests}
+use Rattle.ordered_group.specs.Amount.{Amount, zero_amount, is_zero}
+use Rattle.ordered_group.specs.Sums.{amount_at}
+use Rattle.closure_net.specs.Network.{FlowView}
+use Rattle.certificate_file.specs.declared.body_lines.LineKind.{LineKind}
+use Rattle.certificate_file.specs.declared.body_lines.LineKind.TheVariants.{Pit, Source, Rest, Sink, End}
+use Rattle.certificate_file.specs.declared.body_lines.BodyLine.{BodyLine}
+use Rattle.certificate_file.specs.BodyLines.{rank, is_end, is_of_model}
+use Rattle.certificate_file.specs.Certificate.{Denotes, has_pair, pit_of, block_if_pit, amount_of, given, gives_source, gives_rest, gives_sink, is_source, is_rest, is_sink}
+use Rattle.certificate_file.proofs.Going.{carries}
+use Rattle.certificate_file.proofs.Order.{InOrder}
+use Rattle.certificate_file.proofs.LineOrder.{line_cmp, Above, not_itself, Has, has_good, same_lines, Proper, Found, found, Tells, given_by}
+
+same_key : (a b : BodyLine) → a.kind ≡ b.kind → a.block ≡ b.block → a.other ≡ b.other → Above a b → ⊥
+same_key a b e f g h =
+    let same : line_cmp a a ≡ line_cmp a b = ap (λ (k : LineKind). ordering_then (nat_cmp (rank a.kind) (rank k)) (ordering_then (nat_cmp a.block a.block) (nat_cmp a.other a.other))) e
+    ∙ ap (λ (x : ℕ). ordering_then (nat_cmp (rank a.kind) (rank b.kind)) (ordering_then (nat_cmp a.block x) (nat_cmp a.other a.other))) f
+    ∙ ap (λ (x : ℕ). ordering_then (nat_cmp (rank a.kind) (rank b.kind)) (ordering_then (nat_cmp a.block b.block) (nat_cmp a.other x))) g in
+    not_itself a (same ∙ h)
+
+source_kind : (k : LineKind) (t : Bool) → (is_source k && t) ≡ true → (k ≡ Source) × (t ≡ true)
+source_kind Pit t h = absurd (let z : false ≡ true = h in cc)
+source_kind Source t h = (refl, h)
+source_kind Rest t h = absurd (let z : false ≡ true = h in cc)
+source_kind Sink t h = absurd (let z : false ≡ true = h in cc)
+source_kind End t h = absurd (let z : false ≡ true = h in cc)
+
+rest_kind : (k : LineKind) (t : Bool) → (is_rest k && t) ≡ true → (k ≡ Rest) × (t ≡ true)
+rest_kind Pit t h = absurd (let z : false ≡ true = h in cc)
+rest_kind Source t h = absurd (let z : false ≡ true = h in cc)
+rest_kind Rest t h = (refl, h)
+rest_kind Sink t h = absurd (let z : false ≡ true = h in cc)
+rest_kind End t h = absurd (let z : false ≡ true = h in cc)
+
+sink_kind : (k : LineKind) (t : Bool) → (is_sink k && t) ≡ true → (k ≡ Sink) × (t ≡ true)
+sink_kind Pit t h = absurd (let z : false ≡ true = h in cc)
+sink_kind Source t h = absurd (let z : false ≡ true = h in cc)
+sink_kind Rest t h = absurd (let z : false ≡ true = h in cc)
+sink_kind Sink t h = (refl, h)
+sink_kind End t h = absurd (let z : false ≡ true = h in cc)
+
+two_same : (x y u v : ℕ) → (eqb x y && eqb u v) ≡ true → (x ≡ y) × (u ≡ v)
+two_same x y u v h = (grind (arith, nat_tests), grind (arith, nat_tests))
+
+both_same : (x y u v : ℕ) → x ≡ y → u ≡ v → (eqb x y && eqb u v) ≡ true
+both_same x y u v e f = grind (arith, nat_tests)
+
+pub source_so : (b : ℕ) (l : BodyLine) → gives_source b l ≡ true → (l.kind ≡ Source) × (l.block ≡ b)
+source_so b l h = let q = source_kind l.kind (eqb l.block b) h in (q.0, eqb-true l.block b q.1)
+
+pub sink_so : (b : ℕ) (l : BodyLine) → gives_sink b l ≡ true → (l.kind ≡ Sink) × (l.block ≡ b)
+sink_so b l h = let q = sink_kind l.kind (eqb l.block b) h in (q.0, eqb-true l.block b q.1)
+
+pub rest_so : (x : ℕ × ℕ) (l : BodyLine) → gives_rest x l ≡ true → (l.kind ≡ Rest) × (x.0 ≡ l.block) × (x.1 ≡ l.other)
+rest_so x l h = let q = rest_kind l.kind (eqb x.0 l.block && eqb x.1 l.other) h in let r = two_same x.0 l.block x.1 l.other q.1 in (q.0, r.0, r.1)
+
+not_rest : (l : BodyLine) (k : LineKind) → l.kind ≡ k → is_rest k ≡ false → is_rest l.kind ≡ false
+not_rest l k e f = ap is_rest e ∙ f
+
+pub tells_source : (n : ℕ) (has : ℕ → ℕ → Bool) (b : ℕ) → Tells (Proper n has) (gives_source b)
+tells_source n has b l m p q g h above =
+    let x = source_so b l g in
+    let y = source_so b m h in
+    same_key l m (x.0 ∙ sym y.0) (x.1 ∙ sym y.1) (p.other (not_rest l Source x.0 refl) ∙ sym (q.other (not_rest m Source y.0 refl))) above
+
+pub tells_sink : (n : ℕ) (has : ℕ → ℕ → Bool) (b : ℕ) → Tells (Proper n has) (gives_sink b)
+tells_sink n has b l m p q g h above =
+    let x = sink_so b l g in
+    let y = sink_so b m h in
+    same_key l m (x.0 ∙ sym y.0) (x.1 ∙ sym y.1) (p.other (not_rest l Sink x.0 refl) ∙ sym (q.other (not_rest m Sink y.0 refl))) above
+
+pub tells_rest : (n : ℕ) (has : ℕ → ℕ → Bool) (r : ℕ × ℕ) → Tells (Proper n has) (gives_rest r)
+tells_rest n has r l m p q g h above =
+    let x = rest_so r l g in
+    let y = rest_so r m h in
+    same_key l m (x.0 ∙ sym y.0) (sym x.1 ∙ y.1) (sym x.2 ∙ y.2) above
+
+-- Lines with the same parts.
+same_line : (l m : BodyLine) → l.kind ≡ m.kind → l.block ≡ m.block → l.other ≡ m.other → amount_of l ≡ amount_of m → l ≡ m
+same_line l m a b c d = λ i. record { kind = a i; block = b i; other = c i; worth = (d i).w; count = (d i).c }
+
+-- An amount that one list gives, the other gives.
+given_too : (n : ℕ) (has : ℕ → ℕ → Bool) (gives : BodyLine → Bool) (p q : Option BodyLine) (ls ms : List BodyLine) (l : BodyLine) (x : Amount) → Tells (Proper n has) gives → InOrder (Proper n has) p ls → InOrder (Proper n has) q ms → Has l ls → gives l ≡ true → carries l.kind ≡ true
+    → x ≡ given gives zero_amount ls → x ≡ given gives zero_amount ms → Found gives (amount_of l) ms
+given_too n has gives p q ls ms l x t o r h g c e f =
+    let mine : given gives zero_amount ms ≡ amount_of l = sym f ∙ e ∙ given_by (Proper n has) gives p ls zero_amount l t o h g in
+    let some : is_zero (amount_of l) ≡ false = (has_good (Proper n has) p ls o l h).some c in
+    elim (found gives ms zero_amount) [
+      | inl z ↦ absurd (let y : true ≡ false = ap is_zero (sym z ∙ mine) ∙ some in cc)
+      | inr y ↦ subst (λ (a : Amount). Found gives a ms) mine y
+    ]
+
+-- A block that one list has in its pit, the other has.
+abbrev HasBlock : ℕ → List ℕ → Type 0
+HasBlock b [] = ⊥
+HasBlock b (x ∷ xs) = (x ≡ b) ⊎ HasBlock b xs
+
+block_more : (k : LineKind) (b x : ℕ) (bs : List ℕ) → HasBlock b bs → HasBlock b (block_if_pit k x bs)
+block_more Pit b x bs h = inr h
+block_more Source b x bs h = h
+block_more Rest b x bs h = h
+block_more Sink b x bs h = h
+block_more End b x bs h = h
+
+pit_has : (l : BodyLine) (ls : List BodyLine) → l.kind ≡ Pit → Has l ls → HasBlock l.block (pit_of ls)
+pit_has l [] e h = absurd h
+pit_has l (m ∷ ms) e h = elim h [
+  | inl i ↦
+      let first : HasBlock l.block (block_if_pit Pit m.block (pit_of ms)) = inl (ap (λ (x : BodyLine). x.block) i) in
+      subst (λ (k : LineKind). HasBlock l.block (block_if_pit k m.block (pit_of ms))) (sym (ap (λ (x : BodyLine). x.kind) i ∙ e)) first
+  | inr i ↦ block_more m.kind l.block m.block (pit_of ms) (pit_has l ms e i)
+]
+
+record InPit (b : ℕ) (ls : List BodyLine) : Type 0 where
+  line : BodyLine
+  held : Has line ls
+  kind_is : line.kind ≡ Pit
+  block_is : line.block ≡ b
+
+pit_later : (b : ℕ) (m : BodyLine) (ms : List BodyLine) → InPit b ms → InPit b (m ∷ ms)
+pit_later b m ms f = record { line = f.line; held = inr f.held; kind_is = f.kind_is; block_is = f.block_is }
+
+pit_found_at : (b : ℕ) (m : BodyLine) (ms : List BodyLine) (k : LineKind) → m.kind ≡ k → (HasBlock b (pit_of ms) → InPit b ms) → HasBlock b (block_if_pit k m.block (pit_of ms)) → InPit b (m ∷ ms)
+pit_found_at b m ms Pit e ih h = elim h [ inl i ↦ record { line = m; held = inl refl; kind_is = e; block_is = i } | inr i ↦ pit_later b m ms (ih i) ]
+pit_found_at b m ms Source e ih h = pit_later b m ms (ih h)
+pit_found_at b m ms Rest e ih h = pit_later b m ms (ih h)
+pit_found_at b m ms Sink e ih h = pit_later b m ms (ih h)
+pit_found_at b m ms End e ih h = pit_later b m ms (ih h)
+
+pit_found : (b : ℕ) (ms : List BodyLine) → HasBlock b (pit_of ms) → InPit b ms
+pit_found b [] h = absurd h
+pit_found b (m ∷ ms) h = pit_found_at b m ms m.kind refl (pit_found b ms) h
+
+-- A pair that the test has stands at some place.
+pair_at_first : (b p : ℕ) (q : ℕ × ℕ) (qs : List (ℕ × ℕ)) (t : Bool) → (eqb q.0 b && eqb q.1 p) ≡ t → (t || has_pair qs b p) ≡ true → (has_pair qs b p ≡ true → (k : ℕ) × (k < length qs) × (get_or qs k (0, 0) ≡ (b, p))) → (k : ℕ) × (k < length (q ∷ qs)) × (get_or (q ∷ qs) k (0, 0) ≡ (b, p))
+pair_at_first b p q qs true e h ih = let r = two_same q.0 b q.1 p e in (0, omega arith, λ i. (r.0 i, r.1 i))
+pair_at_first b p q qs false e h ih = let r = ih h in (suc r.0, omega (arith, r.1), r.2)
+
+pub pair_place : (b p : ℕ) (qs : List (ℕ × ℕ)) → has_pair qs b p ≡ true → (k : ℕ) × (k < length qs) × (get_or qs k (0, 0) ≡ (b, p))
+pair_place b p [] h = absurd (let z : false ≡ true = h in cc)
+pair_place b p (q ∷ qs) h = pair_at_first b p q qs (eqb q.0 b && eqb q.1 p) refl h (pair_place b p qs)
+
+-- A line of the one is a line of the other.
+record Said (n : ℕ) (pairs : List (ℕ × ℕ)) (blocks : List ℕ) (flow : FlowView) (p : Option BodyLine) (ls : List BodyLine) : Type 0 where
+  order : InOrder (Proper n (has_pair pairs)) p ls
+  says : Denotes n pairs ls blocks flow
+
+is_same : (n : ℕ) (has : ℕ → ℕ → Bool) (q : Option BodyLine) (ms : List BodyLine) (l m : BodyLine) → Has m ms → m.kind ≡ l.kind → m.block ≡ l.block → m.other ≡ l.other → amount_of m ≡ amount_of l → Has l ms
+is_same n has q ms l m h a b c d = subst (λ (x : BodyLine). Has x ms) (same_line m l a b c d) h
+
+moved : (n : ℕ) (pairs : List (ℕ × ℕ)) (blocks : List ℕ) (flow : FlowView) (p q : Option BodyLine) (ls ms : List BodyLine) → Said n pairs blocks flow p ls → Said n pairs blocks flow q ms → (l : BodyLine) (k : LineKind) → l.kind ≡ k → Has l ls → Has l ms
+moved n pairs blocks flow p q ls ms s t l Pit e h =
+    let mine = has_good (Proper n (has_pair pairs)) p ls s.order l h in
+    let f = pit_found l.block ms (subst (HasBlock l.block) (sym s.says.pit ∙ t.says.pit) (pit_has l ls e h)) in
+    let other = has_good (Proper n (has_pair pairs)) q ms t.order f.line f.held in
+    is_same n (has_pair pairs) q ms l f.line f.held (f.kind_is ∙ sym e) f.block_is (other.other (not_rest f.line Pit f.kind_is refl) ∙ sym (mine.other (not_rest l Pit e refl))) (other.none f.kind_is ∙ sym (mine.none e))
+moved n pairs blocks flow p q ls ms s t l Source e h =
+    let mine = has_good (Proper n (has_pair pairs)) p ls s.order l h in
+    let gives : gives_source l.block l ≡ true = ap (λ (k : LineKind). is_source k && eqb l.block l.block) e ∙ eq-eqb l.block l.block refl in
+    let f = given_too n (has_pair pairs) (gives_source l.block) p q ls ms l (amount_at flow.source l.block) (tells_source n (has_pair pairs) l.block) s.order t.order h gives (ap carries e) (s.says.source l.block mine.block) (t.says.source l.block mine.block) in
+    let so = source_so l.block f.line f.so in
+    let other = has_good (Proper n (has_pair pairs)) q ms t.order f.line f.held in
+    is_same n (has_pair pairs) q ms l f.line f.held (so.0 ∙ sym e) so.1 (other.other (not_rest f.line Source so.0 refl) ∙ sym (mine.other (not_rest l Source e refl))) f.amount
+moved n pairs blocks flow p q ls ms s t l Sink e h =
+    let mine = has_good (Proper n (has_pair pairs)) p ls s.order l h in
+    let gives : gives_sink l.block l ≡ true = ap (λ (k : LineKind). is_sink k && eqb l.block l.block) e ∙ eq-eqb l.block l.block refl in
+    let f = given_too n (has_pair pairs) (gives_sink l.block) p q ls ms l (amount_at flow.sink l.block) (tells_sink n (has_pair pairs) l.block) s.order t.order h gives (ap carries e) (s.says.sink l.block mine.block) (t.says.sink l.block mine.block) in
+    let so = sink_so l.block f.line f.so in
+    let other = has_good (Proper n (has_pair pairs)) q ms t.order f.line f.held in
+    is_same n (has_pair pairs) q ms l f.line f.held (so.0 ∙ sym e) so.1 (other.other (not_rest f.line Sink so.0 refl) ∙ sym (mine.other (not_rest l Sink e refl))) f.amount
+moved n pairs blocks flow p q ls ms s t l Rest e h =
+    let mine = has_good (Proper n (has_pair pairs)) p ls s.order l h in
+    let known : has_pair pairs l.block l.other ≡ true = subst (λ (k : LineKind). is_of_model (has_pair pairs) k l ≡ true) e mine.pair in
+    let place = pair_place l.block l.other pairs known in
+    let pair : ℕ × ℕ = get_or pairs place.0 (0, 0) in
+    let at_block : pair.0 ≡ l.block = ap (λ (x : ℕ × ℕ). x.0) place.2 in
+    let at_other : pair.1 ≡ l.other = ap (λ (x : ℕ × ℕ). x.1) place.2 in
+    let gives : gives_rest pair l ≡ true = ap (λ (k : LineKind). is_rest k && (eqb pair.0 l.block && eqb pair.1 l.other)) e ∙ both_same pair.0 l.block pair.1 l.other at_block at_other in
+    let f = given_too n (has_pair pairs) (gives_rest pair) p q ls ms l (amount_at flow.rest place.0) (tells_rest n (has_pair pairs) pair) s.order t.order h gives (ap carries e) (s.says.rest place.0 place.1) (t.says.rest place.0 place.1) in
+    let so = rest_so pair f.line f.so in
+    is_same n (has_pair pairs) q ms l f.line f.held (so.0 ∙ sym e) (sym so.1 ∙ at_block) (sym so.2 ∙ at_other) f.amount
+moved n pairs blocks flow p q ls ms s t l End e h =
+    let mine = has_good (Proper n (has_pair pairs)) p ls s.order l h in
+    absurd (let z : true ≡ false = sym (ap is_end e) ∙ mine.last in cc)
+
+pub say_the_same : (n : ℕ) (pairs : List (ℕ × ℕ)) (blocks : List ℕ) (flow : FlowView) (p q : Option BodyLine) (ls ms : List BodyLine) → InOrder (Proper n (has_pair pairs)) p ls → InOrder (Proper n (has_pair pairs)) q ms → Denotes n pairs ls blocks flow → Denotes n pairs ms blocks flow → ls ≡ ms
+say_the_same n pairs blocks flow p q ls ms o r d e =
+    let s : Said n pairs blocks flow p ls = record { order = o; says = d } in
+    let t : Said n pairs blocks flow q ms = record { order = r; says = e } in
+    same_lines (Proper n (has_pair pairs)) p q ls ms o r (λ x h. moved n pairs blocks flow p q ls ms s t x x.kind refl h) (λ x h. moved n pairs blocks flow q p ms ls t s x x.kind refl h)

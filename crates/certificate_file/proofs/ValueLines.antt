@@ -1,0 +1,292 @@
+-- The lines of a value stand in order, and say the value.
+use Rattle.std.proofs.Common.{◌≡◌, ◌≢◌, ℕ, zero, suc, ◌+◌, ◌<◌, ◌≤◌, Bool, true, false, cond, eqb, ltb, inl, inr, List, [], ◌∷◌, ◌++◌, length, map, get_or, Option, Some, None, refl, sym, ap, ◌∙◌, subst, arith, append-nil}
+use Rattle.std.proofs.lemmas.Bool.{eq-eqb, ne_eqb}
+use Rattle.std.specs.Prelude.{◌&&◌}
+use Rattle.std.specs.List.{All}
+use Rattle.std.specs.Cmp.{nat_cmp_is}
+use Rattle.std.specs.Ordering.{nat_cmp, ordering_then, is_lt}
+use Rattle.std.specs.declared.cmp.Ordering.{Ordering}
+use Rattle.std.specs.declared.cmp.Ordering.TheVariants.{Less, Equal}
+use Rattle.ordered_group.specs.Amount.{Amount, zero_amount, is_zero}
+use Rattle.ordered_group.specs.Sums.{amount_at}
+use Rattle.ordered_group.proofs.Order.{is_eq_tells}
+use Rattle.prec_file.proofs.Pairs.{tells_pair, pair_told}
+use Rattle.prec_file.specs.Rests.{IsRising, IsKnown}
+use Rattle.closure_net.specs.Network.{FlowView, IsAscending}
+use Rattle.certificate_file.specs.declared.body_lines.LineKind.{LineKind}
+use Rattle.certificate_file.specs.declared.body_lines.LineKind.TheVariants.{Pit, Source, Rest, Sink, End}
+use Rattle.certificate_file.specs.declared.body_lines.BodyLine.{BodyLine}
+use Rattle.certificate_file.specs.BodyLines.{rank, is_end, may_follow, is_of_model}
+use Rattle.certificate_file.specs.Certificate.{Covers, Denotes, has_pair, pit_of, block_if_pit, amount_of, given, gives_source, gives_rest, gives_sink}
+use Rattle.certificate_file.specs.Written.{pit_at, block_at, pair_at, amount_lines, flow_lines, value_lines}
+use Rattle.certificate_file.proofs.Additions.{present, one_place}
+use Rattle.certificate_file.proofs.Order.{InOrder}
+use Rattle.certificate_file.proofs.LineOrder.{Proper}
+
+-- What is read before has at most this rank.
+abbrev pub UpTo : ℕ → Option BodyLine → Type 0
+UpTo r None = Unit {0}
+UpTo r (Some l) = rank l.kind ≤ r
+
+wider : (r s : ℕ) (p : Option BodyLine) → r ≤ s → UpTo r p → UpTo s p
+wider r s None h u = tt
+wider r s (Some l) h u = omega arith
+
+lower_first : (a b : ℕ) (o : Ordering) → a < b → is_lt (ordering_then (nat_cmp a b) o) ≡ true
+lower_first a b o h = let e : Less ≡ nat_cmp a b = nat_cmp_is a b Less h in ap (λ (x : Ordering). is_lt (ordering_then x o)) (sym e)
+
+same_first : (a : ℕ) (o : Ordering) → is_lt o ≡ true → is_lt (ordering_then (nat_cmp a a) o) ≡ true
+same_first a o h = let e : Equal ≡ nat_cmp a a = nat_cmp_is a a Equal refl in ap (λ (x : Ordering). is_lt (ordering_then x o)) (sym e) ∙ h
+
+last_lower : (a b : ℕ) → a < b → is_lt (nat_cmp a b) ≡ true
+last_lower a b h = let e : Less ≡ nat_cmp a b = nat_cmp_is a b Less h in ap is_lt (sym e)
+
+pub higher : (r : ℕ) (p : Option BodyLine) (l : BodyLine) → UpTo r p → r < rank l.kind → may_follow p l ≡ true
+higher r None l u h = refl
+higher r (Some m) l u h = lower_first (rank m.kind) (rank l.kind) (ordering_then (nat_cmp m.block l.block) (nat_cmp m.other l.other)) (omega arith)
+
+block_step : (k : LineKind) (a b : ℕ) (x y : Amount) → a < b → may_follow (Some (block_at k a x)) (block_at k b y) ≡ true
+block_step k a b x y h = same_first (rank k) (ordering_then (nat_cmp a b) (nat_cmp 0 0)) (lower_first a b (nat_cmp 0 0) h)
+
+pit_step : (a b : ℕ) → a < b → may_follow (Some (pit_at a)) (pit_at b) ≡ true
+pit_step a b h = same_first 0 (ordering_then (nat_cmp a b) (nat_cmp 0 0)) (lower_first a b (nat_cmp 0 0) h)
+
+pair_step : (ps : List (ℕ × ℕ)) (i j : ℕ) (x y : Amount) → IsRising ps → i < j → j < length ps → may_follow (Some (pair_at ps i x)) (pair_at ps j y) ≡ true
+pair_step ps i j x y r h l =
+    let a = get_or ps i (0, 0) in
+    let b = get_or ps j (0, 0) in
+    elim (r.rises i j h l) [
+      | inl s ↦ same_first 2 (ordering_then (nat_cmp a.0 b.0) (nat_cmp a.1 b.1)) (lower_first a.0 b.0 (nat_cmp a.1 b.1) s)
+      | inr s ↦ same_first 2 (ordering_then (nat_cmp a.0 b.0) (nat_cmp a.1 b.1)) (ap (λ (z : ℕ). is_lt (ordering_then (nat_cmp a.0 z) (nat_cmp a.1 b.1))) (sym s.0) ∙ same_first a.0 (nat_cmp a.1 b.1) (last_lower a.1 b.1 s.1))
+    ]
+
+-- PIT lines before others.
+abbrev FirstFollows : Option BodyLine → List ℕ → Type 0
+FirstFollows p [] = Unit {0}
+FirstFollows p (b ∷ bs) = may_follow p (pit_at b) ≡ true
+
+tail_ascends : (b : ℕ) (bs : List ℕ) → IsAscending (b ∷ bs) → IsAscending bs
+tail_ascends b bs h i j e f = h (suc i) (suc j) (omega arith) (omega arith)
+
+next_follows : (b : ℕ) (bs : List ℕ) → IsAscending (b ∷ bs) → FirstFollows (Some (pit_at b)) bs
+next_follows b [] h = tt
+next_follows b (c ∷ cs) h = pit_step b c (h 0 1 (omega arith) (omega arith))
+
+pits : (P : BodyLine → Type 0) (bs : List ℕ) (p : Option BodyLine) (rest : List BodyLine) → IsAscending bs → FirstFollows p bs → ((i : ℕ) → i < length bs → P (pit_at (get_or bs i 0))) → UpTo 0 p → ((q : Option BodyLine) → UpTo 0 q → InOrder P q rest) → InOrder P p (map pit_at bs ++ rest)
+pits P [] p rest a f e u c = c p u
+pits P (b ∷ bs) p rest a f e u c = (f, e 0 (omega arith), pits P bs (Some (pit_at b)) rest (tail_ascends b bs a) (next_follows b bs a) (λ i h. e (suc i) (omega arith)) (omega arith) c)
+
+first_of_all : (bs : List ℕ) → FirstFollows None bs
+first_of_all [] = tt
+first_of_all (b ∷ bs) = refl
+
+-- Lines of amounts before others.
+abbrev pub Each : (BodyLine → Type 0) → (ℕ → Amount → BodyLine) → ℕ → List Amount → Type 0
+Each P line k [] = Unit {0}
+Each P line k (x ∷ xs) = (is_zero x ≡ false → P (line k x)) × Each P line (k + 1) xs
+
+record Rises (line : ℕ → Amount → BodyLine) (top r : ℕ) : Type 0 where
+  step : (i j : ℕ) (x y : Amount) → i < j → j < top → may_follow (Some (line i x)) (line j y) ≡ true
+  rank_is : (i : ℕ) (x : Amount) → rank (line i x).kind ≤ r
+
+amounts_at : (P : BodyLine → Type 0) (line : ℕ → Amount → BodyLine) (k : ℕ) (x : Amount) (xs : List Amount) (p : Option BodyLine) (rest : List BodyLine) (t : Bool) → is_zero x ≡ t → (is_zero x ≡ false → P (line k x)) → may_follow p (line k x) ≡ true
+    → InOrder P p (amount_lines line (k + 1) xs ++ rest) → InOrder P (Some (line k x)) (amount_lines line (k + 1) xs ++ rest) → InOrder P p (cond t (amount_lines line (k + 1) xs) (line k x ∷ amount_lines line (k + 1) xs) ++ rest)
+amounts_at P line k x xs p rest true e f m a b = a
+amounts_at P line k x xs p rest false e f m a b = (m, f e, b)
+
+amounts : (P : BodyLine → Type 0) (line : ℕ → Amount → BodyLine) (top r : ℕ) → Rises line top r → (xs : List Amount) (k : ℕ) (p : Option BodyLine) (rest : List BodyLine) → k + length xs ≤ top → ((j : ℕ) (x : Amount) → k ≤ j → j < top → may_follow p (line j x) ≡ true) → Each P line k xs → UpTo r p
+    → ((q : Option BodyLine) → UpTo r q → InOrder P q rest) → InOrder P p (amount_lines line k xs ++ rest)
+amounts P line top r s [] k p rest l f e u c = c p u
+amounts P line top r s (x ∷ xs) k p rest l f e u c = amounts_at P line k x xs p rest (is_zero x) refl e.0 (f k x (omega arith) (omega arith))
+    (amounts P line top r s xs (k + 1) p rest (omega arith) (λ j y g h. f j y (omega arith) h) e.1 u c)
+    (amounts P line top r s xs (k + 1) (Some (line k x)) rest (omega arith) (λ j y g h. s.step k j x y (omega arith) h) e.1 (s.rank_is k x) c)
+
+no_more : (ls : List BodyLine) → ls ++ [] ≡ ls
+no_more ls = append-nil ls
+
+-- The lines of a value, where P holds of each.
+pub record EachLine (P : BodyLine → Type 0) (pairs : List (ℕ × ℕ)) (blocks : List ℕ) (flow : FlowView) : Type 0 where
+  pub pit : (i : ℕ) → i < length blocks → P (pit_at (get_or blocks i 0))
+  pub source : Each P (block_at Source) 0 flow.source
+  pub rest : Each P (pair_at pairs) 0 flow.rest
+  pub sink : Each P (block_at Sink) 0 flow.sink
+
+pub value_in_order : (P : BodyLine → Type 0) (n : ℕ) (pairs : List (ℕ × ℕ)) (pit : List ℕ) (flow : FlowView) → IsAscending pit → IsRising pairs → Covers n (length pairs) flow → EachLine P pairs pit flow → InOrder P None (value_lines pairs pit flow)
+value_in_order P n pairs pit flow a r c e =
+    let sources : Rises (block_at Source) n 1 = record { step = λ i j x y h l. block_step Source i j x y h; rank_is = λ i x. omega arith } in
+    let rests : Rises (pair_at pairs) (length pairs) 2 = record { step = λ i j x y h l. pair_step pairs i j x y r h l; rank_is = λ i x. omega arith } in
+    let sinks : Rises (block_at Sink) n 3 = record { step = λ i j x y h l. block_step Sink i j x y h; rank_is = λ i x. omega arith } in
+    let last : (q : Option BodyLine) → UpTo 2 q → InOrder P q (amount_lines (block_at Sink) 0 flow.sink) = λ q u.
+    subst (InOrder P q) (no_more (amount_lines (block_at Sink) 0 flow.sink)) (amounts P (block_at Sink) n 3 sinks flow.sink 0 q [] (omega (arith, c.sinks)) (λ j x g h. higher 2 q (block_at Sink j x) u (omega arith)) e.sink (wider 2 3 q (omega arith) u) (λ p v. tt)) in
+    let middle : (q : Option BodyLine) → UpTo 1 q → InOrder P q (amount_lines (pair_at pairs) 0 flow.rest ++ amount_lines (block_at Sink) 0 flow.sink) = λ q u.
+    amounts P (pair_at pairs) (length pairs) 2 rests flow.rest 0 q (amount_lines (block_at Sink) 0 flow.sink) (omega (arith, c.rests)) (λ j x g h. higher 1 q (pair_at pairs j x) u (omega arith)) e.rest (wider 1 2 q (omega arith) u) last in
+    let first : (q : Option BodyLine) → UpTo 0 q → InOrder P q (flow_lines pairs flow) = λ q u.
+    amounts P (block_at Source) n 1 sources flow.source 0 q (amount_lines (pair_at pairs) 0 flow.rest ++ amount_lines (block_at Sink) 0 flow.sink) (omega (arith, c.sources)) (λ j x g h. higher 0 q (block_at Source j x) u (omega arith)) e.source (wider 0 1 q (omega arith) u) middle in
+    pits P pit None (flow_lines pairs flow) a (first_of_all pit) e.pit tt first
+
+-- What lines give, part by part.
+given_append : (gives : BodyLine → Bool) (x : Amount) (ls ms : List BodyLine) → given gives x (ls ++ ms) ≡ given gives (given gives x ls) ms
+given_append gives x [] ms = refl
+given_append gives x (l ∷ ls) ms = given_append gives (cond (gives l) (amount_of l) x) ls ms
+
+pits_give_nothing : (gives : BodyLine → Bool) (x : Amount) (bs : List ℕ) → ((b : ℕ) → gives (pit_at b) ≡ false) → given gives x (map pit_at bs) ≡ x
+pits_give_nothing gives x [] f = refl
+pits_give_nothing gives x (b ∷ bs) f = ap (λ (t : Bool). given gives (cond t (amount_of (pit_at b)) x) (map pit_at bs)) (f b) ∙ pits_give_nothing gives x bs f
+
+-- One line of amounts, by whether it is written.
+line_given : (gives : BodyLine → Bool) (line : ℕ → Amount → BodyLine) (k : ℕ) (x y : Amount) (ls : List BodyLine) (t : Bool) → given gives y (cond t ls (line k x ∷ ls)) ≡ given gives (cond t y (cond (gives (line k x)) (amount_of (line k x)) y)) ls
+line_given gives line k x y ls true = refl
+line_given gives line k x y ls false = refl
+
+not_given : (t u : Bool) (a y : Amount) → u ≡ false → cond t y (cond u a y) ≡ y
+not_given true u a y h = refl
+not_given false true a y h = absurd (let z : true ≡ false = h in cc)
+not_given false false a y h = refl
+
+amounts_give_nothing : (gives : BodyLine → Bool) (line : ℕ → Amount → BodyLine) (top : ℕ) (xs : List Amount) (k : ℕ) (y : Amount) → k + length xs ≤ top → ((j : ℕ) (x : Amount) → k ≤ j → j < top → gives (line j x) ≡ false) → given gives y (amount_lines line k xs) ≡ y
+amounts_give_nothing gives line top [] k y l f = refl
+amounts_give_nothing gives line top (x ∷ xs) k y l f =
+    line_given gives line k x y (amount_lines line (k + 1) xs) (is_zero x)
+    ∙ ap (λ (a : Amount). given gives a (amount_lines line (k + 1) xs)) (not_given (is_zero x) (gives (line k x)) (amount_of (line k x)) y (f k x (omega arith) (omega arith)))
+    ∙ amounts_give_nothing gives line top xs (k + 1) y (omega arith) (λ j a g h. f j a (omega arith) h)
+
+own_given : (x : Amount) (t u : Bool) (a : Amount) → is_zero x ≡ t → u ≡ true → a ≡ x → cond t zero_amount (cond u a zero_amount) ≡ x
+own_given x true u a e f g = sym ((is_eq_tells x zero_amount).0 e)
+own_given x false true a e f g = g
+own_given x false false a e f g = absurd (let z : false ≡ true = f in cc)
+
+-- The amount at a place is given by the line for that place, and by no other.
+pub record Owns (gives : BodyLine → Bool) (line : ℕ → Amount → BodyLine) (top i : ℕ) : Type 0 where
+  pub mine : (x : Amount) → gives (line i x) ≡ true
+  pub others : (j : ℕ) (x : Amount) → j ≢ i → j < top → gives (line j x) ≡ false
+  pub same : (j : ℕ) (x : Amount) → amount_of (line j x) ≡ x
+
+amount_given : (gives : BodyLine → Bool) (line : ℕ → Amount → BodyLine) (top i : ℕ) → Owns gives line top i → (xs : List Amount) (k j : ℕ) → k + length xs ≤ top → i ≡ k + j → j < length xs → given gives zero_amount (amount_lines line k xs) ≡ get_or xs j zero_amount
+amount_given gives line top i o [] k j l e h = absurd (omega arith)
+amount_given gives line top i o (x ∷ xs) k zero l e h =
+    let here : i ≡ k = omega arith in
+    let so : gives (line k x) ≡ true = subst (λ (m : ℕ). gives (line m x) ≡ true) here (o.mine x) in
+    line_given gives line k x zero_amount (amount_lines line (k + 1) xs) (is_zero x)
+    ∙ ap (λ (a : Amount). given gives a (amount_lines line (k + 1) xs)) (own_given x (is_zero x) (gives (line k x)) (amount_of (line k x)) refl so (o.same k x))
+    ∙ amounts_give_nothing gives line top xs (k + 1) x (omega arith) (λ m y g f. o.others m y (λ s. omega (arith, s)) f)
+amount_given gives line top i o (x ∷ xs) k (suc j) l e h =
+    line_given gives line k x zero_amount (amount_lines line (k + 1) xs) (is_zero x)
+    ∙ ap (λ (a : Amount). given gives a (amount_lines line (k + 1) xs)) (not_given (is_zero x) (gives (line k x)) (amount_of (line k x)) zero_amount (o.others k x (λ s. omega (arith, s)) (omega arith)))
+    ∙ amount_given gives line top i o xs (k + 1) j (omega arith) (omega arith) (omega arith)
+
+-- The blocks of the pit.
+joins : (k : LineKind) (b : ℕ) (xs ys : List ℕ) → block_if_pit k b (xs ++ ys) ≡ block_if_pit k b xs ++ ys
+joins Pit b xs ys = refl
+joins Source b xs ys = refl
+joins Rest b xs ys = refl
+joins Sink b xs ys = refl
+joins End b xs ys = refl
+
+pit_append : (ls ms : List BodyLine) → pit_of (ls ++ ms) ≡ pit_of ls ++ pit_of ms
+pit_append [] ms = refl
+pit_append (l ∷ ls) ms = ap (block_if_pit l.kind l.block) (pit_append ls ms) ∙ joins l.kind l.block (pit_of ls) (pit_of ms)
+
+pit_of_pits : (bs : List ℕ) → pit_of (map pit_at bs) ≡ bs
+pit_of_pits [] = refl
+pit_of_pits (b ∷ bs) = ap (λ (xs : List ℕ). b ∷ xs) (pit_of_pits bs)
+
+no_pit_at : (l : BodyLine) (ls : List BodyLine) (t : Bool) → block_if_pit l.kind l.block (pit_of ls) ≡ pit_of ls → pit_of (cond t ls (l ∷ ls)) ≡ pit_of ls
+no_pit_at l ls true e = refl
+no_pit_at l ls false e = e
+
+no_pit : (line : ℕ → Amount → BodyLine) → ((k : ℕ) (x : Amount) (bs : List ℕ) → block_if_pit (line k x).kind (line k x).block bs ≡ bs) → (k : ℕ) (xs : List Amount) → pit_of (amount_lines line k xs) ≡ []
+no_pit line f k [] = refl
+no_pit line f k (x ∷ xs) = no_pit_at (line k x) (amount_lines line (k + 1) xs) (is_zero x) (f k x (pit_of (amount_lines line (k + 1) xs))) ∙ no_pit line f (k + 1) xs
+
+pit_is : (pairs : List (ℕ × ℕ)) (pit : List ℕ) (flow : FlowView) → pit ≡ pit_of (value_lines pairs pit flow)
+pit_is pairs pit flow =
+    let none : pit_of (flow_lines pairs flow) ≡ [] = pit_append (amount_lines (block_at Source) 0 flow.source) (amount_lines (pair_at pairs) 0 flow.rest ++ amount_lines (block_at Sink) 0 flow.sink)
+    ∙ ap (λ (xs : List ℕ). xs ++ pit_of (amount_lines (pair_at pairs) 0 flow.rest ++ amount_lines (block_at Sink) 0 flow.sink)) (no_pit (block_at Source) (λ k x bs. refl) 0 flow.source)
+    ∙ pit_append (amount_lines (pair_at pairs) 0 flow.rest) (amount_lines (block_at Sink) 0 flow.sink)
+    ∙ ap (λ (xs : List ℕ). xs ++ pit_of (amount_lines (block_at Sink) 0 flow.sink)) (no_pit (pair_at pairs) (λ k x bs. refl) 0 flow.rest)
+    ∙ no_pit (block_at Sink) (λ k x bs. refl) 0 flow.sink in
+    sym (pit_append (map pit_at pit) (flow_lines pairs flow) ∙ ap (λ (xs : List ℕ). pit_of (map pit_at pit) ++ xs) none ∙ append-nil (pit_of (map pit_at pit)) ∙ pit_of_pits pit)
+
+four_parts : (gives : BodyLine → Bool) (hs ls ms ns : List BodyLine) → given gives zero_amount (hs ++ (ls ++ (ms ++ ns))) ≡ given gives (given gives (given gives (given gives zero_amount hs) ls) ms) ns
+four_parts gives hs ls ms ns = given_append gives zero_amount hs (ls ++ (ms ++ ns)) ∙ given_append gives (given gives zero_amount hs) ls (ms ++ ns) ∙ given_append gives (given gives (given gives zero_amount hs) ls) ms ns
+
+owns_source : (n b : ℕ) → Owns (gives_source b) (block_at Source) n b
+owns_source n b = record { mine = λ x. eq-eqb b b refl; others = λ j x h l. ne_eqb j b h; same = λ j x. refl }
+
+owns_sink : (n b : ℕ) → Owns (gives_sink b) (block_at Sink) n b
+owns_sink n b = record { mine = λ x. eq-eqb b b refl; others = λ j x h l. ne_eqb j b h; same = λ j x. refl }
+
+other_pair : (ps : List (ℕ × ℕ)) (i j : ℕ) → IsRising ps → i < length ps → j < length ps → j ≢ i → (t : Bool) → (eqb (get_or ps i (0, 0)).0 (get_or ps j (0, 0)).0 && eqb (get_or ps i (0, 0)).1 (get_or ps j (0, 0)).1) ≡ t → t ≡ false
+other_pair ps i j r h l ne false e = refl
+other_pair ps i j r h l ne true e = absurd (ne (one_place ps j i (get_or ps j (0, 0)) r l h refl (pair_told (get_or ps j (0, 0)).0 (get_or ps j (0, 0)).1 (get_or ps i (0, 0)) e) (ltb j i) (ltb i j) refl refl))
+
+owns_pair : (pairs : List (ℕ × ℕ)) (i : ℕ) → IsRising pairs → i < length pairs → Owns (gives_rest (get_or pairs i (0, 0))) (pair_at pairs) (length pairs) i
+owns_pair pairs i r h = record {
+  mine = λ x. let q = get_or pairs i (0, 0) in tells_pair q.0 q.1 q refl;
+  others = λ j x ne l. other_pair pairs i j r h l ne _ refl;
+  same = λ j x. refl;
+}
+
+pub value_says : (n : ℕ) (pairs : List (ℕ × ℕ)) (pit : List ℕ) (flow : FlowView) → IsRising pairs → Covers n (length pairs) flow → Denotes n pairs (value_lines pairs pit flow) pit flow
+value_says n pairs pit flow r c =
+    let s = amount_lines (block_at Source) 0 flow.source in
+    let m = amount_lines (pair_at pairs) 0 flow.rest in
+    let t = amount_lines (block_at Sink) 0 flow.sink in
+    record {
+      pit = pit_is pairs pit flow;
+      covers = c;
+      source = λ b h.
+          let g = gives_source b in
+          let one : given g zero_amount (map pit_at pit) ≡ zero_amount = pits_give_nothing g zero_amount pit (λ a. refl) in
+          let two : given g zero_amount s ≡ amount_at flow.source b = amount_given g (block_at Source) n b (owns_source n b) flow.source 0 b (omega (arith, c.sources)) (omega arith) (omega (arith, c.sources)) in
+          let three : (y : Amount) → given g y m ≡ y = λ y. amounts_give_nothing g (pair_at pairs) (length pairs) flow.rest 0 y (omega (arith, c.rests)) (λ j x k l. refl) in
+          let last : (y : Amount) → given g y t ≡ y = λ y. amounts_give_nothing g (block_at Sink) n flow.sink 0 y (omega (arith, c.sinks)) (λ j x k l. refl) in
+          sym (four_parts g (map pit_at pit) s m t ∙ ap (λ (y : Amount). given g (given g (given g y s) m) t) one ∙ ap (λ (y : Amount). given g (given g y m) t) two ∙ ap (λ (y : Amount). given g y t) (three (amount_at flow.source b)) ∙ last (amount_at flow.source b));
+      rest = λ i h.
+          let g = gives_rest (get_or pairs i (0, 0)) in
+          let one : given g zero_amount (map pit_at pit) ≡ zero_amount = pits_give_nothing g zero_amount pit (λ a. refl) in
+          let two : given g zero_amount s ≡ zero_amount = amounts_give_nothing g (block_at Source) n flow.source 0 zero_amount (omega (arith, c.sources)) (λ j x k l. refl) in
+          let three : given g zero_amount m ≡ amount_at flow.rest i = amount_given g (pair_at pairs) (length pairs) i (owns_pair pairs i r h) flow.rest 0 i (omega (arith, c.rests)) (omega arith) (omega (arith, c.rests)) in
+          let last : (y : Amount) → given g y t ≡ y = λ y. amounts_give_nothing g (block_at Sink) n flow.sink 0 y (omega (arith, c.sinks)) (λ j x k l. refl) in
+          sym (four_parts g (map pit_at pit) s m t ∙ ap (λ (y : Amount). given g (given g (given g y s) m) t) one ∙ ap (λ (y : Amount). given g (given g y m) t) two ∙ ap (λ (y : Amount). given g y t) three ∙ last (amount_at flow.rest i));
+      sink = λ b h.
+          let g = gives_sink b in
+          let one : given g zero_amount (map pit_at pit) ≡ zero_amount = pits_give_nothing g zero_amount pit (λ a. refl) in
+          let two : given g zero_amount s ≡ zero_amount = amounts_give_nothing g (block_at Source) n flow.source 0 zero_amount (omega (arith, c.sources)) (λ j x k l. refl) in
+          let three : given g zero_amount m ≡ zero_amount = amounts_give_nothing g (pair_at pairs) (length pairs) flow.rest 0 zero_amount (omega (arith, c.rests)) (λ j x k l. refl) in
+          let last : given g zero_amount t ≡ amount_at flow.sink b = amount_given g (block_at Sink) n b (owns_sink n b) flow.sink 0 b (omega (arith, c.sinks)) (omega arith) (omega (arith, c.sinks)) in
+          sym (four_parts g (map pit_at pit) s m t ∙ ap (λ (y : Amount). given g (given g (given g y s) m) t) one ∙ ap (λ (y : Amount). given g (given g y m) t) two ∙ ap (λ (y : Amount). given g y t) three ∙ last);
+    }
+
+-- P holds of each line of amounts, where it does of each place and amount of a kind.
+pub each_all : (P : BodyLine → Type 0) (Q : Amount → Type 0) (line : ℕ → Amount → BodyLine) (top : ℕ) → ((k : ℕ) (x : Amount) → k < top → Q x → is_zero x ≡ false → P (line k x)) → (xs : List Amount) (k : ℕ) → k + length xs ≤ top → ((j : ℕ) → j < length xs → Q (get_or xs j zero_amount)) → Each P line k xs
+each_all P Q line top f [] k l q = tt
+each_all P Q line top f (x ∷ xs) k l q = (f k x (omega arith) (q 0 (omega arith)), each_all P Q line top f xs (k + 1) (omega arith) (λ j h. q (suc j) (omega arith)))
+
+abbrev Any : Amount → Type 0
+Any x = Unit {0}
+
+proper_at : (n : ℕ) (has : ℕ → ℕ → Bool) (k b : ℕ) (x : Amount) (kind : LineKind) → b < n → is_zero x ≡ false → is_end kind ≡ false → (kind ≡ Pit → ⊥) → is_of_model has kind (block_at kind b x) ≡ true → Proper n has (block_at kind b x)
+proper_at n has k b x kind h z e p m = record { block = h; last = e; other = λ _. refl; none = λ q. absurd (p q); some = λ _. z; pair = m }
+
+-- The lines of a value are proper.
+pub value_proper : (n : ℕ) (pairs : List (ℕ × ℕ)) (pit : List ℕ) (flow : FlowView) → All (λ b. b < n) pit → All (IsKnown n) pairs → Covers n (length pairs) flow → EachLine (Proper n (has_pair pairs)) pairs pit flow
+value_proper n pairs pit flow known pairs_known c =
+    let has : ℕ → ℕ → Bool = has_pair pairs in
+    record {
+      pit = λ i h. record { block = known i 0 h; last = refl; other = λ _. refl; none = λ _. refl; some = λ q. absurd (let z : false ≡ true = q in cc); pair = refl };
+      source = each_all (Proper n has) Any (block_at Source) n (λ k x h q z. proper_at n has k k x Source h z refl (λ e. cc) refl) flow.source 0 (omega (arith, c.sources)) (λ j h. tt);
+      rest = each_all (Proper n has) Any (pair_at pairs) (length pairs) (λ k x h q z. record {
+        block = (pairs_known k (0, 0) h).0;
+        last = refl;
+        other = λ f. absurd (let y : true ≡ false = f in cc);
+        none = λ e. absurd (let y : Rest ≡ Pit = e in cc);
+        some = λ _. z;
+        pair = present (get_or pairs k (0, 0)).0 (get_or pairs k (0, 0)).1 pairs k h refl;
+      }) flow.rest 0 (omega (arith, c.rests)) (λ j h. tt);
+      sink = each_all (Proper n has) Any (block_at Sink) n (λ k x h q z. proper_at n has k k x Sink h z refl (λ e. cc) refl) flow.sink 0 (omega (arith, c.sinks)) (λ j h. tt);
+    }
+
+pub each_both : (P Q : BodyLine → Type 0) (line : ℕ → Amount → BodyLine) (k : ℕ) (xs : List Amount) → Each P line k xs → Each Q line k xs → Each (λ l. P l × Q l) line k xs
+each_both P Q line k [] e f = tt
+each_both P Q line k (x ∷ xs) e f = (λ z. (e.0 z, f.0 z), each_both P Q line (k + 1) xs e.1 f.1)

@@ -1,0 +1,126 @@
+-- What a certificate's text says, and what is wrong with it.
+use Rattle.std.specs.Prelude.{◌≡◌, ℕ, ◌<◌, ◌==◌, ◌&&◌, Bool, true, false, cond, List, [], ◌∷◌, length, drop, slice_index_or, All, Option, Some, None, Result, Ok, Err}
+use Rattle.ordered_group.specs.declared.groups.Group.{Group}
+use Rattle.ordered_group.specs.Amount.{Amount, zero_amount}
+use Rattle.ordered_group.specs.Sums.{amount_at}
+pub use Rattle.prec_file.specs.Rests.{has_pair}
+use Rattle.closure_net.specs.Network.{FlowView, IsAscending}
+use Rattle.certificate_file.specs.declared.header.Header.{Header}
+use Rattle.certificate_file.specs.declared.header.Wanted.{Wanted}
+use Rattle.certificate_file.specs.declared.header.Price.{Price}
+use Rattle.certificate_file.specs.declared.cert_fault.CertFault.{CertFault}
+use Rattle.certificate_file.specs.declared.cert_fault.CertFault.TheVariants.{NoMemory}
+use Rattle.certificate_file.specs.declared.body_lines.LineKind.{LineKind}
+use Rattle.certificate_file.specs.declared.body_lines.LineKind.TheVariants.{Pit, Source, Rest, Sink, End}
+use Rattle.certificate_file.specs.declared.body_lines.BodyLine.{BodyLine}
+use Rattle.certificate_file.specs.Pieces.{Piece, pieces_of}
+use Rattle.certificate_file.specs.Header.{header_for}
+use Rattle.certificate_file.specs.BodyLines.{body_fault, lines_in}
+use Rattle.certificate_file.specs.Written.{header_with, text_of}
+
+-- the lines behind the header
+abbrev pub body_of : List ℕ → List Piece
+body_of text = drop 4 (pieces_of text)
+
+-- what the header must say for n blocks and a group
+abbrev pub wanted_for : ℕ → Group → Option Wanted
+wanted_for n name = Some (record { blocks = n; group = name })
+
+-- the fault of the header, or else of the lines behind it
+abbrev pub fault_behind : Bool → ℕ → List (ℕ × ℕ) → List Piece → Result Header CertFault → Option CertFault
+fault_behind counts n pairs body (Err e) = Some e
+fault_behind counts n pairs body (Ok header) = body_fault counts n (has_pair pairs) None 4 body
+
+-- the fault of a text as a certificate of the group with this name, for n blocks and these pairs
+abbrev pub fault_of : Bool → Group → ℕ → List (ℕ × ℕ) → List ℕ → Option CertFault
+fault_of counts name n pairs text = fault_behind counts n pairs (body_of text) (header_for (wanted_for n name) (pieces_of text))
+
+-- the two numbers of a line
+abbrev pub amount_of : BodyLine → Amount
+amount_of line = record { w = line.worth; c = line.count }
+
+-- blocks behind the block of a line, where that is a PIT line
+abbrev pub block_if_pit : LineKind → ℕ → List ℕ → List ℕ
+block_if_pit Pit b bs = b ∷ bs
+block_if_pit Source b bs = bs
+block_if_pit Rest b bs = bs
+block_if_pit Sink b bs = bs
+block_if_pit End b bs = bs
+
+-- the blocks of the PIT lines, in order
+abbrev pub pit_of : List BodyLine → List ℕ
+pit_of [] = []
+pit_of (l ∷ ls) = block_if_pit l.kind l.block (pit_of ls)
+
+-- a SOURCE line
+abbrev pub is_source : LineKind → Bool
+is_source Pit = false
+is_source Source = true
+is_source Rest = false
+is_source Sink = false
+is_source End = false
+
+-- a REST line
+abbrev pub is_rest : LineKind → Bool
+is_rest Pit = false
+is_rest Source = false
+is_rest Rest = true
+is_rest Sink = false
+is_rest End = false
+
+-- a SINK line
+abbrev pub is_sink : LineKind → Bool
+is_sink Pit = false
+is_sink Source = false
+is_sink Rest = false
+is_sink Sink = true
+is_sink End = false
+
+-- whether a line gives the amount from the source for a block
+abbrev pub gives_source : ℕ → BodyLine → Bool
+gives_source b l = is_source l.kind && (l.block == b)
+
+-- whether a line gives the amount over a pair
+abbrev pub gives_rest : ℕ × ℕ → BodyLine → Bool
+gives_rest q l = is_rest l.kind && ((q.0 == l.block) && (q.1 == l.other))
+
+-- whether a line gives the amount to the sink for a block
+abbrev pub gives_sink : ℕ → BodyLine → Bool
+gives_sink b l = is_sink l.kind && (l.block == b)
+
+-- the amount that the lines give, or this one where none does; of lines in order at most one gives it
+abbrev pub given : (BodyLine → Bool) → Amount → List BodyLine → Amount
+given gives x [] = x
+given gives x (l ∷ ls) = given gives (cond (gives l) (amount_of l) x) ls
+
+-- the flow has an amount for each of n blocks and m pairs
+pub record Covers (n m : ℕ) (flow : FlowView) : Type 0 where
+  pub sources : length flow.source ≡ n
+  pub rests : length flow.rest ≡ m
+  pub sinks : length flow.sink ≡ n
+
+-- the pit and the flow that the lines say: an amount without a line is zero
+pub record Denotes (n : ℕ) (pairs : List (ℕ × ℕ)) (lines : List BodyLine) (blocks : List ℕ) (flow : FlowView) : Type 0 where
+  pub pit : blocks ≡ pit_of lines
+  pub covers : Covers n (length pairs) flow
+  pub source : (b : ℕ) → b < n → amount_at flow.source b ≡ given (gives_source b) zero_amount lines
+  pub rest : (k : ℕ) → k < length pairs → amount_at flow.rest k ≡ given (gives_rest (slice_index_or pairs k (0, 0))) zero_amount lines
+  pub sink : (b : ℕ) → b < n → amount_at flow.sink b ≡ given (gives_sink b) zero_amount lines
+
+-- the lines of a text behind its header, before END
+abbrev pub lines_of_text : Bool → ℕ → List ℕ → List BodyLine
+lines_of_text counts n text = lines_in counts n (body_of text)
+
+-- The numbers, the pit and the flow that a text without a fault gives; and it is the one text of these.
+pub record IsRead (counts : Bool) (name : Group) (n : ℕ) (pairs : List (ℕ × ℕ)) (text : List ℕ) (blocks : ℕ) (price : Price) (pit : List ℕ) (flow : FlowView) : Type 0 where
+  pub header : header_for (wanted_for n name) (pieces_of text) ≡ Ok (record { blocks = n; price = price; group = name })
+  pub same_blocks : blocks ≡ n
+  pub denotes : Denotes n pairs (lines_of_text counts n text) pit flow
+  pub ascending : IsAscending pit
+  pub known : All (λ b. b < n) pit
+  pub spelled : text ≡ text_of (header_with n price name) pairs pit flow
+
+-- want of memory says nothing of the text
+abbrev pub UnlessMemory : CertFault → Type 0 → Type 0
+UnlessMemory NoMemory P = Unit {0}
+UnlessMemory _ P = P

@@ -1,0 +1,31 @@
+//! Certificates: a pit and a flow as a text, how it is read, and how it is written.
+//!
+//! Stands on `fixed_worth` for words and numbers, on `ordered_group` for amounts, and on `closure_net` and `prec_file` for
+//! pits, flows and pairs. Promises upward:
+//!
+//! - `read_certificate` accepts exactly the texts of the grammar, with the pit and the flow that their lines say, and
+//!   otherwise names the first faulty line. `reading::header` reads the first four lines alone.
+//! - Each certificate has one text, which `write_certificate` writes, and which is read back as that certificate.
+//! - What is read of one line (`version_in` to `group_in`, `line_of`, `may_follow`) is the same whoever cuts the text into
+//!   lines: a reader of a whole text, or one of a device.
+#![tactic(auto)]
+
+mod body_lines;
+mod body_reader;
+mod cert_fault;
+mod certificate;
+mod gathering;
+mod header;
+mod header_lines;
+mod piece_reader;
+pub mod reading;
+mod writing;
+
+pub use body_lines::{BodyLine, LineKind, line_of, may_follow};
+pub use body_reader::is_end;
+pub use cert_fault::{CertFault, LineFault};
+pub use certificate::{Certificate, read_certificate};
+pub use gathering::{amount, counts};
+pub use header::{Header, Price, Version, Wanted};
+pub use header_lines::{blocks_in, group_in, in_line, price_in, version_in};
+pub use writing::write_certificate;
