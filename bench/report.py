@@ -20,7 +20,7 @@ from common import HERE, MODELS, table
 
 TOP = HERE.parent
 LOG = MODELS / "report.log"
-LINE = "report_times: bench_report blocks_file check_pit closure_net fixed_worth ordered_group prec_file shells"
+LINE = "report_times: bench_report blocks_file certificate_file check_pit closure_net fixed_worth ordered_group prec_file shells"
 
 # The heights of a million blocks: 100 benches; and each block on a bench of its own, so that each has its own row.
 HEIGHTS = {"100 benches": lambda b: b // 10000, "1,000,000 benches": lambda b: (b * 7919) % 1000000}
