@@ -1,21 +1,25 @@
-use Rattle.std.proofs.Common.{◌≡◌, ℕ, ◌<◌, length, arith, ap, ◌∙◌, refl}
+use Rattle.std.proofs.Common.{◌≡◌, ℕ, ◌+◌, ◌<◌, length, arith, ap, ◌∙◌, slice_range}
 use Rattle.std.proofs.lemmas.List.{length-map}
 use Rattle.prec_file.specs.Rests.{from_at, above_of}
-use Rattle.prec_file.proofs.Order.{starts_ascend, above_is}
+use Rattle.prec_file.proofs.Order.{starts_rise, above_is, at_zero}
 use Rattle.prec_file.proofs.predecessors.Predecessors.above.Goals as goal
 
 pub part-requires : goal.part-requires
 part-requires c =
     let ps = c.self.inside.pairs.value.items in
     let known : c.args.b < c.self.inside.blocks = omega (arith, c.requires, ap (λ v. v.blocks) c.self.view_is) in
-    let r = starts_ascend (from_at ps) (length ps) c.self.inside.blocks c.args.b c.self.inside.firsts.items c.self.invariant.firsts known in
-    let len : length c.self.inside.predecessors.items ≡ length ps = ap length c.self.invariant.predecessors ∙ length-map ps (λ (p : ℕ × ℕ). p.1) in
+    let r = starts_rise (from_at ps) (length ps) c.self.inside.blocks c.args.b c.index-from.result.now c.index-to.result.now c.self.inside.firsts.items c.self.invariant.firsts known c.index-from.ensures c.index-to.ensures in
+    let len : length c.deref.result.now ≡ length ps = ap length c.deref.ensures.value ∙ ap length c.self.invariant.predecessors ∙ length-map ps (λ (p : ℕ × ℕ). p.1) in
     record { rises = r.0; inside = omega (arith, r.1, len) }
 
 pub returns : goal.returns
 returns c =
     let ps = c.self.inside.pairs.value.items in
+    let firsts = c.self.invariant.firsts in
     let known : c.args.b < c.self.inside.blocks = omega (arith, c.requires, ap (λ v. v.blocks) c.self.view_is) in
     c.part.ensures
-    ∙ above_is ps c.self.invariant.rests.rising c.self.inside.blocks c.args.b _ _ c.self.inside.firsts.items c.self.inside.predecessors.items c.self.invariant.firsts c.self.invariant.predecessors known refl refl
+    ∙ ap (λ xs. slice_range xs c.index-from.result.now c.index-to.result.now) c.deref.ensures.value
+    ∙ above_is ps c.self.invariant.rests.rising c.self.inside.blocks c.args.b _ _ c.self.inside.firsts.items c.self.inside.predecessors.items firsts c.self.invariant.predecessors known
+    (at_zero c.self.inside.blocks c.args.b _ c.self.inside.firsts.items firsts.size (omega arith) c.index-from.ensures)
+    (at_zero c.self.inside.blocks (c.args.b + 1) _ c.self.inside.firsts.items firsts.size (omega arith) c.index-to.ensures)
     ∙ ap (λ v. above_of v.pairs c.args.b) c.self.view_is
