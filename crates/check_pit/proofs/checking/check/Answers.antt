@@ -1,6 +1,7 @@
-use Rattle.std.proofs.Common.{◌∙◌, sym}
+use Rattle.std.proofs.Common.{◌∙◌, sym, subst}
 use Rattle.std.proofs.lemmas.Result.{err_from_is_err_and}
-use Rattle.closure_net.specs.Network.{holds_of}
+use Rattle.closure_net.specs.Network.{NetView, holds_of}
+use Rattle.closure_net.specs.Closure.{IsGreatest}
 use Rattle.check_pit.specs.Checks.{PassesCapacities}
 use Rattle.check_pit.proofs.Verdicts.{flow_found, balance_fault, no_fault}
 use Rattle.closure_net.proofs.Duality.{greatest_from_tight}
@@ -24,10 +25,12 @@ returns-in_err-balances-clause-complete g c =
     let found = balance_fault c.args.net.now c.args.flow.now c.args.pit.now c.in_err-balances.field-0.0 passes c.in_err-balances.ensures in
     λ proves fit. absurd (no_fault c.args.net.now c.args.flow.now c.args.pit.now c.in_err-balances.field-0.0 proves fit found.holds)
 
-pub new-requires-clause-greatest : goal.new-requires-clause-greatest
-new-requires-clause-greatest g c =
+pub new-on_graph-requires-clause-greatest : goal.new-on_graph-requires-clause-greatest
+new-on_graph-requires-clause-greatest g c =
     let is = flow_found c.args.net.now c.args.flow.now c.args.pit.now (c.sizes_agree.ensures.0 c.if-not-sizes_agree.false) (c.none_below_zero.ensures.0 c.if-not-none_below_zero.false) c.in_default-first_over.ensures c.in_ok-balances.ensures in
     let sum = rw c.in_ok-worth.ensures.ok_part at c.pit_worth.ensures.sum in
     let room = rw c.in_ok-room.ensures.ok_part at c.residual_of_source.ensures in
-    λ κs le. greatest_from_tight c.args.net.now c.args.flow.now (holds_of c.args.pit.now) c.pit_worth.ensures.net.rests.known is c.in_default.ensures
-    (sym sum.0 ∙ c.same.ensures.0 c.if-not-same.false ∙ room.0)
+    let P : NetView → Type 0 = λ net. IsGreatest net (holds_of c.args.pit.now) in
+    λ κs le. subst P (sym c.graph.ensures)
+    (greatest_from_tight c.args.net.now c.args.flow.now (holds_of c.args.pit.now) c.pit_worth.ensures.net.rests.known is c.in_default.ensures
+    (sym sum.0 ∙ c.same.ensures.0 c.if-not-same.false ∙ room.0))
