@@ -1,4 +1,4 @@
-//! A word that names nothing for its option, told in the library's form of error.
+//! A value that names nothing for its option, reported in the library's form of error.
 
 use crate::declined::Declined;
 use crate::escaped::Escaped;
@@ -30,7 +30,7 @@ pub enum Commanded {
 
 /// An option that names one of a few things, or a number.
 #[derive(Clone, Copy)]
-pub enum NamedOption {
+pub enum NamedOption<'a> {
     /// `--pattern`.
     Pattern,
     /// `--up`.
@@ -47,48 +47,59 @@ pub enum NamedOption {
     Workers,
     /// `--room`.
     Room,
-    /// `--trace` with the word of an input.
+    /// `--trace` with the name of an input.
     Trace,
-    /// `--by-block` with the word of an input.
+    /// `--by-block` with the name of an input.
     ByBlock,
     /// `--method` where `--trace` is given.
     TracedMethod,
-    /// `--group` where `--method words` is given.
-    GroupOfWords,
-    /// `--workers` where `--method words` is given.
-    WorkersOfWords,
+    /// `--group` beside the method without a lock.
+    GroupWithoutLock {
+        /// The method, as it was given.
+        method: &'a str,
+    },
+    /// `--workers` beside the method without a lock.
+    WorkersWithoutLock {
+        /// The method, as it was given.
+        method: &'a str,
+    },
 }
 
-/// A word that names nothing that its option takes. Which words those are is decided above, where they are read.
+/// A value that names nothing that its option takes. Which values those are is decided above, where they are read.
 #[derive(Clone, Copy)]
-pub struct WrongWord<'a> {
+pub struct WrongValue<'a> {
     /// The command.
     pub command: Commanded,
     /// The option.
-    pub option: NamedOption,
-    /// The word.
-    pub word: &'a str,
+    pub option: NamedOption<'a>,
+    /// The value.
+    pub value: &'a str,
 }
 
-/// Declines a request for such a word: the text names the option, the word and what the option takes.
-pub fn declined_for(alloc: Global, wrong: WrongWord<'_>) -> Declined {
+/// Declines a request for such a value: the text names the option, the value and what the option takes.
+pub fn declined_for(alloc: Global, wrong: WrongValue<'_>) -> Declined {
     match error_for(alloc, wrong) {
         Ok(error) => Declined::by(error),
         Err(refused) => Declined::by(Error::from(refused)),
     }
 }
 
-fn error_for(alloc: Global, wrong: WrongWord<'_>) -> Result<Error, AllocError> {
+fn error_for(alloc: Global, wrong: WrongValue<'_>) -> Result<Error, AllocError> {
     let text = text_for(alloc, wrong)?;
     let mut command = command_of(alloc, wrong.command)?;
     command.error(ErrorKind::ValueValidation, text.as_str())
 }
 
-fn text_for(alloc: Global, wrong: WrongWord<'_>) -> Result<String, AllocError> {
+fn text_for(alloc: Global, wrong: WrongValue<'_>) -> Result<String, AllocError> {
     let shown = shown(wrong.option);
     let taken = taken(wrong.command, wrong.option);
-    let word = Escaped { word: wrong.word };
-    format!(in alloc; "invalid value '{word}' for '{shown}': {taken}")
+    let value = Escaped { text: wrong.value };
+    match method_beside(wrong.option) {
+        Some(method) => {
+            format!(in alloc; "invalid value '{value}' for '{shown}': {taken} where --method {method} is given")
+        }
+        None => format!(in alloc; "invalid value '{value}' for '{shown}': {taken}"),
+    }
 }
 
 // The command, by the name that its usage shows.
@@ -104,16 +115,25 @@ fn command_of<'a>(alloc: Global, command: Commanded) -> Result<Command<'a>, Allo
     made?.bin_name(name)
 }
 
+// The method that was given, where it leaves the option less to take.
+fn method_beside<'a>(option: NamedOption<'a>) -> Option<&'a str> {
+    match option {
+        NamedOption::GroupWithoutLock { method } => Some(method),
+        NamedOption::WorkersWithoutLock { method } => Some(method),
+        _ => None,
+    }
+}
+
 // The option as the help shows it.
-fn shown(option: NamedOption) -> &'static str {
+fn shown(option: NamedOption<'_>) -> &'static str {
     match option {
         NamedOption::Pattern => "--pattern <PATTERN>",
         NamedOption::Up => "--up <WAY>",
         NamedOption::Factor => "--factor <FACTOR>",
         NamedOption::Method | NamedOption::TracedMethod => "--method <METHOD>",
-        NamedOption::Group | NamedOption::GroupOfWords => "--group <GROUP>",
+        NamedOption::Group | NamedOption::GroupWithoutLock { .. } => "--group <GROUP>",
         NamedOption::Steps => "--steps <STEPS>",
-        NamedOption::Workers | NamedOption::WorkersOfWords => "--workers <WORKERS>",
+        NamedOption::Workers | NamedOption::WorkersWithoutLock { .. } => "--workers <WORKERS>",
         NamedOption::Room => "--room <ROOM>",
         NamedOption::Trace => "--trace <FILE>",
         NamedOption::ByBlock => "--by-block <FILE>",
@@ -121,7 +141,7 @@ fn shown(option: NamedOption) -> &'static str {
 }
 
 // What the option takes.
-fn taken(command: Commanded, option: NamedOption) -> &'static str {
+fn taken(command: Commanded, option: NamedOption<'_>) -> &'static str {
     match option {
         NamedOption::Pattern =>
             "five, nine, cone:LEVELS:RUN:RISE with each number from 1 to 1000, or settings",
@@ -136,8 +156,8 @@ fn taken(command: Commanded, option: NamedOption) -> &'static str {
         NamedOption::ByBlock =>
             "a file that isn't an input, since the table replaces what is in it",
         NamedOption::TracedMethod => "auto or push-relabel where --trace is given",
-        NamedOption::GroupOfWords => "scaled where --method words is given",
-        NamedOption::WorkersOfWords => "1 or 2 where --method words is given",
+        NamedOption::GroupWithoutLock { .. } => "scaled",
+        NamedOption::WorkersWithoutLock { .. } => "1 or 2",
     }
 }
 
