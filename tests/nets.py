@@ -18,7 +18,7 @@ from pathlib import Path
 import plain_check
 from refused_calls import run
 
-ENGINES = (("pseudoflow", 1), ("push-relabel", 1), ("push-relabel", 2), ("words", 1), ("words", 2))
+ENGINES = (("pseudoflow", 1), ("push-relabel", 1), ("push-relabel", 2), ("lock-free", 1), ("lock-free", 2))
 USUAL = ((None, None), (None, 2))  # no word on the method, nor on the workers
 SHAPES = ("chain", "star", "cycle", "scattered")
 
@@ -130,7 +130,7 @@ def pit_by(program, folder, engine, rests, worths):
     status, certificate, errors = run(program, words, folder)
     if (status, errors) != (0, b""):
         return "status %s, %r, %r" % (status, certificate, errors)
-    if method == "words":
+    if method == "lock-free":
         return {int(line[4:]) for line in certificate.split(b"\n") if line.startswith(b"PIT ")}
     said = plain_check.proof_of(certificate)
     return plain_check.refusal([10**9 * worth for worth in worths], rests, said) or said.pit

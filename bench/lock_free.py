@@ -1,10 +1,10 @@
 #!/usr/bin/env python3
-"""Measures the runs of the push-relabel machine without a lock, `pit solve --method words`, beside those under one, both in
+"""Measures the runs of the push-relabel machine without a lock, `pit solve --method lock-free`, beside those under one, both in
 amounts of the group scaled.
 
-    bench/words.py                the model of 1,060 blocks to its end, and steps a second on it and on the one of 9,400
-    bench/words.py --to-the-end   the one of 9,400 to its end too: some minutes a run
-    bench/words.py --one-core     chains of 200 and of 400 blocks, whose excess crosses over at each block, on one core alone
+    bench/lock_free.py                the model of 1,060 blocks to its end, and steps a second on it and on the one of 9,400
+    bench/lock_free.py --to-the-end   the one of 9,400 to its end too: some minutes a run
+    bench/lock_free.py --one-core     chains of 200 and of 400 blocks, whose excess crosses over at each block, on one core alone
 
 The models' values are rounded to whole thousands, of which each is a unit, so that their totals fit a word. Of a whole run each
 pit is compared with that of Boost's solver (bench/peers/boost_bk). Steps a second are those of runs that a limit cuts short, less
@@ -24,8 +24,8 @@ PART = {"newman": 10_000_000, "zuck": 100_000_000}  # steps of a run that is cut
 KINDS = [
     ("1 worker, one lock", ["--method", "push-relabel", "--group", "scaled", "--workers", "1"]),
     ("2 workers, one lock", ["--method", "push-relabel", "--group", "scaled", "--workers", "2"]),
-    ("1 worker, words", ["--method", "words", "--workers", "1"]),
-    ("2 workers, words", ["--method", "words", "--workers", "2"]),
+    ("1 worker, no lock", ["--method", "lock-free", "--workers", "1"]),
+    ("2 workers, no lock", ["--method", "lock-free", "--workers", "2"]),
 ]
 
 
