@@ -25,7 +25,7 @@ RUNS = [
     ("`.blocks` alone, three columns of which none is chosen", ["check.py", "--blocks"]),
     ("`pit slopes`: reading, looking up and writing", ["slopes.py"]),
     ("Whole runs of `pit solve`, by pseudoflow", ["solve_peers.py"]),
-    ("Mines of 3 to 15 million blocks, solved with no further words", ["large.py", "--rounds", "1"]),
+    ("Mines of 3 to 15 million blocks, solved with no further options", ["large.py", "--rounds", "1"]),
     ("The push-relabel machine", ["solve.py"]),
     ("Traces of runs", ["traces.py"]),
     ("Runs without a lock", ["lock_free.py"]),
