@@ -1,8 +1,7 @@
 //! The command `check`.
 
 use crate::options::{
-    ModelArgs, STATUSES, file_arg, model_options, model_args, text_of, verbose_option,
-    with_options,
+    ModelArgs, STATUSES, file_arg, model_args, model_options, text_of, verbose_option, with_options,
 };
 use clap::{Arg, ArgMatches, Command};
 use std::alloc::{AllocError, Global};

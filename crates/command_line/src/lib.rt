@@ -26,7 +26,7 @@ pub use escaped::Escaped;
 pub use options::ModelArgs;
 pub use replay_command::ReplayArgs;
 pub use request::{Request, request_of};
-pub use series_options::{SeriesCommand, SeriesArgs};
+pub use series_options::{SeriesArgs, SeriesCommand};
 pub use slopes_command::{OffsetsArgs, SlopesArgs};
 pub use solve_command::SolveArgs;
 pub use value_command::ValueArgs;

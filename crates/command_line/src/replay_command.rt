@@ -1,7 +1,7 @@
 //! The command `replay`.
 
 use crate::options::{
-    ModelArgs, STATUSES, file_arg, group_option, model_at_factor_options, model_args, text_of,
+    ModelArgs, STATUSES, file_arg, group_option, model_args, model_at_factor_options, text_of,
     verbose_option, with_options,
 };
 use clap::{Arg, ArgMatches, Command};

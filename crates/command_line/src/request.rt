@@ -1,16 +1,16 @@
 //! Reading the arguments: one request, or an answer that prints itself.
 
-use crate::check_command::{CheckArgs, check_command, check_args};
+use crate::check_command::{CheckArgs, check_args, check_command};
 use crate::declined::Declined;
 use crate::escaped::{Escaped, has_control};
 use crate::options::STATUSES;
-use crate::replay_command::{ReplayArgs, replay_command, replay_args};
+use crate::replay_command::{ReplayArgs, replay_args, replay_command};
 use crate::report_command::report_command;
-use crate::series_options::{SeriesCommand, SeriesArgs, series_args};
+use crate::series_options::{SeriesArgs, SeriesCommand, series_args};
 use crate::shells_command::shells_command;
-use crate::slopes_command::{SlopesArgs, slopes_command, slopes_args};
-use crate::solve_command::{SolveArgs, solve_command, solve_args};
-use crate::value_command::{ValueArgs, value_command, value_args};
+use crate::slopes_command::{SlopesArgs, slopes_args, slopes_command};
+use crate::solve_command::{SolveArgs, solve_args, solve_command};
+use crate::value_command::{ValueArgs, value_args, value_command};
 use crate::version::VERSION;
 use clap::error::ErrorKind;
 use clap::{Command, Error};

@@ -1,7 +1,7 @@
 //! The command `solve`.
 
 use crate::options::{
-    ModelArgs, STATUSES, group_option, method_option, model_at_factor_options, model_args,
+    ModelArgs, STATUSES, group_option, method_option, model_args, model_at_factor_options,
     named_option, number_option, progress_option, steps_option, text_of, verbose_solving_option,
     with_options, workers_option,
 };

@@ -1,8 +1,8 @@
 //! The command `value`.
 
 use crate::options::{
-    ModelArgs, STATUSES, file_arg, model_options, model_args, named_option, number_option,
-    text_of, verbose_option, with_options,
+    ModelArgs, STATUSES, file_arg, model_args, model_options, named_option, number_option, text_of,
+    verbose_option, with_options,
 };
 use clap::{Arg, ArgMatches, Command};
 use std::alloc::{AllocError, Global};

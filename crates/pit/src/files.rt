@@ -9,7 +9,7 @@ use crate::pairs_bound::{PairsBound, offsets_of};
 use crate::settings_reasons::KeptText;
 use crate::slopes_args::selection_asked;
 use crate::told::output;
-use command_line::{CheckArgs, ReplayArgs, SeriesCommand, SeriesArgs, SlopesArgs, ValueArgs};
+use command_line::{CheckArgs, ReplayArgs, SeriesArgs, SeriesCommand, SlopesArgs, ValueArgs};
 use design_engines::{ValueFault, compare_engine, value_engine};
 use engines::{
     Effort, EngineFault, PatternChoice, Verdict, check_engine, slopes_engine,

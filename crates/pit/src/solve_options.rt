@@ -5,10 +5,10 @@ use command_line::{
     Commanded, ModelArgs, NamedOption, ReplayArgs, SolveArgs, ValueArgs, WrongValue,
 };
 use engines::{Method, factor_named, group_named};
+use lock_free_engine::names_lock_free;
 use ordered_group::Group;
 use replay_engines::ReplayAsked;
 use shells::Factor;
-use lock_free_engine::names_lock_free;
 
 /// What amounts count: worth and size, where no option says.
 pub fn group_asked<'a>(command: Commanded, value: Option<&'a str>) -> Result<Group, WrongValue<'a>> {

@@ -8,12 +8,12 @@ use audit_engines::{TracedAsked, solve_traced_engine};
 use command_line::SolveArgs;
 use engines::{EngineFault, Outcome, SolveAsked, Verdict, solve_engine};
 use fixed_worth::Counted;
+use lock_free_engine::{LockFreeAsked, solve_lock_free_engine};
 use pseudoflow::Progress;
 use shells::Factor;
 use std::rt::Files;
 use std::sync::Wait;
 use std::thread::Threads;
-use lock_free_engine::{LockFreeAsked, solve_lock_free_engine};
 use workers::Gate;
 
 /// Solves the mine of files as it is asked for, where its blocks have prices at a factor.

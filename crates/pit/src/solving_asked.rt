@@ -1,11 +1,11 @@
 //! How `solve` is to solve a mine, by its arguments, or the value that names nothing that there is.
 
-use crate::effort_args::{effort_without_lock, effort_to_solve, method_asked};
+use crate::effort_args::{effort_to_solve, effort_without_lock, method_asked};
 use crate::solve_options::{TraceAsked, asks_for_lock_free, group_asked, room_asked, trace_asked};
 use command_line::{Commanded, NamedOption, SolveArgs, WrongValue};
 use engines::{Effort, Method};
-use ordered_group::Group;
 use lock_free_engine::LockFreeEffort;
+use ordered_group::Group;
 
 /// How it is to be solved.
 #[derive(Clone, Copy)]
