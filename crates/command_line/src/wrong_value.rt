@@ -96,7 +96,9 @@ fn text_for(alloc: Global, wrong: WrongValue<'_>) -> Result<String, AllocError> 
     let value = Escaped { text: wrong.value };
     match method_beside(wrong.option) {
         Some(method) => {
-            format!(in alloc; "invalid value '{value}' for '{shown}': {taken} where --method {method} is given")
+            format!(in alloc;
+                "invalid value '{value}' for '{shown}': {taken} where --method {method} is given"
+            )
         }
         None => format!(in alloc; "invalid value '{value}' for '{shown}': {taken}"),
     }

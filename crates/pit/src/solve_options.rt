@@ -11,7 +11,10 @@ use replay_engines::ReplayAsked;
 use shells::Factor;
 
 /// What amounts count: worth and size, where no option says.
-pub fn group_asked<'a>(command: Commanded, value: Option<&'a str>) -> Result<Group, WrongValue<'a>> {
+pub fn group_asked<'a>(
+    command: Commanded,
+    value: Option<&'a str>,
+) -> Result<Group, WrongValue<'a>> {
     match value {
         Some(value) => group_named(value.as_bytes()).ok_or(WrongValue {
             command,
