@@ -2,7 +2,7 @@
 """Runs every benchmark, one after the other, and writes what they print below a heading each.
 
     bench/all.py                 to standard output, which `bench/all.py > run.md` keeps
-    bench/all.py --only WORD ..  those whose command has one of the words, as `check` or `words`
+    bench/all.py --only WORD ..  those whose command has one of the words, as `check` or `lock_free`
 
 At the head stands the machine, and below each heading when the benchmark began, the seconds that it took, and the share of the
 processors' time that the host gave to others meanwhile: where that is more than some percent, or another job ran, compare ratios
@@ -25,10 +25,10 @@ RUNS = [
     ("`.blocks` alone, three columns of which none is chosen", ["check.py", "--blocks"]),
     ("`pit slopes`: reading, looking up and writing", ["slopes.py"]),
     ("Whole runs of `pit solve`, by pseudoflow", ["solve_peers.py"]),
-    ("Mines of 3 to 15 million blocks, solved with no further words", ["large.py", "--rounds", "1"]),
+    ("Mines of 3 to 15 million blocks, solved with no further options", ["large.py", "--rounds", "1"]),
     ("The push-relabel machine", ["solve.py"]),
     ("Traces of runs", ["traces.py"]),
-    ("Runs without a lock", ["words.py"]),
+    ("Runs without a lock", ["lock_free.py"]),
     ("`pit replay`: the steps of a trace", ["replay.py"]),
     ("`pit shells` at twenty factors", ["shells.py"]),
     ("`pit value` beside `pit check`", ["value.py"]),

@@ -1,5 +1,5 @@
 #!/usr/bin/env python3
-"""Solves mines of 3, 10 and 15 million blocks by `pit solve` with no further words, and checks each certificate with `pit check`
+"""Solves mines of 3, 10 and 15 million blocks by `pit solve` with no further options, and checks each certificate with `pit check`
 and with bench/peers/checker: CPU seconds and peak memory of the run.
 
     bench/large.py               rich3m, b10m and b15m: some 4 GB of disk in bench/out, and 7 GB of memory

@@ -3,7 +3,7 @@
 
     bench/solve_peers.py                                 beside Boost's boykov_kolmogorov_max_flow (bench/peers/boost_bk)
     bench/solve_peers.py --peer PROGRAM                  beside PROGRAM PREC UPIT, which prints the pit's blocks and worth
-    bench/solve_peers.py --words="--method pseudoflow"   with more words for `pit solve`
+    bench/solve_peers.py --options="--method pseudoflow" with more options for `pit solve`
 
 A run of `pit` reads the model, solves it, checks its answer and writes the certificate; one of the peer reads the model, builds
 its network and solves it. Both run on one core, in turns; of the rounds the fewest seconds and the least peak count. The
@@ -41,11 +41,11 @@ def row(mine, program, more, checker, given):
 def main():
     words = arguments(__doc__, ["zuck", "marvin", "mclim", "b350k", "b2m"])
     words.add_argument("--peer", metavar="PROGRAM", help="bench/peers/boost_bk where it is left out")
-    words.add_argument("--words", default="", metavar="WORDS", help="more words for `pit solve`, as one argument")
+    words.add_argument("--options", default="", metavar="OPTIONS", help="more options for `pit solve`, as one argument")
     given = words.parse_args()
     adopt_orphans()
     program, checker = given.peer or peer("boost_bk"), peer("checker")
-    rows = [row(model(name), program, given.words.split(), checker, given) for name in given.models]
+    rows = [row(model(name), program, given.options.split(), checker, given) for name in given.models]
     table(["model", "blocks", "pairs", "pit: blocks, worth", "pit s", "peer s", "ratio", "pit peak MB", "peer peak MB",
            "ratio"], rows)
 

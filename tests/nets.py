@@ -1,7 +1,7 @@
-"""Runs every engine of the built program on mines that are made up: small ones, whose best pit is found by going through
+"""Runs every solver of the built program on mines that are made up: small ones, whose best pit is found by going through
 all their closed sets; scattered ones of up to 300 blocks; and chains of 4,000.
 
-Mines of 1,001 to 20,000 blocks are solved with no word on the method: ore bodies in waste, scattered pairs, and long chains,
+Mines of 1,001 to 20,000 blocks are solved without --method: ore bodies in waste, scattered pairs, and long chains,
 on which the push-relabel machine would need more steps than it has, so that these have an answer only where pseudoflow
 is tried.
 
@@ -18,12 +18,12 @@ from pathlib import Path
 import plain_check
 from refused_calls import run
 
-ENGINES = (("pseudoflow", 1), ("push-relabel", 1), ("push-relabel", 2), ("words", 1), ("words", 2))
-USUAL = ((None, None), (None, 2))  # no word on the method, nor on the workers
+SOLVERS = (("pseudoflow", 1), ("push-relabel", 1), ("push-relabel", 2), ("lock-free", 1), ("lock-free", 2))
+USUAL = ((None, None), (None, 2))  # without --method, and without --workers
 SHAPES = ("chain", "star", "cycle", "scattered")
 
 # Its worths, its pairs, what its best pit is worth and how many blocks that has (less than nothing), where that is known, and who solves it.
-Mine = namedtuple("Mine", "worths pairs best engines")
+Mine = namedtuple("Mine", "worths pairs best solvers")
 
 
 def pairs_of(chance, shape, blocks):
@@ -55,14 +55,14 @@ def small_mine(seed):
     chance = random.Random(seed)
     blocks, shape = seed // 20 + 1, SHAPES[seed % 4]
     worths, pairs = worths_of(chance, blocks), pairs_of(chance, shape, blocks)
-    return Mine(worths, pairs, best_of_all(worths, pairs), ENGINES)
+    return Mine(worths, pairs, best_of_all(worths, pairs), SOLVERS)
 
 
 def scattered_mine(seed):
     """A mine of 50 to 300 blocks."""
     chance = random.Random(seed)
     blocks = chance.randrange(50, 301)
-    return Mine(worths_of(chance, blocks), pairs_of(chance, "scattered", blocks), None, ENGINES)
+    return Mine(worths_of(chance, blocks), pairs_of(chance, "scattered", blocks), None, SOLVERS)
 
 
 def long_chain(ore, from_below, half=2_000):
@@ -71,7 +71,7 @@ def long_chain(ore, from_below, half=2_000):
     if not from_below:
         last = 2 * half - 1
         worths, pairs = worths[::-1], [(last - b, last - p) for b, p in pairs]
-    return Mine(worths, pairs, (half * (ore - 1), -2 * half if ore > 1 else 0), ENGINES[:1])
+    return Mine(worths, pairs, (half * (ore - 1), -2 * half if ore > 1 else 0), SOLVERS[:1])
 
 
 def ore_bodies(blocks, side, radius):
@@ -101,7 +101,7 @@ def large_scattered_mine(blocks):
 
 def longer_chain(ore, from_below):
     """10,000 blocks of ore under 10,000 that cost 1, as in `long_chain`."""
-    return long_chain(ore, from_below, half=10_000)._replace(engines=USUAL)
+    return long_chain(ore, from_below, half=10_000)._replace(solvers=USUAL)
 
 
 def usual_mines():
@@ -122,15 +122,15 @@ def texts_of(worths, pairs):
     return upit, prec, rests
 
 
-def pit_by(program, folder, engine, rests, worths):
-    """The pit that an engine finds, or what is wrong with its answer, as text."""
-    method, workers = engine
+def pit_by(program, folder, solver, rests, worths):
+    """The pit that a solver finds, or what is wrong with its answer, as text."""
+    method, workers = solver
     words = ["solve", "--prec", "p", "--upit", "u"]
     words += (["--method", method] if method else []) + (["--workers", str(workers)] if workers else [])
     status, certificate, errors = run(program, words, folder)
     if (status, errors) != (0, b""):
         return "status %s, %r, %r" % (status, certificate, errors)
-    if method == "words":
+    if method == "lock-free":
         return {int(line[4:]) for line in certificate.split(b"\n") if line.startswith(b"PIT ")}
     said = plain_check.proof_of(certificate)
     return plain_check.refusal([10**9 * worth for worth in worths], rests, said) or said.pit
@@ -143,10 +143,10 @@ def wrong(program, mine):
         upit, prec, rests = texts_of(mine.worths, mine.pairs)
         (folder / "u").write_text(upit)
         (folder / "p").write_text(prec)
-        pits = [pit_by(program, folder, engine, rests, mine.worths) for engine in mine.engines]
-    for engine, pit in zip(mine.engines, pits):
+        pits = [pit_by(program, folder, solver, rests, mine.worths) for solver in mine.solvers]
+    for solver, pit in zip(mine.solvers, pits):
         if pit != pits[0] or isinstance(pit, str):
-            return "%s by %s: %s, and by %s %s" % (*engine, pit, mine.engines[0][0], pits[0])
+            return "%s by %s: %s, and by %s %s" % (*solver, pit, mine.solvers[0][0], pits[0])
     found = sum(mine.worths[b] for b in pits[0]), -len(pits[0])
     return None if mine.best in (None, found) else "%s in place of %s" % (found, mine.best)
 

@@ -23,14 +23,14 @@ RUNS = (
     # told after the first tree's turns, by which no tree can be lifted; the end comes in the same second
     (CHAIN, ["--method", "pseudoflow"], 0, ["progress: 0 of 400 blocks settled"]),
     (CHAIN, ["--method", "push-relabel", "--steps", "100000"], 1, ["progress: 65536 steps, 65% of the limit"]),
-    (CHAIN, ["--method", "words", "--steps", "100000"], 1, ["progress: 65536 steps, 65% of the limit"]),
+    (CHAIN, ["--method", "lock-free", "--steps", "100000"], 1, ["progress: 65536 steps, 65% of the limit"]),
 )
 # Two ore blocks that pay together for the waste on both; and one that doesn't pay for its waste, beside one that has none.
 ALL = nets.Mine([6, 5, -10], [(0, 2), (1, 2)], None, ())
 PART = nets.Mine([6, 4, -30], [(0, 2)], None, ())
 # The same of the end, without --progress: by each method, and with a trace.
 ENDS = tuple((mine, [*words, "--verbose"], 0, [line]) for mine, line in ((ALL, "proved: 3 of 3 blocks, worth 1"), (PART, "proved: 1 of 3 blocks, worth 4"))
-             for words in ([], ["--method", "pseudoflow"], ["--method", "words"], ["--method", "words", "--workers", "2"], ["--group", "worth"], ["--trace", "t"]))
+             for words in ([], ["--method", "pseudoflow"], ["--method", "lock-free"], ["--method", "lock-free", "--workers", "2"], ["--group", "worth"], ["--trace", "t"]))
 
 
 def give_late(pipe, text):

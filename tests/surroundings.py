@@ -26,7 +26,7 @@ def chain(ore, waste):
 def on_one_processor(program):
     """Two workers without a lock, bound to one processor, need about as many turns as one. Where each spun until the other
     has its turn of the processor, it would use up some 50,000 turns at each of some thousand changes, and end UNSETTLED."""
-    words = ["solve", *VALUES, "--method", "words"]
+    words = ["solve", *VALUES, "--method", "lock-free"]
     allowed = os.sched_getaffinity(0)
     with room_with(chain(40, 40)) as room:
         alone = run(program, [*words, "--workers", "1"], room)

@@ -34,7 +34,7 @@ def left(folder):
 
 
 def under_an_inputs_name(program):
-    """The word of an input is declined before a file is opened, and nothing is changed."""
+    """The name of an input is declined before a file is opened, and nothing is changed."""
     for model in (VALUES, PRICES):
         for name in model[1::2]:
             if name not in FILES:

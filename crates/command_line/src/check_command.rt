@@ -1,8 +1,7 @@
 //! The command `check`.
 
 use crate::options::{
-    ModelWords, STATUSES, file_word, model_options, model_words, text_of, verbose_option,
-    with_options,
+    ModelArgs, STATUSES, file_arg, model_args, model_options, text_of, verbose_option, with_options,
 };
 use clap::{Arg, ArgMatches, Command};
 use std::alloc::{AllocError, Global};
@@ -22,9 +21,9 @@ const CERTIFICATE_HELP: &str = "The pit and its flow: a PITCERT text";
 
 /// The files of a check, and whether it is told why one failed.
 #[derive(Clone, Copy)]
-pub struct CheckWords<'a> {
+pub struct CheckArgs<'a> {
     pub prec: &'a str,
-    pub model: ModelWords<'a>,
+    pub model: ModelArgs<'a>,
     pub certificate: &'a str,
     pub verbose: bool,
 }
@@ -42,16 +41,16 @@ pub fn check_command<'a>(alloc: Global) -> Result<Command<'a>, AllocError> {
 
 // The file of the certificate, and whether it is told why one failed.
 fn certificate_options<'a>(alloc: Global) -> Result<Vec<Arg<'a>>, AllocError> {
-    let certificate = file_word(alloc, "certificate", "CERT", CERTIFICATE_HELP);
+    let certificate = file_arg(alloc, "certificate", "CERT", CERTIFICATE_HELP);
     Ok(vec![in alloc; certificate, verbose_option(alloc)]?)
 }
 
-/// The words that were given.
-pub fn check_words<'a>(words: &ArgMatches<'a>) -> CheckWords<'a> {
-    CheckWords {
-        prec: text_of(words, "prec"),
-        model: model_words(words),
-        certificate: text_of(words, "certificate"),
-        verbose: words.get_flag("verbose"),
+/// The arguments that were given.
+pub fn check_args<'a>(matches: &ArgMatches<'a>) -> CheckArgs<'a> {
+    CheckArgs {
+        prec: text_of(matches, "prec"),
+        model: model_args(matches),
+        certificate: text_of(matches, "certificate"),
+        verbose: matches.get_flag("verbose"),
     }
 }

@@ -1,10 +1,10 @@
-//! Why the words are no request.
+//! Why the arguments are no request.
 
 use clap::Error;
 use clap::error::ErrorKind;
 use std::io;
 
-/// Why the words ask for nothing that can be done: a help text or the version was asked for, or a word is wrong, or memory
+/// Why the arguments ask for nothing that can be done: a help text or the version was asked for, or one is wrong, or memory
 /// was refused.
 #[derive(Drop)]
 pub struct Declined {
@@ -12,7 +12,7 @@ pub struct Declined {
 }
 
 impl Declined {
-    /// Declines the words for this error of the library.
+    /// Declines the arguments for this error of the library.
     pub fn by(error: Error) -> Declined {
         Declined { error }
     }

@@ -1,17 +1,17 @@
-//! Words as they are shown.
+//! Texts as they are shown.
 
 use std::fmt;
 
-/// A word, shown with its control characters as `\u{1b}`, so that none of them acts on the terminal.
+/// A text, shown with its control characters as `\u{1b}`, so that none of them acts on the terminal.
 #[derive(Clone, Copy)]
 pub struct Escaped<'a> {
-    /// The word.
-    pub word: &'a str,
+    /// The text.
+    pub text: &'a str,
 }
 
 impl fmt::Display for Escaped<'_> {
     fn fmt<W: fmt::Write>(&self, f: &mut fmt::Formatter<W>) -> fmt::Result {
-        for letter in self.word.chars() {
+        for letter in self.text.chars() {
             if letter.is_control() {
                 let code = letter as u32;
                 write!(f, "\\u{{{code:x}}}")?;
@@ -23,9 +23,9 @@ impl fmt::Display for Escaped<'_> {
     }
 }
 
-/// Whether a word has a control character.
-pub fn has_control(word: &str) -> bool {
-    for letter in word.chars() {
+/// Whether a text has a control character.
+pub fn has_control(text: &str) -> bool {
+    for letter in text.chars() {
         if letter.is_control() {
             return true;
         }

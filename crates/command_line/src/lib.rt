@@ -1,4 +1,4 @@
-//! The command line of `pit`: which command was asked for, with which words.
+//! The command line of `pit`: which command was asked for, with which arguments.
 //!
 //! Uses the `clap` library alone, and promises nothing except that it is safe. What an argument means is decided above,
 //! where numbers and names are read; an argument that names nothing is reported here, in the library's form. A crate of its
@@ -18,16 +18,16 @@ mod slopes_command;
 mod solve_command;
 mod value_command;
 mod version;
-mod wrong_word;
+mod wrong_value;
 
-pub use check_command::CheckWords;
+pub use check_command::CheckArgs;
 pub use declined::Declined;
 pub use escaped::Escaped;
-pub use options::ModelWords;
-pub use replay_command::ReplayWords;
+pub use options::ModelArgs;
+pub use replay_command::ReplayArgs;
 pub use request::{Request, request_of};
-pub use series_options::{SeriesCommand, SeriesWords};
-pub use slopes_command::{OffsetsWords, SlopesWords};
-pub use solve_command::SolveWords;
-pub use value_command::ValueWords;
-pub use wrong_word::{Commanded, NamedOption, WrongWord, declined_for};
+pub use series_options::{SeriesArgs, SeriesCommand};
+pub use slopes_command::{OffsetsArgs, SlopesArgs};
+pub use solve_command::SolveArgs;
+pub use value_command::ValueArgs;
+pub use wrong_value::{Commanded, NamedOption, WrongValue, declined_for};

@@ -29,7 +29,7 @@ pub fn named_option<'a>(alloc: Global, name: &'a str, shown: &'a str, help: &'a 
         .help(help)
 }
 
-/// An option that is a number. One with a minus is taken for its word too, and declined with what it may be.
+/// An option that is a number. One with a minus is taken for its value too, and declined with what it may be.
 pub fn number_option<'a>(alloc: Global, name: &'a str, shown: &'a str, help: &'a str) -> Arg<'a> {
     named_option(alloc, name, shown, help).allow_negative_numbers(true)
 }
@@ -47,8 +47,8 @@ pub fn file_option<'a>(alloc: Global, name: &'a str, help: &'a str) -> Arg<'a> {
     named_option(alloc, name, "FILE", help).required(true)
 }
 
-/// A word that must be given, beside the options, and names a file.
-pub fn file_word<'a>(alloc: Global, name: &'a str, shown: &'a str, help: &'a str) -> Arg<'a> {
+/// An argument that must be given, beside the options, and names a file.
+pub fn file_arg<'a>(alloc: Global, name: &'a str, shown: &'a str, help: &'a str) -> Arg<'a> {
     Arg::new(alloc, name)
         .value_name(shown)
         .required(true)
@@ -66,7 +66,7 @@ pub const PRICED_BLOCKS_HELP: &str =
 
 /// What a mine's worths are read from.
 #[derive(Clone, Copy)]
-pub enum ModelWords<'a> {
+pub enum ModelArgs<'a> {
     /// A file of values.
     Values {
         /// MineLib's `.upit`.
@@ -144,11 +144,11 @@ fn priced_option<'a>(
 }
 
 /// The files that were given.
-pub fn model_words<'a>(words: &ArgMatches<'a>) -> ModelWords<'a> {
-    match (words.get_str("settings"), words.get_str("blocks")) {
-        (Some(settings), Some(blocks)) => ModelWords::Prices { settings, blocks },
-        _ => ModelWords::Values {
-            upit: text_of(words, "upit"),
+pub fn model_args<'a>(matches: &ArgMatches<'a>) -> ModelArgs<'a> {
+    match (matches.get_str("settings"), matches.get_str("blocks")) {
+        (Some(settings), Some(blocks)) => ModelArgs::Prices { settings, blocks },
+        _ => ModelArgs::Values {
+            upit: text_of(matches, "upit"),
         },
     }
 }
@@ -218,7 +218,7 @@ pub fn verbose_solving_option<'a>(alloc: Global) -> Arg<'a> {
     )
 }
 
-/// A word that clap made sure of.
-pub fn text_of<'a>(words: &ArgMatches<'a>, name: &str) -> &'a str {
-    words.get_str(name).unwrap_or("")
+/// A value that clap made sure of.
+pub fn text_of<'a>(matches: &ArgMatches<'a>, name: &str) -> &'a str {
+    matches.get_str(name).unwrap_or("")
 }

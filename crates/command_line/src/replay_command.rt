@@ -1,7 +1,7 @@
 //! The command `replay`.
 
 use crate::options::{
-    ModelWords, STATUSES, file_word, group_option, model_at_factor_options, model_words, text_of,
+    ModelArgs, STATUSES, file_arg, group_option, model_args, model_at_factor_options, text_of,
     verbose_option, with_options,
 };
 use clap::{Arg, ArgMatches, Command};
@@ -25,9 +25,9 @@ const TRACE_HELP: &str = "The steps of the run: a PITTRACE text";
 /// The files of a replay, where they were given the factor and the kind of amount, and whether it is told why a file
 /// failed.
 #[derive(Clone, Copy)]
-pub struct ReplayWords<'a> {
+pub struct ReplayArgs<'a> {
     pub prec: &'a str,
-    pub model: ModelWords<'a>,
+    pub model: ModelArgs<'a>,
     pub factor: Option<&'a str>,
     pub group: Option<&'a str>,
     pub trace: &'a str,
@@ -47,18 +47,18 @@ pub fn replay_command<'a>(alloc: Global) -> Result<Command<'a>, AllocError> {
 
 // What amounts count, the file of the trace, and whether it is told why one failed.
 fn trace_options<'a>(alloc: Global) -> Result<Vec<Arg<'a>>, AllocError> {
-    let trace = file_word(alloc, "trace", "TRACE", TRACE_HELP);
+    let trace = file_arg(alloc, "trace", "TRACE", TRACE_HELP);
     Ok(vec![in alloc; group_option(alloc), trace, verbose_option(alloc)]?)
 }
 
-/// The words that were given.
-pub fn replay_words<'a>(words: &ArgMatches<'a>) -> ReplayWords<'a> {
-    ReplayWords {
-        prec: text_of(words, "prec"),
-        model: model_words(words),
-        factor: words.get_str("factor"),
-        group: words.get_str("group"),
-        trace: text_of(words, "trace"),
-        verbose: words.get_flag("verbose"),
+/// The arguments that were given.
+pub fn replay_args<'a>(matches: &ArgMatches<'a>) -> ReplayArgs<'a> {
+    ReplayArgs {
+        prec: text_of(matches, "prec"),
+        model: model_args(matches),
+        factor: matches.get_str("factor"),
+        group: matches.get_str("group"),
+        trace: text_of(matches, "trace"),
+        verbose: matches.get_flag("verbose"),
     }
 }

@@ -1,16 +1,16 @@
-//! Reading the words: one request, or an answer that prints itself.
+//! Reading the arguments: one request, or an answer that prints itself.
 
-use crate::check_command::{CheckWords, check_command, check_words};
+use crate::check_command::{CheckArgs, check_args, check_command};
 use crate::declined::Declined;
 use crate::escaped::{Escaped, has_control};
 use crate::options::STATUSES;
-use crate::replay_command::{ReplayWords, replay_command, replay_words};
+use crate::replay_command::{ReplayArgs, replay_args, replay_command};
 use crate::report_command::report_command;
-use crate::series_options::{SeriesCommand, SeriesWords, series_words};
+use crate::series_options::{SeriesArgs, SeriesCommand, series_args};
 use crate::shells_command::shells_command;
-use crate::slopes_command::{SlopesWords, slopes_command, slopes_words};
-use crate::solve_command::{SolveWords, solve_command, solve_words};
-use crate::value_command::{ValueWords, value_command, value_words};
+use crate::slopes_command::{SlopesArgs, slopes_args, slopes_command};
+use crate::solve_command::{SolveArgs, solve_args, solve_command};
+use crate::value_command::{ValueArgs, value_args, value_command};
 use crate::version::VERSION;
 use clap::error::ErrorKind;
 use clap::{Command, Error};
@@ -19,40 +19,40 @@ use std::alloc::{AllocError, Global};
 const ABOUT: &str =
     "Finds the ultimate pit of a block model and proves it, and checks the certificate of any solver";
 
-/// What the words ask for.
+/// What the arguments ask for.
 #[derive(Clone, Copy)]
 pub enum Request<'a> {
     /// A certificate is to be checked.
-    Check(CheckWords<'a>),
+    Check(CheckArgs<'a>),
     /// A run is to be repeated from its trace.
-    Replay(ReplayWords<'a>),
+    Replay(ReplayArgs<'a>),
     /// Shells are to be drawn, or reported by benches.
-    Series(SeriesWords<'a>),
+    Series(SeriesArgs<'a>),
     /// Predecessors are to be written by a slope pattern.
-    Slopes(SlopesWords<'a>),
+    Slopes(SlopesArgs<'a>),
     /// A mine is to be solved.
-    Solve(SolveWords<'a>),
+    Solve(SolveArgs<'a>),
     /// A design is to be judged.
-    Value(ValueWords<'a>),
+    Value(ValueArgs<'a>),
 }
 
-/// Reads the words, of which the first is the program's name.
+/// Reads the arguments, of which the first is the program's name.
 ///
 /// # Errors
 /// `Declined` where they ask for a help text or the version, or aren't a request.
-pub fn request_of<'a>(alloc: Global, words: &'a [String]) -> Result<Request<'a>, Declined> {
-    match parsed(alloc, words) {
+pub fn request_of<'a>(alloc: Global, args: &'a [String]) -> Result<Request<'a>, Declined> {
+    match parsed(alloc, args) {
         Ok(request) => Ok(request),
-        Err(error) if words.iter().any(|word| has_control(word)) => {
-            Err(Declined::by(escaped_error(alloc, words, error)))
+        Err(error) if args.iter().any(|arg| has_control(arg)) => {
+            Err(Declined::by(escaped_error(alloc, args, error)))
         }
         Err(error) => Err(Declined::by(error)),
     }
 }
 
-// What is wrong with words of which some have control characters, with these escaped.
-fn escaped_error(alloc: Global, words: &[String], error: Error) -> Error {
-    let shown = match escaped_words(alloc, words) {
+// What is wrong with arguments of which some have control characters, with these escaped.
+fn escaped_error(alloc: Global, args: &[String], error: Error) -> Error {
+    let shown = match escaped_args(alloc, args) {
         Ok(shown) => shown,
         Err(refused) => return Error::from(refused),
     };
@@ -62,29 +62,29 @@ fn escaped_error(alloc: Global, words: &[String], error: Error) -> Error {
     }
 }
 
-fn escaped_words(alloc: Global, words: &[String]) -> Result<Vec<String>, AllocError> {
+fn escaped_args(alloc: Global, args: &[String]) -> Result<Vec<String>, AllocError> {
     let mut shown = Vec::new(alloc);
-    for word in words {
-        let word = Escaped { word };
-        shown.push(format!(in alloc; "{word}")?)?;
+    for arg in args {
+        let arg = Escaped { text: arg };
+        shown.push(format!(in alloc; "{arg}")?)?;
     }
     Ok(shown)
 }
 
-fn parsed<'a>(alloc: Global, words: &'a [String]) -> Result<Request<'a>, Error> {
-    let matches = pit_command(alloc)?.try_get_matches_from(words)?;
+fn parsed<'a>(alloc: Global, args: &'a [String]) -> Result<Request<'a>, Error> {
+    let matches = pit_command(alloc)?.try_get_matches_from(args)?;
     match matches.subcommand() {
-        Some(("check", words)) => Ok(Request::Check(check_words(words))),
-        Some(("replay", words)) => Ok(Request::Replay(replay_words(words))),
-        Some(("report", words)) => {
-            Ok(Request::Series(series_words(SeriesCommand::Report, words)))
+        Some(("check", matches)) => Ok(Request::Check(check_args(matches))),
+        Some(("replay", matches)) => Ok(Request::Replay(replay_args(matches))),
+        Some(("report", matches)) => {
+            Ok(Request::Series(series_args(SeriesCommand::Report, matches)))
         }
-        Some(("shells", words)) => {
-            Ok(Request::Series(series_words(SeriesCommand::Shells, words)))
+        Some(("shells", matches)) => {
+            Ok(Request::Series(series_args(SeriesCommand::Shells, matches)))
         }
-        Some(("slopes", words)) => Ok(Request::Slopes(slopes_words(words))),
-        Some(("solve", words)) => Ok(Request::Solve(solve_words(words))),
-        Some(("value", words)) => Ok(Request::Value(value_words(words))),
+        Some(("slopes", matches)) => Ok(Request::Slopes(slopes_args(matches))),
+        Some(("solve", matches)) => Ok(Request::Solve(solve_args(matches))),
+        Some(("value", matches)) => Ok(Request::Value(value_args(matches))),
         _ => Err(pit_command(alloc)?.error(ErrorKind::MissingSubcommand, "a command is missing")?),
     }
 }

@@ -17,10 +17,10 @@ pub enum SeriesCommand {
     Report,
 }
 
-/// The words of such a command: the files, and where they were given the method, the steps, the workers and the file of the
+/// The arguments of such a command: the files, and where they were given the method, the steps, the workers and the file of the
 /// table of blocks, and whether progress is shown and it is told why a file failed.
 #[derive(Clone, Copy)]
-pub struct SeriesWords<'a> {
+pub struct SeriesArgs<'a> {
     pub command: SeriesCommand,
     pub prec: &'a str,
     pub blocks: &'a str,
@@ -33,10 +33,10 @@ pub struct SeriesWords<'a> {
     pub verbose: bool,
 }
 
-impl SeriesWords<'_> {
-    /// Whether a word is that of a file which is read.
-    pub fn reads(self, word: &str) -> bool {
-        word == self.prec || word == self.blocks || word == self.settings
+impl SeriesArgs<'_> {
+    /// Whether a name is that of a file which is read.
+    pub fn reads(self, name: &str) -> bool {
+        name == self.prec || name == self.blocks || name == self.settings
     }
 }
 
@@ -85,18 +85,18 @@ fn series_options<'a>(alloc: Global, settings_help: &'a str) -> Result<Vec<Arg<'
     ]?)
 }
 
-/// The words that were given to this command.
-pub fn series_words<'a>(command: SeriesCommand, words: &ArgMatches<'a>) -> SeriesWords<'a> {
-    SeriesWords {
+/// The arguments that were given to this command.
+pub fn series_args<'a>(command: SeriesCommand, matches: &ArgMatches<'a>) -> SeriesArgs<'a> {
+    SeriesArgs {
         command,
-        prec: text_of(words, "prec"),
-        blocks: text_of(words, "blocks"),
-        settings: text_of(words, "settings"),
-        method: words.get_str("method"),
-        steps: words.get_str("steps"),
-        workers: words.get_str("workers"),
-        by_block: words.get_str("by-block"),
-        progress: words.get_flag("progress"),
-        verbose: words.get_flag("verbose"),
+        prec: text_of(matches, "prec"),
+        blocks: text_of(matches, "blocks"),
+        settings: text_of(matches, "settings"),
+        method: matches.get_str("method"),
+        steps: matches.get_str("steps"),
+        workers: matches.get_str("workers"),
+        by_block: matches.get_str("by-block"),
+        progress: matches.get_flag("progress"),
+        verbose: matches.get_flag("verbose"),
     }
 }

@@ -16,7 +16,7 @@ Patterns:
   cone:LEVELS:RUN:RISE  on each of LEVELS levels above, the blocks within level * RUN / RISE blocks of the axis; each number is from 1 to 1000. RUN and RISE count blocks: docs/GUIDE.md says what walls that makes
   settings              the offsets that the file of --settings lists under `offsets`: [dx, dy, dz] each, from a block to a predecessor; dz counts levels upward and is at least 1";
 
-// The word for the offsets of settings.
+// The pattern that takes the offsets of settings.
 const OF_SETTINGS: &str = "settings";
 
 const BLOCKS_HELP: &str = "Where the blocks are: MineLib's .blocks";
@@ -34,19 +34,19 @@ const REDUCE_HELP: &str =
 
 /// What says which blocks above a block are its predecessors.
 #[derive(Clone, Copy)]
-pub enum OffsetsWords<'a> {
-    /// A word that names a pattern.
+pub enum OffsetsArgs<'a> {
+    /// The name of a pattern.
     Pattern(&'a str),
     /// A file of settings that list offsets.
     Settings(&'a str),
 }
 
-/// The words of a slope request: the file of blocks, what says the offsets and, where it was given, the direction's
+/// The arguments of a slope request: the file of blocks, what says the offsets and, where it was given, the direction's
 /// name, whether implied pairs are left out, and whether it is told why a file failed.
 #[derive(Clone, Copy)]
-pub struct SlopesWords<'a> {
+pub struct SlopesArgs<'a> {
     pub blocks: &'a str,
-    pub offsets: OffsetsWords<'a>,
+    pub offsets: OffsetsArgs<'a>,
     pub up: Option<&'a str>,
     pub reduce: bool,
     pub verbose: bool,
@@ -84,22 +84,22 @@ fn reduce_option<'a>(alloc: Global) -> Arg<'a> {
         .help(REDUCE_HELP)
 }
 
-/// The words that were given.
-pub fn slopes_words<'a>(words: &ArgMatches<'a>) -> SlopesWords<'a> {
-    SlopesWords {
-        blocks: text_of(words, "blocks"),
-        offsets: offsets_words(words),
-        up: words.get_str("up"),
-        reduce: words.get_flag("reduce"),
-        verbose: words.get_flag("verbose"),
+/// The arguments that were given.
+pub fn slopes_args<'a>(matches: &ArgMatches<'a>) -> SlopesArgs<'a> {
+    SlopesArgs {
+        blocks: text_of(matches, "blocks"),
+        offsets: offsets_args(matches),
+        up: matches.get_str("up"),
+        reduce: matches.get_flag("reduce"),
+        verbose: matches.get_flag("verbose"),
     }
 }
 
 // The file of settings, where the pattern is theirs; with another pattern they are of no use.
-fn offsets_words<'a>(words: &ArgMatches<'a>) -> OffsetsWords<'a> {
-    let pattern = text_of(words, "pattern");
-    match words.get_str("settings") {
-        Some(settings) if pattern == OF_SETTINGS => OffsetsWords::Settings(settings),
-        _ => OffsetsWords::Pattern(pattern),
+fn offsets_args<'a>(matches: &ArgMatches<'a>) -> OffsetsArgs<'a> {
+    let pattern = text_of(matches, "pattern");
+    match matches.get_str("settings") {
+        Some(settings) if pattern == OF_SETTINGS => OffsetsArgs::Settings(settings),
+        _ => OffsetsArgs::Pattern(pattern),
     }
 }

@@ -1,7 +1,7 @@
 //! The command `solve`.
 
 use crate::options::{
-    ModelWords, STATUSES, group_option, method_option, model_at_factor_options, model_words,
+    ModelArgs, STATUSES, group_option, method_option, model_args, model_at_factor_options,
     named_option, number_option, progress_option, steps_option, text_of, verbose_solving_option,
     with_options, workers_option,
 };
@@ -15,7 +15,7 @@ const USAGE: &str =
 
 const DETAILS: &str = "Finds the best pit and writes its certificate.
 
-Prints a PITCERT text for `pit check`: the pit, and a flow that proves it. Whatever solver computed the flow, it is checked before anything is written. Prints UNSETTLED where no pit was found within the limits, and REFUSED TooLarge where a number doesn't fit 128 bits (with --method words 63); both have the status 1.
+Prints a PITCERT text for `pit check`: the pit, and a flow that proves it. Whatever solver computed the flow, it is checked before anything is written. Prints UNSETTLED where no pit was found within the limits, and REFUSED TooLarge where a number doesn't fit 128 bits (with --method lock-free 63); both have the status 1.
 
 With --trace push-relabel computes the flow, and each of its steps is written to the trace, with which `pit replay` repeats the run. Prints HISTORYFULL, with the status 1, where the run needs more steps than --room has room for.
 
@@ -23,28 +23,28 @@ Methods:
   auto          push-relabel for at most 1000 blocks, and pseudoflow where a number of its run doesn't fit; for more blocks pseudoflow, and up to 10000 push-relabel where that gives no proof. Push-relabel alone where --steps is given
   pseudoflow    highest-label pseudoflow alone: quick on mines of millions of blocks; UNSETTLED where it gives up
   push-relabel  push-relabel alone: each of its steps is proved, and it is slow above a few thousand blocks
-  words         push-relabel without a lock: one or two workers share its state in words of 64 bits, and each step is one operation on one word. Its --group is scaled, whether or not that is given, and it can't be given with --trace";
+  lock-free     push-relabel without a lock: one or two workers share its state in words of 64 bits, and each step is one operation on one word. Its --group is scaled, whether or not that is given, and it can't be given with --trace";
 
 const METHOD_HELP: &str =
-    "Which solver computes the flow: auto (the default), pseudoflow, push-relabel or words";
+    "Which solver computes the flow: auto (the default), pseudoflow, push-relabel or lock-free";
 
 const WORKERS_HELP: &str =
-    "The threads of push-relabel, from 1 to 64 (1 by default), which share one lock; with --method words 1 or 2, without a lock; pseudoflow has one thread";
+    "The threads of push-relabel, from 1 to 64 (1 by default), which share one lock; with --method lock-free 1 or 2, without a lock; pseudoflow has one thread";
 
 const PROGRESS_HELP: &str = "Reports on standard error, once a second, how far the run is";
 
 const TRACE_HELP: &str =
-    "Writes each step of push-relabel's run to this file, and replaces what is in it: not an input, and not with --method pseudoflow or words";
+    "Writes each step of push-relabel's run to this file, and replaces what is in it: not an input, and not with --method pseudoflow or lock-free";
 
 const ROOM_HELP: &str =
     "The most steps of a trace, from 1 to 16777216 (1048576 by default); no effect without --trace";
 
-/// The words of a request to solve: the files, and where they were given the factor, the method, the kind of amount, the steps, the
+/// The arguments of a request to solve: the files, and where they were given the factor, the method, the kind of amount, the steps, the
 /// workers, the trace and its room, and whether progress is shown and it is told why a file failed.
 #[derive(Clone, Copy)]
-pub struct SolveWords<'a> {
+pub struct SolveArgs<'a> {
     pub prec: &'a str,
-    pub model: ModelWords<'a>,
+    pub model: ModelArgs<'a>,
     pub factor: Option<&'a str>,
     pub method: Option<&'a str>,
     pub group: Option<&'a str>,
@@ -56,14 +56,14 @@ pub struct SolveWords<'a> {
     pub verbose: bool,
 }
 
-impl SolveWords<'_> {
-    /// Whether a word is that of a file which is read.
-    pub fn reads(self, word: &str) -> bool {
+impl SolveArgs<'_> {
+    /// Whether a name is that of a file which is read.
+    pub fn reads(self, name: &str) -> bool {
         let of_model = match self.model {
-            ModelWords::Values { upit } => word == upit,
-            ModelWords::Prices { settings, blocks } => word == settings || word == blocks,
+            ModelArgs::Values { upit } => name == upit,
+            ModelArgs::Prices { settings, blocks } => name == settings || name == blocks,
         };
-        of_model || word == self.prec
+        of_model || name == self.prec
     }
 }
 
@@ -92,19 +92,19 @@ fn run_options<'a>(alloc: Global) -> Result<Vec<Arg<'a>>, AllocError> {
     ]?)
 }
 
-/// The words that were given.
-pub fn solve_words<'a>(words: &ArgMatches<'a>) -> SolveWords<'a> {
-    SolveWords {
-        prec: text_of(words, "prec"),
-        model: model_words(words),
-        factor: words.get_str("factor"),
-        method: words.get_str("method"),
-        group: words.get_str("group"),
-        steps: words.get_str("steps"),
-        workers: words.get_str("workers"),
-        trace: words.get_str("trace"),
-        room: words.get_str("room"),
-        progress: words.get_flag("progress"),
-        verbose: words.get_flag("verbose"),
+/// The arguments that were given.
+pub fn solve_args<'a>(matches: &ArgMatches<'a>) -> SolveArgs<'a> {
+    SolveArgs {
+        prec: text_of(matches, "prec"),
+        model: model_args(matches),
+        factor: matches.get_str("factor"),
+        method: matches.get_str("method"),
+        group: matches.get_str("group"),
+        steps: matches.get_str("steps"),
+        workers: matches.get_str("workers"),
+        trace: matches.get_str("trace"),
+        room: matches.get_str("room"),
+        progress: matches.get_flag("progress"),
+        verbose: matches.get_flag("verbose"),
     }
 }

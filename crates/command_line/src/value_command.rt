@@ -1,8 +1,8 @@
 //! The command `value`.
 
 use crate::options::{
-    ModelWords, STATUSES, file_word, model_options, model_words, named_option, number_option,
-    text_of, verbose_option, with_options,
+    ModelArgs, STATUSES, file_arg, model_args, model_options, named_option, number_option, text_of,
+    verbose_option, with_options,
 };
 use clap::{Arg, ArgMatches, Command};
 use std::alloc::{AllocError, Global};
@@ -35,9 +35,9 @@ const FACTOR_HELP: &str =
 /// The files of a design and its mine, where they were given the factor and the certificate of the best pit, and whether it
 /// is told why a file failed.
 #[derive(Clone, Copy)]
-pub struct ValueWords<'a> {
+pub struct ValueArgs<'a> {
     pub prec: &'a str,
-    pub model: ModelWords<'a>,
+    pub model: ModelArgs<'a>,
     pub factor: Option<&'a str>,
     pub best: Option<&'a str>,
     pub design: &'a str,
@@ -62,18 +62,18 @@ fn design_options<'a>(alloc: Global) -> Result<Vec<Arg<'a>>, AllocError> {
         .conflicts_with("upit")?
         .conflicts_with("best")?;
     let best = named_option(alloc, "best", "CERT", BEST_HELP);
-    let design = file_word(alloc, "design", "DESIGN", DESIGN_HELP);
+    let design = file_arg(alloc, "design", "DESIGN", DESIGN_HELP);
     Ok(vec![in alloc; factor, best, design, verbose_option(alloc)]?)
 }
 
-/// The words that were given.
-pub fn value_words<'a>(words: &ArgMatches<'a>) -> ValueWords<'a> {
-    ValueWords {
-        prec: text_of(words, "prec"),
-        model: model_words(words),
-        factor: words.get_str("factor"),
-        best: words.get_str("best"),
-        design: text_of(words, "design"),
-        verbose: words.get_flag("verbose"),
+/// The arguments that were given.
+pub fn value_args<'a>(matches: &ArgMatches<'a>) -> ValueArgs<'a> {
+    ValueArgs {
+        prec: text_of(matches, "prec"),
+        model: model_args(matches),
+        factor: matches.get_str("factor"),
+        best: matches.get_str("best"),
+        design: text_of(matches, "design"),
+        verbose: matches.get_flag("verbose"),
     }
 }

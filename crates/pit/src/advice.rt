@@ -1,7 +1,7 @@
-//! What to try where no pit is proved, and which words have no effect.
+//! What to try where no pit is proved, and which options have no effect.
 
 use crate::solving_asked::SolvingAsked;
-use command_line::{SeriesWords, SolveWords};
+use command_line::{SeriesArgs, SolveArgs};
 use engines::Method;
 
 /// What to try where a command answers that no pit is proved.
@@ -36,13 +36,13 @@ fn advice_by(method: Option<&str>, steps: Option<&str>, otherwise: &'static str)
 }
 
 /// What to try where `solve` proves no pit.
-pub fn advice_to_solve(words: SolveWords<'_>) -> Advice {
-    advice_by(words.method, words.steps, OTHER_AMOUNTS)
+pub fn advice_to_solve(args: SolveArgs<'_>) -> Advice {
+    advice_by(args.method, args.steps, OTHER_AMOUNTS)
 }
 
 /// What to try where `shells` or `report` proves no pit at some factor: all their amounts are of one group.
-pub fn advice_for_series(words: SeriesWords<'_>) -> Advice {
-    advice_by(words.method, words.steps, MACHINE)
+pub fn advice_for_series(args: SeriesArgs<'_>) -> Advice {
+    advice_by(args.method, args.steps, MACHINE)
 }
 
 /// Tells that further workers have no effect where pseudoflow alone is to solve.

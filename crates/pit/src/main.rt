@@ -1,11 +1,11 @@
 //! `pit`: the ultimate pit of a block model, found and checked.
 //!
 //! Stands on the engines, which read bytes and write bytes, and whose contracts say which; here they are connected to
-//! the words of the command line, to files and to standard output, and the exit status is given.
+//! the arguments of the command line, to files and to standard output, and the exit status is given.
 #![tactic(auto)]
 
 mod advice;
-mod effort_words;
+mod effort_args;
 mod files;
 mod heard;
 mod opened;
@@ -13,9 +13,9 @@ mod pairs_bound;
 mod progress;
 mod reasons;
 mod replaced;
-mod series_words;
+mod series_args;
 mod settings_reasons;
-mod slopes_words;
+mod slopes_args;
 mod solve_options;
 mod solving;
 mod solving_asked;
@@ -23,11 +23,11 @@ mod told;
 
 use advice::advise_on_workers;
 use command_line::{
-    Commanded, Declined, OffsetsWords, ReplayWords, Request, SeriesWords, SlopesWords, SolveWords,
-    ValueWords, WrongWord, declined_for, request_of,
+    Commanded, Declined, OffsetsArgs, ReplayArgs, Request, SeriesArgs, SlopesArgs, SolveArgs,
+    ValueArgs, WrongValue, declined_for, request_of,
 };
 use design_engines::{DesignProblem, ValueFault, write_problem};
-use effort_words::effort_for_series;
+use effort_args::effort_for_series;
 use engines::{EngineFault, Unwatched, Verdict, status, stored_check, write_fault};
 use files::{
     check_files, listed_slopes_files, replay_files, series_files, slopes_file, value_files,
@@ -35,9 +35,9 @@ use files::{
 use fixed_worth::Counted;
 use progress::{Meter, PROGRESS_ALONE, Tells};
 use reasons::{tell_choice, tell_slope_reason};
-use series_words::table_over_an_input;
+use series_args::table_over_an_input;
 use shells::Factor;
-use slopes_words::{pattern_asked, up_asked};
+use slopes_args::{pattern_asked, up_asked};
 use solve_options::{factor_asked, replay_asked, value_factor_asked};
 use solving::solve_files;
 use solving_asked::{SolvingAsked, solving_asked};
@@ -47,7 +47,7 @@ use std::sync::Wait;
 use std::thread::Threads;
 use std::{env, io};
 
-// The exit status where the words are wrong.
+// The exit status where the arguments are wrong.
 const USAGE: u8 = 2;
 
 // The exit status where a design is wrong, as any other input.
@@ -60,7 +60,7 @@ enum Ending {
     Answered(Verdict),
     // A design could not be judged.
     Misdrawn(DesignProblem),
-    // A help text or the version was printed, or what is wrong with the words; with this exit status.
+    // A help text or the version was printed, or what is wrong with the arguments; with this exit status.
     Printed(u8),
 }
 
@@ -81,7 +81,7 @@ fn main(rt: HostRuntime) -> ExitCode {
     }
 }
 
-// Does what the words ask for.
+// Does what the arguments ask for.
 fn run<R: Files + Print + Eprint + Env + Clock + Threads + Wait + Sync + AllocGlobal>(
     rt: &R,
 ) -> Result<Ending, EngineFault> {
@@ -90,12 +90,12 @@ fn run<R: Files + Print + Eprint + Env + Clock + Threads + Wait + Sync + AllocGl
         Err(error) if error.kind() == io::ErrorKind::OutOfMemory => return Err(EngineFault::Memory),
         Err(_) => return Ok(usage(rt)),
     };
-    let words: Vec<String> = given.collect(rt.alloc())?;
-    if words.len() <= 1 {
+    let args: Vec<String> = given.collect(rt.alloc())?;
+    if args.len() <= 1 {
         let mut out = Counted::new(io::writer(rt));
         return Ok(Ending::Answered(stored_check(rt, rt.alloc(), &mut out)?));
     }
-    match request_of(rt.alloc(), words.as_slice()) {
+    match request_of(rt.alloc(), args.as_slice()) {
         Ok(request) => answer(rt, request),
         Err(declined) => printed(rt, &declined),
     }
@@ -107,62 +107,62 @@ fn answer<R: Files + Print + Eprint + Clock + Threads + Wait + Sync + AllocGloba
     request: Request<'_>,
 ) -> Result<Ending, EngineFault> {
     match request {
-        Request::Check(words) => Ok(Ending::Answered(check_files(rt, words)?)),
-        Request::Replay(words) => replay(rt, words),
-        Request::Solve(words) => solve(rt, words),
-        Request::Series(words) => series(rt, words),
-        Request::Slopes(words) => slopes(rt, words),
-        Request::Value(words) => value(rt, words),
+        Request::Check(args) => Ok(Ending::Answered(check_files(rt, args)?)),
+        Request::Replay(args) => replay(rt, args),
+        Request::Solve(args) => solve(rt, args),
+        Request::Series(args) => series(rt, args),
+        Request::Slopes(args) => slopes(rt, args),
+        Request::Value(args) => value(rt, args),
     }
 }
 
 // Solves a mine, and tells how far it is where that is asked for.
 fn solve<R: Files + Print + Eprint + Clock + Threads + Wait + Sync + AllocGlobal>(
     rt: &R,
-    words: SolveWords<'_>,
+    args: SolveArgs<'_>,
 ) -> Result<Ending, EngineFault> {
-    let solving = match solving_asked(words) {
+    let solving = match solving_asked(args) {
         Ok(solving) => solving,
         Err(wrong) => return refused(rt, wrong),
     };
     tell_choice(
         rt,
-        words.verbose && words.trace.is_none(),
-        words.method,
-        words.steps,
+        args.verbose && args.trace.is_none(),
+        args.method,
+        args.steps,
     );
-    advise_on_workers(rt, words.verbose, solving);
-    match factor_asked(Commanded::Solve, words.model, words.factor) {
-        Ok(factor) => Ok(Ending::Answered(solved(rt, words, solving, factor)?)),
+    advise_on_workers(rt, args.verbose, solving);
+    match factor_asked(Commanded::Solve, args.model, args.factor) {
+        Ok(factor) => Ok(Ending::Answered(solved(rt, args, solving, factor)?)),
         Err(wrong) => refused(rt, wrong),
     }
 }
 
 fn solved<R: Files + Print + Eprint + Clock + Threads + Wait + Sync + AllocGlobal>(
     rt: &R,
-    words: SolveWords<'_>,
+    args: SolveArgs<'_>,
     solving: SolvingAsked<'_>,
     factor: Factor,
 ) -> Result<Verdict, EngineFault> {
     let tells = Tells {
-        progress: words.progress,
-        outcome: words.verbose,
+        progress: args.progress,
+        outcome: args.verbose,
     };
-    if words.progress || words.verbose {
+    if args.progress || args.verbose {
         let meter = Meter::new(rt, solving.steps(), tells);
-        solve_files(rt, words, solving, factor, &meter)
+        solve_files(rt, args, solving, factor, &meter)
     } else {
-        solve_files(rt, words, solving, factor, &Unwatched)
+        solve_files(rt, args, solving, factor, &Unwatched)
     }
 }
 
 // Repeats a run over the mine of files from its trace.
 fn replay<R: Files + Print + Eprint + Threads + Sync + AllocGlobal>(
     rt: &R,
-    words: ReplayWords<'_>,
+    args: ReplayArgs<'_>,
 ) -> Result<Ending, EngineFault> {
-    match replay_asked(words) {
-        Ok(asked) => Ok(Ending::Answered(replay_files(rt, words, asked)?)),
+    match replay_asked(args) {
+        Ok(asked) => Ok(Ending::Answered(replay_files(rt, args, asked)?)),
         Err(wrong) => refused(rt, wrong),
     }
 }
@@ -170,13 +170,13 @@ fn replay<R: Files + Print + Eprint + Threads + Sync + AllocGlobal>(
 // Judges a design over the mine of files.
 fn value<R: Files + Print + Eprint + Threads + Sync + AllocGlobal>(
     rt: &R,
-    words: ValueWords<'_>,
+    args: ValueArgs<'_>,
 ) -> Result<Ending, EngineFault> {
-    let factor = match value_factor_asked(words) {
+    let factor = match value_factor_asked(args) {
         Ok(factor) => factor,
         Err(wrong) => return refused(rt, wrong),
     };
-    match value_files(rt, words, factor) {
+    match value_files(rt, args, factor) {
         Ok(verdict) => Ok(Ending::Answered(verdict)),
         Err(ValueFault::Design(problem)) => Ok(Ending::Misdrawn(problem)),
         Err(ValueFault::Engine(fault)) => Err(fault),
@@ -186,25 +186,25 @@ fn value<R: Files + Print + Eprint + Threads + Sync + AllocGlobal>(
 // Draws the shells of the mine of three files or makes its bench table, and tells how far it is where that is asked for.
 fn series<R: Files + Print + Eprint + Clock + Threads + Wait + Sync + AllocGlobal>(
     rt: &R,
-    words: SeriesWords<'_>,
+    args: SeriesArgs<'_>,
 ) -> Result<Ending, EngineFault> {
-    let effort = match effort_for_series(words) {
+    let effort = match effort_for_series(args) {
         Ok(effort) => effort,
         Err(wrong) => return refused(rt, wrong),
     };
-    if let Some(wrong) = table_over_an_input(words) {
+    if let Some(wrong) = table_over_an_input(args) {
         return refused(rt, wrong);
     }
-    tell_choice(rt, words.verbose, words.method, words.steps);
-    let verdict = if words.progress {
+    tell_choice(rt, args.verbose, args.method, args.steps);
+    let verdict = if args.progress {
         series_files(
             rt,
-            words,
+            args,
             effort,
             &Meter::new(rt, effort.steps, PROGRESS_ALONE),
         )?
     } else {
-        series_files(rt, words, effort, &Unwatched)?
+        series_files(rt, args, effort, &Unwatched)?
     };
     Ok(Ending::Answered(verdict))
 }
@@ -212,47 +212,47 @@ fn series<R: Files + Print + Eprint + Clock + Threads + Wait + Sync + AllocGloba
 // Writes the predecessors of the blocks of a file, by a pattern or by the offsets of settings.
 fn slopes<R: Files + Print + Eprint + AllocGlobal>(
     rt: &R,
-    words: SlopesWords<'_>,
+    args: SlopesArgs<'_>,
 ) -> Result<Ending, EngineFault> {
-    let up = match up_asked(words) {
+    let up = match up_asked(args) {
         Ok(up) => up,
         Err(wrong) => return refused(rt, wrong),
     };
-    let answer = match words.offsets {
-        OffsetsWords::Pattern(word) => match pattern_asked(word) {
-            Ok(pattern) => slopes_file(rt, words, pattern, up),
+    let answer = match args.offsets {
+        OffsetsArgs::Pattern(name) => match pattern_asked(name) {
+            Ok(pattern) => slopes_file(rt, args, pattern, up),
             Err(wrong) => return refused(rt, wrong),
         },
-        OffsetsWords::Settings(settings) => listed_slopes_files(rt, words, settings, up),
+        OffsetsArgs::Settings(settings) => listed_slopes_files(rt, args, settings, up),
     };
     if let Err(fault) = answer {
-        tell_slope_reason(rt, words.verbose, fault);
+        tell_slope_reason(rt, args.verbose, fault);
     }
     Ok(Ending::Answered(answer?))
 }
 
-// A word names nothing that its option takes.
+// A value names nothing that its option takes.
 fn refused<R: Print + Eprint + AllocGlobal>(
     rt: &R,
-    wrong: WrongWord<'_>,
+    wrong: WrongValue<'_>,
 ) -> Result<Ending, EngineFault> {
     printed(rt, &declined_for(rt.alloc(), wrong))
 }
 
-// The words are no request, and the reason is printed, or the help or version that they ask for.
+// The arguments are no request, and the reason is printed, or the help or version that they ask for.
 fn printed<R: Print + Eprint>(rt: &R, declined: &Declined) -> Result<Ending, EngineFault> {
     if declined.is_want_of_memory() {
         return Err(EngineFault::Memory);
     }
     match declined.print(rt) {
         Ok(()) => Ok(Ending::Printed(declined.status())),
-        // where standard error fails, the status alone says that the words are wrong
+        // where standard error fails, the status alone says that the arguments are wrong
         Err(_) if declined.status() == USAGE => Ok(Ending::Printed(USAGE)),
         Err(_) => Err(EngineFault::Device),
     }
 }
 
-// The words can't be read at all.
+// The arguments can't be read at all.
 fn usage<R: Eprint>(rt: &R) -> Ending {
     let _ = rt.eprintln("fault: usage");
     Ending::Printed(USAGE)

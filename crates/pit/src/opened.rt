@@ -8,7 +8,7 @@ use crate::heard::Heard;
 use crate::replaced::Replaced;
 use crate::settings_reasons::KeptText;
 use crate::told::{Told, made, opened, opened_and_heard};
-use command_line::{ModelWords, SeriesWords};
+use command_line::{ModelArgs, SeriesArgs};
 use engines::{EngineFault, MineInputs, WorthInputs};
 use fixed_worth::Counted;
 use shell_engines::SeriesInputs;
@@ -22,18 +22,18 @@ pub fn open_mine<'a, R: Files + Eprint + AllocGlobal>(
     rt: &'a R,
     verbose: bool,
     prec: &'a str,
-    model: ModelWords<'a>,
+    model: ModelArgs<'a>,
 ) -> Result<MineInputs<Counted<Told<'a, R, R::File>>>, EngineFault>
     ensures { IfOk result (λ mine. CanCount mine (λ device. device.failures)) }
 {
     match model {
-        ModelWords::Values { upit } => {
+        ModelArgs::Values { upit } => {
             let prec = file(rt, verbose, prec)?;
             let upit = file(rt, verbose, upit)?;
             let worths = WorthInputs::Values { upit };
             Ok(MineInputs { worths, prec })
         }
-        ModelWords::Prices { settings, blocks } => {
+        ModelArgs::Prices { settings, blocks } => {
             let SeriesInputs {
                 settings,
                 blocks,
@@ -51,11 +51,11 @@ pub fn open_mine<'a, R: Files + Eprint + AllocGlobal>(
 /// `Device` where one can't be opened.
 pub fn open_series<'a, R: Files + Eprint + AllocGlobal>(
     rt: &'a R,
-    words: SeriesWords<'a>,
+    args: SeriesArgs<'a>,
 ) -> Result<SeriesInputs<Counted<Told<'a, R, R::File>>>, EngineFault>
     ensures { IfOk result (λ inputs. InputsCanCount inputs (λ device. device.failures)) }
 {
-    open_prices(rt, words.verbose, words.prec, words.settings, words.blocks)
+    open_prices(rt, args.verbose, args.prec, args.settings, args.blocks)
 }
 
 // Opens the files of a mine of prices.

@@ -77,7 +77,7 @@ fn tell_line<R: Eprint>(rt: &R, alloc: Global, name: &str, text: &[u8]) {
                 line = line.saturating_add(1);
             }
         }
-        let name = Escaped { word: name };
+        let name = Escaped { text: name };
         let why = error.message();
         let _ = rt.eprintln(format_args!("reason: line {line} of {name} isn't TOML: {why}"));
     }
@@ -89,8 +89,8 @@ fn tell_key<R: Eprint>(rt: &R, alloc: Global, name: &str, text: &[u8]) {
         return;
     };
     if let Some(key) = unknown_key(&table) {
-        let name = Escaped { word: name };
-        let key = Escaped { word: key };
+        let name = Escaped { text: name };
+        let key = Escaped { text: key };
         let _ = rt.eprintln(format_args!(
             "reason: {name} has the key {key}, and settings have revenue, cost, processing, mining, tonnes, factors, report and offsets"
         ));

@@ -5,15 +5,15 @@ use crate::opened::{made_file, open_mine};
 use crate::solving_asked::SolvingAsked;
 use crate::told::output;
 use audit_engines::{TracedAsked, solve_traced_engine};
-use command_line::SolveWords;
+use command_line::SolveArgs;
 use engines::{EngineFault, Outcome, SolveAsked, Verdict, solve_engine};
 use fixed_worth::Counted;
+use lock_free_engine::{LockFreeAsked, solve_lock_free_engine};
 use pseudoflow::Progress;
 use shells::Factor;
 use std::rt::Files;
 use std::sync::Wait;
 use std::thread::Threads;
-use word_engines::{WordsAsked, solve_words_engine};
 use workers::Gate;
 
 /// Solves the mine of files as it is asked for, where its blocks have prices at a factor.
@@ -22,14 +22,14 @@ pub fn solve_files<
     T: Gate + Progress + Outcome,
 >(
     rt: &R,
-    words: SolveWords<'_>,
+    args: SolveArgs<'_>,
     solving: SolvingAsked<'_>,
     factor: Factor,
     watch: &T,
 ) -> Result<Verdict, EngineFault> {
     match solving {
-        SolvingAsked::ByWords(effort) => {
-            words_files(rt, words, WordsAsked { factor, effort }, watch)
+        SolvingAsked::LockFree(effort) => {
+            lock_free_files(rt, args, LockFreeAsked { factor, effort }, watch)
         }
         SolvingAsked::ByMethod { group, effort } => {
             let asked = SolveAsked {
@@ -37,7 +37,7 @@ pub fn solve_files<
                 group,
                 effort,
             };
-            method_files(rt, words, asked, watch)
+            method_files(rt, args, asked, watch)
         }
         SolvingAsked::Traced {
             group,
@@ -50,20 +50,20 @@ pub fn solve_files<
                 effort,
                 room: trace.room,
             };
-            trace_files(rt, words, asked, trace.file, watch)
+            trace_files(rt, args, asked, trace.file, watch)
         }
     }
 }
 
 // Solves it by a run without a lock.
-fn words_files<
+fn lock_free_files<
     'a,
     R: Files + Print + Eprint + Threads + Wait + Sync + AllocGlobal,
     T: Gate + Outcome,
->(rt: &'a R, words: SolveWords<'a>, asked: WordsAsked, watch: &T) -> Result<Verdict, EngineFault> {
-    let mut mine = open_mine(rt, words.verbose, words.prec, words.model)?;
-    let mut out = Counted::new(output(rt, words.verbose, Some(advice_to_solve(words))));
-    solve_words_engine(rt, rt.alloc(), &mut mine, asked, watch, &mut out)
+>(rt: &'a R, args: SolveArgs<'a>, asked: LockFreeAsked, watch: &T) -> Result<Verdict, EngineFault> {
+    let mut mine = open_mine(rt, args.verbose, args.prec, args.model)?;
+    let mut out = Counted::new(output(rt, args.verbose, Some(advice_to_solve(args))));
+    solve_lock_free_engine(rt, rt.alloc(), &mut mine, asked, watch, &mut out)
 }
 
 // Solves it by the method of an effort.
@@ -71,9 +71,9 @@ fn method_files<
     'a,
     R: Files + Print + Eprint + Threads + Wait + Sync + AllocGlobal,
     T: Gate + Progress + Outcome,
->(rt: &'a R, words: SolveWords<'a>, asked: SolveAsked, watch: &T) -> Result<Verdict, EngineFault> {
-    let mut mine = open_mine(rt, words.verbose, words.prec, words.model)?;
-    let mut out = Counted::new(output(rt, words.verbose, Some(advice_to_solve(words))));
+>(rt: &'a R, args: SolveArgs<'a>, asked: SolveAsked, watch: &T) -> Result<Verdict, EngineFault> {
+    let mut mine = open_mine(rt, args.verbose, args.prec, args.model)?;
+    let mut out = Counted::new(output(rt, args.verbose, Some(advice_to_solve(args))));
     solve_engine(rt, rt.alloc(), &mut mine, asked, watch, &mut out)
 }
 
@@ -84,14 +84,14 @@ fn trace_files<
     T: Gate + Outcome,
 >(
     rt: &'a R,
-    words: SolveWords<'a>,
+    args: SolveArgs<'a>,
     asked: TracedAsked,
     file: &'a str,
     watch: &T,
 ) -> Result<Verdict, EngineFault> {
-    let mut mine = open_mine(rt, words.verbose, words.prec, words.model)?;
-    let mut trace = made_file(rt, words.verbose, file)?;
-    let mut out = Counted::new(output(rt, words.verbose, Some(advice_to_solve(words))));
+    let mut mine = open_mine(rt, args.verbose, args.prec, args.model)?;
+    let mut trace = made_file(rt, args.verbose, file)?;
+    let mut out = Counted::new(output(rt, args.verbose, Some(advice_to_solve(args))));
     solve_traced_engine(
         rt,
         rt.alloc(),

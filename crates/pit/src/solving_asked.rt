@@ -1,11 +1,11 @@
-//! How `solve` is to solve a mine, by its words, or the word that names nothing that there is.
+//! How `solve` is to solve a mine, by its arguments, or the value that names nothing that there is.
 
-use crate::effort_words::{effort_by_words, effort_to_solve, method_asked};
-use crate::solve_options::{TraceAsked, asks_for_words, group_asked, room_asked, trace_asked};
-use command_line::{Commanded, NamedOption, SolveWords, WrongWord};
+use crate::effort_args::{effort_to_solve, effort_without_lock, method_asked};
+use crate::solve_options::{TraceAsked, asks_for_lock_free, group_asked, room_asked, trace_asked};
+use command_line::{Commanded, NamedOption, SolveArgs, WrongValue};
 use engines::{Effort, Method};
+use lock_free_engine::LockFreeEffort;
 use ordered_group::Group;
-use word_engines::WordEffort;
 
 /// How it is to be solved.
 #[derive(Clone, Copy)]
@@ -27,7 +27,7 @@ pub enum SolvingAsked<'a> {
         trace: TraceAsked<'a>,
     },
     /// By a run without a lock.
-    ByWords(WordEffort),
+    LockFree(LockFreeEffort),
 }
 
 impl<'a> SolvingAsked<'a> {
@@ -36,31 +36,31 @@ impl<'a> SolvingAsked<'a> {
         match self {
             SolvingAsked::ByMethod { effort, .. } => effort.steps,
             SolvingAsked::Traced { effort, .. } => effort.steps,
-            SolvingAsked::ByWords(effort) => effort.steps,
+            SolvingAsked::LockFree(effort) => effort.steps,
         }
     }
 }
 
-/// How the words say that it is solved.
-pub fn solving_asked<'a>(words: SolveWords<'a>) -> Result<SolvingAsked<'a>, WrongWord<'a>> {
-    let group = group_asked(Commanded::Solve, words.group)?;
-    match words.method {
-        Some(word) if asks_for_words(word) => solving_by_words(words, word, group),
-        word => {
-            let method = method_asked(Commanded::Solve, word)?;
-            solving_by_method(words, method, group)
+/// How the arguments say that it is solved.
+pub fn solving_asked<'a>(args: SolveArgs<'a>) -> Result<SolvingAsked<'a>, WrongValue<'a>> {
+    let group = group_asked(Commanded::Solve, args.group)?;
+    match args.method {
+        Some(method) if asks_for_lock_free(method) => solving_without_lock(args, method, group),
+        method => {
+            let method = method_asked(Commanded::Solve, method)?;
+            solving_by_method(args, method, group)
         }
     }
 }
 
 // A run by a method, or one with a trace.
 fn solving_by_method<'a>(
-    words: SolveWords<'a>,
+    args: SolveArgs<'a>,
     method: Method,
     group: Group,
-) -> Result<SolvingAsked<'a>, WrongWord<'a>> {
-    let effort = effort_to_solve(words, method)?;
-    Ok(match trace_asked(words, method)? {
+) -> Result<SolvingAsked<'a>, WrongValue<'a>> {
+    let effort = effort_to_solve(args, method)?;
+    Ok(match trace_asked(args, method)? {
         Some(trace) => SolvingAsked::Traced {
             group,
             effort,
@@ -71,24 +71,26 @@ fn solving_by_method<'a>(
 }
 
 // A run without a lock: it has amounts of one group, and no trace.
-fn solving_by_words<'a>(
-    words: SolveWords<'a>,
+fn solving_without_lock<'a>(
+    args: SolveArgs<'a>,
     method: &'a str,
     group: Group,
-) -> Result<SolvingAsked<'a>, WrongWord<'a>> {
+) -> Result<SolvingAsked<'a>, WrongValue<'a>> {
     // of no effect without a trace, but it has to be a number
-    let _room = room_asked(words)?;
-    match words.group {
-        Some(word) if group != Group::Scaled => Err(wrong(NamedOption::GroupOfWords, word)),
-        _ if words.trace.is_some() => Err(wrong(NamedOption::TracedMethod, method)),
-        _ => Ok(SolvingAsked::ByWords(effort_by_words(words)?)),
+    let _room = room_asked(args)?;
+    match args.group {
+        Some(value) if group != Group::Scaled => {
+            Err(wrong(NamedOption::GroupWithoutLock { method }, value))
+        }
+        _ if args.trace.is_some() => Err(wrong(NamedOption::TracedMethod, method)),
+        _ => Ok(SolvingAsked::LockFree(effort_without_lock(args)?)),
     }
 }
 
-fn wrong<'a>(option: NamedOption, word: &'a str) -> WrongWord<'a> {
-    WrongWord {
+fn wrong<'a>(option: NamedOption<'a>, value: &'a str) -> WrongValue<'a> {
+    WrongValue {
         command: Commanded::Solve,
         option,
-        word,
+        value,
     }
 }

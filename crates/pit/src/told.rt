@@ -160,7 +160,7 @@ impl<R: Eprint, D: Write> Write for Told<'_, R, D> {
 // anybody can be told.
 fn tell<R: Eprint>(rt: &R, verbose: bool, what: &str, name: &str, why: io::Error) {
     if verbose {
-        let name = Escaped { word: name };
+        let name = Escaped { text: name };
         let _ = rt.eprintln(format_args!("reason: cannot {what} {name}: {why}"));
     }
 }
@@ -177,7 +177,7 @@ fn advise<R: Eprint>(rt: &R, verbose: bool, advice: Option<Advice>, written: &[u
 // Tells of the mark, which is read as a part of the first line.
 fn tell_mark<R: Eprint>(rt: &R, is_told: bool, name: &str) {
     if is_told {
-        let name = Escaped { word: name };
+        let name = Escaped { text: name };
         let _ = rt.eprintln(format_args!(
             "note: {name} begins with the mark of UTF-8 (the bytes EF BB BF), which is read as a part of its first line: save it without the mark"
         ));

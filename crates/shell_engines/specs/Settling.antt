@@ -10,7 +10,7 @@ use Rattle.engines.specs.declared.effort.Effort.{Effort}
 use Rattle.engines.specs.declared.solving.Unsolved as unsolved
 use Rattle.engines.specs.declared.solving.Unsolved.TheVariants.{Unsettled}
 use Rattle.engines.specs.Solving.{UnsolvedStands}
-use Rattle.word_engines.specs.WordRuns.{HasWords}
+use Rattle.lock_free_engine.specs.LockFreeRuns.{HasWords}
 use Rattle.shell_engines.specs.declared.no_series.NoSeries.{NoSeries}
 use Rattle.shell_engines.specs.declared.no_series.NoSeries.TheVariants.{Unsolved, Model, Memory}
 use Rattle.shell_engines.specs.declared.shell_rows.ShellRow.{ShellRow}

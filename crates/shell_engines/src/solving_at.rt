@@ -9,12 +9,12 @@ use closure_net::Net;
 use engines::Effort;
 use engines::certify::Solution;
 use engines::solving::{Unsolved, solution_of};
+use lock_free_engine::{LockFreeEffort, by_lock_free_run};
 use ordered_group::Scaled;
 use pseudoflow::Progress;
 use std::alloc::Global;
 use std::sync::Wait;
 use std::thread::Threads;
-use word_engines::{WordEffort, by_words};
 use workers::Gate;
 
 /// A pit of a net with a flow that proves it. One worker or two run without a lock; where a number of that run doesn't fit a word,
@@ -34,10 +34,10 @@ pub fn solution_at<R: Threads + Wait + Sync, T: Gate + Progress>(
         (λ s. IsSolution scaled_worth net.now s.flow s.pit s.count s.worth)
         (λ why. NotSolvedStands net.now effort why) }
 {
-    let Some(words) = WordEffort::new(effort.workers, effort.steps) else {
+    let Some(without_lock) = LockFreeEffort::new(effort.workers, effort.steps) else {
         return solution_of(rt, alloc, net, effort, gate);
     };
-    match by_words(rt, alloc, net, words, gate) {
+    match by_lock_free_run(rt, alloc, net, without_lock, gate) {
         Err(Unsolved::TooLarge) => solution_of(rt, alloc, net, effort, gate),
         answer => answer,
     }

@@ -1,0 +1,65 @@
+-- From a run without a lock to what is written of it.
+use Rattle.std.proofs.Common.{◌≡◌, ℕ, List, length, refl, sym, ap, ◌∙◌, subst, Option, Result, Ok, Err, inl, inr}
+use Rattle.std.specs.Io.KnownBytes.{Appends}
+use Rattle.std.specs.Prelude.{MatchResult}
+use Rattle.fixed_worth.specs.Device.{ReceivedPrefix}
+use Rattle.closure_net.specs.Network.{NetView, FlowView, IsNet, holds_of}
+use Rattle.machine_law.specs.Quiet.{IsSolved}
+use Rattle.word_runner.specs.Tells.{IsSolvedBy}
+use Rattle.check_pit.specs.Checks.{IsSound, FaultStands}
+use Rattle.certificate_file.specs.Written.{header_with, text_of}
+use Rattle.check_pit.specs.declared.pit_fault.PitFault.{PitFault}
+use Rattle.certificate_file.specs.declared.header.Price.{Price}
+use Rattle.check_pit.proofs.Tightness.{refused_for_size_only}
+use Rattle.engines.specs.declared.judgement.Verdict.{Verdict}
+use Rattle.engines.specs.declared.judgement.Verdict.TheVariants.{No}
+use Rattle.engines.specs.declared.engine_fault.EngineFault.{EngineFault}
+use Rattle.engines.specs.declared.solving.Unsolved.{Unsolved}
+use Rattle.engines.specs.declared.solving.Unsolved.TheVariants.{Unsettled, TooLarge, GaveUp, NoMemory, NoThread, Stranger}
+use Rattle.engines.specs.NetAnswers.{SendsCertificate, SendsLine, SendsNo, certificate_text, unsettled_line, too_large_line}
+use Rattle.engines.specs.Readings.{counts_by}
+use Rattle.engines.specs.Certifying.{IsRefusedFlow}
+use Rattle.lock_free_engine.specs.Tightness.{RunsAreTight}
+use Rattle.lock_free_engine.specs.LockFreeRuns.{CheckOverflows, LockFreeStands}
+use Rattle.lock_free_engine.specs.LockFreeSolving.{IsNoWithoutLock, SolvesNetWithoutLock, lock_free_group}
+
+-- what the source reaches in the flow of a run is refused for sums that overflow, and nothing else
+pub check_overflows : RunsAreTight → (net : NetView) (workers limit : ℕ) (flow : FlowView) (steps : ℕ) (fault : PitFault) → IsNet net → IsSolvedBy net workers limit flow steps → IsRefusedFlow net flow fault → CheckOverflows net workers limit
+check_overflows law net workers limit flow steps fault is solved refused =
+    let solves = law net workers limit flow steps is solved in
+    let fits = solves.greatest.is_flow.fits in
+    let reached = refused.reached fits in
+    let of_net = refused.of_net fits in
+    let e = refused_for_size_only net flow refused.pit fault (record { of_net = of_net; is_flow = solves.greatest.is_flow; closed = solves.closed (holds_of refused.pit) reached; tight = solves.tight (holds_of refused.pit) reached }) refused.stands.holds in
+    record {
+      flow = flow;
+      steps = steps;
+      solved = solved;
+      pit = refused.pit;
+      reached = reached;
+      of_net = of_net;
+      stands = subst (λ (f : PitFault). FaultStands net flow refused.pit f) e refused.stands;
+    }
+
+module _ (price : Price) (net : NetView) (workers limit : ℕ) (old new : Option (List ℕ)) where
+  sent : (pit : List ℕ) (flow : FlowView) (r : Result Verdict EngineFault) → IsSound net flow pit → SendsCertificate (counts_by lock_free_group) lock_free_group price net pit flow old new r → SolvesNetWithoutLock price net workers limit old new r
+  sent pit flow (Ok v) s a = subst (λ (w : Verdict). SolvesNetWithoutLock price net workers limit old new (Ok w)) (sym a.0) (a.1.0, record { pit = pit; flow = flow; read = a.1.1; sound = s }, a.1.2)
+  sent pit flow (Err e) s a = subst (λ (w : EngineFault). SolvesNetWithoutLock price net workers limit old new (Err w)) (sym a.0) (certificate_text lock_free_group price net pit flow, inl (record { pit = pit; flow = flow; sound = s; spelled = refl }), a.1)
+
+  said : (line : List ℕ) (r : Result Verdict EngineFault) → IsNoWithoutLock net workers limit line → SendsLine line old new r → SolvesNetWithoutLock price net workers limit old new r
+  said line (Ok v) h a = subst (λ (w : Verdict). SolvesNetWithoutLock price net workers limit old new (Ok w)) (sym a.0) (line, h, a.1)
+  said line (Err e) h a = subst (λ (w : EngineFault). SolvesNetWithoutLock price net workers limit old new (Err w)) (sym a.0) (line, inr h, a.1)
+
+  said_no : (why : Unsolved) (r : Result Verdict EngineFault) → LockFreeStands net workers limit why → SendsNo why old new r → SolvesNetWithoutLock price net workers limit old new r
+  said_no Unsettled r h a = said unsettled_line r (inl (h, refl)) a
+  said_no TooLarge r h a = said too_large_line r (inr (h, refl)) a
+  said_no GaveUp r h a = absurd h
+  said_no Stranger r h a = absurd h
+  said_no NoMemory r h a = subst (λ (x : Result Verdict EngineFault). SolvesNetWithoutLock price net workers limit old new x) (sym a.0) a.1
+  said_no NoThread r h a = subst (λ (x : Result Verdict EngineFault). SolvesNetWithoutLock price net workers limit old new x) (sym a.0) a.1
+
+  -- what is found, with its flow and its pit in any terms, and what is written for it
+  pub answered : {A : Type 0} (flow : A → FlowView) (pit : A → List ℕ) (Is : A → Type 0) (found : Result A Unsolved) (r : Result Verdict EngineFault) → ((s : A) → Is s → IsSound net (flow s) (pit s)) → MatchResult found Is (λ why. LockFreeStands net workers limit why)
+      → MatchResult found (λ s. SendsCertificate (counts_by lock_free_group) lock_free_group price net (pit s) (flow s) old new r) (λ why. SendsNo why old new r) → SolvesNetWithoutLock price net workers limit old new r
+  answered flow pit Is (Ok s) r sound h a = sent (pit s) (flow s) r (sound s h) a
+  answered flow pit Is (Err why) r sound h a = said_no why r h a

@@ -1,0 +1,4 @@
+pub mod LockFreeRuns
+pub mod LockFreeSolving
+pub mod MethodName
+pub mod Tightness

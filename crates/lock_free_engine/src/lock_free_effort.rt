@@ -1,0 +1,28 @@
+//! How much a run without a lock may use.
+
+ghost use Rattle.std.specs.Prelude.{◌≡◌, ◌≤◌, IfSome, IfNone};
+ghost use Rattle.word_runner.specs.Tells.{AreBadWorkers};
+
+/// The workers of a run without a lock, and the most turns that they take together.
+#[derive(Clone, Copy)]
+pub struct LockFreeEffort {
+    /// The workers.
+    pub workers: u32,
+    /// The most turns.
+    pub steps: u64,
+    ghost some: { 1 ≤ workers },
+    ghost few: { workers ≤ 2 },
+}
+
+impl LockFreeEffort {
+    /// One worker or two, and at most `steps` turns; None for any other number of workers.
+    pub fn new(workers: u32, steps: u64) -> Option<LockFreeEffort>
+        ensures some { IfSome result (λ e. (e.workers ≡ workers) × (e.steps ≡ steps)) }
+        ensures none { IfNone result (AreBadWorkers workers) }
+    {
+        if workers < 1 || workers > 2 {
+            return None;
+        }
+        Some(LockFreeEffort { workers, steps })
+    }
+}

@@ -1,0 +1,58 @@
+//! The pit that a run without a lock proves.
+
+ghost use Rattle.std.specs.Prelude.{MatchResult};
+ghost use Rattle.ordered_group.specs.Block.{scaled_worth};
+ghost use Rattle.engines.specs.Certifying.{IsSolution};
+ghost use Rattle.lock_free_engine.specs.LockFreeRuns.{LockFreeStands};
+
+use crate::laws;
+use crate::lock_free_effort::LockFreeEffort;
+use closure_net::Net;
+use engines::certify::{Solution, Uncertified, certified};
+use engines::solving::Unsolved;
+use ordered_group::Scaled;
+use std::alloc::Global;
+use std::sync::Wait;
+use std::thread::Threads;
+use word_runner::solve_words;
+use workers::{Gate, SolveFault};
+
+/// The pit that a run of the push-relabel machine without a lock proves: its flow has passed the check of this net.
+///
+/// # Errors
+/// - `Unsettled`: the turns were used up before all that the source gave had arrived.
+/// - `TooLarge`: the positive worths sum to 2^63 units or more; or a step brought the flow of a pair to 2^63, or would have
+///   brought a label there; or a sum of the check overflows.
+/// - `NoMemory`: memory is refused. `NoThread`: a worker can't be started.
+///
+/// Never `GaveUp` or `Stranger`.
+pub fn by_lock_free_run<R: Threads + Wait + Sync, T: Gate>(
+    rt: &R,
+    alloc: Global,
+    net: &Net<Scaled>,
+    effort: LockFreeEffort,
+    gate: &T,
+) -> Result<Solution<Scaled>, Unsolved>
+    ensures { MatchResult result
+        (λ s. IsSolution scaled_worth net.now s.flow s.pit s.count s.worth)
+        (λ unsolved. LockFreeStands net.now effort.workers effort.steps unsolved) }
+{
+    // proof: what the source reaches in the flow of a run is closed and tight, and the check of such a pit fails for its sums alone
+    laws::runs_are_tight();
+    let _worths = net.worths();
+    let flow = match solve_words(rt, alloc, net, effort.workers, effort.steps, gate) {
+        Ok(solved) => solved.flow,
+        Err(SolveFault::Unsettled) => return Err(Unsolved::Unsettled),
+        Err(SolveFault::TooLarge) => return Err(Unsolved::TooLarge),
+        Err(SolveFault::NoMemory) => return Err(Unsolved::NoMemory),
+        Err(SolveFault::NoThread) => return Err(Unsolved::NoThread),
+        Err(SolveFault::BadWorkers | SolveFault::StrangerNet) => {
+            unreachable!("there are one or two workers, and their words are the net's")
+        }
+    };
+    match certified(alloc, net, flow) {
+        Ok(solution) => Ok(solution),
+        Err(Uncertified::NoMemory) => Err(Unsolved::NoMemory),
+        Err(Uncertified::Refused(_)) => Err(Unsolved::TooLarge),
+    }
+}

@@ -1,0 +1,11 @@
+//! The names of the method that runs without a lock.
+
+ghost use Rattle.std.specs.Prelude.{◌≡◌};
+ghost use Rattle.lock_free_engine.specs.MethodName.{is_lock_free};
+
+/// Whether a name asks for a run of the push-relabel machine without a lock: `lock-free`, or `words`, which that was called first.
+pub fn names_lock_free(name: &[u8]) -> bool
+    ensures { result ≡ is_lock_free name.now }
+{
+    name == b"lock-free".as_slice() || name == b"words".as_slice()
+}

@@ -1,0 +1,40 @@
+//! What the arguments of `slopes` ask for, or the value that names nothing that there is.
+
+ghost use Rattle.std.specs.Prelude.{IfOk};
+ghost use Rattle.engines.specs.Slopes.{IsChoice};
+
+use command_line::{Commanded, NamedOption, SlopesArgs, WrongValue};
+use engines::{PatternChoice, pattern_named, up_named};
+use slope::{Selection, Up};
+
+/// Which blocks above a block are its predecessors, by the name of a pattern.
+pub fn pattern_asked<'a>(value: &'a str) -> Result<PatternChoice, WrongValue<'a>>
+    ensures { IfOk result IsChoice }
+{
+    pattern_named(value.as_bytes()).ok_or(WrongValue {
+        command: Commanded::Slopes,
+        option: NamedOption::Pattern,
+        value,
+    })
+}
+
+/// Which way is up: a greater z, where no option says.
+pub fn up_asked<'a>(args: SlopesArgs<'a>) -> Result<Up, WrongValue<'a>> {
+    match args.up {
+        Some(value) => up_named(value.as_bytes()).ok_or(WrongValue {
+            command: Commanded::Slopes,
+            option: NamedOption::Up,
+            value,
+        }),
+        None => Ok(Up::PlusZ),
+    }
+}
+
+/// Which pairs are wanted: every one, where no option says.
+pub fn selection_asked(args: SlopesArgs<'_>) -> Selection {
+    if args.reduce {
+        Selection::Reduced
+    } else {
+        Selection::Every
+    }
+}

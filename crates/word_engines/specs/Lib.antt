@@ -1,4 +1,0 @@
-pub mod MethodWord
-pub mod Tightness
-pub mod WordRuns
-pub mod WordSolving
