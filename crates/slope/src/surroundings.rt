@@ -7,7 +7,7 @@ ghost use Rattle.slope.specs.Internal.{ArePlacesOf, AreFirstSteps, IsIndex, Stan
 use crate::guesses::Guesses;
 use crate::place_index::PlaceIndex;
 use crate::place_search::block_at;
-use crate::sight::Sight;
+use crate::sight::{Sight, sight_of};
 use crate::{SlopeFault, Up};
 use blocks_file::{BlockModel, Place};
 use std::alloc::Global;
@@ -72,7 +72,8 @@ impl<'a> Surroundings<'a> {
         ensures from { self.new.from ≡ place_of self.old.model block }
     {
         self.from = self.model.place(block);
-        self.guesses.stand_on(self.index.rank_of(block), self.from.z);
+        self.guesses
+            .stand_on(self.index.rank_of(block), self.from.z);
         self.seen.fill(Sight::Unasked);
     }
 
@@ -93,10 +94,7 @@ impl<'a> Surroundings<'a> {
                     self.guesses.at(i),
                 );
                 self.guesses.note(i, to);
-                self.seen[i] = match found {
-                    Some(block) => Sight::Block(block),
-                    None => Sight::Nothing,
-                };
+                self.seen[i] = sight_of(found);
                 found
             }
             Sight::Nothing => None,
