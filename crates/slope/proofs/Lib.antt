@@ -12,3 +12,4 @@ pub mod Repeats
 pub mod Reordering
 pub mod TwoSteps
 pub mod Reduction
+pub mod Seen

@@ -238,10 +238,9 @@ IsSight v i sight.Nothing = StandsNone v i
 IsSight v i (sight.Block p) = StandsAt v i p
 
 -- The index is that of the model, and what was seen stands there.
-pub record AreSeen (v : SurroundingsView) (keys : List Offset) (blocks : List ℕ) (seen : List Sight) (guesses : List ℕ) : Type 0 where
+pub record AreSeen (v : SurroundingsView) (keys : List Offset) (blocks : List ℕ) (seen : List Sight) : Type 0 where
   pub indexed : IsIndex v.model keys blocks
   pub one_each : length seen ≡ length v.offsets
-  pub guessed : length guesses ≡ length v.offsets
   pub each : (i : ℕ) (d : Sight) → i < length v.offsets → IsSight v i (slice_index_or seen i d)
 
 -- A block stands at one of these offsets.

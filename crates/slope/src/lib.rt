@@ -9,11 +9,12 @@
 //! Above it, callers may count on this: a pattern holds exactly the offsets of its definition, each once and in order;
 //! the pairs are exactly those of all pairs of blocks whose places differ by an offset, over whole numbers without
 //! bound, and the reduced pairs exactly those of them that lead over no third block; each fault is answered exactly where
-//! it stands. Places are sorted once. An offset is looked up at each block, and for reduced pairs at far fewer; where blocks
-//! are numbered row by row and level by level, the next lookup of an offset begins where the last one ended.
+//! it stands. Places are sorted once. An offset is looked up at each block, and for reduced pairs at far fewer; each lookup
+//! begins where the last one of its offset from its level lets expect it, whatever the order of the blocks.
 #![tactic(auto)]
 
 mod cone;
+mod guesses;
 pub mod laws;
 mod offset_order;
 mod offset_places;

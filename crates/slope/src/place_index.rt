@@ -11,12 +11,24 @@ use std::alloc::{AllocError, Global};
 // A place as it is compared: level by level, and row by row on a level.
 pub(crate) type PlaceKey = (i32, i32, i32);
 
-// The places of all blocks in order, and the block at each. It is a list and no tree: blocks that are looked for one after
-// the other mostly stand near each other in it.
+// The places of all blocks in order, and the block at each. It is a list and no tree: the block at an offset mostly stands
+// as far from a block in it as the one at that offset stood from the block before.
 #[derive(Drop)]
 pub(crate) struct PlaceIndex {
     pub(crate) keys: Vec<PlaceKey>,
     pub(crate) blocks: Vec<u32>,
+    // where each block stands, from which lookups are guessed, and which no contract reads
+    ranks: Vec<u32>,
+}
+
+impl PlaceIndex {
+    // Where a block stands in the order of places.
+    pub(crate) fn rank_of(&self, block: u32) -> usize {
+        match self.ranks.get(block as usize) {
+            Some(rank) => *rank as usize,
+            None => 0,
+        }
+    }
 }
 
 // The key of a place.
@@ -87,13 +99,31 @@ fn blocks_in(alloc: Global, entries: &[(PlaceKey, u32)]) -> Result<Vec<u32>, All
     entries.iter().map(|e| e.1).collect(alloc)
 }
 
+// Where each of these blocks stands among them.
+fn ranks_of(alloc: Global, blocks: &[u32]) -> Result<Vec<u32>, AllocError> {
+    let mut ranks: Vec<u32> = vec![in alloc; 0; blocks.len()]?;
+    let mut next: u32 = 0;
+    for block in blocks {
+        if let Some(rank) = ranks.get_mut(*block as usize) {
+            *rank = next;
+        }
+        next = next.wrapping_add(1);
+    }
+    Ok(ranks)
+}
+
 // The keys and the blocks of entries, apart.
 fn parted(alloc: Global, entries: &[(PlaceKey, u32)]) -> Result<PlaceIndex, AllocError>
     ensures { IfOk result (λ index. (index.keys.items ≡ map (λ e. e.0) entries.now) × (index.blocks.items ≡ map (λ e. e.1) entries.now)) }
 {
     let keys = keys_in(alloc, entries)?;
     let blocks = blocks_in(alloc, entries)?;
-    Ok(PlaceIndex { keys, blocks })
+    let ranks = ranks_of(alloc, &blocks)?;
+    Ok(PlaceIndex {
+        keys,
+        blocks,
+        ranks,
+    })
 }
 
 // The index of a model's places. Two blocks that have one place are a fault.

@@ -11,18 +11,33 @@ use crate::offset_places::place_at;
 use crate::place_index::{PlaceIndex, PlaceKey, key_of};
 use blocks_file::{BlockModel, Place};
 
-// How many keys are looked at from a guess on.
+// How many keys are looked at on each side of a guess.
 const NEAR: usize = 8;
 
-// The first place from the guess on whose key isn't below this one, where that is near.
-fn passed(keys: &[PlaceKey], key: PlaceKey, guess: usize) -> usize
+// The last place up to the guess in front of which the keys are below this one, where that is near.
+fn receded(keys: &[PlaceKey], key: PlaceKey, guess: usize) -> usize
     ensures { result ≤ length keys.now }
 {
     let mut at = guess.min(keys.len());
     for _ in 0..NEAR {
-        if at < keys.len() && keys[at] < key {
-            at += 1;
+        if at == 0 || keys[at - 1] < key {
+            return at;
         }
+        at -= 1;
+    }
+    at
+}
+
+// The first place from this one on whose key isn't below the key, where that is near.
+fn passed(keys: &[PlaceKey], key: PlaceKey, from: usize) -> usize
+    ensures { result ≤ length keys.now }
+{
+    let mut at = from.min(keys.len());
+    for _ in 0..NEAR {
+        if at == keys.len() || keys[at] >= key {
+            return at;
+        }
+        at += 1;
     }
     at
 }
@@ -64,13 +79,16 @@ pub(crate) fn found(keys: &[PlaceKey], key: PlaceKey, guess: usize) -> Result<us
     requires { IsRising keys.now }
     ensures { IsFinding keys.now key result }
 {
-    match told(keys, key, passed(keys, key, guess)) {
+    if guess < keys.len() && keys[guess] == key {
+        return Ok(guess);
+    }
+    match told(keys, key, passed(keys, key, receded(keys, key, guess))) {
         Some(found) => found,
         None => keys.binary_search(&key),
     }
 }
 
-// The block at this offset from a place, if there is one, and a guess for the next that is asked for at the offset.
+// The block at this offset from a place, if there is one, and where the search ended.
 pub(crate) fn block_at(
     index: &PlaceIndex,
     model: &BlockModel,
@@ -88,7 +106,7 @@ pub(crate) fn block_at(
         return (None, guess);
     };
     match found(&index.keys, key_of(place), guess) {
-        Ok(at) => (Some(index.blocks[at]), at + 1),
+        Ok(at) => (Some(index.blocks[at]), at),
         Err(at) => (None, at),
     }
 }

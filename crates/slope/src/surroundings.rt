@@ -4,16 +4,16 @@ ghost use Rattle.std.specs.Prelude.{◌≡◌, ◌<◌, ◌⊎◌, true, false, 
 ghost use Rattle.slope.specs.Places.{place_of};
 ghost use Rattle.slope.specs.Internal.{ArePlacesOf, AreFirstSteps, IsIndex, StandsAt, StandsNone, StandsAtSome, StandsAtNone, offset_at};
 
+use crate::guesses::Guesses;
 use crate::place_index::PlaceIndex;
 use crate::place_search::block_at;
-use crate::sight::Sight;
+use crate::sight::{Sight, sight_of};
 use crate::{SlopeFault, Up};
 use blocks_file::{BlockModel, Place};
 use std::alloc::Global;
 use std::marker::Model;
 
-// What stands around a place, each offset looked up once at most: most of the reduced pairs are told by few lookups. Blocks
-// that are asked for in their order mostly stand, at one offset, one after the other in the index.
+// What stands around a place, each offset looked up once at most: most of the reduced pairs are told by few lookups.
 #[derive(Drop)]
 pub(crate) struct Surroundings<'a> {
     index: &'a PlaceIndex,
@@ -22,8 +22,7 @@ pub(crate) struct Surroundings<'a> {
     up: Up,
     from: Place,
     seen: Vec<Sight>,
-    // at each offset, where the next block is looked for first
-    guesses: Vec<usize>,
+    guesses: Guesses,
 }
 
 impl<'a> Model for Surroundings<'a> {
@@ -33,7 +32,7 @@ impl<'a> Model for Surroundings<'a> {
 
     ghost view = { λ s. record { model = s.model.now; offsets = s.offsets.now; up = s.up; from = s.from } };
 
-    ghost invariant = { λ s. AreSeen (record { model = s.model.now; offsets = s.offsets.now; up = s.up; from = s.from }) s.index.now.keys.items s.index.now.blocks.items s.seen.items s.guesses.items };
+    ghost invariant = { λ s. AreSeen (record { model = s.model.now; offsets = s.offsets.now; up = s.up; from = s.from }) s.index.now.keys.items s.index.now.blocks.items s.seen.items };
 }
 
 impl<'a> Surroundings<'a> {
@@ -52,7 +51,7 @@ impl<'a> Surroundings<'a> {
         let Ok(seen) = vec![in alloc; Sight::Unasked; offsets.len()] else {
             return Err(SlopeFault::NoMemory);
         };
-        match vec![in alloc; 0; offsets.len()] {
+        match Guesses::new(alloc, offsets.len()) {
             Ok(guesses) => Ok(Surroundings {
                 index,
                 model,
@@ -73,6 +72,8 @@ impl<'a> Surroundings<'a> {
         ensures from { self.new.from ≡ place_of self.old.model block }
     {
         self.from = self.model.place(block);
+        self.guesses
+            .stand_on(self.index.rank_of(block), self.from.z);
         self.seen.fill(Sight::Unasked);
     }
 
@@ -84,19 +85,16 @@ impl<'a> Surroundings<'a> {
     {
         match self.seen[i] {
             Sight::Unasked => {
-                let (found, next) = block_at(
+                let (found, to) = block_at(
                     self.index,
                     self.model,
                     self.from,
                     self.offsets[i],
                     self.up,
-                    self.guesses[i],
+                    self.guesses.at(i),
                 );
-                self.guesses[i] = next;
-                self.seen[i] = match found {
-                    Some(block) => Sight::Block(block),
-                    None => Sight::Nothing,
-                };
+                self.guesses.note(i, to);
+                self.seen[i] = sight_of(found);
                 found
             }
             Sight::Nothing => None,
