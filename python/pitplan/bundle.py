@@ -150,6 +150,6 @@ def facts_of(study: Study, name: str, dialect: Dialect) -> dict[str, Any]:
     """How the table was read."""
     model, used = study.model, study.model.row_block[study.model.row_block >= 0]
     return {"pitplan": __version__, "pit": study.manifest["pit"], "table": name, "sha256": study.manifest["source"]["sha256"], "dialect": asdict(dialect),
-            "columns": model.columns, "depth": model.depth, "blocks": len(model), "pairs": study.manifest["pairs"], "currency": study.manifest["currency"],
+            "columns": model.columns, "depth": model.depth, "blocks": len(model), "pairs": study.manifest["pairs"], "currency": study.currency,
             "settings": list(COLUMNS), "has_sub_blocks": bool(len(np.unique(used)) < len(used)),
             "grid": {"origin": list(model.grid.origin), "size": list(model.grid.size), "shape": list(model.grid.shape), "rotation": model.grid.rotation}}

@@ -94,7 +94,7 @@ def summary(study: Study, found: Comparison) -> dict[str, Any]:
 def tell(study: Study, found: Comparison) -> None:
     """The comparison on the screen."""
     from .compare_words import forbidden_lines, money, verdict_lines
-    currency, held = study.manifest["currency"], found.design.held
+    currency, held = study.currency, found.design.held
     tonnes = study.model.blocks.tonnes.to_numpy(float)
     lines = [f"{found.design.name}: {int(held.sum()):,} blocks, {tonnes[held].sum() / 1e6:,.2f} Mt, worth {money(found.worth, currency)} at factor {found.factor / 1000:g}", *(f"  {note}" for note in found.design.notes), *forbidden_lines(study, held),
              f"best pit: {int(found.optimum.sum()):,} blocks, {tonnes[found.optimum].sum() / 1e6:,.2f} Mt, worth {money(found.bound, currency)}: no pit that keeps the slopes is worth more",

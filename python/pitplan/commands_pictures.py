@@ -37,7 +37,7 @@ def plot(folder: Path = STUDY,
     asked += [(f"section-column-{at}", pictures.section(shells, column=at, style=style)) for at in column]
     if not asked:
         level, middle = pictures.middle_of(shells, style)
-        asked = [("pit-by-pit", pictures.pit_by_pit(shells.table(1000, **rates), pictures.currency_of(shells), shells.study.model.name)),
+        asked = [("pit-by-pit", pictures.pit_by_pit(shells.table(1000, **rates), shells.study.currency, shells.study.model.name)),
                  (f"plan-{level:.10g}", pictures.plan(shells, level, style)), (f"section-row-{middle}", pictures.section(shells, row=middle, style=style))]
     ending = "" if colour == "shell" else "-" + re.sub(r"[^\w.-]+", "_", colour)
     for name, figure in asked:

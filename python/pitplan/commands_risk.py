@@ -75,12 +75,12 @@ def tell_means(study: Study, setup: Setup) -> None:
 
 def do_all(study: Study, tasks: list[Task], workers: Optional[int]) -> None:
     """Does what isn't done yet of some tasks, on this machine, and shows how far that is."""
-    from .local import run_local, workers_for
+    from .local import processes_for, run_local
     from .task import Tasks
     left = Tasks(study.folder, study.program).left(tasks)
     if not left:
         return
-    count = workers_for(study, workers)
+    count = processes_for(study, workers)
     warn_of_room(workers, count)
     if not err.is_terminal:
         deaths = run_local(study, left, count, lines())
@@ -120,7 +120,7 @@ def print_risk(found: Risk, factor: int, pits: pd.DataFrame) -> None:
     from rich.box import SIMPLE_HEAD
     from rich.table import Table
     from .risk import spelled_factor
-    currency = found.study.manifest["currency"]
+    currency = found.study.currency
     shown = Table(title=escape(f"{found.count} realisations, million {currency} and Mt; a tenth of them lies below p10"), title_justify="left", box=SIMPLE_HEAD)
     for name in ("factor", "worth p10", "p50", "p90", "mean", "rock p10", "p50", "p90"):
         shown.add_column(name, justify="right")

@@ -107,7 +107,7 @@ def write_tables(found: Shells, table: pd.DataFrame) -> None:
 
 def print_table(found: Shells, table: pd.DataFrame) -> None:
     """The pit-by-pit table on the screen; all of its columns are in the file."""
-    currency, metals = found.study.manifest["currency"], found.study.manifest["metals"]
+    currency, metals = found.study.currency, found.study.manifest["metals"]
     names = ("factor", "blocks", "ore Mt", "waste Mt", "strip", *(f"{name} {unit['grade_unit']}" for name, unit in metals.items()), "worth", "best case", "worst case", "years")
     lines = []
     for row in table.to_dict("records"):

@@ -53,7 +53,7 @@ def write_what_ifs(study: Any) -> None:
     from .pictures import save
     from .vary import UNITS, table, tornado
     found, folder = table(study), results(study)
-    currency = study.manifest["currency"]
+    currency = study.currency
     found.to_csv(folder / "vary.csv", index=False)
     save(tornado(found, currency), folder / "tornado.png")
     shown = Table(title=escape(f"a proved pit for each, worths in million {currency}"), title_justify="left", box=SIMPLE_HEAD)

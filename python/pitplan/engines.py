@@ -223,7 +223,7 @@ def run_dask(study: Study, tasks: Iterable[Task], client: Any, heard: Callable[[
     """Does tasks over the workers of a ``distributed.Client``. Words alone go over the network; the study's folder is shared.
 
     Dask sees the memory of its own process and not that of the `pit` beneath it: as many workers as memory has room for is
-    the caller's care (`local.workers_for` says it for this machine).
+    the caller's care (`local.processes_for` says it for this machine).
 
     Parameters
     ----------

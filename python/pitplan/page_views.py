@@ -114,10 +114,6 @@ class View:
         return [int(depth.sum(axis=0).argmax()), int(depth.sum(axis=1).argmax()), level]
 
 
-def currency_of(study: Study) -> str:
-    return str(study.manifest.get("currency", "$"))
-
-
 def scaled(name: str, values: Any, scale: Scale) -> tuple[str, list[str]]:
     return f"{name} ({scale.unit})", [amount_text(v, scale) for v in values]
 
@@ -156,7 +152,7 @@ def pits(shells: Shells, table: pd.DataFrame) -> View:
     """
     names = [factor_text(k) for k in shells.factors]
     levels = surfaces(shells.study, ((f"the pit at factor {name}", shells.holds(i)) for i, name in enumerate(names)))
-    currency = currency_of(shells.study)
+    currency = shells.study.currency
     money = scale_of(table["worth_at_base"], currency)
     columns = [("Blocks", [f"{v:,}" for v in table["blocks"]]), ("Toe of the lowest bench (m)", bottoms(shells.study.model.grid, levels)),
                (f"Worth at its own factor, proved ({currency})", [separated(str(v["worth"])) for v in shells.verdicts]), *rock_and_metal(table, shells.study.manifest["metals"])]
@@ -177,7 +173,7 @@ def phases(found: Phases, table: pd.DataFrame | None = None) -> View:
     columns = [("Factor of its pit", [factor_text(k) for k in found.shells.factors])]
     columns += [("From (m)", lengths(table["top"])), ("Down to (m)", lengths(table["bottom"]))]
     columns += [(name, [f"{v:,}" for v in table[name.lower()]]) for name in ("Benches", "Blocks")]
-    columns += [*rock_and_metal(table, study.manifest["metals"]), scaled("Worth at factor 1", table["worth"], scale_of(table["worth"], currency_of(study))),
+    columns += [*rock_and_metal(table, study.manifest["metals"]), scaled("Worth at factor 1", table["worth"], scale_of(table["worth"], study.currency)),
                 ("Thinnest (m)", lengths(table["width"])), ("on the bench at (m)", lengths(table["width_bench"]))]
     names = [str(k) for k in range(1, count + 1)]
     return View("Pushbacks", "After pushback", Table("Pushbacks", "Pushback", names, columns), surfaces(study, pushed), "Pushback", PHASES, names, count)
@@ -191,7 +187,7 @@ def design(study: Study, found: Comparison) -> View:
     from .compare_words import forbidden_lines, verdict_lines
     held, best = found.design.held, found.optimum
     levels = surfaces(study, ((f"the design {found.design.name}", held), ("the best pit", best)))
-    table, currency = amounts_of(study, (held, best), found.factor), currency_of(study)
+    table, currency = amounts_of(study, (held, best), found.factor), study.currency
     gap = (separated(found.gap), f"{found.share(found.gap):.2%}") if found.gap is not None else ("-", "-")
     columns = [("Blocks", [f"{v:,}" for v in table["blocks"]]), ("Toe of the lowest bench (m)", bottoms(study.model.grid, levels)),
                (f"Worth at factor {factor_text(found.factor)}, exact ({currency})", [separated(found.worth), separated(found.bound)]),
@@ -224,7 +220,7 @@ def likelihood(found: Risk, factor: int, table: pd.DataFrame) -> View:
 
     Raises PlanError where a surface isn't one height for each column.
     """
-    study, currency = found.study, currency_of(found.study)
+    study, currency = found.study, found.study.currency
     table = table.sort_values("likelihood", ascending=False)
     shares = table["likelihood"].tolist()
     names = [f"{share:.0%}" for share in shares]

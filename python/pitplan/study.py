@@ -116,6 +116,11 @@ class Study:
         return self.folder / source["table"] if source else None
 
     @property
+    def currency(self) -> str:
+        """Of its amounts, as study.toml calls it."""
+        return str(self.manifest["currency"])
+
+    @property
     def blocks_file(self) -> Path:
         return self.where / "mine.blocks"
 
