@@ -37,7 +37,7 @@ print(f"the pit of 0.8 gives up {float(best.worth) - study.priced.worth(1000)[sm
 # %% Pictures and the page.
 out = folder / "out"
 out.mkdir(exist_ok=True)
-pp.plot.save(pp.plot.pit_by_pit(table, study.manifest["currency"]), out / "pit-by-pit.png")
+pp.plot.save(pp.plot.pit_by_pit(table, study.currency), out / "pit-by-pit.png")
 pp.plot.save(pp.plot.plan(shells, 1065), out / "plan.png")
 pp.page.write(shells, out / "pits.html", table)
 print("made:", ", ".join(sorted(path.name for path in out.iterdir())))

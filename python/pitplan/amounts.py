@@ -52,6 +52,8 @@ class Priced:
         The grade of each block in place, in its own unit.
     feed : float
         Tonnes that the mill gets for each tonne of ore in place.
+    forbidden : bool array of shape (blocks,)
+        Which blocks may not be dug: `mining` has a price for them that keeps them from every pit. None unless told.
     """
 
     revenue: Whole
@@ -61,6 +63,11 @@ class Priced:
     metal: dict[str, Floats] = field(default_factory=dict)
     grade: dict[str, Floats] = field(default_factory=dict)
     feed: float = 1.0
+    forbidden: Bools = field(default_factory=lambda: np.zeros(0, bool))
+
+    def __post_init__(self) -> None:
+        if not len(self.forbidden):
+            self.forbidden = np.zeros(len(self), bool)
 
     def __len__(self) -> int:
         return len(self.revenue)
@@ -104,19 +111,6 @@ class Priced:
         """Whether a block, once it is dug, goes to the mill at a factor (in thousandths)."""
         milled: Bools = self.revenue * factor > self.processing * THOUSAND
         return milled
-
-    def forbidden(self) -> Bools:
-        """Which blocks may not be dug, of shape (blocks,): digging one costs more than twice what the whole mine brings, as
-        `economics.fence_price` makes it."""
-        most = 2 * exact_sum(self.revenue)
-        forbidden: Bools = self.mining > most if most else np.zeros(len(self), bool)
-        return forbidden
-
-    def at_most(self) -> Bools:
-        """Which blocks cost the most that `pit` reads to dig, of shape (blocks,): what `economics.fence_price` makes of forbidden
-        ones where more than the whole mine brings at the largest factor is more than that."""
-        found: Bools = self.mining >= int(MOST / self.rounding)
-        return found
 
     def worth_of(self, blocks: Bools, factor: int) -> str:
         """What a set of blocks is worth at a factor, exactly, spelled as `pit` spells a worth.

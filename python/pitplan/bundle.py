@@ -10,10 +10,8 @@ from pathlib import Path
 from typing import TYPE_CHECKING, Any
 
 import numpy as np
-import pandas as pd
 
 from . import __version__
-from .amounts import THOUSAND
 from .csv_text import Dialect
 from .digests import sha256
 from .errors import PlanError
@@ -35,13 +33,27 @@ README = """A bundle of pitplan %(version)s: the ultimate pits of %(table)s, and
 
 study.toml           prices, recoveries, costs, slopes and factors, as the planner wrote them
 table/               the planner's table of blocks, byte for byte
-model/               what pit was given: blocks, predecessors, settings, slopes
+model/               what pit was given. A line of mine.blocks: a block's number, its place along x, y and z, what it brings, what
+                     treating and digging it cost, its tonnes. Of mine.prec: a block, how many predecessors it has, and these
 certificates/        for each factor the pit, and the flow that proves it
 verdicts.json        what pit check said of each, when and where
 tables/              pit by pit, bench by bench, and the row and the shell of each block
 facts.json           how the table was read, the grid, the versions of the programs
 
-What this shows, and what it doesn't: the page for auditors, docs/AUDIT.md, of the repository of pit.
+Before you begin: compare the sha256 of SHA256SUMS with the one that the planner tells you by another way; recheck.py prints it
+last. Read the two scripts, or take them from a copy that you trust. The pit has to be yours: its repository builds and proves it.
+
+One certificate by hand, in this folder:
+
+    gzip -dc certificates/NAME.cert.gz | pit check --prec model/mine.prec --blocks model/mine.blocks --settings model/settings.toml /dev/stdin
+
+ACCEPTED, the number of blocks and the worth: the pit has all that its blocks rest on, and no such pit is worth more at its
+factor, over the files in model/. recheck.py compares these with the table, row by row.
+
+Nothing here shows that grades, densities, prices, costs and angles are true: read study.toml. Nor are these worked out again:
+discounted worths and years in tables/, sub-blocks that were added up, and what digging added blocks costs.
+Walls are as steep as asked only as nearly as whole blocks can be: `pitplan slopes` prints by how much, for each bearing.
+docs/AUDIT.md of the repository of pit says what each check shows, line by line.
 """
 
 
@@ -131,15 +143,13 @@ def write_tables(shells: Shells, work: Path, rates: dict[str, Any]) -> None:
     """Numbers alone: no cell of a stranger's table comes into these."""
     shells.table(**rates).to_csv(work / "tables" / "pit_by_pit.csv", index=False)
     shells.benches().to_csv(work / "tables" / "benches.csv", index=False)
-    row = shells.study.model.blocks["row"].to_numpy()
-    shares = np.array([*(factor / THOUSAND for factor in shells.factors), np.nan])
-    pd.DataFrame({"block": np.arange(len(row)), "row": np.where(row >= 0, row + 2, 0), "shell": shares[shells.shell]}).to_csv(work / "tables" / "blocks.csv", index=False)
+    shells.of_blocks().drop(columns="id").rename_axis("block").to_csv(work / "tables" / "blocks.csv")
 
 
 def facts_of(study: Study, name: str, dialect: Dialect) -> dict[str, Any]:
     """How the table was read."""
     model, used = study.model, study.model.row_block[study.model.row_block >= 0]
     return {"pitplan": __version__, "pit": study.manifest["pit"], "table": name, "sha256": study.manifest["source"]["sha256"], "dialect": asdict(dialect),
-            "columns": model.columns, "depth": model.depth, "blocks": len(model), "pairs": study.manifest["pairs"], "currency": study.manifest["currency"],
+            "columns": model.columns, "depth": model.depth, "blocks": len(model), "pairs": study.manifest["pairs"], "currency": study.currency,
             "settings": list(COLUMNS), "has_sub_blocks": bool(len(np.unique(used)) < len(used)),
             "grid": {"origin": list(model.grid.origin), "size": list(model.grid.size), "shape": list(model.grid.shape), "rotation": model.grid.rotation}}

@@ -12,6 +12,7 @@ from rich.markup import escape
 
 from . import older
 from .console import app, err
+from .errors import STOPPED as SAYS_STOPPED
 from .errors import Disagreement, MachineError, NotAccepted, PlanError
 from .later import lazily
 from .next_command import remember
@@ -60,7 +61,7 @@ def main() -> None:
         err.print("[red]error:[/red] " + escape(str(error)), soft_wrap=True)
         sys.exit(status_of(error))
     except (KeyboardInterrupt, click.Abort):
-        err.print("stopped; what is done is kept, and the same command goes on from there")
+        err.print(SAYS_STOPPED)
         sys.exit(STOPPED)
     except MemoryError:
         err.print("[red]error:[/red] memory was refused\n  try: fewer --workers, or a machine with more memory")

@@ -29,6 +29,8 @@ USUAL: dict[str, tuple[str, ...]] = {
     "density": ("density", "sg", "bd", "dens", "specific_gravity", "bulk_density", "insitu_density", "rho", "densidad", "densidade", "densite"),
     "rock": ("rock", "rocktype", "rock_type", "rock type", "lith", "lithology", "material", "mat", "domain", "zone", "rtype", "lito", "litologia", "litología", "roca", "rocha", "roche", "zona"),
 }
+# Parts of names of columns that say in which region of slopes a block is, the likeliest first.
+REGIONS = ("sector", "setor", "secteur", "geotec", "gtdom", "gt_dom", "slope", "talud", "wall", "pared", "region", "região", "dominio", "domain", "zona", "zone")
 PLACES = ("x", "y", "z")
 SIZES = ("dx", "dy", "dz")
 ALIKE = 0.6                                  # from 0 to 1: names that are less alike aren't offered

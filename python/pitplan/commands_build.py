@@ -9,7 +9,7 @@ from typing import TYPE_CHECKING, Optional
 import typer
 from rich.markup import escape
 
-from .console import STUDY, app, described, err, out, print_columns
+from .console import STUDY, app, described, err, print_columns, say, warn
 from .errors import PlanError
 from .next_command import command
 
@@ -37,15 +37,17 @@ def init(table: Path = typer.Argument(..., help="A table of blocks: CSV or CSV.g
         raise PlanError(f"{path} is there already", try_this="--force writes over it, --study names another folder")
     folder.mkdir(parents=True, exist_ok=True)
     path.write_text(written(look, near(table, folder)))
-    out.print(f"{table}: {look.rows:,} rows")
-    out.print("  columns: " + escape(", ".join(f"{key} = {name}" for key, name in look.names.items())))
-    out.print(f"  grades: {escape(', '.join(look.grades)) or 'none found'}")
+    say(f"{table}: {look.rows:,} rows")
+    say("  columns: " + ", ".join(f"{key} = {name}" for key, name in look.names.items()))
+    say(f"  grades: {', '.join(look.grades) or 'none found'}")
+    if look.region:
+        say(f"  regions of slopes, if you want them: {look.region} ({', '.join(look.regions)})")
     if look.size:
-        out.print(f"  blocks of {' x '.join(f'{v:g}' for v in look.size)}" + (f", turned by {look.rotation:g} degrees" if look.rotation else "")
+        say(f"  blocks of {' x '.join(f'{v:g}' for v in look.size)}" + (f", turned by {look.rotation:g} degrees" if look.rotation else "")
                   + (", with sub-blocks" if look.has_sub_blocks else ""))
     for note in look.notes:
-        err.print("  [yellow]look:[/yellow] " + escape(note), soft_wrap=True)
-    out.print(escape(f"{path} is written: put your own prices, costs and slopes there, then: {command('build', folder)}"), soft_wrap=True)
+        warn(note, "  ")
+    say(f"{path} is written: put your own prices, costs and slopes there, then: {command('build', folder)}")
 
 
 def named(said: str) -> tuple[str, str]:
@@ -64,9 +66,9 @@ def build(folder: Path = STUDY) -> None:
     told = described(folder)
     with err.status("reading the table"):
         model = told.read_model()
-    out.print(f"{told.table.name}: {len(model):,} blocks of {' x '.join(f'{v:g}' for v in model.grid.size)} on a grid of {' x '.join(map(str, model.grid.shape))}")
+    say(f"{told.table.name}: {len(model):,} blocks of {' x '.join(f'{v:g}' for v in model.grid.size)} on a grid of {' x '.join(map(str, model.grid.shape))}")
     for note in model.notes:
-        out.print("  " + escape(note))
+        say("  " + note)
     with err.status("prices and slopes") as status:
         told.slopes.heard = of_region(status)
         study = Study.create(told.path.parent, model, told.economics, told.slopes, keys=told.digest)
@@ -94,9 +96,9 @@ def set_aside(study: Study, walls: str) -> None:
     folder = study.folder / "out"
     moved, changed = older.set_aside(folder, {study.key, walls})
     if moved:
-        out.print(escape(f"{folder / older.OLDER} has what was written of the model before: {', '.join(moved)}"), soft_wrap=True)
+        say(f"{folder / older.OLDER} has what was written of the model before: {', '.join(moved)}")
     for name in changed:
-        err.print("[yellow]look:[/yellow] " + escape(f"{folder / name} is of the model before; it was changed since it was written, so it stays there"), soft_wrap=True)
+        warn(f"{folder / name} is of the model before; it was changed since it was written, so it stays there")
 
 
 def print_tonnage(study: Study) -> None:
@@ -127,9 +129,9 @@ def print_size(study: Study, told: StudyFile) -> None:
     guess = guess_of(study)
     count = len(told.factors)
     workers = workers_for(study)
-    out.print(f"{guess.pairs:,} pairs of a block and a predecessor. A pit will take about {guess.memory / 1e6:,.0f} MB and {duration(guess.seconds)}; "
+    say(f"{guess.pairs:,} pairs of a block and a predecessor. A pit will take about {guess.memory / 1e6:,.0f} MB and {duration(guess.seconds)}; "
               f"all {count}, {workers} at a time, {duration(guess.seconds * count / workers)}")
-    out.print(escape(f"built in {study.folder}; then: {command('shells', study.named)}"), soft_wrap=True)
+    say(f"built in {study.folder}; then: {command('shells', study.named)}")
 
 
 def duration(seconds: float) -> str:

@@ -4,9 +4,7 @@ from __future__ import annotations
 from pathlib import Path
 
 import typer
-from rich.markup import escape
-
-from .console import STUDY, app, described, out, shells_of
+from .console import STUDY, app, described, err, say, shells_of
 
 
 @app.command()
@@ -15,8 +13,10 @@ def bundle(target: Path = typer.Argument(..., metavar="DIR", help="The new folde
     from .bundle import write
     from .commands_shells import with_certificates
     told = described(folder)
-    shells, rates = shells_of(folder)
+    with err.status("the pits are read again"):
+        shells, rates = shells_of(folder)
     shells = with_certificates(shells)
-    digest = write(shells, target, told.path, told.keys.dialect(told.table), rates)
-    out.print(escape(f"{target}: {len(shells)} proved pits, with all that they rest on; python3 {target}/recheck.py PIT checks it again"))
-    out.print(f"tell the auditor by another way: sha256 of SHA256SUMS is\n{digest}", soft_wrap=True)
+    with err.status("files are copied, and their digests taken"):
+        digest = write(shells, target, told.path, told.keys.dialect(told.table), rates)
+    say(f"{target}: {len(shells)} proved pits, with all that they rest on; python3 {target}/recheck.py PIT checks it again")
+    say(f"tell the auditor by another way: sha256 of SHA256SUMS is\n{digest}")

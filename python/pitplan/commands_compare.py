@@ -7,14 +7,11 @@ from pathlib import Path
 from typing import TYPE_CHECKING, Any, List, Optional
 
 import typer
-from rich.markup import escape
-
-from .console import STUDY, app, described, opened, out, results
+from .console import STUDY, app, described, err, opened, results, say
 from .errors import PlanError
 
 if TYPE_CHECKING:
     from .compare import Comparison
-    from .amounts import Bools
     from .design import Design
     from .model import Model
     from .study import Study
@@ -32,10 +29,13 @@ def compare(folder: Path = STUDY,
     """Put a designed pit beside the proved best one: does it keep the slopes, what is it worth, how far from the bound. Status 1 where it breaks the slopes."""
     from .chosen import beside
     study = opened(folder)
-    found = beside(study, design_of(study.model, ids, (column, value), (surface, layer), described(folder).keys.encoding), factor)
-    target = write(study, found, bench)
+    with err.status("the design is read"):
+        design = design_of(study.model, ids, (column, value), (surface, layer), described(folder).keys.encoding)
+    found = beside(study, design, factor)
+    with err.status("tables and plans are written"):
+        target = write(study, found, bench)
     tell(study, found)
-    out.print(escape(f"{target}: summary.json, benches.csv" + ("" if found.is_closed else ", pairs.csv, walls.csv, repair.csv") + ", plans"), soft_wrap=True)
+    say(f"{target}: summary.json, benches.csv" + ("" if found.is_closed else ", pairs.csv, walls.csv, repair.csv") + ", plans")
     if not found.is_closed:
         raise typer.Exit(1)
 
@@ -84,26 +84,17 @@ def summary(study: Study, found: Comparison) -> dict[str, Any]:
                             "blocks": int(found.design.held.sum()), "tonnes": float(tonnes[found.design.held].sum()), "worth": found.worth, "bound": found.bound, "gap": found.gap,
                             "best_blocks": int(found.optimum.sum()), "best_tonnes": float(tonnes[found.optimum].sum()),
                             "left_tonnes": float(found.benches.left_t.sum()), "over_tonnes": float(found.benches.over_t.sum()),
-                            "forbidden_blocks": int((found.design.held & study.priced.forbidden()).sum()), "certificate": verdict["certificate"] if verdict else None, "model": study.key, "pit": study.manifest["pit"]}
+                            "forbidden_blocks": int((found.design.held & study.priced.forbidden).sum()), "certificate": verdict["certificate"] if verdict else None, "model": study.key, "pit": study.manifest["pit"]}
     if found.repair:
         told["repair"] = {"blocks": found.repair.blocks, "tonnes": found.repair.tonnes, "worth": found.repair.worth, "gap": found.repair.gap}
         told["broken_pairs"] = len(found.pairs)
     return told
 
 
-def forbidden_lines(study: Study, held: Bools) -> list[str]:
-    """What is said of a design that digs what may not be dug: its worth has the price that keeps these blocks from every pit."""
-    shut = held & study.priced.forbidden()
-    if not shut.any():
-        return []
-    count, first = int(shut.sum()), str(study.model.blocks["id"].to_numpy()[shut][0])
-    return [f"look: the design digs {count:,} {'blocks' if count > 1 else 'block'} that forbid keeps from being dug, as {first}: its worth counts them at a price that no pit pays, and says nothing"]
-
-
 def tell(study: Study, found: Comparison) -> None:
     """The comparison on the screen."""
-    from .compare_words import money, verdict_lines
-    currency, held = study.manifest["currency"], found.design.held
+    from .compare_words import forbidden_lines, money, verdict_lines
+    currency, held = study.currency, found.design.held
     tonnes = study.model.blocks.tonnes.to_numpy(float)
     lines = [f"{found.design.name}: {int(held.sum()):,} blocks, {tonnes[held].sum() / 1e6:,.2f} Mt, worth {money(found.worth, currency)} at factor {found.factor / 1000:g}", *(f"  {note}" for note in found.design.notes), *forbidden_lines(study, held),
              f"best pit: {int(found.optimum.sum()):,} blocks, {tonnes[found.optimum].sum() / 1e6:,.2f} Mt, worth {money(found.bound, currency)}: no pit that keeps the slopes is worth more",
@@ -111,4 +102,4 @@ def tell(study: Study, found: Comparison) -> None:
     b = found.benches
     lines.append(f"left by the design {b.left_t.sum() / 1e6:,.2f} Mt ({b.left_ore_t.sum() / 1e6:,.2f} Mt of ore), beyond the best pit {b.over_t.sum() / 1e6:,.2f} Mt ({b.over_ore_t.sum() / 1e6:,.2f} Mt of ore)")
     for line in lines:
-        out.print(escape(line), soft_wrap=True)
+        say(line)

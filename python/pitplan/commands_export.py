@@ -5,9 +5,7 @@ from pathlib import Path
 from typing import TYPE_CHECKING, Callable, Optional
 
 import typer
-from rich.markup import escape
-
-from .console import STUDY, app, err, out, results, shells_of
+from .console import STUDY, app, err, results, say, shells_of
 from .errors import PlanError, meant
 
 if TYPE_CHECKING:
@@ -40,7 +38,7 @@ def export(folder: Path = STUDY,
         path = target / f"shells.{kind}"
         with err.status(f"writing {kind}"):
             told = writers[kind](path)
-        out.print(escape(f"{path}: {told}, {path.stat().st_size / 1e6:.1f} MB"), soft_wrap=True)
+        say(f"{path}: {told}, {path.stat().st_size / 1e6:.1f} MB")
 
 
 def kinds_of(text: str) -> list[str]:

@@ -7,7 +7,7 @@ from typing import TYPE_CHECKING, Any, Optional
 import typer
 from rich.markup import escape
 
-from .console import STUDY, app, err, out, results
+from .console import STUDY, app, err, out, results, say, warn
 
 if TYPE_CHECKING:
     import pandas as pd
@@ -34,7 +34,7 @@ def phases(factors: str = typer.Argument(..., help="Factors of the pits that end
             frame.to_csv(part, index=False)
     show(found, table)
     tell_narrow(found, benches, target / "phase_benches.csv")
-    out.print(f"{target}: phases.csv, phase_benches.csv, phase_blocks.csv. After each pushback the mine is a proved pit; in which order benches are dug is the scheduler's", soft_wrap=True)
+    say(f"{target}: phases.csv, phase_benches.csv, phase_blocks.csv. After each pushback the mine is a proved pit; in which order benches are dug is the scheduler's")
 
 
 def show(found: Phases, table: pd.DataFrame) -> None:
@@ -77,10 +77,10 @@ def tell_narrow(found: Phases, benches: pd.DataFrame, file: Path) -> None:
         return
     thin = benches[benches.narrow_blocks > 0]
     if not len(thin):
-        out.print(f"every pushback is at least {found.mining_width:g} m wide on every bench")
+        say(f"every pushback is at least {found.mining_width:g} m wide on every bench")
     for (pushback, factor), part in thin.groupby(["pushback", "factor"]):
-        err.print(f"[yellow]look:[/yellow] pushback {pushback} (factor {factor:g}) is thinner than {found.mining_width:g} m on {len(part)} "
-                  f"{'bench' if len(part) == 1 else 'benches'}, {counted(part.narrow_blocks.sum())}, {part.narrow_t.sum() / 1e6:,.2f} Mt:", soft_wrap=True)
+        warn(f"pushback {pushback} (factor {factor:g}) is thinner than {found.mining_width:g} m on {len(part)} "
+             f"{'bench' if len(part) == 1 else 'benches'}, {counted(part.narrow_blocks.sum())}, {part.narrow_t.sum() / 1e6:,.2f} Mt:")
         worst = part.sort_values(["width", "narrow_blocks"], ascending=[True, False], kind="stable").head(WORST)
         named = ", ".join(f"{row.bench:,.10g} ({row.width:g} m, {counted(row.narrow_blocks)})" for row in worst.itertuples())
-        err.print("  " + (named if len(part) <= WORST else escape(f"{named} are the worst; {file} has all")), soft_wrap=True)
+        err.print(escape("  " + (named if len(part) <= WORST else f"{named} are the worst; {file} has all")), soft_wrap=True)

@@ -6,9 +6,7 @@ from pathlib import Path
 from typing import TYPE_CHECKING, List, Optional
 
 import typer
-from rich.markup import escape
-
-from .console import STUDY, app, described, out, results, shells_of
+from .console import STUDY, app, described, results, say, shells_of
 from .errors import PlanError
 
 if TYPE_CHECKING:
@@ -39,13 +37,13 @@ def plot(folder: Path = STUDY,
     asked += [(f"section-column-{at}", pictures.section(shells, column=at, style=style)) for at in column]
     if not asked:
         level, middle = pictures.middle_of(shells, style)
-        asked = [("pit-by-pit", pictures.pit_by_pit(shells.table(1000, **rates), pictures.currency_of(shells), shells.study.model.name)),
+        asked = [("pit-by-pit", pictures.pit_by_pit(shells.table(1000, **rates), shells.study.currency, shells.study.model.name)),
                  (f"plan-{level:.10g}", pictures.plan(shells, level, style)), (f"section-row-{middle}", pictures.section(shells, row=middle, style=style))]
     ending = "" if colour == "shell" else "-" + re.sub(r"[^\w.-]+", "_", colour)
     for name, figure in asked:
         path = results(shells.study) / (name + (ending if name != "pit-by-pit" else "") + ".png")
         pictures.save(figure, path)
-        out.print(escape(str(path)), soft_wrap=True)
+        say(str(path))
 
 
 @app.command()
@@ -67,7 +65,7 @@ def page(folder: Path = STUDY,
         raise PlanError("a design is given by one of --design FILE and --column NAME")
     found = beside(shells.study, design_of(shells.study.model, design, (column, value), layer, described(folder).keys.encoding), factor) if design or column else None
     path = pages.write(shells, results(shells.study) / "pits.html", shells.table(1000, **rates), title, cut, found)
-    out.print(f"{escape(str(path))}: {path.stat().st_size / 1e6:.1f} MB, opens in any browser", soft_wrap=True)
+    say(f"{path}: {path.stat().st_size / 1e6:.1f} MB, opens in any browser")
 
 
 def design_of(model: Model, file: Path | None, column: tuple[str | None, str | None], layers: list[str], encoding: str | None) -> Design:

@@ -9,11 +9,13 @@ from typing import TYPE_CHECKING, Optional
 import typer
 from rich.markup import escape
 
-from .console import STUDY, app, described, err, opened, out, results
+from .console import STUDY, app, described, err, opened, out, results, say, warn, warn_of_room
 from .errors import PlanError
 from .next_command import command
 
 if TYPE_CHECKING:
+    import pandas as pd
+
     from .local import Heard
     from .risk import Risk, Setup
     from .study import Study
@@ -39,16 +41,22 @@ def risk(folder: Path = STUDY,
         except ValueError:
             raise PlanError(f"--factors {factors}: these are no numbers", try_this="--factors 0.8,1,1.2") from None
         told = described(folder)
-        prepare(study, told.economics, realisations, series, metal, told.keys)
+        with err.status("the realisations are looked through"):
+            prepare(study, told.economics, realisations, series, metal, told.keys)
     setup = setup_of(study)
     if setup is None:
         raise PlanError("no realisations were asked for over the model that stands there", try_this=command("risk", folder, "--realisations", "FILE"))
     tell_means(study, setup)
     if later:
-        out.print(f"{len(setup.digests)} realisations at {len(setup.factors)} factor{'s' * (len(setup.factors) > 1)}; then: {command('submit', folder)}, and {command('risk', folder)} for the tables", soft_wrap=True)
+        say(f"{len(setup.digests)} realisations at {len(setup.factors)} factor{'s' * (len(setup.factors) > 1)}; then: {command('submit', folder)}, and {command('risk', folder)} for the tables")
         return
     do_all(study, tasks(study), workers)
-    write_risk(Risk(study))
+    with err.status("the pits are read and added up again"):
+        found = Risk(study)
+    factor = 1000 if 1000 in found.factors else found.factors[-1]
+    with err.status("the pits of each likelihood are priced, and all is written"):
+        pits = write_risk(found, factor)
+    print_risk(found, factor, pits)
 
 
 def tell_means(study: Study, setup: Setup) -> None:
@@ -59,22 +67,21 @@ def tell_means(study: Study, setup: Setup) -> None:
     if not abs(found.share) > NEAR:
         return
     by = f"{abs(found.share):.1%} " if found.table > 0 else ""
-    err.print("[yellow]look:[/yellow] " + escape(
+    warn(
         f"the realisations' mean grade of {found.metal} is {found.realisations:.4g} {found.unit}, {by}{'above' if found.share > 0 else 'below'} the table's "
         f"{found.table:.4g} {found.unit}, by tonnes over {found.rows:,} rows: so their worths differ from the plan's, which is neither upside nor risk\n"
-        "  try: realisations whose mean is the table's, or a table whose mean is theirs"), soft_wrap=True)
+        "  try: realisations whose mean is the table's, or a table whose mean is theirs")
 
 
 def do_all(study: Study, tasks: list[Task], workers: Optional[int]) -> None:
     """Does what isn't done yet of some tasks, on this machine, and shows how far that is."""
-    from .local import run_local, workers_for
+    from .local import processes_for, run_local
     from .task import Tasks
     left = Tasks(study.folder, study.program).left(tasks)
     if not left:
         return
-    count = workers_for(study, workers)
-    if workers and count < workers:
-        err.print(f"[yellow]{count} of {workers} workers:[/yellow] free memory has no room for more")
+    count = processes_for(study, workers)
+    warn_of_room(workers, count)
     if not err.is_terminal:
         deaths = run_local(study, left, count, lines())
     else:
@@ -83,7 +90,7 @@ def do_all(study: Study, tasks: list[Task], workers: Optional[int]) -> None:
             bar = bars.add_task(f"tasks, {count} at a time", total=len(left))
             deaths = run_local(study, left, count, lambda task, done, of: bars.update(bar, completed=done))
     if deaths:
-        err.print(f"[yellow]look:[/yellow] a process was ended {deaths} times, and started again: was memory short?")
+        warn(f"a process was ended {deaths} times, and started again: was memory short?")
 
 
 def lines() -> Heard:
@@ -92,16 +99,12 @@ def lines() -> Heard:
     return lambda task, done, of: print(f"{task} done: {done} of {of} after {time.time() - began:.0f} s", file=sys.stderr, flush=True)
 
 
-def write_risk(found: Risk) -> None:
-    """The tables, a section and a page by likelihood, and the table on the screen."""
-    from rich.box import SIMPLE_HEAD
-    from rich.table import Table
+def write_risk(found: Risk, factor: int) -> pd.DataFrame:
+    """The tables, and a section and a page by likelihood at a factor; gives `Risk.pits` at it."""
     from . import page
     from .pictures import save
-    from .risk import spelled_factor
     from .risk_pictures import section
     folder = results(found.study)
-    factor = 1000 if 1000 in found.factors else found.factors[-1]
     found.runs.to_csv(folder / "risk_runs.csv", index=False)
     found.table().to_csv(folder / "risk.csv", index=False)
     found.of_blocks().to_csv(folder / "likelihood.csv", index=False)
@@ -109,14 +112,22 @@ def write_risk(found: Risk) -> None:
     pits.to_csv(folder / "likelihood_pits.csv", index=False)
     save(section(found, factor), folder / "likelihood.png")
     page.write_likelihood(found, factor, folder / "likelihood.html", pits)
-    currency = found.study.manifest["currency"]
-    shown = Table(title=f"{found.count} realisations, million {currency} and Mt; a tenth of them lies below p10", title_justify="left", box=SIMPLE_HEAD)
+    return pits
+
+
+def print_risk(found: Risk, factor: int, pits: pd.DataFrame) -> None:
+    """The spread over the realisations on the screen, and the pit of a likelihood that is worth most on the mean."""
+    from rich.box import SIMPLE_HEAD
+    from rich.table import Table
+    from .risk import spelled_factor
+    currency = found.study.currency
+    shown = Table(title=escape(f"{found.count} realisations, million {currency} and Mt; a tenth of them lies below p10"), title_justify="left", box=SIMPLE_HEAD)
     for name in ("factor", "worth p10", "p50", "p90", "mean", "rock p10", "p50", "p90"):
         shown.add_column(name, justify="right")
     for row in found.table().itertuples():
         shown.add_row(f"{row.factor:.3f}", *(f"{v / 1e6:,.2f}" for v in (row.worth_p10, row.worth_p50, row.worth_p90, row.worth_mean, row.rock_t_p10, row.rock_t_p50, row.rock_t_p90)))
     out.print(shown)
     most = pits.worth_mean.idxmax()
-    out.print(f"at factor {spelled_factor(factor)}: the blocks of at least {pits.likelihood[most]:.0%} likelihood, {pits.blocks[most]:,}, are the fixed pit worth most on the mean, "
-              f"{pits.worth_mean[most] / 1e6:,.2f} million; each realisation's own best pit, {pits.best_mean[most] / 1e6:,.2f}", soft_wrap=True)
-    out.print(f"{folder}: risk.csv, risk_runs.csv, likelihood.csv, likelihood_pits.csv, likelihood.png, likelihood.html", soft_wrap=True)
+    say(f"at factor {spelled_factor(factor)}: the blocks of at least {pits.likelihood[most]:.0%} likelihood, {pits.blocks[most]:,}, are the fixed pit worth most on the mean, "
+        f"{pits.worth_mean[most] / 1e6:,.2f} million; each realisation's own best pit, {pits.best_mean[most] / 1e6:,.2f}")
+    say(f"{results(found.study)}: risk.csv, risk_runs.csv, likelihood.csv, likelihood_pits.csv, likelihood.png, likelihood.html")

@@ -9,9 +9,7 @@ from pathlib import Path
 from typing import TYPE_CHECKING, Optional
 
 import typer
-from rich.markup import escape
-
-from .console import STUDY, app, described, err, opened, out, print_columns, results
+from .console import STUDY, app, described, err, opened, print_columns, results, say, warn, warn_of_room
 from .errors import PlanError
 from .next_command import command
 
@@ -29,8 +27,7 @@ def shells(folder: Path = STUDY, workers: Optional[int] = typer.Option(None, min
     from .workers import workers_for
     told, study = described(folder), opened(folder)
     count = workers_for(study, workers)
-    if workers and count < workers:
-        err.print(f"[yellow]{count} of {workers} workers:[/yellow] free memory has no room for more")
+    warn_of_room(workers, count)
     with shown(told.factors, count) as listener:
         found = study.shells(told.factors, count, listener, certificates)
     table = found.table(**told.rates)
@@ -102,15 +99,15 @@ def write_tables(found: Shells, table: pd.DataFrame) -> None:
     name = found.study.table.name if found.study.table else "blocks.csv"
     try:
         rows = table_back.write(found, folder / name)
-        out.print(f"{folder / name}: the table with a column more, pit_shell, that {rows:,} of its rows have")
+        say(f"{folder / name}: the table with a column more, pit_shell, that {rows:,} of its rows have")
     except PlanError as error:
         safe(found.of_blocks()).to_csv(folder / "blocks.csv", index=False)
-        err.print(f"[yellow]{escape(str(error))}[/yellow]\n{folder / 'blocks.csv'} has the shell of each block by its id instead")
+        warn(f"{error}\n{folder / 'blocks.csv'} has the shell of each block by its id instead")
 
 
 def print_table(found: Shells, table: pd.DataFrame) -> None:
     """The pit-by-pit table on the screen; all of its columns are in the file."""
-    currency, metals = found.study.manifest["currency"], found.study.manifest["metals"]
+    currency, metals = found.study.currency, found.study.manifest["metals"]
     names = ("factor", "blocks", "ore Mt", "waste Mt", "strip", *(f"{name} {unit['grade_unit']}" for name, unit in metals.items()), "worth", "best case", "worst case", "years")
     lines = []
     for row in table.to_dict("records"):
@@ -119,11 +116,11 @@ def print_table(found: Shells, table: pd.DataFrame) -> None:
         lines.append((f"{row['factor']:.3f}", f"{row['blocks']:,}", f"{row['ore_t'] / 1e6:,.2f}", f"{row['waste_t'] / 1e6:,.2f}", strip, *grades,
                       f"{row['worth_at_base'] / 1e6:,.2f}", f"{row['npv_best'] / 1e6:,.2f}", f"{row['npv_worst'] / 1e6:,.2f}", f"{row['years']:.1f}"))
     print_columns(f"pit by pit, worths in million {currency} at the full price", names, lines)
-    out.print(f"{found.study.folder / 'out'}: pit_by_pit.csv, benches.csv. Each pit is proved; the discounted cases are two simple orders, no schedule")
+    say(f"{found.study.folder / 'out'}: pit_by_pit.csv, benches.csv. Each pit is proved; the discounted cases are two simple orders, no schedule")
     if found.certified == len(found):
-        out.print("each pit has a certificate, which pit check has accepted")
+        say("each pit has a certificate, which pit check has accepted")
     else:
-        out.print(escape(f"each pit is as pit shells states it, which is proved to check each with a flow; certificates: {command('shells', found.study.named)} --certificates"), soft_wrap=True)
+        say(f"each pit is as pit shells states it, which is proved to check each with a flow; certificates: {command('shells', found.study.named)} --certificates")
 
 
 def warn_of_edges(found: Shells) -> None:
@@ -134,4 +131,4 @@ def warn_of_edges(found: Shells) -> None:
         if first:
             last = count(len(found.factors) - 1)
             blocks = f"{first[1]:,} {'block' if first[1] == 1 else 'blocks'} there" + (f", {last:,} at factor {found.factors[-1] / 1000:g}" if first[0] != found.factors[-1] else "")
-            err.print("[yellow]look:[/yellow] " + escape(f"from factor {first[0] / 1000:g} on a pit {what.format(blocks)}\n  try: {hint}"), soft_wrap=True)
+            warn(f"from factor {first[0] / 1000:g} on a pit {what.format(blocks)}\n  try: {hint}")

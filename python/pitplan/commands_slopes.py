@@ -6,10 +6,8 @@ from pathlib import Path
 from typing import TYPE_CHECKING, Any
 
 import typer
-from rich.markup import escape
-
 from . import older
-from .console import STUDY, app, described, err, out, print_columns
+from .console import STUDY, app, described, err, print_columns, say, warn
 from .errors import PlanError
 
 if TYPE_CHECKING:
@@ -37,7 +35,7 @@ def slopes(folder: Path = STUDY, every: int = EVERY) -> None:
     older.watch(folder, key_of(told.slopes, grid))
     table.round(3).to_csv(folder / "slopes.csv", index=False)
     draw_rose(told.slopes, grid, folder / "slopes.png")
-    out.print(f"{folder / 'slopes.png'}, {folder / 'slopes.csv'}")
+    say(f"{folder / 'slopes.png'}, {folder / 'slopes.csv'}")
 
 
 def key_of(slopes: Slopes, grid: Grid) -> str:
@@ -59,9 +57,9 @@ def grid_of(told: StudyFile) -> Grid:
 def print_patterns(slopes: Slopes, grid: Grid) -> None:
     """A line for each region, and where the angles can't be held a warning that says what can."""
     for name, pattern in slopes.patterns(grid).items():
-        out.print(escape(f"{name}: {pattern}"), soft_wrap=True)
+        say(f"{name}: {pattern}")
         if not pattern.is_held:
-            err.print("  [yellow]look:[/yellow] " + escape(not_held(name, pattern, slopes.levels)), soft_wrap=True)
+            warn(not_held(name, pattern, slopes.levels), "  ")
 
 
 def not_held(name: str, pattern: Pattern, levels: int | None) -> str:

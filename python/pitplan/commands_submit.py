@@ -6,9 +6,7 @@ from pathlib import Path
 from typing import TYPE_CHECKING, Optional
 
 import typer
-from rich.markup import escape
-
-from .console import STUDY, app, described, err, opened, out
+from .console import STUDY, app, described, opened, say, warn
 from .errors import MachineError, PlanError
 from .next_command import command
 
@@ -36,22 +34,22 @@ def submit(folder: Path = STUDY,
     study = opened(folder)
     tasks = to_hand_in(study, described(folder).factors, again)
     if not tasks:
-        out.print("nothing to hand in: every task is done or in hand")
+        say("nothing to hand in: every task is done or in hand")
     elif dry:
         show(study, tasks, engine, Limits(minutes, at_once))
     elif engine == "local":
         from .commands_risk import do_all
         do_all(study, tasks, workers)
-        out.print(f"{counted(tasks)} done")
+        say(f"{counted(tasks)} done")
     elif engine == "slurm":
         from .engines import submit_slurm
-        out.print(f"{counted(tasks)} handed in as job {', '.join(submit_slurm(study, tasks, Limits(minutes, at_once)))}; then: {command('status', folder)}", soft_wrap=True)
+        say(f"{counted(tasks)} handed in as job {', '.join(submit_slurm(study, tasks, Limits(minutes, at_once)))}; then: {command('status', folder)}")
     else:
         from .engines import snakemake_lines, write_snakefile
         written = write_snakefile(study, tasks)
-        out.print(escape(f"{counted(tasks)} in {written / 'Snakefile'}; in the folder {study.folder}, on"), soft_wrap=True)
+        say(f"{counted(tasks)} in {written / 'Snakefile'}; in the folder {study.folder}, on")
         for where, line in snakemake_lines(written).items():
-            out.print(escape(f"  {where}: {line}"), soft_wrap=True)
+            say(f"  {where}: {line}")
 
 
 def to_hand_in(study: Study, factors: list[int], again: bool) -> list[Task]:
@@ -62,7 +60,7 @@ def to_hand_in(study: Study, factors: list[int], again: bool) -> list[Task]:
     found = states(study, wanted(study, factors))
     elsewhere = [state for state in found if state.state == RUNNING and state.words.startswith("on ") and state.words != f"on {host()}"]
     if elsewhere and not again:
-        err.print(f"[yellow]look:[/yellow] {counted([state.task for state in elsewhere])} running {escape(', '.join(sorted({state.words for state in elsewhere})))}; if that machine died: --again", soft_wrap=True)
+        warn(f"{counted([state.task for state in elsewhere])} running {', '.join(sorted({state.words for state in elsewhere}))}; if that machine died: --again")
     return [state.task for state in found if state.state in (FAILED, TO_DO) or (again and state in elsewhere)]
 
 
@@ -73,12 +71,12 @@ def counted(tasks: list[Task]) -> str:
 def show(study: Study, tasks: list[Task], engine: str, limits: object) -> None:
     """What would be handed in."""
     from .engines import Limits, megabytes, slurm_script
-    out.print(f"{counted(tasks)} of {megabytes(study):,} MB each would be handed in:")
+    say(f"{counted(tasks)} of {megabytes(study):,} MB each would be handed in:")
     for task in tasks:
-        out.print(f"  pitplan task {escape(shlex.quote(str(study.folder)))} {task}", soft_wrap=True)
+        say(f"  pitplan task {shlex.quote(str(study.folder))} {task}")
     if engine == "slurm":
         assert isinstance(limits, Limits)
-        out.print(escape(slurm_script(study, min(len(tasks), 1000), "submit/N", limits)), soft_wrap=True)
+        say(slurm_script(study, min(len(tasks), 1000), "submit/N", limits))
 
 
 @app.command()
@@ -93,20 +91,20 @@ def status(folder: Path = STUDY) -> None:
     try:
         in_hand = in_slurm(study)
     except MachineError as error:
-        err.print(f"[yellow]look:[/yellow] {escape(error.what)}: what waits or runs there isn't shown", soft_wrap=True)
+        warn(f"{error.what}: what waits or runs there isn't shown")
     found = states(study, wanted(study, described(folder).factors), in_hand)
-    out.print(", ".join(f"{count} {name}" for name in STATES if (count := sum(state.state == name for state in found))) + f", of {len(found)} tasks")
+    say(", ".join(f"{count} {name}" for name in STATES if (count := sum(state.state == name for state in found))) + f", of {len(found)} tasks")
     there = [factor for factor in described(folder).factors if study.verdict(factor)]
     kept = sum(study.certified(factor) is not None for factor in there)
     if kept < len(there):
-        out.print(f"certificates: of {kept} of {len(there)} shells; the others are as pit shells states them")
+        say(f"certificates: of {kept} of {len(there)} shells; the others are as pit shells states them")
     failed = [state for state in found if state.state == FAILED]
     for state in failed[:SHOWN]:
-        out.print(escape(f"  failed: {state.task}: {state.words}"), soft_wrap=True)
+        say(f"  failed: {state.task}: {state.words}")
     if len(failed) > SHOWN:
-        out.print(f"  and {len(failed) - SHOWN} more")
+        say(f"  and {len(failed) - SHOWN} more")
     for state in [state for state in found if state.state == RUNNING][:SHOWN]:
-        out.print(escape(f"  running: {state.task}, {state.words}"), soft_wrap=True)
+        say(f"  running: {state.task}, {state.words}")
     left = seconds_left(study, found)
     if left:
-        out.print(f"the rest will take about {duration(left)}, by what is done")
+        say(f"the rest will take about {duration(left)}, by what is done")

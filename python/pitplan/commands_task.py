@@ -8,7 +8,7 @@ from typing import Any, List
 
 import typer
 
-from .console import app, out
+from .console import app, say
 
 STOPPED = 130
 
@@ -30,7 +30,7 @@ def task(folder: Path = typer.Argument(..., help="The folder of the study."), wo
         return
     found = task_of(words)
     count = tasks.do(found)
-    out.print(f"{found}: " + (f"{count} pits found" if count else "done before"), soft_wrap=True)
+    say(f"{found}: " + (f"{count} pits found" if count else "done before"))
 
 
 def stopped(signal_number: int, frame: object) -> None:

@@ -5,8 +5,9 @@ from pathlib import Path
 from typing import Any, List, Optional, Tuple
 
 import typer
+from rich.markup import escape
 
-from .console import app, described, opened, out, results
+from .console import app, described, err, opened, out, results, say
 from .errors import PlanError
 from .next_command import command
 
@@ -26,11 +27,12 @@ def vary(words: List[str] = WORDS,
     study = opened(folder)
     if changes:
         told = described(folder)
-        prepare(study, told.economics, told.slopes, changes_of(changes), thousandths(factor))
+        with err.status("the model of each change is built"):
+            prepare(study, told.economics, told.slopes, changes_of(changes), thousandths(factor))
     if asked_of(study) is None:
         raise PlanError("no what-ifs were asked for over the model that stands there", try_this=command("vary", folder, "price=-20..20", "recovery=-5..5", "slope=-3..3"))
     if later:
-        out.print(f"{len(tasks(study))} pits; then: {command('submit', folder)}, and {command('vary', folder)} for the table", soft_wrap=True)
+        say(f"{len(tasks(study))} pits; then: {command('submit', folder)}, and {command('vary', folder)} for the table")
         return
     do_all(study, list(dict.fromkeys(tasks(study))), workers)
     write_what_ifs(study)
@@ -51,14 +53,14 @@ def write_what_ifs(study: Any) -> None:
     from .pictures import save
     from .vary import UNITS, table, tornado
     found, folder = table(study), results(study)
-    currency = study.manifest["currency"]
+    currency = study.currency
     found.to_csv(folder / "vary.csv", index=False)
     save(tornado(found, currency), folder / "tornado.png")
-    shown = Table(title=f"a proved pit for each, worths in million {currency}", title_justify="left", box=SIMPLE_HEAD)
+    shown = Table(title=escape(f"a proved pit for each, worths in million {currency}"), title_justify="left", box=SIMPLE_HEAD)
     for name in ("what", "by", "blocks", "rock Mt", "worth", "difference"):
         shown.add_column(name, justify="left" if name == "what" else "right")
     for row in found.itertuples():
         by = f"{row.by:+g}{UNITS[row.what]}" if row.what in UNITS else ""
         shown.add_row(row.what if by else "as planned", by, f"{row.blocks:,}", f"{row.rock_t / 1e6:,.2f}", f"{row.worth / 1e6:,.2f}", f"{row.difference / 1e6:+,.2f}" if by else "")
     out.print(shown)
-    out.print(f"{folder}: vary.csv, tornado.png", soft_wrap=True)
+    say(f"{folder}: vary.csv, tornado.png")

@@ -6,7 +6,9 @@ from typing import TYPE_CHECKING
 from .units_shown import separated
 
 if TYPE_CHECKING:
+    from .amounts import Bools
     from .compare import Comparison
+    from .study import Study
 
 
 def verdict_lines(found: Comparison, currency: str) -> list[str]:
@@ -37,6 +39,15 @@ def broken_lines(found: Comparison, currency: str) -> list[str]:
     lines.append(f"to keep them it has to dig {found.repair.blocks:,} blocks more ({found.repair.tonnes / 1e6:,.2f} Mt); then it is worth {money(found.repair.worth, currency)}, "
                  f"{money(gap, currency)} ({found.share(gap):.2%}) below the proved bound")
     return lines
+
+
+def forbidden_lines(study: Study, held: Bools) -> list[str]:
+    """What is said of a design that digs what may not be dug: its worth has the price that keeps these blocks from every pit."""
+    shut = held & study.priced.forbidden
+    if not shut.any():
+        return []
+    count, first = int(shut.sum()), str(study.model.blocks["id"].to_numpy()[shut][0])
+    return [f"look: the design digs {count:,} {'blocks' if count > 1 else 'block'} that forbid keeps from being dug, as {first}: its worth counts them at a price that no pit pays, and says nothing"]
 
 
 def money(amount: str, currency: str) -> str:

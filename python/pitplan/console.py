@@ -53,6 +53,22 @@ def before_any_command(version: bool = typer.Option(False, "--version", help="Pr
     """Options that need no command."""
 
 
+def say(text: str) -> None:
+    """Prints a text as it is: names of the planner's may look like rich's marks."""
+    out.print(escape(text), soft_wrap=True)
+
+
+def warn(text: str, indent: str = "") -> None:
+    """Says what the planner should look at."""
+    err.print(f"{indent}[yellow]look:[/yellow] {escape(text)}", soft_wrap=True)
+
+
+def warn_of_room(wanted: int | None, count: int) -> None:
+    """Says where fewer work at a time than were asked for."""
+    if wanted and count < wanted:
+        warn(f"{count} of {wanted} workers: free memory has no room for more")
+
+
 def print_columns(title: str, names: Sequence[str], rows: Sequence[Sequence[str]], words: int = 0) -> None:
     """Prints a table of texts; the first `words` columns stand left. Where the screen is narrow the headings go over several
     lines and the gaps shrink, and no figure is cut off."""

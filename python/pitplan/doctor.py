@@ -16,7 +16,7 @@ from pathlib import Path
 
 from . import __version__
 from .errors import PlanError
-from .program import TOP, Pit
+from .program import Pit
 
 # What is imported, and Debian's package of it.
 NEEDED = {"numpy": "python3-numpy", "pandas": "python3-pandas", "matplotlib": "python3-matplotlib", "shapely": "python3-shapely",

@@ -141,10 +141,9 @@ class Economics:
         mining = tonnes * cost("mining", self.mining, model)
         rounding = rounding_of(self.rounding)
         whole = [in_whole(name, values, rounding, model) for name, values in (("revenue", revenue), ("processing", processing), ("mining", mining))]
-        found = Priced(whole[0], whole[1], whole[2], rounding, metal, grade, self.feed)
-        fence = self.fenced(model)
-        if fence.any():
-            found.mining[fence] = fence_price(found, rounding)
+        found = Priced(whole[0], whole[1], whole[2], rounding, metal, grade, self.feed, self.forbidden(model))
+        if found.forbidden.any():
+            found.mining[found.forbidden] = fence_price(found, rounding)
         return found
 
     def to_mill(self, model: Model) -> Bools:
@@ -157,15 +156,15 @@ class Economics:
         found: Bools = takes.to_numpy() & (model.blocks["row"].to_numpy() >= 0)
         return found
 
-    def fenced(self, model: Model) -> Bools:
-        """Which blocks may not be dug."""
-        fence: Bools = np.zeros(len(model), bool)
+    def forbidden(self, model: Model) -> Bools:
+        """Which blocks may not be dug: those for which a formula of `forbid` holds."""
+        found: Bools = np.zeros(len(model), bool)
         for formula in self.forbid:
-            found = worked_out(str(formula), model.blocks, "[economics] forbid")
-            if found.dtype != bool:
+            holds = worked_out(str(formula), model.blocks, "[economics] forbid")
+            if holds.dtype != bool:
                 raise PlanError(f"[economics] forbid = {formula!r} says neither yes nor no", try_this='as "XC > 12000"')
-            fence |= found
-        return fence
+            found |= holds
+        return found
 
 
 def number(what: str, value: object, least: float, most: float = math.inf) -> None:

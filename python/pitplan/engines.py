@@ -16,7 +16,7 @@ from dataclasses import dataclass
 from pathlib import Path
 from typing import Any
 
-from .errors import MachineError, PlanError
+from .errors import STOPPED, MachineError, PlanError, in_a_line
 from .program import TOP
 from .study import Study, host
 from .task import Task, Tasks, memory_of_task
@@ -159,12 +159,13 @@ class Handed:
     log: Path
 
     def last_line(self) -> str:
-        """What stands last in the log, "" where there is none."""
+        """What stands last in the log; before `STOPPED`, which a task says that is ended, and which doesn't say why. "" where there is
+        nothing."""
         try:
-            lines = self.log.read_text(errors="replace").split("\n")
+            lines = [line.strip() for line in self.log.read_text(errors="replace").split("\n") if line.strip()]
         except OSError:
             return ""
-        return next((line.strip() for line in reversed(lines) if line.strip()), "")
+        return in_a_line(next((line for line in reversed(lines) if line != STOPPED), STOPPED if lines else ""))
 
 
 def in_slurm(study: Study) -> dict[Task, Handed]:
@@ -222,7 +223,7 @@ def run_dask(study: Study, tasks: Iterable[Task], client: Any, heard: Callable[[
     """Does tasks over the workers of a ``distributed.Client``. Words alone go over the network; the study's folder is shared.
 
     Dask sees the memory of its own process and not that of the `pit` beneath it: as many workers as memory has room for is
-    the caller's care (`local.workers_for` says it for this machine).
+    the caller's care (`local.processes_for` says it for this machine).
 
     Parameters
     ----------

@@ -5,6 +5,9 @@ import difflib
 from collections.abc import Iterable
 
 
+STOPPED = "stopped; what is done is kept, and the same command goes on from there"
+
+
 class PlanError(Exception):
     """An error that a planner can act on.
 

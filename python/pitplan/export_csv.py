@@ -72,8 +72,7 @@ def table_of(shells: Shells, columns: Sequence[str] | None = None, is_whole: boo
     b = study.model.blocks.iloc[kept]
     x, y, z = (np.round(values[kept], 6) for values in study.model.xyz())
     shares = np.array([*(factor / THOUSAND for factor in shells.factors), np.nan])
-    rows = b["row"].to_numpy()
-    found = pd.DataFrame({"id": b["id"].to_numpy(), "row": np.where(rows >= 0, rows + 2, 0), "x": x, "y": y, "z": z, "rock": b["rock"].to_numpy(), "tonnes": b["tonnes"].to_numpy(),
+    found = pd.DataFrame({"id": b["id"].to_numpy(), "row": study.model.table_row[kept], "x": x, "y": y, "z": z, "rock": b["rock"].to_numpy(), "tonnes": b["tonnes"].to_numpy(),
                           "shell": shares[shells.shell[kept]], "worth": np.round(study.priced.worth(THOUSAND)[kept], 6),
                           "to": np.where(study.priced.milled(THOUSAND)[kept], "mill", "waste")})
     for name in columns_of(study.model, columns or ()):

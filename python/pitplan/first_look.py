@@ -10,11 +10,12 @@ from pathlib import Path
 import numpy as np
 import pandas as pd
 
-from .column_names import PLACES, SIZES, which_columns
+from .column_names import PLACES, REGIONS, SIZES, which_columns
 from .csv_text import Dialect, dialect_of, head_of, names_of, number_column, read_frame
 from .errors import PlanError
 from .grid import Floats, Grid
 from .next_command import command
+from .slopes import DEFAULT, text_of
 from .study_template import TEMPLATE
 
 UTF_8 = Dialect().encoding
@@ -23,6 +24,7 @@ MARKS = ("-99", "-999", "-9999", "-99.0", "-999.0", "-1", "-1.0", "-", "--", "*"
 MOSTLY = 0.9                                 # the share of numbers from which a column is one of numbers with a few words among them
 LIMIT = re.compile(r"<\s*\d*[.,]?\d+")      # below the limit of an assay
 MOST_LIMITS = 20
+MOST_REGIONS = 12                            # of slopes: a column with more words than that names something else
 # Columns that look like grades, and the units that such a metal usually comes in.
 METALS = {"cu": ("copper", "%", "t", 8500), "au": ("gold", "g/t", "oz", 1900), "ag": ("silver", "g/t", "oz", 23), "mo": ("molybdenum", "ppm", "lb", 15),
           "zn": ("zinc", "%", "t", 2600), "pb": ("lead", "%", "t", 2100), "ni": ("nickel", "%", "t", 17000), "co": ("cobalt", "%", "t", 33000),
@@ -49,6 +51,10 @@ class Look:
     absent : list of str
         Cells that seem to stand for "not estimated".
     has_sub_blocks : bool
+    region : str
+        The column that seems to say in which region of slopes a block is; "" where none does.
+    regions : list of str
+        What stands in it.
     rocks, columns : list of str
         The rocks, and all names of columns.
     notes : list of str
@@ -63,6 +69,8 @@ class Look:
     grades: list[str] = field(default_factory=list)
     absent: list[str] = field(default_factory=list)
     has_sub_blocks: bool = False
+    region: str = ""
+    regions: list[str] = field(default_factory=list)
     rocks: list[str] = field(default_factory=list)
     columns: list[str] = field(default_factory=list)
     notes: list[str] = field(default_factory=list)
@@ -96,6 +104,7 @@ def look_at(table: Path, given: Mapping[str, str] | None = None, encoding: str |
     x, y, z = (number_column(frame[names[key]], table.name) for key in PLACES)
     find_grid(look, frame, x, y, z)
     look.grades = [str(name) for name in frame.columns if is_grade(frame, str(name), look)]
+    look.region, look.regions = regions_in(frame, look)
     if "rock" in names:
         look.rocks = [str(rock) for rock in frame[names["rock"]].fillna("").value_counts().index[:12]]
     if not {"tonnes", "density"} & set(names):
@@ -156,6 +165,20 @@ def is_grade(frame: pd.DataFrame, name: str, look: Look) -> bool:
     if metal_of(name) is not None and (values < 0).mean() < 0.5:       # kriging leaves a few below 0: `build` names their row
         return True
     return bool(values.min() >= 0) and len(np.unique(values)) > 12
+
+
+def regions_in(frame: pd.DataFrame, look: Look) -> tuple[str, list[str]]:
+    """The column that seems to say in which region of slopes a block is, by its name and its few values, and these; "" where there is none."""
+    def rank(name: str) -> int:
+        return next((at for at, part in enumerate(REGIONS) if part in name.lower()), len(REGIONS))
+
+    for name in sorted((str(name) for name in frame.columns), key=rank):
+        if rank(name) == len(REGIONS):
+            break
+        there = sorted({text_of(value) for value in frame[name].dropna().unique()} - {"", *look.absent})
+        if name not in look.names.values() and name not in look.grades and 1 < len(there) <= MOST_REGIONS and DEFAULT not in there:
+            return name, there
+    return "", []
 
 
 def metal_of(column: str) -> tuple[str, str, str, float] | None:
@@ -242,7 +265,8 @@ def written(look: Look, table: str) -> str:
         table=quoted(table), columns=", ".join(f"{name} = {quoted(column)}" for name, column in look.names.items()), size=size,
         size_told="" if look.size else "; it couldn't be told: fill it in", rotation=f"{look.rotation:g}", absent=", ".join(map(quoted, look.absent)),
         encoding="" if look.dialect.encoding == UTF_8 else f"\nencoding = {quoted(look.dialect.encoding)}", regularise="true" if look.has_sub_blocks else "false", x=look.names["x"], z=look.names["z"], by_rock=f"; by rock: {{ {by_rock} }}" if by_rock else "",
-        mill=", ".join(map(quoted, look.rocks[:2])), metals=metals(look))
+        mill=", ".join(map(quoted, look.rocks[:2])), metals=metals(look),
+        by=quoted(look.region or "SECTOR"), regions=", ".join(f"{key(name)} = 45" for name in look.regions) or "NORTH = 38, SOUTH = [[0, 44], [180, 50]]")
 
 
 def metals(look: Look) -> str:
@@ -265,5 +289,5 @@ def key(word: str) -> str:
 
 
 def quoted(word: str) -> str:
-    """A word as a text of TOML."""
-    return '"' + word.replace("\\", "\\\\").replace('"', '\\"') + '"'
+    """A word as a text of TOML, in one line whatever is in it."""
+    return '"' + "".join(f"\\u{ord(c):04x}" if ord(c) < 32 or ord(c) == 127 else c for c in word.replace("\\", "\\\\").replace('"', '\\"')) + '"'

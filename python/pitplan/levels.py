@@ -71,6 +71,11 @@ def overhang(study: Study, name: str, block: int, count: int) -> PlanError:
                      try_this=f"{command('plot', study.named)}, which draws sections and benches as they are")
 
 
+def packed_marks(held: Bools, index: npt.NDArray[np.int32]) -> str:
+    """A set of blocks as text: a bit for each place of the grid, level by level of each column, by zlib and base64; "" for none."""
+    return base64.b64encode(zlib.compress(np.packbits(placed(held, index)).tobytes(), 9)).decode() if held.any() else ""
+
+
 def packed(levels: Levels) -> str:
     """Heights as text: the ground, then how much lower each surface is than the one before, by zlib and base64."""
     lower = np.concatenate([levels[:1], levels[:-1] - levels[1:]])

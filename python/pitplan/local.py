@@ -28,7 +28,7 @@ START = "import sys; sys.path.insert(0, {!r}); from pitplan.cli import main; mai
 Heard = Callable[[Task, int, int], None]     # a task that is done, how many are, and of how many
 
 
-def workers_for(study: Study, wanted: int | None = None) -> int:
+def processes_for(study: Study, wanted: int | None = None) -> int:
     """How many tasks run at a time: as asked or as there are processors, and no more than free memory has room for."""
     room = int(SHARE * free_memory() / memory_of_task(study))
     return max(1, min(wanted or len(os.sched_getaffinity(0)), room))
@@ -40,7 +40,7 @@ def run_local(study: Study, tasks: Iterable[Task], workers: int | None = None, h
     Parameters
     ----------
     workers : int, optional
-        How many at a time, as `workers_for`.
+        How many at a time, as `processes_for`.
     heard : function, optional
         Is told of each task that is done.
 
@@ -62,7 +62,7 @@ def run_local(study: Study, tasks: Iterable[Task], workers: int | None = None, h
         queue.put(task)
     if not left:
         return 0
-    count = min(workers_for(study, workers), len(left))
+    count = min(processes_for(study, workers), len(left))
     team = [Worker(study, queue) for _ in range(count)]
     lock, done = threading.Lock(), [0]
 

@@ -75,6 +75,12 @@ class Model:
         cube[self.blocks.ix, self.blocks.iy, self.blocks.iz] = np.arange(len(self.blocks), dtype=np.int32)
         return cube
 
+    @property
+    def table_row(self) -> Ints:
+        """The row of each block as a spreadsheet counts it, of shape (len(self),); 0 for blocks that were added."""
+        row = self.blocks["row"].to_numpy(np.int64)
+        return np.where(row >= 0, row + 2, 0)
+
     def xyz(self) -> tuple[Floats, Floats, Floats]:
         """East, north and elevation of each block's centre, in the table's unit."""
         b = self.blocks

@@ -16,7 +16,7 @@ from typing import TYPE_CHECKING, Any
 
 from . import page_views
 from .errors import PlanError
-from .levels import packed
+from .levels import packed, packed_marks
 from .page_views import PATTERNS, Table, View
 from .whole_file import whole_file
 
@@ -24,19 +24,20 @@ if TYPE_CHECKING:
     import pandas as pd
 
     from .compare import Comparison
-    from .model import Model
     from .phases import Phases
     from .risk import Risk
     from .shells import Shells
+    from .study import Study
 
 THREE_JS = Path("/usr/share/javascript/three")
 LIBRARIES = {"three": "three.min.js", "orbit": "examples/js/controls/OrbitControls.js"}
 PLACE = re.compile(r"\{\{(\w+)\}\}")
 
 
-def data_of(model: Model, views: Sequence[View]) -> dict[str, Any]:
-    """What the page's script reads: the grid in the user's coordinates, and of each view what isn't in its table."""
-    grid = model.grid
+def data_of(study: Study, views: Sequence[View]) -> dict[str, Any]:
+    """What the page's script reads: the grid in the user's coordinates, the blocks that may not be dug, and of each view what isn't
+    in its table."""
+    grid = study.model.grid
     nx, ny, _ = grid.shape
 
     def place(i: float, j: float) -> list[float]:
@@ -45,7 +46,7 @@ def data_of(model: Model, views: Sequence[View]) -> dict[str, Any]:
 
     corners = [place(i - 0.5, j - 0.5) for i, j in ((0, 0), (nx, 0), (nx, ny), (0, ny))]
     return {"shape": list(grid.shape), "size": list(grid.size), "rotation": grid.rotation, "corners": corners, "centre": place(nx / 2 - 0.5, ny / 2 - 0.5),
-            "floor": grid.origin[2] - grid.size[2] / 2, "views": [of_view(view) for view in views]}
+            "floor": grid.origin[2] - grid.size[2] / 2, "forbidden": packed_marks(study.priced.forbidden, study.model.index), "views": [of_view(view) for view in views]}
 
 
 def of_view(view: View) -> dict[str, Any]:
@@ -103,17 +104,19 @@ def library_texts() -> dict[str, str]:
         raise PlanError(f"three.js isn't installed: {missing.filename}", try_this="apt install libjs-three") from None
 
 
-def write_views(path: str | os.PathLike[str], model: Model, views: Sequence[View], title: str, key: str) -> Path:
+def write_views(path: str | os.PathLike[str], study: Study, views: Sequence[View], title: str) -> Path:
     """Writes the page of some views.
 
     Parameters
     ----------
     path : str or path
         The file to write, whole or not at all.
+    study : Study
+        Whose model the views are of.
     views : sequence of View
         The first is shown first.
-    title, key : str
-        The heading; and of which model the views are.
+    title : str
+        The heading.
 
     Raises
     ------
@@ -125,8 +128,8 @@ def write_views(path: str | os.PathLike[str], model: Model, views: Sequence[View
     libraries, first = library_texts(), views[0]
     template = (Path(__file__).parent / "page.html").read_text(encoding="utf-8")
     places = {"title": html.escape(title), "slider": html.escape(first.slider), "steps": str(len(first.table.names)), "start": str(first.start),
-              "step": html.escape(first.table.names[first.start - 1]), "facts": facts_html(first), "tables": "\n".join(view_html(n, view, key) for n, view in enumerate(views)),
-              "data": script_text(data_of(model, views))}
+              "step": html.escape(first.table.names[first.start - 1]), "facts": facts_html(first), "tables": "\n".join(view_html(n, view, study.key) for n, view in enumerate(views)),
+              "data": script_text(data_of(study, views))}
     with whole_file(path) as part:
         part.write_text(filled(template, {**places, **libraries, "policy": policy(template, libraries)}), encoding="utf-8")
     return Path(path)
@@ -160,7 +163,7 @@ def write(shells: Shells, path: str | os.PathLike[str], table: pd.DataFrame | No
     views = [page_views.pits(shells, shells.table() if table is None else table)]
     views += [page_views.phases(phases)] if phases else []
     views += [page_views.design(study, design)] if design else []
-    return write_views(path, study.model, views, f"{title or study.model.name}: nested pits", study.key)
+    return write_views(path, study, views, f"{title or study.model.name}: nested pits")
 
 
 def write_likelihood(found: Risk, factor: int, path: str | os.PathLike[str], pits: pd.DataFrame | None = None) -> Path:
@@ -174,4 +177,4 @@ def write_likelihood(found: Risk, factor: int, path: str | os.PathLike[str], pit
         Where the file can't be written.
     """
     view = page_views.likelihood(found, factor, found.pits(factor) if pits is None else pits)
-    return write_views(path, found.study.model, [view], f"{found.study.model.name}: likelihood over {found.count:,} realisations", found.study.key)
+    return write_views(path, found.study, [view], f"{found.study.model.name}: likelihood over {found.count:,} realisations")

@@ -15,7 +15,7 @@ import pandas as pd
 
 from .amounts import THOUSAND
 from .levels import NO_COLUMN, Levels, surfaces
-from .units_shown import Scale, amount_text, factor_text, scale_of, separated
+from .units_shown import Scale, amount_text, factor_text, lengths, scale_of, separated
 
 if TYPE_CHECKING:
     from .compare import Comparison
@@ -114,10 +114,6 @@ class View:
         return [int(depth.sum(axis=0).argmax()), int(depth.sum(axis=1).argmax()), level]
 
 
-def currency_of(study: Study) -> str:
-    return str(study.manifest.get("currency", "$"))
-
-
 def scaled(name: str, values: Any, scale: Scale) -> tuple[str, list[str]]:
     return f"{name} ({scale.unit})", [amount_text(v, scale) for v in values]
 
@@ -145,11 +141,8 @@ def rock_and_metal(table: pd.DataFrame, metals: Mapping[str, Mapping[str, str]])
 
 def bottoms(grid: Grid, levels: Levels) -> list[str]:
     """The toe of each surface's lowest bench, in metres; a dash where nothing is dug."""
-    out = []
-    for surface in levels[1:]:
-        dug = surface < levels[0]
-        out.append(f"{grid.origin[2] + (int(surface[dug].min()) - 0.5) * grid.size[2]:,.10g}" if dug.any() else "-")
-    return out
+    lowest = [surface[dug].min() if (dug := surface < levels[0]).any() else np.nan for surface in levels[1:]]
+    return lengths(grid.origin[2] + (level - 0.5) * grid.size[2] for level in map(float, lowest))
 
 
 def pits(shells: Shells, table: pd.DataFrame) -> View:
@@ -159,7 +152,7 @@ def pits(shells: Shells, table: pd.DataFrame) -> View:
     """
     names = [factor_text(k) for k in shells.factors]
     levels = surfaces(shells.study, ((f"the pit at factor {name}", shells.holds(i)) for i, name in enumerate(names)))
-    currency = currency_of(shells.study)
+    currency = shells.study.currency
     money = scale_of(table["worth_at_base"], currency)
     columns = [("Blocks", [f"{v:,}" for v in table["blocks"]]), ("Toe of the lowest bench (m)", bottoms(shells.study.model.grid, levels)),
                (f"Worth at its own factor, proved ({currency})", [separated(str(v["worth"])) for v in shells.verdicts]), *rock_and_metal(table, shells.study.manifest["metals"])]
@@ -178,9 +171,10 @@ def phases(found: Phases, table: pd.DataFrame | None = None) -> View:
     table = found.table() if table is None else table
     pushed = [(f"the mine after pushback {k}", (found.pushback > 0) & (found.pushback <= k)) for k in range(1, count + 1)]
     columns = [("Factor of its pit", [factor_text(k) for k in found.shells.factors])]
-    columns += [(name, [f"{v:,.10g}" for v in table[column]]) for name, column in (("From (m)", "top"), ("Down to (m)", "bottom"), ("Benches", "benches"), ("Blocks", "blocks"))]
-    columns += [*rock_and_metal(table, study.manifest["metals"]), scaled("Worth at factor 1", table["worth"], scale_of(table["worth"], currency_of(study))),
-                ("Thinnest (m)", [f"{v:,.10g}" for v in table["width"]]), ("on the bench at (m)", [f"{v:,.10g}" for v in table["width_bench"]])]
+    columns += [("From (m)", lengths(table["top"])), ("Down to (m)", lengths(table["bottom"]))]
+    columns += [(name, [f"{v:,}" for v in table[name.lower()]]) for name in ("Benches", "Blocks")]
+    columns += [*rock_and_metal(table, study.manifest["metals"]), scaled("Worth at factor 1", table["worth"], scale_of(table["worth"], study.currency)),
+                ("Thinnest (m)", lengths(table["width"])), ("on the bench at (m)", lengths(table["width_bench"]))]
     names = [str(k) for k in range(1, count + 1)]
     return View("Pushbacks", "After pushback", Table("Pushbacks", "Pushback", names, columns), surfaces(study, pushed), "Pushback", PHASES, names, count)
 
@@ -190,20 +184,20 @@ def design(study: Study, found: Comparison) -> View:
 
     Raises PlanError where a surface isn't one height for each column.
     """
-    from .compare_words import verdict_lines
+    from .compare_words import forbidden_lines, verdict_lines
     held, best = found.design.held, found.optimum
     levels = surfaces(study, ((f"the design {found.design.name}", held), ("the best pit", best)))
-    table, currency = amounts_of(study, (held, best), found.factor), currency_of(study)
+    table, currency = amounts_of(study, (held, best), found.factor), study.currency
     gap = (separated(found.gap), f"{found.share(found.gap):.2%}") if found.gap is not None else ("-", "-")
     columns = [("Blocks", [f"{v:,}" for v in table["blocks"]]), ("Toe of the lowest bench (m)", bottoms(study.model.grid, levels)),
                (f"Worth at factor {factor_text(found.factor)}, exact ({currency})", [separated(found.worth), separated(found.bound)]),
                (f"Below the proved bound ({currency})", [gap[0], "0"]), ("as a share of it", [gap[1], "0.00%"]), *rock_and_metal(table, study.manifest["metals"])]
     b = found.benches
     rock = scale_of(b[["design_t", "best_t"]], "t")
-    by_bench = Table("Bench by bench", "Bench at (m)", [f"{v:,.10g}" for v in b["bench"]],
+    by_bench = Table("Bench by bench", "Bench at (m)", lengths(b["bench"]),
                      [scaled(name, b[column], rock) for name, column in (("Design", "design_t"), ("Best pit", "best_t"), ("Left by the design", "left_t"), ("of it ore", "left_ore_t"),
                                                                          ("Beyond the best pit", "over_t"), ("of that ore", "over_ore_t"))])
-    said = [*found.design.notes, *verdict_lines(found, currency)]
+    said = [*found.design.notes, *forbidden_lines(study, held), *verdict_lines(found, currency)]
     return View(f"Design {found.design.name} beside the best pit", "Surface of", Table("Design and best pit", "Pit", [found.design.name, "best pit"], columns), levels,
                 "Design and best pit", DESIGN, ["in both", "beyond the best pit", "left by the design"], 1, True, said, [by_bench])
 
@@ -226,7 +220,7 @@ def likelihood(found: Risk, factor: int, table: pd.DataFrame) -> View:
 
     Raises PlanError where a surface isn't one height for each column.
     """
-    study, currency = found.study, currency_of(found.study)
+    study, currency = found.study, found.study.currency
     table = table.sort_values("likelihood", ascending=False)
     shares = table["likelihood"].tolist()
     names = [f"{share:.0%}" for share in shares]

@@ -81,19 +81,12 @@ class Phases:
         for i, down in np.argwhere(cells.blocks > 0).tolist():
             level = grid.shape[2] - 1 - down
             toe, centre, crest = grid.world(0, 0, [level - 0.5, level, level + 0.5])[2].tolist()
+            found = cells.at(i, down)
+            rock = {name: found.pop(name) for name in ("blocks", "rock_t", "ore_t", "waste_t")}
+            mill = {"strip": rock["waste_t"] / rock["ore_t"] if rock["ore_t"] else np.nan, "feed_t": rock["ore_t"] * shells.study.priced.feed}
             row = {"pushback": i + 1, "factor": shells.factors[i] / THOUSAND, "bench": centre, "toe": toe, "crest": crest}
-            rows.append(row | self.amounts(cells, i, down) | self.room(cube[:, :, level] == i + 1, tonnes[:, :, level]))
+            rows.append(row | rock | mill | found | self.room(cube[:, :, level] == i + 1, tonnes[:, :, level]))
         return pd.DataFrame(rows)
-
-    def amounts(self, cells: Cells, i: int, down: int) -> dict[str, Any]:
-        """What lies in pushback i (from 0) on the bench so far down from the top."""
-        rock, ore = float(cells.rock[i, down]), float(cells.ore[i, down])
-        row: dict[str, Any] = {"blocks": int(cells.blocks[i, down]), "rock_t": rock, "ore_t": ore, "waste_t": rock - ore, "strip": (rock - ore) / ore if ore else np.nan,
-                               "feed_t": ore * self.shells.study.priced.feed, "worth": float(cells.worth[i, down])}
-        for name in cells.metal:
-            row[f"grade_{name}"] = float(cells.graded[name][i, down]) / ore if ore else np.nan
-            row[f"metal_{name}"] = float(cells.metal[name][i, down])
-        return row
 
     def room(self, plane: npt.NDArray[np.bool_], tonnes: npt.NDArray[np.float64]) -> dict[str, Any]:
         """How wide a pushback is on a bench."""
@@ -139,6 +132,5 @@ class Phases:
 
     def of_blocks(self) -> pd.DataFrame:
         """The pushback of each block: ``id``, ``row`` (as a spreadsheet counts it; 0 for blocks that were added), ``pushback``."""
-        b = self.shells.study.model.blocks
-        rows = b["row"].to_numpy()
-        return pd.DataFrame({"id": b["id"].to_numpy(), "row": np.where(rows >= 0, rows + 2, 0), "pushback": self.pushback})
+        model = self.shells.study.model
+        return pd.DataFrame({"id": model.blocks["id"].to_numpy(), "row": model.table_row, "pushback": self.pushback})

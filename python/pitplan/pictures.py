@@ -91,7 +91,7 @@ def paint(shells: Shells, colour: str) -> Paint:
         return paint_shells(shells)
     if colour == "value":                    # what is forbidden is priced beyond all else, which no scale can show
         priced = shells.study.priced
-        return paint_numbers(np.where(priced.forbidden(), np.nan, priced.worth(THOUSAND)), f"Worth of a block at factor 1 ({currency_of(shells)})")
+        return paint_numbers(np.where(priced.forbidden, np.nan, priced.worth(THOUSAND)), f"Worth of a block at factor 1 ({shells.study.currency})")
     blocks = shells.study.model.blocks
     if colour not in blocks.columns:
         known = ["shell", "value", *(str(c) for c in blocks.columns if c not in ("ix", "iy", "iz", "row"))]
@@ -189,7 +189,7 @@ def section(shells: Shells, *, north: float | None = None, east: float | None = 
 
 def draw(shells: Shells, cut: Plane, style: Style, exaggeration: float) -> tuple[Figure, Any]:
     """The blocks of a plane, the outlines of pits, the key and the titles."""
-    model, colours, fence = shells.study.model, paint(shells, style.colour), shells.study.priced.forbidden()
+    model, colours, fence = shells.study.model, paint(shells, style.colour), shells.study.priced.forbidden
     figure, axes, beside = sheet(float(np.ptp(cut.across)), float(np.ptp(cut.up)) * exaggeration)
     shown = np.where(cut.number >= 0, colours.values[cut.number], np.nan)
     image = axes.pcolormesh(cut.across, cut.up, shown, cmap=colours.colours, norm=colours.norm)
@@ -344,10 +344,6 @@ def add_worths(right: Any, left: Any, table: pd.DataFrame, at: NDArray[np.int64]
         each.set_major_formatter(SEPARATED)
     handles = [h for a in (right, left) for h in a.get_legend_handles_labels()[0]]
     left.legend(handles, [h.get_label() for h in handles], loc="upper center", bbox_to_anchor=(0.5, -0.17), ncol=2, frameon=False)
-
-
-def currency_of(shells: Shells) -> str:
-    return str(shells.study.manifest.get("currency", "$"))
 
 
 def save(figure: Figure, path: str | os.PathLike[str], dpi: int = 120) -> Path:

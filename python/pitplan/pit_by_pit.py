@@ -75,6 +75,16 @@ class Cells:
                    {k: summed(v * tonnes * ore) for k, v in p.grade.items()}, summed(np.ones(len(m))))
 
 
+    def at(self, i: int, down: int) -> dict[str, Any]:
+        """What lies in shell i (from 0) on the bench so far down from the top, in the columns of `benches`."""
+        rock, ore = float(self.rock[i, down]), float(self.ore[i, down])
+        found: dict[str, Any] = {"blocks": int(self.blocks[i, down]), "rock_t": rock, "ore_t": ore, "waste_t": rock - ore, "worth": float(self.worth[i, down])}
+        for name in self.metal:
+            found[f"grade_{name}"] = float(self.graded[name][i, down]) / ore if ore else np.nan
+            found[f"metal_{name}"] = float(self.metal[name][i, down])
+        return found
+
+
 def table(shells: Shells, base: int, rates: Rates) -> pd.DataFrame:
     """A row for each pit, with everything that lies in it.
 
@@ -156,17 +166,5 @@ def benches(shells: Shells, base: int) -> pd.DataFrame:
         ``waste_t``, ``worth`` (at the base factor), and for each metal ``grade_<metal>`` and ``metal_<metal>``, as in `table`.
     """
     g, c = shells.study.model.grid, Cells.of(shells, base)
-    rows = []
-    for down in range(g.shape[2]):
-        level = g.shape[2] - 1 - down
-        for i, factor in enumerate(shells.factors):
-            if not c.blocks[i, down]:
-                continue
-            ore = float(c.ore[i, down])
-            row: dict[str, Any] = {"bench": g.origin[2] + level * g.size[2], "shell": factor / THOUSAND, "blocks": int(c.blocks[i, down]), "rock_t": float(c.rock[i, down]),
-                                   "ore_t": ore, "waste_t": float(c.rock[i, down]) - ore, "worth": float(c.worth[i, down])}
-            for name in c.metal:
-                row[f"grade_{name}"] = float(c.graded[name][i, down]) / ore if ore else np.nan
-                row[f"metal_{name}"] = float(c.metal[name][i, down])
-            rows.append(row)
-    return pd.DataFrame(rows)
+    return pd.DataFrame([{"bench": g.origin[2] + (g.shape[2] - 1 - down) * g.size[2], "shell": shells.factors[i] / THOUSAND} | c.at(i, down)
+                         for down, i in np.argwhere(c.blocks.T > 0).tolist()])

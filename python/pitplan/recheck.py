@@ -19,9 +19,10 @@ import re
 import subprocess
 import sys
 import tomllib
-from collections import Counter
+from collections import Counter, defaultdict
 from collections.abc import Callable, Iterator
 from decimal import Decimal
+from functools import cache
 from itertools import zip_longest
 from pathlib import Path
 from typing import Any, BinaryIO, NamedTuple
@@ -276,7 +277,7 @@ class Table:
     """
 
     def __init__(self, facts: dict[str, Any], absent: list[str]) -> None:
-        self.told, self.absent = facts["dialect"], [mark.strip() for mark in absent]
+        self.facts, self.told, self.absent = facts, facts["dialect"], [mark.strip() for mark in absent]
         self.marks = {float(mark) for mark in self.absent if NUMBER.fullmatch(mark)}
         path = within(facts["table"])
         is_packed = path.suffix.lower() == ".gz"
@@ -303,6 +304,12 @@ class Table:
         return 0.0 if float(plain) in self.marks else float(plain)
 
 
+@cache
+def parsed(text: str) -> ast.expr:
+    """A formula as a tree: it is the same for each row."""
+    return ast.parse(text.strip(), mode="eval").body
+
+
 class Formula:
     """A formula of study.toml, worked out for one row at a time: numbers, words, columns, operators and five functions."""
 
@@ -313,7 +320,7 @@ class Formula:
     CALLS: dict[str, Callable[..., Any]] = {"where": lambda a, b, c: b if a else c, "min": min, "max": max, "abs": abs, "sqrt": math.sqrt}
 
     def __init__(self, text: str, cell: Callable[[str], Any]) -> None:
-        self.tree, self.cell = ast.parse(text.strip(), mode="eval").body, cell
+        self.tree, self.cell = parsed(text), cell
 
     def value(self, node: ast.expr | None = None) -> Any:
         """What a part of the formula is for the row that `cell` reads."""
@@ -336,6 +343,25 @@ class Formula:
             words = [self.value(word) for word in node.args]
             return self.cell(words[0]) if node.func.id == "column" else self.CALLS[node.func.id](*words)
         raise Bad(f"{ast.unparse(node)!r} is no part of a formula")
+
+
+class Worked(NamedTuple):
+    """What the table and [economics] make of a block: what it brings if it is treated, what treating and what digging it cost, its tonnes,
+    and of each metal of a block that the mill takes the grade in place and what is recovered."""
+
+    revenue: float
+    processing: float
+    mining: float
+    tonnes: float
+    grades: dict[str, float]
+    metals: dict[str, float]
+
+
+class OfRows(NamedTuple):
+    """What the table says row by row: the list of offsets that each block has, and what each is made of."""
+
+    regions: list[int]
+    worked: list[Worked | None]
 
 
 class Economics:
@@ -377,19 +403,21 @@ class Economics:
     def is_fenced(self, row: int) -> bool:
         return any(Formula(text, lambda name: self.cell(row, name)).value() for text in self.told.get("forbid", ()))
 
-    def of_row(self, row: int) -> tuple[float, float, float]:
-        """What the block of a row brings if it is treated, what treating it costs, and what digging it costs."""
+    def of_row(self, row: int) -> Worked:
+        """What the block of a row comes to."""
         told, tonnes = self.told, self.tonnes(row)
+        grades, metals = dict[str, float](), dict[str, float]()
         takes = told.get("mill") is None or self.rock(row) in told["mill"]
         kept = told.get("mining_recovery", 1.0)
         revenue = selling = 0.0
         for metal in told["metals"] if takes else ():
             content = GRADES[metal.get("grade_unit", "%")] / PRICES[metal.get("price_unit", "t")]
-            units = tonnes * kept * self.table.number(row, metal["grade"]) * content * self.amount(metal.get("recovery", 1.0), row)
+            grades[metal["name"]] = grade = self.table.number(row, metal["grade"])
+            metals[metal["name"]] = units = tonnes * kept * grade * content * self.amount(metal.get("recovery", 1.0), row)
             revenue += units * metal["price"] * metal.get("payable", 1.0)
             selling += units * metal.get("selling", 0.0)
         treating = tonnes * kept * (1 + told.get("dilution", 0.0)) * self.amount(told["processing"], row) + selling if takes else 0.0
-        return revenue, treating, tonnes * self.amount(told["mining"], row)
+        return Worked(revenue, treating, tonnes * self.amount(told["mining"], row), tonnes, grades, metals)
 
     def is_near(self, ours: float, theirs: int) -> bool:
         """Whether an amount in millionths is the nearest multiple of `rounding`."""
@@ -418,14 +446,15 @@ def check_facts(told: Told, blocks: Blocks, facts: dict[str, Any]) -> None:
     told.check(currency == facts["currency"] == manifest["currency"], f"amounts are in {currency}")
 
 
-def check_table(told: Told, blocks: Blocks, facts: dict[str, Any]) -> None:
-    """Each block's place, tonnes and amounts are those of its row of the planner's table."""
+def check_table(told: Told, blocks: Blocks, facts: dict[str, Any]) -> OfRows | None:
+    """Each block's place, tonnes and amounts are those of its row of the planner's table. Gives what the rows say, None where a block
+    has several."""
     model = study_of("model")
     told.say("look", "the columns that were taken: " + ", ".join(f"{key} = {name}" for key, name in facts["columns"].items()))
     if facts["has_sub_blocks"]:
         told.check(model.get("regularise") is True, "study.toml asks for sub-blocks to be added up")
         told.say("look", "sub-blocks were added up to whole blocks: what a block brings and costs isn't added up from the table here")
-        return
+        return None
     table = Table(facts, model.get("absent", []))
     economics = Economics(study_of("economics"), table, facts)
     check_passed(told, table, facts)
@@ -438,7 +467,26 @@ def check_table(told: Told, blocks: Blocks, facts: dict[str, Any]) -> None:
     for what, is_right in steps.items():
         bad = [row for b, row in enumerate(rows) if row >= 0 and not is_right(b, row)]
         told.check(not bad, f"the {what} of each block is that of its row" + (f": not so for {len(bad):,}, the first is row {bad[0] + 2}" if bad else ""))
-    check_amounts(told, economics, blocks, rows)
+    return OfRows(regions_of(table, rows), check_amounts(told, economics, blocks, rows))
+
+
+def regions_of(table: Table, rows: list[int]) -> list[int]:
+    """Which list of offsets each block has: that of the region that its row names, by the order of [slopes] regions; 0, that of
+    `angles`, for all others. In a column of numbers 1 and 1.0 are the same region."""
+    slopes = study_of("slopes")
+    names = list(slopes.get("regions", {}))
+    if not names:
+        return [0] * len(rows)
+    by = slopes["by"] if slopes["by"] in table.at else table.facts["columns"].get(slopes["by"], slopes["by"])
+    cells = {table.word(row, by).strip() for row in rows if row >= 0}
+    is_words = by in (table.facts["columns"].get("rock"), table.facts["columns"].get("id"))
+    is_numbers = not is_words and all(not cell or cell in table.absent or NUMBER.fullmatch(cell.replace(table.told["decimal"], ".")) for cell in cells)
+    of_cell: dict[str, int] = {}
+    for cell in cells:
+        number = 0.0 if cell in table.absent else float(cell.replace(table.told["decimal"], ".")) if is_numbers and cell else math.nan
+        word = cell if not is_numbers else f"{number:.0f}" if number.is_integer() else str(number)
+        of_cell[cell] = 1 + names.index(word) if word in names else 0
+    return [of_cell[table.word(row, by).strip()] if row >= 0 else 0 for row in rows]
 
 
 def check_passed(told: Told, table: Table, facts: dict[str, Any]) -> None:
@@ -455,18 +503,18 @@ def numbering() -> list[dict[str, str]]:
         return list(csv.DictReader(file))
 
 
-def check_amounts(told: Told, economics: Economics, blocks: Blocks, rows: list[int]) -> None:
-    """What each block brings and costs, by the table and [economics]."""
+def check_amounts(told: Told, economics: Economics, blocks: Blocks, rows: list[int]) -> list[Worked | None]:
+    """What each block brings and costs, by the table and [economics]; gives it, None of blocks without a row."""
     bad, fenced, most = [], 0, 2 * sum(amounts[0] for amounts in blocks.amounts)
-    for b, row in enumerate(rows):
+    worked = [economics.of_row(row) if row >= 0 else None for row in rows]
+    for b, (row, ours) in enumerate(zip(rows, worked)):
         revenue, processing, mining = blocks.amounts[b]
-        if row < 0:
+        if ours is None:
             is_right = revenue == processing == 0 <= mining
         else:
-            ours = economics.of_row(row)
             is_out = economics.is_fenced(row)
             fenced += is_out
-            is_right = economics.is_near(ours[0], revenue) and economics.is_near(ours[1], processing) and (mining > most if is_out else economics.is_near(ours[2], mining))
+            is_right = economics.is_near(ours.revenue, revenue) and economics.is_near(ours.processing, processing) and (mining > most if is_out else economics.is_near(ours.mining, mining))
         if not is_right:
             bad.append((b, row))
     more = f": not so for {len(bad):,} blocks, the first is {bad[0][0]} of row {bad[0][1] + 2}" if bad else ""
@@ -476,6 +524,7 @@ def check_amounts(told: Told, economics: Economics, blocks: Blocks, rows: list[i
     added = sum(row < 0 for row in rows)
     if added:
         told.say("look", f"{added:,} blocks have no row (widen, missing): they bring nothing, and what digging them costs isn't worked out again")
+    return worked
 
 
 def is_placed(table: Table, row: int, place: tuple[int, ...], facts: dict[str, Any]) -> bool:
@@ -493,24 +542,44 @@ class Sum:
     """What some blocks of a pit add up to, at the full price."""
 
     def __init__(self) -> None:
-        self.blocks, self.worth, self.tonnes, self.ore = 0, 0, list[float](), list[float]()
+        self.blocks, self.worth, self.rock, self.ore = 0, 0, 0.0, 0.0
+        self.graded, self.metal = defaultdict[str, float](float), defaultdict[str, float](float)      # of each metal tonnes of ore times their grade, and what is recovered
 
-    def add(self, blocks: Blocks, b: int) -> None:
+    def add(self, blocks: Blocks, b: int, worked: Worked | None) -> None:
         """Counts a block in."""
         revenue, processing, _ = blocks.amounts[b]
-        self.blocks, self.worth = self.blocks + 1, self.worth + blocks.worth(b, THOUSAND)
-        self.tonnes.append(blocks.tonnes[b])
-        self.ore.append(blocks.tonnes[b] if revenue > processing else 0.0)
+        self.blocks, self.worth, self.rock = self.blocks + 1, self.worth + blocks.worth(b, THOUSAND), self.rock + blocks.tonnes[b]
+        if revenue > processing:
+            self.ore += blocks.tonnes[b]
+            if worked:
+                for name, grade in worked.grades.items():
+                    self.graded[name] += grade * worked.tonnes
+                    self.metal[name] += worked.metals[name]
 
-    def is_line(self, line: dict[str, str], worth: str) -> bool:
-        """Whether a line of a table has these blocks, tonnes and worth, and the strip ratio where it has one. `mine.blocks` has
-        tonnes to three decimals."""
-        rock, ore, off = math.fsum(self.tonnes), math.fsum(self.ore), 6e-4 * self.blocks
-        strip = line.get("strip")            # benches.csv has none, and a pit without ore an empty one
-        return int(line["blocks"]) == self.blocks and all(
-            math.isclose(float(line[name]), value, rel_tol=1e-9, abs_tol=far) for name, value, far in
-            (("rock_t", rock, off), ("ore_t", ore, off), ("waste_t", rock - ore, 2 * off), (worth, self.worth / NANO, 1e-3))) and (
-                strip is None or (abs(float(strip or "nan") - (rock - ore) / ore) <= 3 * off * (1 + rock / ore) / ore + 1e-9 if ore else strip == ""))
+    def join(self, other: Sum) -> None:
+        """Counts in what others add up to."""
+        self.blocks, self.worth, self.rock, self.ore = self.blocks + other.blocks, self.worth + other.worth, self.rock + other.rock, self.ore + other.ore
+        for name in other.graded:
+            self.graded[name] += other.graded[name]
+            self.metal[name] += other.metal[name]
+
+    def is_line(self, line: dict[str, str], is_pit: bool, feed: float, metals: list[str]) -> bool:
+        """Whether a line of a table, of a pit or of a bench, has these blocks, tonnes and worth, of these metals the amounts and the grades,
+        and of a pit the mill's feed and the strip ratio. `mine.blocks` has tonnes to three decimals."""
+        off = 6e-4 * self.blocks
+        sums = {"rock_t": (self.rock, off), "ore_t": (self.ore, off), "waste_t": (self.rock - self.ore, 2 * off), "worth_at_base" if is_pit else "worth": (self.worth / NANO, 1e-3),
+                **{f"metal_{name}": (self.metal[name], 0.0) for name in metals}, **({"feed_t": (self.ore * feed, off * feed)} if is_pit else {})}
+        if not all(is_close(line[name], *of) for name, of in sums.items()) or int(line["blocks"]) != self.blocks:
+            return False
+        by_ore = {f"grade_{name}": self.graded[name] for name in metals} | ({"strip": self.rock - self.ore} if is_pit else {})
+        if not self.ore:
+            return all(line[name] == "" for name in by_ore)
+        return all(is_close(line[name], value / self.ore, 3 * off * (1 + (self.rock + value) / self.ore) / self.ore) for name, value in by_ore.items())
+
+
+def is_close(cell: str, value: float, far: float) -> bool:
+    """Whether a cell is a number that is no further off, but for how numbers are rounded."""
+    return math.isclose(float(cell or "nan"), value, rel_tol=1e-9, abs_tol=far)
 
 
 def read_table(name: str) -> list[dict[str, str]]:
@@ -519,8 +588,8 @@ def read_table(name: str) -> list[dict[str, str]]:
         return list(csv.DictReader(file))
 
 
-def check_tables(told: Told, blocks: Blocks, facts: dict[str, Any], shell: list[int]) -> None:
-    """The tables say what the certificates do."""
+def check_tables(told: Told, blocks: Blocks, facts: dict[str, Any], shell: list[int], worked: list[Worked | None] | None) -> None:
+    """The tables say what the certificates do, and of metals what the planner's table does."""
     shown = [round(float(line["shell"]) * THOUSAND) if line["shell"] else 0 for line in numbering()]
     is_counted = [line["block"] for line in numbering()] == [str(b) for b in range(len(shell))]
     told.check(is_counted and shown == shell, "tables/blocks.csv has the number and the shell of each block")
@@ -529,35 +598,43 @@ def check_tables(told: Told, blocks: Blocks, facts: dict[str, Any], shell: list[
     for b, factor in enumerate(shell):
         if factor:
             bench = (round(facts["grid"]["origin"][2] + blocks.places[b][2] * facts["grid"]["size"][2], 3), factor)
-            benches.setdefault(bench, Sum()).add(blocks, b)
-            for larger, found in pits.items():
-                if larger >= factor:
-                    found.add(blocks, b)
+            benches.setdefault(bench, Sum()).add(blocks, b, worked[b] if worked else None)
+    for (_, factor), part in benches.items():
+        for larger, found in pits.items():
+            if larger >= factor:
+                found.join(part)
+    economics = study_of("economics")
+    metals = [metal["name"] for metal in economics["metals"]] if worked else []
+    feed = economics.get("mining_recovery", 1.0) * (1 + economics.get("dilution", 0.0))
     lines = read_table("pit_by_pit.csv")
     is_same = len(lines) == len(verdicts) and all(
         round(float(line["factor"]) * THOUSAND) == verdict["factor"] and math.isclose(float(line["worth_at_factor"]), float(verdict["worth"]), rel_tol=1e-9, abs_tol=1e-6)
-        and pits[verdict["factor"]].is_line(line, "worth_at_base") for line, verdict in zip(lines, verdicts))
-    told.check(is_same, "tables/pit_by_pit.csv has the blocks, the tonnes and the worths of each pit")
+        and pits[verdict["factor"]].is_line(line, True, feed, metals) for line, verdict in zip(lines, verdicts))
+    of = ", the grades and the metals" if worked else ""
+    told.check(is_same, f"tables/pit_by_pit.csv has the blocks, the tonnes, the worths{of} of each pit")
     lines = read_table("benches.csv")
     keys = [(round(float(line["bench"]), 3), round(float(line["shell"]) * THOUSAND)) for line in lines]
-    is_same = sorted(keys) == sorted(benches) and all(benches[key].is_line(line, "worth") for key, line in zip(keys, lines))
-    told.check(is_same, "tables/benches.csv has the blocks, the tonnes and the worth of each bench and shell")
+    is_same = sorted(keys) == sorted(benches) and all(benches[key].is_line(line, False, feed, metals) for key, line in zip(keys, lines))
+    told.check(is_same, f"tables/benches.csv has the blocks, the tonnes, the worth{of} of each bench and shell")
 
 
-def check_slopes(told: Told, pit: str) -> None:
-    """Each block's predecessors are those that `pit slopes` gives it by one of the lists of offsets."""
-    lists = sorted(path.name for path in (HERE / "model").glob("slope-*.toml"))
+def check_slopes(told: Told, pit: str, regions: list[int] | None) -> None:
+    """Each block's predecessors are those that `pit slopes` gives it by the list of offsets of its region; by any of the lists where
+    regions aren't known."""
+    lists = [f"slope-{i}.toml" for i in range(len(list((HERE / "model").glob("slope-*.toml"))))]
     words = [pit, "slopes", "--blocks", str(within("model/mine.blocks")), "--pattern", "settings", "--settings"]
     runs = [subprocess.Popen([*words, str(within(f"model/{name}"))], stdout=subprocess.PIPE) for name in lists]
     try:
         with open(within("model/mine.prec"), "rb") as file:
-            bad = next((n for n, lines in enumerate(zip_longest(file, *(run.stdout or () for run in runs))) if None in lines or lines[0] not in lines[1:]), None)
+            found = enumerate(zip_longest(file, *(run.stdout or () for run in runs)))
+            bad = next((n for n, lines in found if None in lines or lines[0] not in (lines[1:] if regions is None else [lines[1 + regions[n]]])), None)
     finally:
         for run in runs:
             run.kill()
             run.wait()
-    told.check(bad is None, f"each block's predecessors are those that pit slopes gives it by model/{', '.join(lists)}" + (f": not so in line {bad + 1}" if bad is not None else ""))
-    told.say("look", "whether these offsets hold the angles of [slopes] in study.toml" + ("" if len(lists) == 1 else ", and whether each block is in the region that it should be in"))
+    of = "" if len(lists) == 1 else ", whichever of these" if regions is None else ", for its region that of these"
+    told.check(bad is None, f"each block's predecessors are those that pit slopes gives it by model/{', '.join(lists)}{of}" + (f": not so in line {bad + 1}" if bad is not None else ""))
+    told.say("look", "whether these offsets hold the angles of [slopes] in study.toml" + ("" if len(lists) == 1 or regions else ", and whether each block is in the region that it should be in"))
 
 
 def check_all(told: Told, pit: str, is_plain: bool) -> None:
@@ -570,12 +647,12 @@ def check_all(told: Told, pit: str, is_plain: bool) -> None:
     here = [line for line in said if line]
     told.say("ok" if here == facts["pit"] else "look", f"the program here is {', '.join(here)}; the bundle was made by {', '.join(facts['pit'])}")
     told.attempt("facts.json, model/manifest.json", check_facts, told, blocks, facts)
-    told.attempt("the table", check_table, told, blocks, facts)
-    told.attempt("the slopes", check_slopes, told, pit)
+    found = told.attempt("the table", check_table, told, blocks, facts)
+    told.attempt("the slopes", check_slopes, told, pit, found.regions if found else None)
     told.attempt("the factors", check_series, told)
     shell = told.attempt("verdicts.json", check_pits, told, pit, blocks, facts, is_plain)
     if shell is not None:
-        told.attempt("the tables", check_tables, told, blocks, facts, shell)
+        told.attempt("the tables", check_tables, told, blocks, facts, shell, found.worked if found else None)
 
 
 def main() -> int:

@@ -454,10 +454,8 @@ class Risk:
 
     def of_blocks(self) -> pd.DataFrame:
         """The likelihood of each block at each factor, beside its id and row as a spreadsheet counts it (0: a block that was added)."""
-        b = self.study.model.blocks
-        rows = b["row"].to_numpy()
-        found = {f"likelihood_{spelled_factor(f)}": self.likelihood(f) for f in self.factors}
-        return pd.DataFrame({"id": b["id"].to_numpy(), "row": np.where(rows >= 0, rows + 2, 0), **found})
+        model, found = self.study.model, {f"likelihood_{spelled_factor(f)}": self.likelihood(f) for f in self.factors}
+        return pd.DataFrame({"id": model.blocks["id"].to_numpy(), "row": model.table_row, **found})
 
 
 @dataclass(frozen=True)

@@ -38,7 +38,7 @@ def section(found: Risk, factor: int = THOUSAND, row: int | None = None) -> Figu
     cut = cut_of(model, "y", row)
     exaggeration = exaggeration_of(cut)
     there = cut.number >= 0
-    shut = there & found.study.priced.forbidden()[cut.number]
+    shut = there & found.study.priced.forbidden[cut.number]
     values = np.where(there, likelihood[cut.number], np.nan)
     figure, axes, beside = sheet(float(np.ptp(cut.across)), float(np.ptp(cut.up)) * exaggeration)
     image = axes.pcolormesh(cut.across, cut.up, np.where(values > 0, values, np.nan), cmap=colormaps["cividis_r"], vmin=0, vmax=1)

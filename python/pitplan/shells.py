@@ -139,10 +139,8 @@ class Shells:
     def of_blocks(self) -> pd.DataFrame:
         """The first shell that has each block: ``id``, ``row`` (as a spreadsheet counts it; 0 for blocks that were added) and
         ``shell``, the factor as a share of the price, empty where no pit has the block."""
-        b = self.study.model.blocks
-        shares = np.array([*(factor / THOUSAND for factor in self.factors), np.nan])
-        rows = b["row"].to_numpy()
-        return pd.DataFrame({"id": b["id"].to_numpy(), "row": np.where(rows >= 0, rows + 2, 0), "shell": shares[self.shell]})
+        model, shares = self.study.model, np.array([*(factor / THOUSAND for factor in self.factors), np.nan])
+        return pd.DataFrame({"id": model.blocks["id"].to_numpy(), "row": model.table_row, "shell": shares[self.shell]})
 
     def table(self, base: float = THOUSAND, mining_rate: float | None = None, mill_rate: float | None = None, discount: float = 0.10) -> pd.DataFrame:
         """Pit by pit: a row for each factor. See `pit_by_pit.table`."""

@@ -74,6 +74,8 @@ class Slopes:
             raise PlanError("[slopes] has regions, and doesn't say which column names them", try_this='by = "SECTOR"')
         if self.by and not self.regions:
             raise PlanError(f"[slopes] by is {self.by!r}, and no region has angles of its own", try_this="regions = { NORTH = 38 }")
+        if DEFAULT in (self.regions or {}):
+            raise PlanError(f"[slopes] regions: {DEFAULT!r} is what the slopes of all other blocks are called", try_this="angles, for the blocks of no region; or another word in that column")
         if self.levels is not None and not (isinstance(self.levels, int) and 1 <= self.levels <= search.MOST_LEVELS):
             raise PlanError(f"[slopes] levels is {self.levels}, and has to be a whole number from 1 to {search.MOST_LEVELS}")
         for name in self.names:
@@ -136,7 +138,7 @@ class Slopes:
         if self.by not in model.blocks.columns:
             raise PlanError(f"[slopes] by: the table has no column {self.by!r}{meant(str(self.by), map(str, model.blocks.columns))}")
         codes, there = pd.factorize(model.blocks[self.by])
-        texts = [_text(value) for value in there]
+        texts = [text_of(value) for value in there]
         for name in self.regions:
             if name not in texts:
                 raise PlanError(f"[slopes] no block has {self.by} = {name}{meant(name, sorted(texts))}")
@@ -161,7 +163,7 @@ def _are_angles(angles: Any) -> bool:
         isinstance(pair, Sequence) and len(pair) == 2 and all(map(is_number, pair)) for pair in angles)
 
 
-def _text(value: Any) -> str:
+def text_of(value: Any) -> str:
     """What stands in a cell; a column of whole numbers with empty cells is read as 1.0, 2.0."""
     return str(int(value)) if isinstance(value, float) and value.is_integer() else str(value).strip()
 

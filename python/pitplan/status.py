@@ -11,12 +11,13 @@ from pathlib import Path
 import numpy as np
 
 from .engines import Handed, in_slurm
+from .errors import STOPPED
 from .study import Study, host
 from .task import Task, Tasks
 
 DONE, RUNNING, WAITING, FAILED, TO_DO = "done", "running", "waiting", "failed", "to do"
 STATES = (DONE, RUNNING, WAITING, FAILED, TO_DO)
-ENDED = "was ended from outside: killed, out of memory, or out of time"
+ENDED = "was ended from outside"
 
 
 @dataclass(frozen=True)
@@ -73,7 +74,8 @@ def state_of(of: Tasks, task: Task, handed: Handed | None) -> State:
         return State(task, FAILED, str(json.loads(of.note(task).read_text())["words"]), len(missing))
     except (FileNotFoundError, json.JSONDecodeError, KeyError):
         last = handed.last_line() if handed else ""
-        return State(task, FAILED, ENDED + (f": {last}" if last else ""), len(missing)) if is_dead or last else State(task, TO_DO, "", len(missing))
+        why = f"; its log ends with: {last}" if last not in ("", STOPPED) else ": killed, out of memory, or out of time"
+        return State(task, FAILED, ENDED + why, len(missing)) if is_dead or last else State(task, TO_DO, "", len(missing))
 
 
 def half_done(folder: Path, missing: Sequence[int]) -> tuple[set[str], bool]:

@@ -35,7 +35,7 @@ def bytes_as_words(data: Array, count: int) -> Array:
 def save(path: Path, model: Model, priced: Priced, region: npt.NDArray[np.int64]) -> None:
     """Writes a model, what its blocks bring and cost, and the region of slopes of each block."""
     arrays: dict[str, Array] = {"revenue": priced.revenue, "processing": priced.processing, "mining": priced.mining,
-                                "row_block": model.row_block, "region": region.astype(np.uint16)}
+                                "forbidden": priced.forbidden, "row_block": model.row_block, "region": region.astype(np.uint16)}
     arrays |= {METAL + name: units for name, units in priced.metal.items()}
     arrays |= {GRADE + name: grade for name, grade in priced.grade.items()}
     for name in model.blocks.columns:
@@ -88,7 +88,7 @@ def load_priced(path: Path) -> Priced:
         told = told_of(file)
         metal = {name[len(METAL):]: file[name] for name in file.files if name.startswith(METAL)}
         grade = {name[len(GRADE):]: file[name] for name in file.files if name.startswith(GRADE)}
-        return Priced(file["revenue"], file["processing"], file["mining"], rounding_of(told["rounding"]), metal, grade, told["feed"])
+        return Priced(file["revenue"], file["processing"], file["mining"], rounding_of(told["rounding"]), metal, grade, told["feed"], file["forbidden"])
 
 
 def load_region(path: Path) -> npt.NDArray[np.int64]:

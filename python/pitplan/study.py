@@ -116,6 +116,11 @@ class Study:
         return self.folder / source["table"] if source else None
 
     @property
+    def currency(self) -> str:
+        """Of its amounts, as study.toml calls it."""
+        return str(self.manifest["currency"])
+
+    @property
     def blocks_file(self) -> Path:
         return self.where / "mine.blocks"
 
@@ -316,12 +321,12 @@ class Study:
 
     def adds_up(self, mask: Bools, count: int, worth: str, factor: int) -> None:
         """Raises Disagreement where a pit's blocks aren't `count`, or the table doesn't add up to `worth` over them; and PlanError
-        where the pit digs a block that `forbid` keeps, which costs the most that `pit` reads and is worth digging all the same."""
+        where the pit digs a block that `forbid` keeps, which costs the most that `pit` reads for one and was worth digging all the same."""
         ours, counted = self.priced.worth_of(mask, factor), int(np.count_nonzero(mask))
         if ours != worth or counted != count:
             raise Disagreement(f"at factor {factor / THOUSAND:g} pit says {count:,} blocks worth {worth}, and the table adds up to {counted:,} blocks worth {ours}",
                                try_this="this is a mistake in pitplan or damage on the disk: keep the folder, and tell the maintainers")
-        if (mask & self.priced.at_most()).any():
+        if (mask & self.priced.forbidden).any():
             raise PlanError(f"[economics] forbid: at factor {factor / THOUSAND:g} the mine brings so much that blocks are dug that may not be",
                             try_this="prices and costs in thousands, or no factor as large")
 

@@ -35,8 +35,8 @@ $metals
 
 [slopes]
 angles = 45                      # degrees; or by bearing of the wall from the pit's middle: [[0, 38], [90, 45], [180, 50], [270, 45]]
-# by = "SECTOR"                  # a column that says the region of a block, with angles of its own for each
-# regions = { NORTH = 38, SOUTH = [[0, 44], [180, 50]] }
+# by = $by                  # a column that says the region of a block, with angles of its own for each
+# regions = { $regions }
 safe = false                     # true: no wall steeper than asked, at the cost of being flatter on the mean
 
 [shells]

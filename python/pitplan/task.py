@@ -9,6 +9,7 @@ whatever starts such lines needs no state of its own, and to go on is to start t
 """
 from __future__ import annotations
 
+import hashlib
 import json
 import time
 from collections.abc import Iterable, Sequence
@@ -52,8 +53,9 @@ class Task:
 
     @property
     def label(self) -> str:
-        """Its name in file names."""
-        return str(self).replace(" ", "_").replace(",", "_")
+        """Its name in file names, which have at most 255 bytes: of many factors the first, the last and a digest of all."""
+        whole = str(self).replace(" ", "_").replace(",", "_")
+        return whole if len(whole) <= 100 else f"{self.kind}_{self.name}_{self.factors[0]}-{self.factors[-1]}_{hashlib.sha256(whole.encode()).hexdigest()[:16]}"
 
 
 def task_of(words: Sequence[str]) -> Task:

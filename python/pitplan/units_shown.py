@@ -2,6 +2,7 @@
 from __future__ import annotations
 
 import math
+from collections.abc import Iterable
 from dataclasses import dataclass
 from typing import Any
 
@@ -34,6 +35,18 @@ def amount_text(value: float, scale: Scale) -> str:
     if not math.isfinite(value):
         return "-"
     return f"{value:,.0f}" if scale.divisor == 1.0 else f"{value / scale.divisor:,.2f}"
+
+
+def lengths(values: Iterable[float]) -> list[str]:
+    """Lengths or elevations of one column, with as many decimals as the one that needs most, at most two; a dash where there is none.
+
+    >>> lengths([1000.0, 1007.5, float("nan")]), lengths([20.0, 1040.0])
+    (['1,000.0', '1,007.5', '-'], ['20', '1,040'])
+    """
+    found = [float(value) for value in values]
+    there = [value for value in found if math.isfinite(value)]
+    places = next((n for n in (0, 1) if all(abs(value - round(value, n)) < 0.005 for value in there)), 2)
+    return [f"{value:,.{places}f}" if math.isfinite(value) else "-" for value in found]
 
 
 def factor_text(thousandths: int) -> str:

@@ -87,6 +87,20 @@ def test_formulas_regions_fences_rotation_and_added_blocks_are_worked_out_again(
     assert status == 0 and len(lines) == 1, lines
 
 
+@pytest.mark.parametrize("names", [("WEST", "EAST"), ("1", "2")])
+def test_a_block_has_the_slopes_of_its_own_region(tmp_path, names):
+    """The two regions change places in the table, and nothing else: each block has a list of offsets, and not its own."""
+    frame = mines.table(7, 6, 4, 3)
+    frame["SECTOR"] = frame.SECTOR.map(dict(zip(("WEST", "EAST"), names)))
+    folder = bundled(tmp_path, mines.STUDY_TOML.replace("angles = 45", f'angles = 45\nby = "SECTOR"\nregions = {{ {names[0]} = 34 }}'), frame)
+    assert rechecked(folder)[1] == 0
+    path = folder / "table" / "t.csv"
+    path.write_text(path.read_text().replace(f",{names[0]}\n", ",?\n").replace(f",{names[1]}\n", f",{names[0]}\n").replace(",?\n", f",{names[1]}\n"))
+    summed(folder)
+    lines, status = rechecked(folder)
+    assert status == 1 and any("pit slopes gives it by model/slope-0.toml, slope-1.toml, for its region that of these: not so in line" in line for line in lines), lines
+
+
 def test_a_table_of_depths_holds(tmp_path):
     frame = mines.table(7, 6, 4, 3)
     lines, status = rechecked(bundled(tmp_path, mines.STUDY_TOML.replace("[model]", '[model]\nz = "depth"'), frame.assign(ZC=500 - frame.ZC)))
@@ -284,6 +298,9 @@ CHANGES = {
     "ore of a pit": (column("pit_by_pit.csv", "ore_t", "1.0"), "tables/pit_by_pit.csv"),
     "the strip ratio of a pit": (column("pit_by_pit.csv", "strip", "9.0"), "tables/pit_by_pit.csv"),
     "the worth of a pit at the full price": (column("pit_by_pit.csv", "worth_at_base", "1.0"), "tables/pit_by_pit.csv"),
+    "the mill's feed of a pit": (column("pit_by_pit.csv", "feed_t", "1.0"), "tables/pit_by_pit.csv"),
+    "the grade of a pit": (column("pit_by_pit.csv", "grade_copper", "9.0"), "tables/pit_by_pit.csv"),
+    "the metal of a bench": (column("benches.csv", "metal_copper", "1.0"), "tables/benches.csv"),
     "rock of a bench": (column("benches.csv", "rock_t", "1.0"), "tables/benches.csv"),
     "the number of a block": (column("blocks.csv", "block", "7"), "tables/blocks.csv"),
     "a worth": (other_worth, "pit check at factor 0.6"),

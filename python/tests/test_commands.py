@@ -1,5 +1,4 @@
 """The command line, as a planner uses it."""
-import json
 import os
 import re
 import shlex
@@ -137,6 +136,11 @@ def test_markup_in_names_does_no_harm(tmp_path):
     text = STUDY_TOML.replace("{ OXI = 7.5, SUL = 9.0 }", "9.0")
     ran = pitplan("build", written_study(tmp_path / "s", f, text))
     assert ran.returncode == 0 and "SUL[/bold]" in ran.stdout, ran.stderr
+    folder = written_study(tmp_path / "mine [bold]", f, text)
+    for words in (("build", folder), ("slopes", folder), ("shells", folder), ("plot", folder), ("page", folder), ("phases", "0.6,1.2", folder), ("export", folder, "--to", "csv"),
+                  ("vary", folder, "price=-10"), ("bundle", tmp_path / "b [bold]", folder)):
+        ran = pitplan(*words)
+        assert ran.returncode == 0 and " [bold]" in ran.stdout, (words, ran.stdout, ran.stderr)
 
 
 @pytest.mark.parametrize("angle", [0.0, 30.0, -17.5, 44.0])
@@ -159,6 +163,36 @@ def test_init_sees_marks_sub_blocks_and_descriptions(tmp_path):
     (tmp_path / "study.toml").write_text(text)
     told = read_study_file(tmp_path)
     assert told.keys.absent == ["-99"] and told.keys.regularise
+
+
+@pytest.mark.parametrize("column, values, wanted", [
+    ("SECTOR", None, ("SECTOR", ["EAST", "WEST"])), ("Dominio geotécnico", None, ("Dominio geotécnico", ["EAST", "WEST"])), ("GEOTECH", [1, 2, None], ("GEOTECH", ["1", "2"])),
+    ("CLASS", None, ("", [])), ("SECTOR", [f"S{n}" for n in range(13)], ("", [])), ("SECTOR", ["all"], ("", []))])
+def test_init_names_the_column_of_regions(tmp_path, column, values, wanted):
+    f = table(6, 5, 4, 3)
+    f = f.rename(columns={"SECTOR": column}).assign(**({column: np.resize(np.array(values, object), len(f))} if values else {}))
+    f.to_csv(tmp_path / "t.csv", index=False)
+    look = first_look.look_at(tmp_path / "t.csv")
+    assert (look.region, look.regions) == wanted
+    if look.region:                          # with the marks of comments taken away it is a study whose slopes go by that column
+        text = first_look.written(look, "t.csv").replace('# by = "', 'by = "').replace("# regions = {", "regions = {")
+        (tmp_path / "study.toml").write_text(text)
+        slopes = read_study_file(tmp_path).slopes
+        assert slopes.by == column and dict(slopes.regions) == dict.fromkeys(look.regions, 45)
+        said = pitplan("init", "t.csv", cwd=tmp_path)
+        assert f"regions of slopes, if you want them: {column} ({', '.join(look.regions)})" in said.stdout, said.stderr
+
+
+def test_no_cell_of_a_table_ends_a_line_of_study_toml(tmp_path):
+    """A cell may have several lines; in study.toml the second would be a line of its own, as a price."""
+    f = table(6, 5, 4, 3)
+    f["ROCK"], f["SECTOR"] = f.ROCK + '"]\nforbid = ["1 > 0"]\n#', f.SECTOR + "\nsafe = true"
+    f.to_csv(tmp_path / "t.csv", index=False)
+    look = first_look.look_at(tmp_path / "t.csv")
+    assert any("\n" in rock for rock in look.rocks) and any("\n" in name for name in look.regions)
+    (tmp_path / "study.toml").write_text(first_look.written(look, "t.csv"))
+    told = read_study_file(tmp_path)
+    assert not told.economics.forbid and not told.slopes.safe
 
 
 def test_a_metal_with_a_few_grades_below_0_is_still_a_metal(tmp_path):

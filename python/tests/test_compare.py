@@ -18,8 +18,8 @@ from matplotlib.tri import LinearTriInterpolator, Triangulation
 from shapely.geometry import Point, Polygon
 
 import pitplan as pp
-from mines import SIZE, STUDY_TOML, costs, study_of, table, written_study
-from pitplan import commands_compare, compare, compare_plan, design, surface, walls
+from mines import STUDY_TOML, costs, study_of, table, written_study
+from pitplan import compare, compare_plan, compare_words, design, surface, walls
 from pitplan.resting import Resting
 from pitplan.valued import Valued
 from pitplan.walls import worst
@@ -165,10 +165,10 @@ def test_a_wall_is_told_from_a_block_that_breaks_the_slopes_there(tmp_path):
 def test_a_design_that_digs_what_may_not_be_dug_is_told(tmp_path):
     made = study_of(tmp_path, table(6, 5, 4, 3), economics=costs(forbid=["XC < 5010"]))
     x = made.model.blocks["XC"].to_numpy(float)
-    lines = commands_compare.forbidden_lines(made, x < 5030)
+    lines = compare_words.forbidden_lines(made, x < 5030)
     first = made.model.blocks["id"].to_numpy()[x < 5010][0]
     assert len(lines) == 1 and f"digs {int((x < 5010).sum())} blocks that forbid keeps from being dug, as {first}:" in lines[0]
-    assert commands_compare.forbidden_lines(made, x > 5010) == []
+    assert compare_words.forbidden_lines(made, x > 5010) == []
 
 
 SAID = "DESIGN 2 11\nOPEN 2\nNEEDS 0 2\nNEEDS 1 2\nBEST 3 1 GAP -10\n"

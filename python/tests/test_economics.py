@@ -11,7 +11,7 @@ import pitplan as pp
 from mines import COPPER, SIZE, costs, table
 from pitplan.amounts import Priced, exact_sum, rounding_of, spelled
 from pitplan.formula import worked_out
-from pitplan.units import GRADES, PRICES, metal_in_a_tonne
+from pitplan.units import metal_in_a_tonne
 
 
 def model_of(frame, **keys):
@@ -96,6 +96,14 @@ def test_the_mill_takes_some_rocks(frame, model):
     priced = costs(mill=["SUL"]).priced(model)
     assert (priced.revenue[frame.ROCK == "OXI"] == 0).all() and (priced.processing[frame.ROCK == "OXI"] == 0).all()
     assert priced.revenue[frame.ROCK == "SUL"].sum() > 0
+
+
+def test_what_may_not_be_dug_is_what_forbid_says_and_no_price(frame, model):
+    first = frame.IJK.iloc[0]
+    dear = costs(mining=f"where(IJK == '{first}', 1e6, 2)").priced(model)
+    assert dear.mining[0] > 2 * dear.revenue.sum() > 0 and not dear.forbidden.any()
+    poor = costs(metals=(pp.Metal("copper", "CU", price=0),), forbid=["ZC < 110"]).priced(model)
+    assert poor.revenue.sum() == 0 and (poor.forbidden == (frame.ZC < 110)).all()
 
 
 @given(st.lists(st.integers(-2 ** 62, 2 ** 62), max_size=50))

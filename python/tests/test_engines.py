@@ -256,11 +256,27 @@ def test_what_another_machine_left_half_done(tmp_path, asked_for):
     assert state({task: engines.Handed("PENDING", log)}).state == status.WAITING
     log.write_text("realisation 3\nslurmstepd: error: *** JOB 7 CANCELLED DUE TO TIME LIMIT ***\n\n")
     found = state({task: engines.Handed("", log)})
-    assert found.state == status.FAILED and found.words.startswith(status.ENDED) and found.words.endswith("DUE TO TIME LIMIT ***")
+    assert found.state == status.FAILED and found.words == "was ended from outside; its log ends with: slurmstepd: error: *** JOB 7 CANCELLED DUE TO TIME LIMIT ***"
+    log.write_text("slurmstepd: error: *** JOB 7 ON node7 CANCELLED AT 2026-11-26T17:00:00 ***\nstopped; what is done is kept, and the same command goes on from there\n")
+    assert state({task: engines.Handed("", log)}).words == "was ended from outside; its log ends with: slurmstepd: error: *** JOB 7 ON node7 CANCELLED AT 2026-11-26T17:00:00 ***"
+    log.write_text("stopped; what is done is kept, and the same command goes on from there\n")
+    assert state({task: engines.Handed("", log)}).words == "was ended from outside: killed, out of memory, or out of time"
+    tidy = Task("realisation", "4", (1000,))                     # one that has taken away what it had half done
+    assert [(found.state, found.words) for found in status.states(study, [tidy], {tidy: engines.Handed("", log)})] == [(status.FAILED, "was ended from outside: killed, out of memory, or out of time")]
     run = command("submit", study.folder, "--dry")
     shown, look = run.communicate(timeout=600)
     assert "11 tasks of" in shown and "realisation 3 1000" not in shown and "1 task running on node7" in look and "--again" in look, (shown, look)
     assert "12 tasks of" in said("submit", study.folder, "--dry", "--again")
+
+
+def test_a_task_of_many_factors_has_a_file_name(tmp_path, asked_for):
+    """A name has at most 255 bytes, and 181 factors have more."""
+    study, factors = twelve(asked_for, tmp_path), tuple(range(300, 1205, 5))
+    many = [Task("realisation", name, chosen) for name in ("3", "4") for chosen in (factors, (*factors[:90], *factors[91:]))]
+    assert len({task.label for task in many}) == 4 and len(str(many[0])) > 255
+    tasks = Tasks(study.folder)
+    tasks.keep_words(many[0], "no room")
+    assert [(found.state, found.words) for found in status.states(study, many, {})] == [(status.FAILED, "no room"), *[(status.TO_DO, "")] * 3]
 
 
 def test_scratch_of_a_process_that_is_no_more_is_taken_away(tmp_path, monkeypatch):

@@ -1,6 +1,5 @@
 """Files for CAD, ParaView, GIS and spreadsheets, each read back by another library and held against the planner's own table."""
 import math
-from pathlib import Path
 
 import ezdxf
 import fiona
@@ -17,7 +16,7 @@ from vtkmodules.vtkFiltersVerdict import vtkCellSizeFilter
 from vtkmodules.vtkIOXML import vtkXMLUnstructuredGridReader
 
 import pitplan as pp
-from mines import SIZE, STUDY_TOML, costs, shells_of, study_of, table, written_study
+from mines import SIZE, costs, study_of, table, written_study
 from pitplan import export_csv, export_dxf, export_gpkg, export_vtu, outlines
 from pitplan.whole_file import whole_file
 from test_commands import pitplan

@@ -14,7 +14,7 @@ from selenium.webdriver.common.keys import Keys
 
 import pitplan as pp
 from browsers import Firefox, chromium, opened, ready
-from mines import costs, shells_of, table as mine, written_study
+from mines import costs, shells_of, study_of, table as mine, written_study
 from pitplan import compare, design, levels, page, page_views
 from pitplan.commands_pictures import page as page_command
 from pitplan.risk import Realisation
@@ -421,6 +421,79 @@ def test_the_design_is_dashed_and_the_best_pit_is_a_full_line(design_view, shell
     patterns(design_view, True)
     assert shares["beyond the best pit"] and all(0.3 < share < 0.9 for share in shares["beyond the best pit"]), shares
     assert shares["left by the design"] and min(shares["left by the design"]) > 0.95, shares
+
+
+# A mine with blocks that may not be dug, whose corners and benches need one and two decimals, and its easting alone of both.
+
+ODD = (25, 20, 7.5)
+
+
+@pytest.fixture(scope="module")
+def keeping(tmp_path_factory):
+    """Its pits, and a design that digs some of these blocks."""
+    found = study_of(tmp_path_factory.mktemp("keeping"), mine(9, 8, 5, 5, size=ODD), economics=costs(forbid=["SECTOR == 'EAST' and ZC < 110"]), size=ODD).shells([600, 1000])
+    b = found.study.model.blocks
+    return found, compare.compare(found.study, design.Design("deep", (b.ix > 6).to_numpy(), np.zeros(len(b), bool)), 1000)
+
+
+@pytest.fixture
+def keeping_view(browser, keeping, file, tmp_path_factory):
+    opened(browser, page.write(keeping[0], tmp_path_factory.mktemp("page") / "keeping.html", design=keeping[1]))
+    yield browser
+    opened(browser, file)
+
+
+# How many crosses lie on the surface where all but the lowest bench is dug: two lines each, of two points.
+CROSSES = """const kept = FORBIDDEN, heights = H.slice();
+for (let c = 0; c < N; c++) if (H[c] !== NONE) H[c] = 1;
+const all = surface(0, false).lines.length; FORBIDDEN = null; const others = surface(0, false).lines.length;
+FORBIDDEN = kept; H.set(heights); return (all - others) / 12"""
+
+
+def test_what_may_not_be_dug_is_crossed_and_told(keeping_view, keeping):
+    model = keeping[0].study.model
+    b = model.blocks
+    kept = ((b.SECTOR == "EAST") & (b.ZC < 110)).to_numpy()
+    assert kept.any() and not (keeping[0].holds(1) & kept).any()
+    patterns(keeping_view, False)
+    for at in range(8):
+        cut(keeping_view, "y", at)
+        rock = b[(b.iy == at) & ~keeping[0].holds(1)]
+        for block, colours in zip(rock.index, cells(keeping_view, model, "y", rock, np.linspace(-0.3, 0.3, 13))):
+            assert any(130 < colour[3] < 255 for colour, _ in colours) == kept[block], (at, block)
+        assert ("may not be dug" in key_of(keeping_view)) == bool(kept[rock.index].any())
+    cut(keeping_view, "z", 1)
+    for block in b[b.iz == 1].itertuples():
+        keeping_view.execute_script("tellBlock(arguments[0], arguments[1])", int(block.ix), int(block.iy))
+        assert text_of(keeping_view, "there").endswith("; may not be dug") == kept[block.Index]
+    assert keeping_view.execute_script(CROSSES) == (kept & (b.iz == 0)).sum() > 0
+    chosen(keeping_view, 1)
+    assert f"digs {int((kept & (b.ix > 6)).sum())} blocks that forbid keeps from being dug" in text_of(keeping_view, "said")
+
+
+DRAWN = """const said = [], kind = CanvasRenderingContext2D.prototype, real = kind.fillText;
+kind.fillText = function (text, ...more) { said.push(text); real.call(this, text, ...more); };
+drawCut(); kind.fillText = real; return said"""
+
+
+def decimals(texts):
+    """How many decimals the numbers of some texts have."""
+    return {len(found[1]) for text in texts for found in re.findall(r"(\d[\d,]*)\.?(\d*)", text)}
+
+
+def test_numbers_of_one_kind_have_as_many_decimals(keeping_view):
+    marks = [e.get_attribute("textContent") for e in keeping_view.find_elements(By.CLASS_NAME, "mark")]
+    assert {"4,987.5 E\n8,990.0 N", "5,212.5 E\n9,150.0 N", "96.25 m –", "133.75 m –"} <= set(marks)
+    assert decimals(text for text in marks if "N" in text) == {1} and decimals(text for text in marks if "m" in text) == {2}
+    cut(keeping_view, "y", 2)
+    drawn = keeping_view.execute_script(DRAWN)
+    assert {"4,987.5 E, 9,040.0 N", "5,212.5 E, 9,040.0 N"} <= set(drawn) and decimals(text for text in drawn if "m" in text) == {2}
+    assert text_of(keeping_view, "where") == "northing 9,040 (row 2)"
+    cut(keeping_view, "z", 2)
+    drawn = keeping_view.execute_script(DRAWN)
+    assert len([text for text in drawn if text.endswith(" E")]) > 1 and decimals(text for text in drawn if text != "N") == {0}
+    assert text_of(keeping_view, "where") == "bench 111.25 (toe) to 118.75 m (crest), level 2"
+    assert decimals(row[2] for row in rows_of(keeping_view)) == {2}
 
 
 FROM_ABOVE = """const v = document.getElementById("view"), bar = document.getElementById("bar"), g = document.getElementById("picture").getContext("webgl");

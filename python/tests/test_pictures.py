@@ -194,7 +194,7 @@ def test_what_may_not_be_dug_has_a_pattern_of_its_own(tmp_path):
     shells = study_of(tmp_path, frame, economics=costs(forbid=["SECTOR == 'EAST' and ZC < 110"])).shells([600, 1000])
     blocks = shells.study.model.blocks
     fence = ((blocks.SECTOR == "EAST") & (blocks.ZC < 110)).to_numpy()
-    assert (shells.study.priced.forbidden() == fence).all()
+    assert (shells.study.priced.forbidden == fence).all()
     for colour in ("shell", "value", "CU"):
         figure = pictures.section(shells, row=3, style=Style(colour))
         assert "May not be dug" in [t.get_text() for t in figure.legends[0].get_texts()]

@@ -4,7 +4,6 @@ import gzip
 import hashlib
 import json
 import os
-import re
 import signal
 import subprocess
 from pathlib import Path
@@ -15,9 +14,9 @@ import pytest
 
 import pitplan as pp
 from mines import SIZE, costs, study_of, table, written_study
-from pitplan import local, risk
+from pitplan import risk
 from pitplan.model import TableKeys
-from pitplan.task import Task, Tasks, task_of, wanted
+from pitplan.task import Task, Tasks, task_of
 from processes import command, gone, waited_for
 from test_runs import slow_pit
 

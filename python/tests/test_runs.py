@@ -5,8 +5,6 @@ import re
 import os
 import shutil
 import signal
-import subprocess
-from pathlib import Path
 
 import numpy as np
 import pandas as pd
@@ -253,6 +251,7 @@ def test_forbidden_blocks_stay(tmp_path):
     fence = ((f.XC > 5100) | ((f.ROCK == "OXI") & (f.ZC < 110))).to_numpy()
     for share in (1.35, 10.0):
         assert not (study.pit(share).mask & fence).any()
+    assert (pp.Study(study.folder).priced.forbidden == fence).all()         # as it comes back from its file
     assert (free & fence).any() and study.pit(1.35).count > 0
 
 

@@ -159,3 +159,8 @@ def test_a_build_off_a_terminal_has_a_line_for_each_region(tmp_path):
     text = STUDY_TOML.replace("angles = 45", 'angles = 45\nby = "SECTOR"\nregions = { EAST = 38 }')
     ran = pitplan("build", written_study(tmp_path / "s", text=text))
     assert ran.returncode == 0 and ran.stderr.splitlines()[:2] == ["slopes of default, 1 of 2", "slopes of EAST, 2 of 2"], ran.stderr
+
+
+def test_a_region_that_is_called_as_the_slopes_of_all_others_is_refused():
+    with pytest.raises(pp.PlanError, match="'default' is what the slopes of all other blocks are called"):
+        pp.Slopes(45, by="SECTOR", regions={"default": 38})

@@ -7,7 +7,7 @@ import pytest
 from hypothesis import given, strategies as st
 
 import pitplan as pp
-from mines import SIZE, costs, study_of, table
+from mines import SIZE, costs, table
 
 
 def read(folder, frame, name="t.csv", text=None, **keys):
