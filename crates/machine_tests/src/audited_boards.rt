@@ -13,7 +13,7 @@ use std::alloc::Global;
 use std::process::Abort;
 
 // How block 0 begins, whose first port is that of the pair, and whose second is the source's.
-const FIRST: [Event; 3] = [
+pub const FIRST: [Event; 3] = [
     Event {
         block: 0,
         kind: Kind::ReadExcess,
@@ -97,7 +97,7 @@ fn replayed(
 }
 
 // The flow leaves all three blocks, and the history leads to it.
-fn replays(
+pub fn replays(
     rt: &impl Abort,
     alloc: Global,
     net: &Net<WorthSize>,

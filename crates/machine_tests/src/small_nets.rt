@@ -1,7 +1,4 @@
-//! Small nets whose best pits are known, for the tests.
-//!
-//! `workers` has the same file. What stands under `cfg(test)` in one crate is not to be seen by the tests of
-//! another, so to share these nets a crate would have to publish them: an interface that no program needs.
+//! Small nets whose best pits are known.
 
 ghost use Rattle.std.specs.Prelude.{◌≤◌};
 

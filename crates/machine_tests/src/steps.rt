@@ -3,6 +3,7 @@
 ghost use Rattle.std.specs.Prelude.{◌≤◌};
 ghost use Rattle.async_step.specs.Answers.{IsStateOf};
 
+use crate::board_turns::{holds, same};
 use async_step::{ReplayFault, Saw, State, StepRefusal, replay};
 use closure_net::{Carried, Flow, Net};
 use fixed_worth::MOST_BLOCKS;
@@ -10,18 +11,8 @@ use machine_law::{Event, Kind};
 use ordered_group::{OrderedGroup, Worth, WorthSize};
 use prec_file::Rests;
 use std::alloc::Global;
-use std::fmt::{Debug, Display};
+use std::fmt::Display;
 use std::process::Abort;
-
-// Fails the test where they differ.
-fn same<T: PartialEq + Debug + Drop>(rt: &impl Abort, got: T, wanted: T) {
-    assert_eq!(rt; got, wanted);
-}
-
-// Fails the test where it is false.
-fn holds(rt: &impl Abort, fact: bool) {
-    assert!(rt; fact);
-}
 
 const RE: Kind = Kind::ReadExcess;
 

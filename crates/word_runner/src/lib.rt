@@ -24,8 +24,6 @@ mod settle_fault;
 mod settling;
 mod steps;
 mod table;
-#[cfg(test)]
-mod tests;
 mod turns;
 mod two_workers;
 mod view;

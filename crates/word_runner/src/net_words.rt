@@ -1,5 +1,6 @@
 //! The words of a net.
 
+ghost use Rattle.std.specs.Prelude.{◌≡◌, ◌≤◌, ◌^◌, length};
 ghost use Rattle.word_runner.specs.Tells.{WordsView, IsWords};
 
 use crate::table::WordTable;
@@ -26,4 +27,17 @@ impl Model for Words {
     ghost view = { λ w. record { shared = w.table.shared; cut = w.net; total = w.total; workers = w.workers } };
 
     ghost invariant = { λ w. IsWords w.table.shared w.net w.total w.workers };
+}
+
+impl Words {
+    /// How many blocks the net has.
+    pub fn len(&self) -> u32
+        ensures is { result ≡ length self.now.cut.worths }
+        ensures few { result ≤ 2 ^ 24 }
+        ensures words { IsWords self.now.shared self.now.cut self.now.total self.now.workers }
+    {
+        // proof: a net has at most 2^24 blocks
+        let _few = self.net.rests().len();
+        self.net.len()
+    }
 }

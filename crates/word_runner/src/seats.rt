@@ -157,6 +157,7 @@ impl WordSeat {
     pub fn arrived(&mut self, words: &Words) -> bool
         requires words { IsSeat words.now.shared self.old.place }
         ensures seat { IsSeat words.now.shared self.new.place }
+        ensures told { IsTold self.new.place self.new.labels self.new.block self.new.operation self.new.stopped }
         ensures answer { HasArrived self.old.place.me.0 self.new.place.me.0 words.now.total result }
         ensures same { (self.new.operation ≡ self.old.operation) × (self.new.block ≡ self.old.block) × (self.new.stopped ≡ self.old.stopped) }
     {

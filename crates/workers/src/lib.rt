@@ -16,24 +16,12 @@
 //! call returns.
 #![tactic(auto)]
 
-#[cfg(test)]
-mod audit_tests;
 mod auditing;
 mod gate;
-#[cfg(test)]
-mod gate_tests;
-#[cfg(test)]
-mod known_runs_tests;
 mod locked;
 mod pause;
 mod solving;
-#[cfg(test)]
-mod test_nets;
-#[cfg(test)]
-mod whole_run_tests;
 mod worker;
-#[cfg(test)]
-mod worker_tests;
 
 pub use auditing::{Audit, AuditEnd, AuditFault, solve_audited};
 pub use boards::{Audited, Board, End, Turn, TurnBoard};

@@ -1,39 +1,16 @@
 //! Whole runs whose pits are known from elsewhere.
 
-use crate::test_nets::{
+use crate::board_turns::{leaves, same};
+use crate::small_nets::{
     each_on_the_other, sizes_too_large, two_on_dear_waste, two_on_waste, worth_what_it_costs,
 };
-use crate::{Locked, OpenGate, Shared, SolveFault, TurnBoard, solve};
-use closure_net::{Flow, Net, pit_of};
+use closure_net::Net;
 use ordered_group::{OrderedGroup, Worth, WorthSize};
 use std::alloc::Global;
-use std::fmt::Debug;
 use std::process::Abort;
 use std::sync::Wait;
 use std::thread::Threads;
-
-// Fails the test where they differ.
-pub fn same<T: PartialEq + Debug + Drop>(rt: &impl Abort, got: T, wanted: T) {
-    assert_eq!(rt; got, wanted);
-}
-
-// Fails the test where it is false.
-pub fn holds(rt: &impl Abort, fact: bool) {
-    assert!(rt; fact);
-}
-
-// The pit that a flow leaves.
-pub fn leaves<G: OrderedGroup>(
-    rt: &impl Abort,
-    alloc: Global,
-    net: &Net<G>,
-    flow: &Flow<G>,
-    pit: &[u32],
-) {
-    assert!(rt; flow.fits(net));
-    let left = pit_of(alloc, net, flow).expect(rt, "memory");
-    assert!(rt; left.blocks() == pit);
-}
+use workers::{Locked, OpenGate, Shared, SolveFault, TurnBoard, solve};
 
 // A run of so many workers leaves this pit, in whatever order the steps came.
 fn run_leaves<G: OrderedGroup, R: Abort + Threads + Wait + Sync>(

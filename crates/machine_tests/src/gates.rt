@@ -1,8 +1,8 @@
 //! Gates that make workers wait for each other, and one that counts.
 
-use crate::test_nets::{two_on_dear_waste, two_on_waste};
-use crate::whole_run_tests::holds;
-use crate::{Gate, Locked, Shared, TurnBoard, solve, solve_audited};
+use crate::board_turns::holds;
+use crate::small_nets::{net_of, two_on_dear_waste, two_on_waste};
+use async_step::Event;
 use closure_net::Net;
 use ordered_group::{OrderedGroup, Worth, WorthSize};
 use std::alloc::Global;
@@ -13,9 +13,10 @@ use std::sync::atomic::{AtomicBool, AtomicU64};
 use std::thread;
 use std::thread::Threads;
 use std::time::{Clock, Duration};
+use workers::{Gate, Locked, Shared, TurnBoard, solve, solve_audited};
 
 // Waits until a number is another one, ten seconds or so at most. Answers whether it was.
-fn becomes<R: Clock>(clock: &R, number: &AtomicU64, goal: u64) -> bool {
+pub fn becomes<R: Clock>(clock: &R, number: &AtomicU64, goal: u64) -> bool {
     for _look in 0..10_000 {
         if number.load(SeqCst) == goal {
             return true;
@@ -99,6 +100,49 @@ fn sixty_four_workers_take_the_turns_of_a_run(rt: HostRuntime) {
     let gate = Meeting::of(rt, 64, 0);
     let audit = solve_audited(&rt, alloc, &net, 64, 10_000_000, 100_000, &gate);
     holds(&rt, gate.all_met() && audit.is_ok());
+}
+
+// The last of 64 workers takes its first turn before all others, then the one before it, and so on. None takes a second turn before
+// all have taken the first.
+#[derive(Drop)]
+struct LastFirst<R: Clock + Sync + Drop> {
+    clock: R,
+    // how many have taken their first turn
+    begun: AtomicU64,
+}
+
+impl<R: Clock + Sync + Drop> Gate for LastFirst<R> {
+    fn turn(&self, worker: u32, turn: u64) {
+        if turn == 1 {
+            self.begun.fetch_add(1, SeqCst);
+        }
+        if turn < 2 {
+            let goal = if turn == 0 { 63u64.wrapping_sub(worker as u64) } else { 64 };
+            becomes(&self.clock, &self.begun, goal);
+        }
+    }
+}
+
+// The first steps are those of the last block, of the one before it, and so on.
+fn begins_with_the_last(rt: &impl Abort, history: &[Event]) {
+    for k in 0..64u32 {
+        let block = history.get(k as usize).map(|event| event.block);
+        assert_eq!(rt; block, Some(63u32.wrapping_sub(k)));
+    }
+}
+
+// Each of 64 workers looks at first from the block of its own number, and takes it where it has excess, as all have here.
+#[test]
+fn sixty_four_workers_are_started(rt: HostRuntime) {
+    let alloc = rt.alloc();
+    let net: Net<WorthSize> = net_of(&rt, alloc, 64, &[], &[1_000_000_000; 64]);
+    let gate = LastFirst {
+        clock: rt,
+        begun: AtomicU64::new(0),
+    };
+    let audit = solve_audited(&rt, alloc, &net, 64, 10_000_000, 100_000, &gate).ok();
+    holds(&rt, gate.begun.load(SeqCst) == 64);
+    begins_with_the_last(&rt, &audit.expect(&rt, "flow").history);
 }
 
 // Before its first turn worker 0 waits until worker 1 has taken twenty.

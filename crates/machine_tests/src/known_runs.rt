@@ -1,12 +1,12 @@
 //! Whole runs whose ends are known from elsewhere. Small nets against the best of all their closed sets are tests of the
 //! engines, which have both solvers.
 
-use crate::test_nets::{net_of, two_on_waste};
-use crate::whole_run_tests::{holds, same};
-use crate::{OpenGate, SolveFault, Solved, solve};
+use crate::board_turns::{holds, same};
+use crate::small_nets::{net_of, two_on_waste};
 use closure_net::{Flow, Net};
 use ordered_group::{Worth, WorthSize};
 use std::process::Abort;
+use workers::{OpenGate, SolveFault, Solved, solve};
 
 // What a flow takes from the source.
 fn taken_by(flow: &Flow<Worth>) -> i128 {

@@ -1,5 +1,5 @@
 use Rattle.word_runner.specs.Tells.{IsServing}
-use Rattle.word_runner.proofs.tests.turned_in_turns.Given as goal
+use Rattle.machine_tests.proofs.word_seats.turned_in_turns.Given as goal
 
 abbrev pub invariant-loop-turn : goal.invariant-loop-turn
 invariant-loop-turn l = IsServing l.words.shared 0 2 l.left.seat l.left.at × IsServing l.words.shared 1 2 l.right.seat l.right.at

@@ -1,7 +1,7 @@
 use Rattle.std.proofs.Common.{arith}
 use Rattle.word_runner.proofs.SeatLists.{first_two}
 use Rattle.word_runner.proofs.Ends.{last_two}
-use Rattle.word_runner.proofs.tests.apart.Goals as goal
+use Rattle.machine_tests.proofs.word_seats.apart.Goals as goal
 
 pub returns : goal.returns
 returns c =

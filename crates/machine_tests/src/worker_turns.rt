@@ -2,11 +2,8 @@
 
 ghost use Rattle.std.specs.Prelude.{◌<◌};
 
-use crate::gate_tests::Meeting;
-use crate::solving::serve_all;
-use crate::test_nets::two_on_dear_waste;
-use crate::whole_run_tests::{holds, same};
-use crate::{Board, End, Gate, Locked, OpenGate, Shared, Turn, TurnBoard, serve};
+use crate::board_turns::{holds, same};
+use crate::small_nets::two_on_dear_waste;
 use closure_net::Net;
 use ordered_group::{OrderedGroup, Scaled, Worth, WorthSize};
 use std::alloc::Global;
@@ -14,6 +11,7 @@ use std::process::Abort;
 use std::sync::atomic::Ordering::SeqCst;
 use std::sync::atomic::{AtomicBool, AtomicU64};
 use std::sync::{Mutex, Wait};
+use workers::{Board, End, Gate, Locked, OpenGate, Shared, Turn, TurnBoard, serve};
 
 // The first step of block 1: the operation that it begins goes on.
 const BEGUN: Turn = Turn::Stepped {
@@ -175,32 +173,6 @@ fn idle_turns_are_counted_and_pass_the_gate_first(rt: HostRuntime) {
         (5, 5),
     );
     holds(&rt, !idler.out_of_turn.load(SeqCst));
-}
-
-// Notes the blocks from which workers look: each of 64 blocks has a binary digit of its own.
-#[derive(Drop)]
-struct Looks {
-    from: AtomicU64,
-}
-
-impl Shared for Looks {
-    fn act<R: Wait>(&self, _rt: &R, _own: Option<u32>, from: u32, _steps: u64) -> Turn {
-        self.from.fetch_add(1u64.wrapping_shl(from), SeqCst);
-        Turn::Idle
-    }
-}
-
-// All are at their first turn at once, each with its own number, and looks from the block of that
-// number.
-#[test]
-fn sixty_four_workers_are_started(rt: HostRuntime) {
-    let looks = Looks {
-        from: AtomicU64::new(0),
-    };
-    let gate = Meeting::of(rt, 64, 0);
-    holds(&rt, serve_all(&rt, &looks, &gate, 64, 64, 1));
-    holds(&rt, gate.all_met());
-    same(&rt, looks.from.load(SeqCst), u64::MAX);
 }
 
 // A turn under the lock makes one step, of the block that is asked for.

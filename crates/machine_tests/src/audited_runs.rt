@@ -1,36 +1,21 @@
 //! Whole runs whose steps are written down, and turns under the lock of an audited board.
 
-use crate::gate_tests::Meeting;
-use crate::test_nets::{sizes_too_large, two_on_dear_waste};
-use crate::whole_run_tests::{holds, leaves, same};
-use crate::{
-    Audit, AuditEnd, AuditFault, Audited, End, Locked, OpenGate, Shared, SolveFault, Turn,
-    solve_audited,
-};
-use async_step::{Event, Kind, replay};
-use closure_net::{Flow, Net};
+use crate::audited_boards::{FIRST, replays};
+use crate::board_turns::{holds, same};
+use crate::gates::Meeting;
+use crate::small_nets::{sizes_too_large, two_on_dear_waste};
+use async_step::Event;
+use closure_net::Net;
 use ordered_group::{OrderedGroup, Scaled, Worth, WorthSize};
 use std::alloc::Global;
 use std::process::Abort;
 use std::sync::Wait;
 use std::thread::Threads;
 use std::time::Clock;
-
-// How block 0 begins, whose first port is that of the pair.
-const FIRST: [Event; 3] = [
-    Event {
-        block: 0,
-        kind: Kind::ReadExcess,
-    },
-    Event {
-        block: 0,
-        kind: Kind::ReadLabel,
-    },
-    Event {
-        block: 0,
-        kind: Kind::ReadCapacity,
-    },
-];
+use workers::{
+    Audit, AuditEnd, AuditFault, Audited, End, Locked, OpenGate, Shared, SolveFault, Turn,
+    solve_audited,
+};
 
 const UNSETTLED: AuditEnd = AuditEnd::NoFlow(SolveFault::Unsettled);
 
@@ -110,32 +95,6 @@ fn run_that_meets<R: Abort + Clock + Threads + Wait + Sync + Copy + Drop>(
     }
 }
 
-// The flow to which a history leads.
-fn replayed(
-    rt: &impl Abort,
-    alloc: Global,
-    net: &Net<WorthSize>,
-    history: &[Event],
-) -> Flow<WorthSize> {
-    let state = replay(alloc, net, history).expect(rt, "steps");
-    match state.into_flow(net) {
-        Ok(flow) => flow,
-        Err(_) => panic!(rt; "a run that isn't quiet"),
-    }
-}
-
-// The history replays to the flow that is answered.
-fn replays_to_its_flow(
-    rt: &impl Abort,
-    alloc: Global,
-    net: &Net<WorthSize>,
-    run: &Audit<WorthSize>,
-) {
-    let again = replayed(rt, alloc, net, &run.history);
-    holds(rt, again.source() == run.flow.source());
-    holds(rt, again.sink() == run.flow.sink());
-}
-
 // Two workers see each other before the same turn, and the history of what they did together replays to
 // the flow that is answered.
 #[test]
@@ -143,8 +102,7 @@ fn both_workers_write_one_history(rt: HostRuntime) {
     let net: Net<WorthSize> = two_on_dear_waste(&rt, rt.alloc());
     for turn in 0..2 {
         let run = run_that_meets(rt, rt.alloc(), &net, turn);
-        leaves(&rt, rt.alloc(), &net, &run.flow, &[0, 1, 2]);
-        replays_to_its_flow(&rt, rt.alloc(), &net, &run);
+        replays(&rt, rt.alloc(), &net, &run.flow, &run.history);
     }
 }
 
