@@ -26,11 +26,12 @@ mod sums;
 
 pub use accepted::Accepted;
 pub use accepted_pit::AcceptedPit;
-pub use certificate_file::{CertFault, Certificate, Header, Price, read_certificate, reading, write_certificate};
 pub use cert_stream::{CertStream, check_graph, check_stream};
+pub use certificate_file::{
+    CertFault, Certificate, Header, Price, read_certificate, reading, write_certificate,
+};
 pub use checking::check;
 pub use pit_fault::PitFault;
 pub use room::Room;
 pub use stream_bytes::StreamBytes;
 pub use stream_fault::StreamFault;
-

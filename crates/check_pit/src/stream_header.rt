@@ -9,7 +9,9 @@ ghost use Rattle.check_pit.specs.StreamHeaders.{GivesHeader, LacksHeader};
 
 use crate::stream_fault::StreamFault;
 use crate::stream_lines::StreamLines;
-use certificate_file::{CertFault, Header, Price, Version, blocks_in, group_in, in_line, price_in, version_in};
+use certificate_file::{
+    CertFault, Header, Price, Version, blocks_in, group_in, in_line, price_in, version_in,
+};
 use fixed_worth::CountedRead;
 use ordered_group::Group;
 

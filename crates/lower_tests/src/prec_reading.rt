@@ -1,8 +1,6 @@
 ghost use Rattle.std.specs.Prelude.{◌≡◌, IfOk};
 
-use prec_file::{
-    PrecFault, Predecessors, Rests, RestsFault, read_listed, read_prec,
-};
+use prec_file::{PrecFault, Predecessors, Rests, RestsFault, read_listed, read_prec};
 use std::alloc::Global;
 use std::fmt::{Debug, Display};
 use std::process::Abort;

@@ -117,7 +117,11 @@ impl<R: Clock + Sync + Drop> Gate for LastFirst<R> {
             self.begun.fetch_add(1, SeqCst);
         }
         if turn < 2 {
-            let goal = if turn == 0 { 63u64.wrapping_sub(worker as u64) } else { 64 };
+            let goal = if turn == 0 {
+                63u64.wrapping_sub(worker as u64)
+            } else {
+                64
+            };
             becomes(&self.clock, &self.begun, goal);
         }
     }
