@@ -360,7 +360,7 @@ class Worked(NamedTuple):
 class OfRows(NamedTuple):
     """What the table says row by row: the list of offsets that each block has, and what each is made of."""
 
-    regions: list[int]
+    regions: list[int | None]
     worked: list[Worked | None]
 
 
@@ -470,9 +470,9 @@ def check_table(told: Told, blocks: Blocks, facts: dict[str, Any]) -> OfRows | N
     return OfRows(regions_of(table, rows), check_amounts(told, economics, blocks, rows))
 
 
-def regions_of(table: Table, rows: list[int]) -> list[int]:
+def regions_of(table: Table, rows: list[int]) -> list[int | None]:
     """Which list of offsets each block has: that of the region that its row names, by the order of [slopes] regions; 0, that of
-    `angles`, for all others. In a column of numbers 1 and 1.0 are the same region."""
+    `angles`, for all others; None of blocks without a row. In a column of numbers 1 and 1.0 are the same region."""
     slopes = study_of("slopes")
     names = list(slopes.get("regions", {}))
     if not names:
@@ -486,7 +486,7 @@ def regions_of(table: Table, rows: list[int]) -> list[int]:
         number = 0.0 if cell in table.absent else float(cell.replace(table.told["decimal"], ".")) if is_numbers and cell else math.nan
         word = cell if not is_numbers else f"{number:.0f}" if number.is_integer() else str(number)
         of_cell[cell] = 1 + names.index(word) if word in names else 0
-    return [of_cell[table.word(row, by).strip()] if row >= 0 else 0 for row in rows]
+    return [of_cell[table.word(row, by).strip()] if row >= 0 else None for row in rows]
 
 
 def check_passed(told: Told, table: Table, facts: dict[str, Any]) -> None:
@@ -618,16 +618,16 @@ def check_tables(told: Told, blocks: Blocks, facts: dict[str, Any], shell: list[
     told.check(is_same, f"tables/benches.csv has the blocks, the tonnes, the worth{of} of each bench and shell")
 
 
-def check_slopes(told: Told, pit: str, regions: list[int] | None) -> None:
+def check_slopes(told: Told, pit: str, regions: list[int | None] | None) -> None:
     """Each block's predecessors are those that `pit slopes` gives it by the list of offsets of its region; by any of the lists where
-    regions aren't known."""
+    its region isn't known."""
     lists = [f"slope-{i}.toml" for i in range(len(list((HERE / "model").glob("slope-*.toml"))))]
     words = [pit, "slopes", "--blocks", str(within("model/mine.blocks")), "--pattern", "settings", "--settings"]
     runs = [subprocess.Popen([*words, str(within(f"model/{name}"))], stdout=subprocess.PIPE) for name in lists]
     try:
         with open(within("model/mine.prec"), "rb") as file:
             found = enumerate(zip_longest(file, *(run.stdout or () for run in runs)))
-            bad = next((n for n, lines in found if None in lines or lines[0] not in (lines[1:] if regions is None else [lines[1 + regions[n]]])), None)
+            bad = next((n for n, lines in found if None in lines or lines[0] not in (lines[1:] if regions is None or (at := regions[n]) is None else (lines[1 + at],))), None)
     finally:
         for run in runs:
             run.kill()
