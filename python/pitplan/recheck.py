@@ -200,8 +200,11 @@ def check_pits(told: Told, pit: str, blocks: Blocks, facts: dict[str, Any], is_p
         if not found or factor <= last:
             told.check(factor > last, f"{at} comes behind {last / THOUSAND:g}")
             continue
-        check_pit(told, blocks, verdict, found, is_plain)
-        now = set(found.held)
+        there = [block for block in found.held if block < len(shell)]
+        if len(there) < len(found.held):
+            told.check(False, f"the pit at {at} has {len(found.held) - len(there):,} blocks that the model hasn't")
+        check_pit(told, blocks, verdict, found._replace(held=there), is_plain)
+        now = set(there)
         if last:
             told.check(below <= now, f"the pit at {last / THOUSAND:g} lies within that at {factor / THOUSAND:g}")
         for block in now - below:
