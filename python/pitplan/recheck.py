@@ -595,7 +595,8 @@ def check_tables(told: Told, blocks: Blocks, facts: dict[str, Any], shell: list[
     """The tables say what the certificates do, and of metals what the planner's table does."""
     shown = [round(float(line["shell"]) * THOUSAND) if line["shell"] else 0 for line in numbering()]
     is_counted = [line["block"] for line in numbering()] == [str(b) for b in range(len(shell))]
-    told.check(is_counted and shown == shell, "tables/blocks.csv has the number and the shell of each block")
+    bad = [n for n, (ours, theirs) in enumerate(zip(shell, shown), 2) if ours != theirs]
+    told.check(is_counted and shown == shell, "tables/blocks.csv has the number and the shell of each block" + (f": not so in line {bad[0]}" if bad else ""))
     verdicts, benches = load("verdicts.json"), dict[tuple[float, int], Sum]()
     pits = {verdict["factor"]: Sum() for verdict in verdicts}
     for b, factor in enumerate(shell):
@@ -610,15 +611,14 @@ def check_tables(told: Told, blocks: Blocks, facts: dict[str, Any], shell: list[
     metals = [metal["name"] for metal in economics["metals"]] if worked else []
     feed = economics.get("mining_recovery", 1.0) * (1 + economics.get("dilution", 0.0))
     lines = read_table("pit_by_pit.csv")
-    is_same = len(lines) == len(verdicts) and all(
-        round(float(line["factor"]) * THOUSAND) == verdict["factor"] and math.isclose(float(line["worth_at_factor"]), float(verdict["worth"]), rel_tol=1e-9, abs_tol=1e-6)
-        and pits[verdict["factor"]].is_line(line, True, feed, metals) for line, verdict in zip(lines, verdicts))
+    bad = [n for n, (line, verdict) in enumerate(zip(lines, verdicts), 2) if round(float(line["factor"]) * THOUSAND) != verdict["factor"]
+           or not is_close(line["worth_at_factor"], float(verdict["worth"]), 1e-6) or not pits[verdict["factor"]].is_line(line, True, feed, metals)]
     of = ", the grades and the metals" if worked else ""
-    told.check(is_same, f"tables/pit_by_pit.csv has the blocks, the tonnes, the worths{of} of each pit")
+    told.check(len(lines) == len(verdicts) and not bad, f"tables/pit_by_pit.csv has the blocks, the tonnes, the worths{of} of each pit" + (f": not so in line {bad[0]}" if bad else ""))
     lines = read_table("benches.csv")
     keys = [(round(float(line["bench"]), 3), round(float(line["shell"]) * THOUSAND)) for line in lines]
-    is_same = sorted(keys) == sorted(benches) and all(benches[key].is_line(line, False, feed, metals) for key, line in zip(keys, lines))
-    told.check(is_same, f"tables/benches.csv has the blocks, the tonnes, the worth{of} of each bench and shell")
+    bad = [n for n, (key, line) in enumerate(zip(keys, lines), 2) if key not in benches or not benches[key].is_line(line, False, feed, metals)]
+    told.check(sorted(keys) == sorted(benches) and not bad, f"tables/benches.csv has the blocks, the tonnes, the worth{of} of each bench and shell" + (f": not so in line {bad[0]}" if bad else ""))
 
 
 def check_slopes(told: Told, pit: str, regions: list[int | None] | None) -> None:
