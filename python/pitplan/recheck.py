@@ -200,8 +200,11 @@ def check_pits(told: Told, pit: str, blocks: Blocks, facts: dict[str, Any], is_p
         if not found or factor <= last:
             told.check(factor > last, f"{at} comes behind {last / THOUSAND:g}")
             continue
-        check_pit(told, blocks, verdict, found, is_plain)
-        now = set(found.held)
+        there = [block for block in found.held if block < len(shell)]
+        if len(there) < len(found.held):
+            told.check(False, f"the pit at {at} has {len(found.held) - len(there):,} blocks that the model hasn't")
+        check_pit(told, blocks, verdict, found._replace(held=there), is_plain)
+        now = set(there)
         if last:
             told.check(below <= now, f"the pit at {last / THOUSAND:g} lies within that at {factor / THOUSAND:g}")
         for block in now - below:
@@ -360,7 +363,7 @@ class Worked(NamedTuple):
 class OfRows(NamedTuple):
     """What the table says row by row: the list of offsets that each block has, and what each is made of."""
 
-    regions: list[int]
+    regions: list[int | None]
     worked: list[Worked | None]
 
 
@@ -470,9 +473,9 @@ def check_table(told: Told, blocks: Blocks, facts: dict[str, Any]) -> OfRows | N
     return OfRows(regions_of(table, rows), check_amounts(told, economics, blocks, rows))
 
 
-def regions_of(table: Table, rows: list[int]) -> list[int]:
+def regions_of(table: Table, rows: list[int]) -> list[int | None]:
     """Which list of offsets each block has: that of the region that its row names, by the order of [slopes] regions; 0, that of
-    `angles`, for all others. In a column of numbers 1 and 1.0 are the same region."""
+    `angles`, for all others; None of blocks without a row. In a column of numbers 1 and 1.0 are the same region."""
     slopes = study_of("slopes")
     names = list(slopes.get("regions", {}))
     if not names:
@@ -486,7 +489,7 @@ def regions_of(table: Table, rows: list[int]) -> list[int]:
         number = 0.0 if cell in table.absent else float(cell.replace(table.told["decimal"], ".")) if is_numbers and cell else math.nan
         word = cell if not is_numbers else f"{number:.0f}" if number.is_integer() else str(number)
         of_cell[cell] = 1 + names.index(word) if word in names else 0
-    return [of_cell[table.word(row, by).strip()] if row >= 0 else 0 for row in rows]
+    return [of_cell[table.word(row, by).strip()] if row >= 0 else None for row in rows]
 
 
 def check_passed(told: Told, table: Table, facts: dict[str, Any]) -> None:
@@ -592,7 +595,8 @@ def check_tables(told: Told, blocks: Blocks, facts: dict[str, Any], shell: list[
     """The tables say what the certificates do, and of metals what the planner's table does."""
     shown = [round(float(line["shell"]) * THOUSAND) if line["shell"] else 0 for line in numbering()]
     is_counted = [line["block"] for line in numbering()] == [str(b) for b in range(len(shell))]
-    told.check(is_counted and shown == shell, "tables/blocks.csv has the number and the shell of each block")
+    bad = [n for n, (ours, theirs) in enumerate(zip(shell, shown), 2) if ours != theirs]
+    told.check(is_counted and shown == shell, "tables/blocks.csv has the number and the shell of each block" + (f": not so in line {bad[0]}" if bad else ""))
     verdicts, benches = load("verdicts.json"), dict[tuple[float, int], Sum]()
     pits = {verdict["factor"]: Sum() for verdict in verdicts}
     for b, factor in enumerate(shell):
@@ -607,27 +611,26 @@ def check_tables(told: Told, blocks: Blocks, facts: dict[str, Any], shell: list[
     metals = [metal["name"] for metal in economics["metals"]] if worked else []
     feed = economics.get("mining_recovery", 1.0) * (1 + economics.get("dilution", 0.0))
     lines = read_table("pit_by_pit.csv")
-    is_same = len(lines) == len(verdicts) and all(
-        round(float(line["factor"]) * THOUSAND) == verdict["factor"] and math.isclose(float(line["worth_at_factor"]), float(verdict["worth"]), rel_tol=1e-9, abs_tol=1e-6)
-        and pits[verdict["factor"]].is_line(line, True, feed, metals) for line, verdict in zip(lines, verdicts))
+    bad = [n for n, (line, verdict) in enumerate(zip(lines, verdicts), 2) if round(float(line["factor"]) * THOUSAND) != verdict["factor"]
+           or not is_close(line["worth_at_factor"], float(verdict["worth"]), 1e-6) or not pits[verdict["factor"]].is_line(line, True, feed, metals)]
     of = ", the grades and the metals" if worked else ""
-    told.check(is_same, f"tables/pit_by_pit.csv has the blocks, the tonnes, the worths{of} of each pit")
+    told.check(len(lines) == len(verdicts) and not bad, f"tables/pit_by_pit.csv has the blocks, the tonnes, the worths{of} of each pit" + (f": not so in line {bad[0]}" if bad else ""))
     lines = read_table("benches.csv")
     keys = [(round(float(line["bench"]), 3), round(float(line["shell"]) * THOUSAND)) for line in lines]
-    is_same = sorted(keys) == sorted(benches) and all(benches[key].is_line(line, False, feed, metals) for key, line in zip(keys, lines))
-    told.check(is_same, f"tables/benches.csv has the blocks, the tonnes, the worth{of} of each bench and shell")
+    bad = [n for n, (key, line) in enumerate(zip(keys, lines), 2) if key not in benches or not benches[key].is_line(line, False, feed, metals)]
+    told.check(sorted(keys) == sorted(benches) and not bad, f"tables/benches.csv has the blocks, the tonnes, the worth{of} of each bench and shell" + (f": not so in line {bad[0]}" if bad else ""))
 
 
-def check_slopes(told: Told, pit: str, regions: list[int] | None) -> None:
+def check_slopes(told: Told, pit: str, regions: list[int | None] | None) -> None:
     """Each block's predecessors are those that `pit slopes` gives it by the list of offsets of its region; by any of the lists where
-    regions aren't known."""
+    its region isn't known."""
     lists = [f"slope-{i}.toml" for i in range(len(list((HERE / "model").glob("slope-*.toml"))))]
     words = [pit, "slopes", "--blocks", str(within("model/mine.blocks")), "--pattern", "settings", "--settings"]
     runs = [subprocess.Popen([*words, str(within(f"model/{name}"))], stdout=subprocess.PIPE) for name in lists]
     try:
         with open(within("model/mine.prec"), "rb") as file:
             found = enumerate(zip_longest(file, *(run.stdout or () for run in runs)))
-            bad = next((n for n, lines in found if None in lines or lines[0] not in (lines[1:] if regions is None else [lines[1 + regions[n]]])), None)
+            bad = next((n for n, lines in found if None in lines or lines[0] not in (lines[1:] if regions is None or (at := regions[n]) is None else (lines[1 + at],))), None)
     finally:
         for run in runs:
             run.kill()

@@ -298,9 +298,9 @@ CHANGES = {
     "ore of a pit": (column("pit_by_pit.csv", "ore_t", "1.0"), "tables/pit_by_pit.csv"),
     "the strip ratio of a pit": (column("pit_by_pit.csv", "strip", "9.0"), "tables/pit_by_pit.csv"),
     "the worth of a pit at the full price": (column("pit_by_pit.csv", "worth_at_base", "1.0"), "tables/pit_by_pit.csv"),
-    "the mill's feed of a pit": (column("pit_by_pit.csv", "feed_t", "1.0"), "tables/pit_by_pit.csv"),
-    "the grade of a pit": (column("pit_by_pit.csv", "grade_copper", "9.0"), "tables/pit_by_pit.csv"),
-    "the metal of a bench": (column("benches.csv", "metal_copper", "1.0"), "tables/benches.csv"),
+    "the mill's feed of a pit": (column("pit_by_pit.csv", "feed_t", "1.0"), "the grades and the metals of each pit: not so in line 2"),
+    "the grade of a pit": (column("pit_by_pit.csv", "grade_copper", "9.0"), "the grades and the metals of each pit: not so in line 2"),
+    "the metal of a bench": (column("benches.csv", "metal_copper", "1.0"), "the grades and the metals of each bench and shell: not so in line 2"),
     "rock of a bench": (column("benches.csv", "rock_t", "1.0"), "tables/benches.csv"),
     "the number of a block": (column("blocks.csv", "block", "7"), "tables/blocks.csv"),
     "a worth": (other_worth, "pit check at factor 0.6"),
@@ -332,14 +332,18 @@ def test_what_is_changed_with_its_digests_is_found_by_what_it_means(copy, what):
     assert status == 1 and any(line.startswith("WRONG") and told in line for line in lines), lines
 
 
-def test_a_certificate_of_another_mine_is_told_in_words(copy, tmp_path):
-    other = mines.study_of(tmp_path, mines.table(5, 4, 3, 1))
+@pytest.mark.parametrize("shape", [(5, 4, 3), (9, 8, 5)])
+def test_a_certificate_of_another_mine_is_told_in_words(copy, tmp_path, shape):
+    """Of a smaller one, and of a larger one: the pits behind it are looked at all the same."""
+    other = mines.study_of(tmp_path, mines.table(*shape, 1))
     other.run(1000)
     shutil.copy(other.place(1000) / "best.cert.gz", copy / "certificates" / "f01000.cert.gz")
     lines, status = rechecked(copy)
     blocks = [len((folder / "mine.blocks").read_text().splitlines()) for folder in (other.blocks_file.parent, copy / "model")]
     told = [line for line in lines if "another mine, of {:,} blocks, and the model has {:,}".format(*blocks) in line]
     assert status == 1 and blocks[0] != blocks[1] and len(told) == 1 and "at factor 1:" in told[0], lines
+    assert any("blocks that the model hasn't" in line for line in lines) == (blocks[0] > blocks[1]) and not any("Error" in line for line in lines), lines
+    assert any("tables/pit_by_pit.csv" in line for line in lines) and not any("at factor 1.2" in line for line in lines), lines
 
 
 def test_no_name_leads_out_of_the_bundle(copy, tmp_path):

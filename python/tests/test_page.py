@@ -490,8 +490,9 @@ def test_numbers_of_one_kind_have_as_many_decimals(keeping_view):
     assert {"4,987.5 E, 9,040.0 N", "5,212.5 E, 9,040.0 N"} <= set(drawn) and decimals(text for text in drawn if "m" in text) == {2}
     assert text_of(keeping_view, "where") == "northing 9,040 (row 2)"
     cut(keeping_view, "z", 2)
-    drawn = keeping_view.execute_script(DRAWN)
-    assert len([text for text in drawn if text.endswith(" E")]) > 1 and decimals(text for text in drawn if text != "N") == {0}
+    for end in (" E", " N –"):
+        ticks = [text for text in keeping_view.execute_script(DRAWN) if text.endswith(end)]
+        assert len(ticks) > 1 and decimals(ticks) == {0}
     assert text_of(keeping_view, "where") == "bench 111.25 (toe) to 118.75 m (crest), level 2"
     assert decimals(row[2] for row in rows_of(keeping_view)) == {2}
 
