@@ -3,11 +3,10 @@
 ghost use Rattle.std.specs.Prelude.{◌≡◌, ◌<◌, MatchOption, length, slice_index_or};
 ghost use Rattle.std.specs.List.{Contains};
 ghost use Rattle.prec_file.specs.Rests.{IsRests, first_of, above_of};
-ghost use Rattle.prec_file.specs.Internal.{AreAbove};
+ghost use Rattle.prec_file.specs.Internal.{AreAbove, pairs_by};
 
 use crate::index::part;
 use std::marker::Model;
-use std::snapshot::Snapshot;
 
 /// The predecessors of each block, which a [`crate::Predecessors`] or a [`crate::Rests`] lends.
 #[derive(Drop)]
@@ -17,37 +16,33 @@ pub struct PredecessorsRef<'a> {
     firsts: &'a [u32],
     // the predecessor of each pair
     predecessors: &'a [u32],
-    // the pairs, which only contracts read
-    pairs: Snapshot<Snapshot<Vec<(u32, u32)>>>,
 }
 
 impl<'a> Model for PredecessorsRef<'a> {
     ghost use Rattle.prec_file.specs.Rests.{RestsView};
-    ghost use Rattle.prec_file.specs.Internal.{AreAbove};
+    ghost use Rattle.prec_file.specs.Internal.{AreAbove, pairs_by};
 
     ghost Value = { RestsView };
 
-    ghost view = { λ r. record { blocks = r.blocks; pairs = r.pairs.value.value.items } };
+    ghost view = { λ r. record { blocks = r.blocks; pairs = pairs_by r.firsts.now r.predecessors.now } };
 
-    ghost invariant = { λ r. AreAbove r.blocks r.pairs.value.value.items r.firsts.now r.predecessors.now };
+    ghost invariant = { λ r. AreAbove r.blocks (pairs_by r.firsts.now r.predecessors.now) r.firsts.now r.predecessors.now };
 }
 
 impl<'a> PredecessorsRef<'a> {
-    // The lists that another holds for these pairs.
+    // The lists that another holds.
     pub(crate) fn of_parts(
         blocks: u32,
         firsts: &'a [u32],
         predecessors: &'a [u32],
-        pairs: &Snapshot<Vec<(u32, u32)>>,
     ) -> PredecessorsRef<'a>
-        requires { AreAbove blocks pairs.now.value.items firsts.now predecessors.now }
-        ensures { result ≡ record { blocks = blocks; pairs = pairs.now.value.items } }
+        requires { AreAbove blocks (pairs_by firsts.now predecessors.now) firsts.now predecessors.now }
+        ensures { result ≡ record { blocks = blocks; pairs = pairs_by firsts.now predecessors.now } }
     {
         PredecessorsRef {
             blocks,
             firsts,
             predecessors,
-            pairs: Snapshot::of(pairs),
         }
     }
 

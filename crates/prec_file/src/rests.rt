@@ -13,7 +13,6 @@ use crate::{ListedPairs, PredecessorsRef, RestsFault};
 use fixed_worth::MOST_BLOCKS;
 use std::alloc::{AllocError, Global};
 use std::marker::Model;
-use std::snapshot::Snapshot;
 
 /// Pairs (b, p) of n blocks, in which b rests on p: each once, ordered by b and then by p.
 #[derive(Drop)]
@@ -39,6 +38,23 @@ impl Model for Rests {
     ghost view = { λ r. record { blocks = r.blocks; pairs = r.pairs.items } };
 
     ghost invariant = { λ r. IsIndexed r.blocks r.pairs.items r.firsts.items r.predecessors.items r.starts.items r.filled.items };
+}
+
+// The pairs by their blocks and predecessors.
+pub(crate) fn pairs_of(
+    alloc: Global,
+    of: &PredecessorsRef<'_>,
+) -> Result<Vec<(u32, u32)>, AllocError>
+    ensures { IfOk result (λ v. v.items ≡ of.now.pairs) }
+{
+    let mut pairs = Vec::new(alloc);
+    for block in 0..of.len() {
+        let above = of.above(block);
+        for predecessor in above {
+            pairs.push((block, *predecessor))?;
+        }
+    }
+    Ok(pairs)
 }
 
 // The two indexes of pairs in order.
@@ -123,8 +139,7 @@ impl Rests {
     pub fn predecessors(&self) -> PredecessorsRef<'_>
         ensures { result ≡ self.now }
     {
-        let pairs = Snapshot::of(&self.pairs);
-        PredecessorsRef::of_parts(self.blocks, &self.firsts, &self.predecessors, &pairs)
+        PredecessorsRef::of_parts(self.blocks, &self.firsts, &self.predecessors)
     }
 
     /// How many blocks there are.

@@ -10,5 +10,6 @@ pub mod KeyFinding
 pub mod EntryOrder
 pub mod Repeats
 pub mod Reordering
+pub mod BlockSteps
 pub mod TwoSteps
 pub mod Reduction

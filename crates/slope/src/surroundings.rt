@@ -72,7 +72,8 @@ impl<'a> Surroundings<'a> {
         ensures from { self.new.from ≡ place_of self.old.model block }
     {
         self.from = self.model.place(block);
-        self.guesses.stand_on(self.index.rank_of(block), self.from.z);
+        self.guesses
+            .stand_on(self.index.rank_of(block), self.from.z);
         self.seen.fill(Sight::Unasked);
     }
 
