@@ -4,9 +4,12 @@
     bench/slopes.py
 
 A cube of 1,000,000 blocks by the small patterns, and a box of 480,000 by cones: every pair, and the reduced ones. The pairs of
-a full box can be counted by its sides. Then `nine` beside peers/slopes_writer, in turns, whose text must be the same: of the cube,
-and of the cube numbered in no order. This is a measurement and no test: it holds no time against a limit.
+a full box can be counted by its sides. Then `nine` beside peers/slopes_writer, in turns, whose text must be the same: of the cube
+in each regular order of its blocks and in none, and of the blocks of the cube that lie under a hilly ground. This is a measurement
+and no test: it holds no time against a limit.
 """
+import itertools
+import math
 import os
 import random
 import sys
@@ -54,20 +57,30 @@ def reduced(offsets):
     return [whole for whole, found in steps.items() if not found]
 
 
-def write_box(name, sides):
-    """A full box of blocks, along x first."""
-    with open(name, "w") as out:
-        for b in range(sides[0] * sides[1] * sides[2]):
-            out.write(f"{b} {b % sides[0]} {b // sides[0] % sides[1]} {b // sides[0] // sides[1]} 1 2.5\n")
+def box_of(sides, order="xyz"):
+    """The places of a full box. The first axis of the order runs fastest."""
+    axes = ["xyz".index(axis) for axis in reversed(order)]
+    for at in itertools.product(*(range(sides[axis]) for axis in axes)):
+        yield tuple(at[axes.index(axis)] for axis in range(3))
 
 
-def write_shuffled(name, sides):
-    """The same box, numbered in no order."""
-    numbers = list(range(sides[0] * sides[1] * sides[2]))
-    random.Random(1).shuffle(numbers)
+def shuffled(found):
+    """The same places, in no order."""
+    found = list(found)
+    random.Random(1).shuffle(found)
+    return found
+
+
+def under_ground(found):
+    """The places below hills: about two thirds of the cube."""
+    return [(x, y, z) for x, y, z in found if z < 66 + 20 * math.sin(x / 9) * math.cos(y / 13) + 8 * math.sin(x * y / 7)]
+
+
+def write_blocks(name, found):
+    """Blocks at these places, in their order."""
     with open(name, "w") as out:
-        for b, at in enumerate(numbers):
-            out.write(f"{b} {at % sides[0]} {at // sides[0] % sides[1]} {at // sides[0] // sides[1]} 1 2.5\n")
+        for b, (x, y, z) in enumerate(found):
+            out.write(f"{b} {x} {y} {z} 1 2.5\n")
 
 
 def beside(name, file):
@@ -89,25 +102,41 @@ def measured(file, sides, words, offsets):
     return [" ".join(words), f"{sides[0] * sides[1] * sides[2]:,}", f"{pairs:,}", f"{len(answer.output) / 1e6:.1f}", f"{answer.cpu:.2f}", f"{answer.wall:.2f}", f"{answer.peak:.0f}"]
 
 
+def compared(folder):
+    """Pattern nine of the cube beside the plain writer: in each regular order of the blocks, in none, and with blocks missing."""
+    files = [
+        ("x fastest, then y", box_of(CUBE, "xyz")),
+        ("y fastest, then x", box_of(CUBE, "yxz")),
+        ("z fastest, then x", box_of(CUBE, "zxy")),
+        ("z fastest, then y", box_of(CUBE, "zyx")),
+        ("no order", shuffled(box_of(CUBE))),
+        ("under a ground, x fastest", under_ground(box_of(CUBE, "xyz"))),
+        ("under a ground, z fastest", under_ground(box_of(CUBE, "zyx"))),
+        ("under a ground, no order", shuffled(under_ground(box_of(CUBE)))),
+    ]
+    file = os.path.join(folder, "compared.blocks")
+    for name, found in files:
+        write_blocks(file, found)
+        yield beside(name, file)
+
+
 def main():
     adopt_orphans()
     rows = []
     with tempfile.TemporaryDirectory() as folder:
         cube, box = os.path.join(folder, "cube.blocks"), os.path.join(folder, "box.blocks")
-        write_box(cube, CUBE)
-        write_box(box, BOX)
+        write_blocks(cube, box_of(CUBE))
+        write_blocks(box, box_of(BOX))
         for pattern, offsets in [("five", FIVE), ("nine", NINE)]:
             rows.append(measured(cube, CUBE, [pattern], offsets))
         eight, twelve = cone(8, 3, 5), cone(12, 3, 5)
         rows.append(measured(box, BOX, ["cone:8:3:5"], eight))
         rows.append(measured(box, BOX, ["cone:8:3:5", "--reduce"], reduced(eight)))
         rows.append(measured(box, BOX, ["cone:12:3:5", "--reduce"], reduced(twelve)))
-        shuffled = os.path.join(folder, "shuffled.blocks")
-        write_shuffled(shuffled, CUBE)
-        compared = [beside("in order", cube), beside("in no order", shuffled)]
+        beside_peer = list(compared(folder))
     table(["pattern", "blocks", "pairs", "MB of text", "CPU s", "wall s", "peak MB"], rows)
     print()
-    table(["nine, blocks", "pit s", "peer s", "ratio", "pit MB", "peer MB", "ratio"], compared)
+    table(["nine, blocks", "pit s", "peer s", "ratio", "pit MB", "peer MB", "ratio"], beside_peer)
 
 
 if __name__ == "__main__":

@@ -13,3 +13,4 @@ pub mod Reordering
 pub mod BlockSteps
 pub mod TwoSteps
 pub mod Reduction
+pub mod Seen

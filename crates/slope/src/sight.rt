@@ -1,5 +1,7 @@
 //! What is known of an offset from a place.
 
+ghost use Rattle.std.specs.Prelude.{◌≡◌, MatchOption};
+
 // What was seen at an offset from a place.
 #[derive(Clone, Copy)]
 pub(crate) enum Sight {
@@ -9,4 +11,14 @@ pub(crate) enum Sight {
     Nothing,
     // This block stands there.
     Block(u32),
+}
+
+// What is seen where this block was found, or none.
+pub(crate) fn sight_of(found: Option<u32>) -> Sight
+    ensures { MatchOption found (result ≡ Sight.Nothing) (λ p. result ≡ Sight.Block p) }
+{
+    match found {
+        Some(block) => Sight::Block(block),
+        None => Sight::Nothing,
+    }
 }

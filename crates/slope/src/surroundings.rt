@@ -7,7 +7,7 @@ ghost use Rattle.slope.specs.Internal.{ArePlacesOf, AreFirstSteps, IsIndex, Stan
 use crate::guesses::Guesses;
 use crate::place_index::PlaceIndex;
 use crate::place_search::block_at;
-use crate::sight::Sight;
+use crate::sight::{Sight, sight_of};
 use crate::{SlopeFault, Up};
 use blocks_file::{BlockModel, Place};
 use std::alloc::Global;
@@ -94,10 +94,7 @@ impl<'a> Surroundings<'a> {
                     self.guesses.at(i),
                 );
                 self.guesses.note(i, to);
-                self.seen[i] = match found {
-                    Some(block) => Sight::Block(block),
-                    None => Sight::Nothing,
-                };
+                self.seen[i] = sight_of(found);
                 found
             }
             Sight::Nothing => None,
