@@ -9,9 +9,9 @@ use Rattle.blocks_file.specs.declared.place.Place.{Place}
 use Rattle.blocks_file.specs.Denotes.{BlocksView}
 use Rattle.slope.specs.Lists.{AreMoreThan}
 use Rattle.prec_file.specs.Rests.{RowsView}
-use Rattle.slope.specs.Offsets.{Offset, Before, IsRising, IsPattern}
+use Rattle.slope.specs.Offsets.{Offset, Before, IsRising}
 use Rattle.slope.specs.Patterns.{IsNear}
-use Rattle.slope.specs.Places.{place_of, AreApartBelow}
+use Rattle.slope.specs.Places.{place_of}
 use Rattle.slope.specs.Slopes.{IsSelected, IsFirstRepeat, offset_between}
 use Rattle.slope.specs.declared.selection.Selection.{Selection}
 use Rattle.slope.specs.declared.sight.Sight.{Sight}

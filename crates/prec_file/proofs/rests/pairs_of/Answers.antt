@@ -1,4 +1,4 @@
-use Rattle.std.proofs.Common.{◌≡◌, ◌<◌, ℕ, List, [], ◌∷◌, ◌++◌, length, get_or, sym, ap, ◌∙◌, arith}
+use Rattle.std.proofs.Common.{◌≡◌, ◌<◌, [], ◌∷◌, ◌++◌, length, get_or, sym, ap, ◌∙◌, arith}
 use Rattle.prec_file.specs.Rests.{above_of}
 use Rattle.prec_file.proofs.Rows.{none_taken, one_taken, block_taken, all_taken}
 use Rattle.prec_file.proofs.rests.pairs_of.Goals as goal

@@ -16,9 +16,9 @@ loop-i-init c =
     let Own : List (ℕ × ℕ) → Type 0 = λ ps. All (IsOfBlock c.args.rows.now.blocks c.args.block) ps in (
       c.stand_on.ensures.same,
       c.stand_on.ensures.from,
-      row_begun _ _ _ c.clear.ensures (block_begun _ _ _ Reduced c.args.block _ c.requires.so_far.pairs),
-      omega (arith, ap length c.clear.ensures, c.pairs.ensures.few),
-      subst Own (sym c.clear.ensures) (All-nil (IsOfBlock c.args.rows.now.blocks c.args.block)),
+      row_begun _ _ _ c.clear.ensures.items (block_begun _ _ _ Reduced c.args.block _ c.requires.so_far.pairs),
+      omega (arith, ap length c.clear.ensures.items, c.pairs-before.ensures.few),
+      subst Own (sym c.clear.ensures.items) (All-nil (IsOfBlock c.args.rows.now.blocks c.args.block)),
     )
 
 pub returns-in_err-add-clause-made : goal.returns-in_err-add-clause-made
@@ -30,7 +30,7 @@ returns-in_err-add-clause-made c =
     let inv = c.loop-i.invariant in
     let l : c.loop-i.i < length os = omega (arith, c.requires.steps.as_many) in
     let s = selected_at v m os up inv.0 c.args.block c.requires.known inv.1 c.loop-i.i l _ c.direct.ensures.first c.in-Some.other c.in-Some.ensures.stands in
-    let as_many : c.pairs.result + length c.loop-i.row.items ≡ length (c.args.rows.now.pairs ++ c.loop-i.row.items) = omega (arith, length-append c.args.rows.now.pairs c.loop-i.row.items, c.pairs.ensures.is) in
+    let as_many : c.pairs-before.result + length c.loop-i.row.items ≡ length (c.args.rows.now.pairs ++ c.loop-i.row.items) = omega (arith, length-append c.args.rows.now.pairs c.loop-i.row.items, c.pairs-before.ensures.is) in
     let p = err_from_is_err_and c.from_residual.result c.from_residual.ensures.1 in
     rw (p.1, p.2) (refused m os up Reduced c.args.block c.loop-i.i _ (pos 0, pos 0, pos 0) l inv.2 c.requires.pattern.rising c.requires.apart c.in-Some.other s.0 s.1 c.in_err-add.field-0.0 _ as_many c.in_err-add.ensures)
 
@@ -46,7 +46,7 @@ loop-i-preserved c =
     let from = ap (λ (x : SurroundingsView). x.from) c.direct.ensures.same ∙ inv.1 in
     let items_of : Vec (ℕ × ℕ) Global → List (ℕ × ℕ) = λ w. w.items in
     let Q : List (ℕ × ℕ) → Type 0 = λ ps. Collects (IsPairUpTo m os up Reduced c.args.block (c.loop-i.i + 1)) (c.args.rows.now.pairs ++ ps) in
-    let R : List (ℕ × ℕ) → Type 0 = λ ps. c.pairs.result + length ps ≤ MOST_PAIRS in
+    let R : List (ℕ × ℕ) → Type 0 = λ ps. c.pairs-before.result + length ps ≤ MOST_PAIRS in
     let Own : List (ℕ × ℕ) → Type 0 = λ ps. All (IsOfBlock c.args.rows.now.blocks c.args.block) ps in
     elim c.match-direct.branch [
       | in-Some+in_ok-add w ↦
@@ -77,7 +77,7 @@ push_block-requires-clause-own c =
     subst Own (sym c.requires.so_far.next) c.loop-i.invariant.4
 
 pub push_block-requires-clause-few : goal.push_block-requires-clause-few
-push_block-requires-clause-few c = omega (arith, c.pairs.ensures.is, c.loop-i.invariant.3)
+push_block-requires-clause-few c = omega (arith, c.pairs-before.ensures.is, c.loop-i.invariant.3)
 
 pub returns-in-Ok-clause-made : goal.returns-in-Ok-clause-made
 returns-in-Ok-clause-made c =

@@ -7,7 +7,7 @@ use Rattle.slope.proofs.Finding.{places_apart}
 use Rattle.slope.proofs.reducing.reduced_pairs.Goals as goal
 
 pub loop-block-init : goal.loop-block-init
-loop-block-init c = (c.in_ok-around.ensures, none_listed _ _ _ Reduced _ c.in-Ok.ensures)
+loop-block-init c = (c.in_ok-around.ensures, none_listed c.args.model.now c.args.offsets.now c.args.up Reduced _ c.len.result c.len.ensures.value c.in-Ok-new.ensures)
 
 pub add_reduced-requires-clause-apart : goal.add_reduced-requires-clause-apart
 add_reduced-requires-clause-apart c =

@@ -1,5 +1,3 @@
-use Rattle.std.proofs.Common.{◌≡◌, List, sym, subst}
-use Rattle.prec_file.specs.Rests.{RestsView}
 use Rattle.prec_file.specs.Internal.{AreAbove}
 use Rattle.prec_file.proofs.Rows.{above_are, above_told}
 use Rattle.prec_file.proofs.predecessors.Predecessors.of_pairs.Goals as goal
