@@ -23,7 +23,7 @@ first_is ps b k l before behind =
     passing_between (λ j. nat_lt (from_at ps j) b) k (length ps) l (λ j h i. not_below (from_at ps j) b (behind j h i)) ∙ ending_all (from_at ps) b k before
 
 -- no later pair is of a block below
-later : (ps : List (ℕ × ℕ)) → IsRising ps → (k : ℕ) → k < length ps → (j : ℕ) → k ≤ j → j < length ps → from_at ps k ≤ from_at ps j
+pub later : (ps : List (ℕ × ℕ)) → IsRising ps → (k : ℕ) → k < length ps → (j : ℕ) → k ≤ j → j < length ps → from_at ps k ≤ from_at ps j
 later ps r k l j h i = elim (cases_eq k j) [
   | inl e ↦ let P : ℕ → Type 0 = λ x. from_at ps k ≤ from_at ps x in subst P e (omega arith)
   | inr d ↦ up_from ps r k j (omega arith) i

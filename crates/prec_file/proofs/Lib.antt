@@ -9,6 +9,8 @@ pub mod Firsts
 pub mod Sorting
 pub mod SortedApart
 pub mod Finding
+pub mod Rows
+pub mod RowSteps
 pub mod Shapes
 pub mod History
 pub mod KnownPairs

@@ -13,7 +13,8 @@
 //! - A text is refused exactly where it has a fault, with the first faulty line and the first of its faults.
 //! - What is written is read back as the same pairs.
 //!
-//! Both types are built in the time of a sort, or in linear time where the pairs are listed in order.
+//! Both types are built in the time of a sort, or in linear time where the pairs are listed in order. A
+//! `PredecessorsBuilder` takes the pairs block by block, and never holds more than it keeps.
 #![tactic(auto)]
 
 mod first_pairs;
@@ -24,6 +25,7 @@ mod listed_pairs;
 mod pair_order;
 mod prec_fault;
 mod predecessors;
+mod predecessors_builder;
 mod reading;
 mod records;
 mod rests;
@@ -35,6 +37,7 @@ pub use limits::MOST_PAIRS;
 pub use listed_pairs::ListedPairs;
 pub use prec_fault::PrecFault;
 pub use predecessors::Predecessors;
+pub use predecessors_builder::PredecessorsBuilder;
 pub use reading::{read_listed, read_prec};
 pub use rests::Rests;
 pub use rests_fault::RestsFault;

@@ -3,15 +3,17 @@
 ghost use Rattle.std.specs.Prelude.{◌≡◌, ◌<◌, ◌≤◌, All, IfOk, MatchOption, length, map, slice_index_or};
 ghost use Rattle.std.specs.List.{Contains};
 ghost use Rattle.prec_file.specs.Rests.{IsRests, AreApart, IsKnown, IsRising, first_of, above_of};
+ghost use Rattle.prec_file.specs.Internal.{AreAbove, pairs_by};
 
+use crate::Rests;
 use crate::first_pairs::firsts_of;
 use crate::index::part;
 use crate::limits::MOST_PAIRS;
 use crate::pair_order::predecessors_in;
+use crate::rests::{pairs_of, with_index};
 use fixed_worth::MOST_BLOCKS;
 use std::alloc::{AllocError, Global};
 use std::marker::Model;
-use std::snapshot::Snapshot;
 
 /// Pairs (b, p) of n blocks, in which b rests on p, as the predecessors of each block: each pair once, ordered by b and
 /// then by p.
@@ -25,34 +27,44 @@ pub struct Predecessors {
     firsts: Vec<u32>,
     // the predecessor of each pair
     predecessors: Vec<u32>,
-    // the pairs, which only contracts read
-    pairs: Snapshot<Vec<(u32, u32)>>,
 }
 
 impl Model for Predecessors {
     ghost use Rattle.prec_file.specs.Rests.{RestsView};
-    ghost use Rattle.prec_file.specs.Internal.{AreAbove};
+    ghost use Rattle.prec_file.specs.Internal.{AreAbove, pairs_by};
 
     ghost Value = { RestsView };
 
-    ghost view = { λ r. record { blocks = r.blocks; pairs = r.pairs.value.items } };
+    ghost view = { λ r. record { blocks = r.blocks; pairs = pairs_by r.firsts.items r.predecessors.items } };
 
-    ghost invariant = { λ r. AreAbove r.blocks r.pairs.value.items r.firsts.items r.predecessors.items };
+    ghost invariant = { λ r. AreAbove r.blocks (pairs_by r.firsts.items r.predecessors.items) r.firsts.items r.predecessors.items };
 }
 
 impl Predecessors {
+    // The blocks by the numbers of their first pairs, and the predecessors of these.
+    pub(crate) fn of_lists(blocks: u32, firsts: Vec<u32>, predecessors: Vec<u32>) -> Predecessors
+        requires { AreAbove blocks (pairs_by firsts.items predecessors.items) firsts.items predecessors.items }
+        ensures { result ≡ record { blocks = blocks; pairs = pairs_by firsts.items predecessors.items } }
+    {
+        Predecessors {
+            blocks,
+            firsts,
+            predecessors,
+        }
+    }
+
     // The predecessors of the blocks by pairs in order.
     pub(crate) fn of_pairs(
         alloc: Global,
         n: u32,
-        pairs: &Vec<(u32, u32)>,
+        pairs: &[(u32, u32)],
     ) -> Result<Predecessors, AllocError>
         requires blocks { n ≤ MOST_BLOCKS }
-        requires few { length pairs.now.items ≤ MOST_PAIRS }
-        requires known { All (IsKnown n) pairs.now.items }
-        requires rising { IsRising pairs.now.items }
-        requires apart { AreApart pairs.now.items }
-        ensures { IfOk result (λ r. r ≡ record { blocks = n; pairs = pairs.now.items }) }
+        requires few { length pairs.now ≤ MOST_PAIRS }
+        requires known { All (IsKnown n) pairs.now }
+        requires rising { IsRising pairs.now }
+        requires apart { AreApart pairs.now }
+        ensures { IfOk result (λ r. r ≡ record { blocks = n; pairs = pairs.now }) }
     {
         let firsts = firsts_of(alloc, n, pairs)?;
         let predecessors = predecessors_in(alloc, pairs)?;
@@ -60,17 +72,11 @@ impl Predecessors {
             blocks: n,
             firsts,
             predecessors,
-            pairs: Snapshot::of(pairs),
         })
     }
 
-    // The same predecessors with memory of their own, beside another list of the same pairs.
-    pub(crate) fn copy(
-        &self,
-        alloc: Global,
-        pairs: &Vec<(u32, u32)>,
-    ) -> Result<Predecessors, AllocError>
-        requires { pairs.now.items ≡ self.now.pairs }
+    // The same predecessors, with memory of their own.
+    pub(crate) fn copy(&self, alloc: Global) -> Result<Predecessors, AllocError>
         ensures { IfOk result (λ r. r ≡ self.now) }
     {
         let firsts = Vec::from_slice(alloc, &self.firsts)?;
@@ -79,7 +85,6 @@ impl Predecessors {
             blocks: self.blocks,
             firsts,
             predecessors,
-            pairs: Snapshot::of(pairs),
         })
     }
 
@@ -88,6 +93,17 @@ impl Predecessors {
         ensures { result.now ≡ map (λ p. p.1) self.now.pairs }
     {
         &self.predecessors
+    }
+
+    /// The same pairs with both indexes, which take memory of their own.
+    ///
+    /// # Errors
+    /// Where memory is refused.
+    pub fn into_rests(self, alloc: Global) -> Result<Rests, AllocError>
+        ensures { IfOk result (λ r. r ≡ self) }
+    {
+        let pairs = pairs_of(alloc, &self)?;
+        with_index(alloc, self, pairs)
     }
 
     /// How many blocks there are.

@@ -34,6 +34,40 @@ impl Model for Rests {
     ghost invariant = { λ r. IsIndexed r.predecessors r.pairs.items r.starts.items r.filled.items };
 }
 
+// The pairs by their blocks and predecessors.
+pub(crate) fn pairs_of(alloc: Global, of: &Predecessors) -> Result<Vec<(u32, u32)>, AllocError>
+    ensures { IfOk result (λ v. v.items ≡ of.now.pairs) }
+{
+    let mut pairs = Vec::new(alloc);
+    for block in 0..of.len() {
+        let above = of.above(block);
+        for predecessor in above {
+            pairs.push((block, *predecessor))?;
+        }
+    }
+    Ok(pairs)
+}
+
+// Predecessors with their pairs, and with these by predecessor.
+pub(crate) fn with_index(
+    alloc: Global,
+    predecessors: Predecessors,
+    pairs: Vec<(u32, u32)>,
+) -> Result<Rests, AllocError>
+    requires { pairs.items ≡ predecessors.pairs }
+    ensures { IfOk result (λ r. r ≡ predecessors) }
+{
+    let n = predecessors.len();
+    let starts = starts_of(alloc, n, predecessors.of_all())?;
+    let filled = filled_by(alloc, n, predecessors.of_all(), &starts)?;
+    Ok(Rests {
+        predecessors,
+        pairs,
+        starts,
+        filled,
+    })
+}
+
 // The two indexes of pairs in order.
 pub(crate) fn indexed(alloc: Global, n: u32, pairs: Vec<(u32, u32)>) -> Result<Rests, AllocError>
     requires blocks { n ≤ MOST_BLOCKS }
@@ -44,14 +78,7 @@ pub(crate) fn indexed(alloc: Global, n: u32, pairs: Vec<(u32, u32)>) -> Result<R
     ensures { IfOk result (λ r. (r.blocks ≡ n) × (r.pairs ≡ pairs.items)) }
 {
     let predecessors = Predecessors::of_pairs(alloc, n, &pairs)?;
-    let starts = starts_of(alloc, n, predecessors.of_all())?;
-    let filled = filled_by(alloc, n, predecessors.of_all(), &starts)?;
-    Ok(Rests {
-        predecessors,
-        pairs,
-        starts,
-        filled,
-    })
+    with_index(alloc, predecessors, pairs)
 }
 
 // The first pair with a block at n or above.
@@ -95,7 +122,7 @@ impl Rests {
         ensures { IfOk result (λ r. r ≡ self.now) }
     {
         let pairs = Vec::from_slice(alloc, &self.pairs)?;
-        let predecessors = self.predecessors.copy(alloc, &pairs)?;
+        let predecessors = self.predecessors.copy(alloc)?;
         let starts = Vec::from_slice(alloc, &self.starts)?;
         let filled = Vec::from_slice(alloc, &self.filled)?;
         Ok(Rests {

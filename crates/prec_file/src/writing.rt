@@ -25,16 +25,21 @@ fn first_wide(rests: &Predecessors) -> Option<u32>
     None
 }
 
-// Puts a space and a number.
-fn put_spaced<W: CountedWrite>(page: &mut Page, out: &mut W, number: u64) -> Result<(), WriteFault>
+// Puts a space and a number, whose digits are kept for the next one.
+fn put_spaced<W: CountedWrite>(
+    page: &mut Page,
+    out: &mut W,
+    digits: &mut WrittenNumber,
+    number: u64,
+) -> Result<(), WriteFault>
     requires { W.failed out.old < 2 ^ 64 - 1 }
     ensures held { OnOk result (SentOrHeld (W.contents out.old) (W.contents out.new) page.new (page.old ++ (32 ∷ decimal number))) }
     ensures kept { OnOk result (W.failed out.new ≡ W.failed out.old) }
     ensures prefix { OnErr result (ReceivedPrefix (W.contents out.old) (W.contents out.new) (page.old ++ (32 ∷ decimal number))) }
     ensures counted { OnErr result (W.failed out.new ≡ W.failed out.old + 1) }
 {
-    let digits = WrittenNumber::of(number as u128);
     page.put(out, b" ")?;
+    digits.set(number as u128);
     page.put(out, digits.as_bytes())
 }
 
@@ -42,6 +47,7 @@ fn put_spaced<W: CountedWrite>(page: &mut Page, out: &mut W, number: u64) -> Res
 fn put_all_spaced<W: CountedWrite>(
     page: &mut Page,
     out: &mut W,
+    digits: &mut WrittenNumber,
     numbers: &[u32],
 ) -> Result<(), WriteFault>
     requires { W.failed out.old < 2 ^ 64 - 1 }
@@ -51,7 +57,7 @@ fn put_all_spaced<W: CountedWrite>(
     ensures counted { OnErr result (W.failed out.new ≡ W.failed out.old + 1) }
 {
     for number in numbers {
-        put_spaced(page, out, *number as u64)?;
+        put_spaced(page, out, digits, *number as u64)?;
     }
     Ok(())
 }
@@ -60,6 +66,7 @@ fn put_all_spaced<W: CountedWrite>(
 fn put_head<W: CountedWrite>(
     page: &mut Page,
     out: &mut W,
+    digits: &mut WrittenNumber,
     block: u32,
     count: u64,
 ) -> Result<(), WriteFault>
@@ -69,20 +76,25 @@ fn put_head<W: CountedWrite>(
     ensures prefix { OnErr result (ReceivedPrefix (W.contents out.old) (W.contents out.new) (page.old ++ (decimal block ++ (32 ∷ decimal count)))) }
     ensures counted { OnErr result (W.failed out.new ≡ W.failed out.old + 1) }
 {
-    let digits = WrittenNumber::of(block as u128);
+    digits.set(block as u128);
     page.put(out, digits.as_bytes())?;
-    put_spaced(page, out, count)
+    put_spaced(page, out, digits, count)
 }
 
 // Puts the predecessors of a block, and ends its line.
-fn put_rest<W: CountedWrite>(page: &mut Page, out: &mut W, above: &[u32]) -> Result<(), WriteFault>
+fn put_rest<W: CountedWrite>(
+    page: &mut Page,
+    out: &mut W,
+    digits: &mut WrittenNumber,
+    above: &[u32],
+) -> Result<(), WriteFault>
     requires { W.failed out.old < 2 ^ 64 - 1 }
     ensures held { OnOk result (SentOrHeld (W.contents out.old) (W.contents out.new) page.new (page.old ++ (spaced above.now ++ (10 ∷ [])))) }
     ensures kept { OnOk result (W.failed out.new ≡ W.failed out.old) }
     ensures prefix { OnErr result (ReceivedPrefix (W.contents out.old) (W.contents out.new) (page.old ++ (spaced above.now ++ (10 ∷ [])))) }
     ensures counted { OnErr result (W.failed out.new ≡ W.failed out.old + 1) }
 {
-    put_all_spaced(page, out, above)?;
+    put_all_spaced(page, out, digits, above)?;
     page.put(out, b"\n")
 }
 
@@ -90,6 +102,7 @@ fn put_rest<W: CountedWrite>(page: &mut Page, out: &mut W, above: &[u32]) -> Res
 fn put_line<W: CountedWrite>(
     page: &mut Page,
     out: &mut W,
+    digits: &mut WrittenNumber,
     rests: &Predecessors,
     block: u32,
 ) -> Result<(), WriteFault>
@@ -101,8 +114,8 @@ fn put_line<W: CountedWrite>(
     ensures counted { OnErr result (W.failed out.new ≡ W.failed out.old + 1) }
 {
     let above = rests.above(block);
-    put_head(page, out, block, above.len() as u64)?;
-    put_rest(page, out, above)
+    put_head(page, out, digits, block, above.len() as u64)?;
+    put_rest(page, out, digits, above)
 }
 
 // Writes the lines of all blocks.
@@ -114,8 +127,9 @@ fn write_lines<W: CountedWrite>(rests: &Predecessors, out: &mut W) -> Result<(),
     ensures counted { OnErr result (W.failed out.new ≡ W.failed out.old + 1) }
 {
     let mut page = Page::new();
+    let mut digits = WrittenNumber::of(0);
     for block in 0..rests.len() {
-        put_line(&mut page, out, rests, block)?;
+        put_line(&mut page, out, &mut digits, rests, block)?;
     }
     page.finish(out)
 }

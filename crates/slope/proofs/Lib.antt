@@ -10,6 +10,7 @@ pub mod KeyFinding
 pub mod EntryOrder
 pub mod Repeats
 pub mod Reordering
+pub mod BlockSteps
 pub mod TwoSteps
 pub mod Reduction
 pub mod Seen

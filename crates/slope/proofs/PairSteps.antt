@@ -1,20 +1,21 @@
 -- The steps in which slope pairs are gathered.
-use Rattle.std.proofs.Common.{◌≡◌, ◌≢◌, ℕ, ◌+◌, ◌<◌, ◌⊎◌, inl, inr, ℤ, pos, ◌-ℤ◌, List, [], ◌∷◌, ◌++◌, length, get_or, take, sym, refl, ap, subst, ◌∙◌, arith, All, Contains}
+use Rattle.std.proofs.Common.{◌≡◌, ◌≢◌, ℕ, ◌+◌, ◌<◌, ◌⊎◌, inl, inr, ℤ, pos, ◌-ℤ◌, List, [], ◌∷◌, ◌++◌, length, get_or, take, sym, refl, ap, subst, ◌∙◌, arith, Contains}
 use Rattle.std.proofs.lemmas.Int.{ints}
 use Rattle.std.proofs.lemmas.Bool.{cases_lt, cases_order}
 use Rattle.std.proofs.lemmas.List.{take_more, get_or_default, get_or-take, length-take-le}
 use Rattle.std.proofs.Math.Seq.{take-length}
-use Rattle.std.proofs.lemmas.List.Elements.{Contains-append_left, Contains-push, Contains-push_cases, All-contains, All-contains_itself, All-weaker}
+use Rattle.std.proofs.lemmas.List.Elements.{Contains-append_left, Contains-push, Contains-push_cases, All-contains}
 use Rattle.prec_file.specs.declared.limits.TheConstants.{MOST_PAIRS}
 use Rattle.blocks_file.specs.declared.place.Place.{Place}
 use Rattle.blocks_file.specs.Denotes.{BlocksView}
-use Rattle.prec_file.specs.Rests.{RestsView, IsKnown, ArePairsOf}
+use Rattle.prec_file.specs.Rests.{RestsView}
+use Rattle.prec_file.specs.Rests.{IsRising as IsPairRising}
 use Rattle.slope.specs.Offsets.{Offset, IsPattern, IsRising, IsUpward, Before}
 use Rattle.slope.specs.Places.{place_of, AreApartBelow}
 use Rattle.slope.specs.Slopes.{upward, offset_between, IsSlopePair, IsSelected, AreSlopes, SlopeFaultStands}
 use Rattle.slope.specs.declared.selection.Selection.{Selection}
 use Rattle.slope.specs.declared.selection.Selection.TheVariants.{Every, Reduced}
-use Rattle.slope.specs.Internal.{SurroundingsView, ArePlacesOf, StandsAt, StandsNone, offset_at, AreListed, Collects, IsPairBelow, IsPairUpTo, PairFaultStands, PairRefusalStands}
+use Rattle.slope.specs.Internal.{SurroundingsView, ArePlacesOf, StandsAt, StandsNone, offset_at, Collects, IsPairBelow, IsPairUpTo, PairFaultStands, PairRefusalStands}
 use Rattle.slope.specs.declared.up.Up.{Up}
 use Rattle.slope.specs.declared.up.Up.TheVariants.{PlusZ, MinusZ}
 use Rattle.slope.specs.declared.slope_fault.SlopeFault.{SlopeFault}
@@ -141,10 +142,10 @@ module _ (m : BlocksView) (os : List Offset) (up : Up) (s : Selection) (b i : �
         still before_or_here
 
     -- why the pair wasn't added
-    pub refused : (e : SlopeFault) → PairRefusalStands ps e → PairFaultStands m os up s e
-    refused (SamePlace x y) h = h
-    refused TooMany h = too_many _ _ ps c MOST_PAIRS (b, p) not_yet selected (λ q f. f.selected) h
-    refused NoMemory h = tt
+    pub refused : (e : SlopeFault) (count : ℕ) → count ≡ length ps → PairRefusalStands count e → PairFaultStands m os up s e
+    refused (SamePlace x y) count as_many h = h
+    refused TooMany count as_many h = too_many _ _ ps c MOST_PAIRS (b, p) not_yet selected (λ q f. f.selected) (omega (arith, as_many, h))
+    refused NoMemory count as_many h = tt
 
 pub pairs_ended : (m : BlocksView) (os : List Offset) (up : Up) (s : Selection) (ps : List (ℕ × ℕ)) → Collects (IsPairBelow m os up s m.blocks) ps → Collects (IsSelected s m os up) ps
 pairs_ended m os up s ps c = collected_same _ _ ps c (λ q h. h.selected) (λ q h. record { selected = h; below = (slope_of s m os up q h).bottom })
@@ -162,19 +163,9 @@ no_loop m os up pattern q h e =
     let flat = level_height up from.z in
     omega (arith, ints, high, flat)
 
--- the pairs that are gathered are of known blocks
-pub all_known : (m : BlocksView) (os : List Offset) (up : Up) (s : Selection) (ps : List (ℕ × ℕ)) → Collects (IsSelected s m os up) ps → All (IsKnown m.blocks) ps
-all_known m os up s ps c = All-weaker (Contains ps) (IsKnown m.blocks) (λ q k. let h = slope_of s m os up q (c.only q k) in (h.bottom, h.top)) ps (All-contains_itself ps)
-
--- the pairs of a list of slope pairs are the slope pairs
-pub slopes_are : (m : BlocksView) (os : List Offset) (up : Up) (s : Selection) (listed rests : RestsView) → AreListed m os up s listed → rests.blocks ≡ listed.blocks → ArePairsOf listed.pairs rests.pairs → AreSlopes m os up s rests
-slopes_are m os up s listed rests l e h = record {
-  apart = l.apart;
-  blocks = e ∙ l.blocks;
-  rising = h.rising;
-  held = λ q k. h.held q (l.pairs.held q k) (no_loop m os up l.pattern q (slope_of s m os up q k));
-  only = λ q k. l.pairs.only q ((h.only q k).0);
-}
+-- the pairs that were gathered are the slope pairs, where they are in order
+pub slopes_are : (m : BlocksView) (os : List Offset) (up : Up) (s : Selection) (rests : RestsView) → AreApartBelow m m.blocks → rests.blocks ≡ m.blocks → IsPairRising rests.pairs → Collects (IsSelected s m os up) rests.pairs → AreSlopes m os up s rests
+slopes_are m os up s rests apart e r c = record { apart = apart; blocks = e; rising = r; held = c.held; only = c.only }
 
 -- the fault of the pairs is the fault of the slopes, where the places are apart
 pub slope_fault : (m : BlocksView) (os : List Offset) (up : Up) (s : Selection) (e : SlopeFault) → AreApartBelow m m.blocks → PairFaultStands m os up s e → SlopeFaultStands m os up s e

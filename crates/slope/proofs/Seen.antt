@@ -1,5 +1,5 @@
 -- What was seen around a place, and one sight more.
-use Rattle.std.proofs.Common.{◌≡◌, ◌≢◌, ℕ, ◌<◌, inl, inr, List, Option, Some, None, MatchOption, length, get_or, set, length-set, get_or-set_same, get_or-set_other, sym, ap, subst, ◌∙◌, arith}
+use Rattle.std.proofs.Common.{◌≡◌, ◌≢◌, ℕ, ◌<◌, inl, inr, List, Option, Some, None, MatchOption, length, get_or, set, length-set, get_or-set_same, get_or-set_other, sym, subst, ◌∙◌, arith}
 use Rattle.std.proofs.lemmas.Bool.{cases_eq}
 use Rattle.slope.specs.Offsets.{Offset}
 use Rattle.slope.specs.Places.{place_of}

@@ -8,10 +8,10 @@ use Rattle.slope.specs.declared.pattern.TheConstants.{MOST_OFFSETS, MOST_CONE_NU
 use Rattle.blocks_file.specs.declared.place.Place.{Place}
 use Rattle.blocks_file.specs.Denotes.{BlocksView}
 use Rattle.slope.specs.Lists.{AreMoreThan}
-use Rattle.prec_file.specs.Rests.{RestsView}
-use Rattle.slope.specs.Offsets.{Offset, Before, IsRising, IsPattern}
+use Rattle.prec_file.specs.Rests.{RowsView}
+use Rattle.slope.specs.Offsets.{Offset, Before, IsRising}
 use Rattle.slope.specs.Patterns.{IsNear}
-use Rattle.slope.specs.Places.{place_of, AreApartBelow}
+use Rattle.slope.specs.Places.{place_of}
 use Rattle.slope.specs.Slopes.{IsSelected, IsFirstRepeat, offset_between}
 use Rattle.slope.specs.declared.selection.Selection.{Selection}
 use Rattle.slope.specs.declared.sight.Sight.{Sight}
@@ -163,12 +163,11 @@ pub record IsPairUpTo (m : BlocksView) (offsets : List Offset) (up : Up) (select
   pub selected : IsSelected selection m offsets up pair
   pub below : (pair.0 < block) ⊎ ((pair.0 ≡ block) × Contains (take i offsets) (offset_between up (place_of m block) (place_of m pair.1)))
 
--- The blocks have places of their own, and their selected pairs by a pattern are listed.
-pub record AreListed (m : BlocksView) (offsets : List Offset) (up : Up) (selection : Selection) (listed : RestsView) : Type 0 where
-  pub pattern : IsPattern offsets
-  pub apart : AreApartBelow m m.blocks
-  pub blocks : listed.blocks ≡ m.blocks
-  pub pairs : Collects (IsSelected selection m offsets up) listed.pairs
+-- The blocks below this one are listed, with their selected pairs.
+pub record AreListedBelow (m : BlocksView) (offsets : List Offset) (up : Up) (selection : Selection) (block : ℕ) (rows : RowsView) : Type 0 where
+  pub blocks : rows.blocks ≡ m.blocks
+  pub next : rows.next ≡ block
+  pub pairs : Collects (IsPairBelow m offsets up selection block) rows.pairs
 
 -- The fault of the pairs stands.
 abbrev pub PairFaultStands : BlocksView → List Offset → Up → Selection → SlopeFault → Type 0
@@ -176,11 +175,11 @@ PairFaultStands m offsets up selection (slope.SamePlace b c) = ⊥
 PairFaultStands m offsets up selection slope.TooMany = AreMoreThan MOST_PAIRS (IsSelected selection m offsets up)
 PairFaultStands m offsets up selection slope.NoMemory = Unit {0}
 
--- Why a pair isn't added to others: there are 2^27 already, or fewer and no memory for one more.
-abbrev pub PairRefusalStands : List (ℕ × ℕ) → SlopeFault → Type 0
-PairRefusalStands pairs (slope.SamePlace b c) = ⊥
-PairRefusalStands pairs slope.TooMany = MOST_PAIRS ≤ length pairs
-PairRefusalStands pairs slope.NoMemory = length pairs < MOST_PAIRS
+-- Why a pair isn't added to so many: there are 2^27 already, or fewer and no memory for one more.
+abbrev pub PairRefusalStands : ℕ → SlopeFault → Type 0
+PairRefusalStands count (slope.SamePlace b c) = ⊥
+PairRefusalStands count slope.TooMany = MOST_PAIRS ≤ count
+PairRefusalStands count slope.NoMemory = count < MOST_PAIRS
 
 -- ---- offsets in two steps
 

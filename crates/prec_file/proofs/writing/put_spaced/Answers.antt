@@ -7,12 +7,12 @@ use Rattle.prec_file.proofs.writing.put_spaced.Goals as goal
 
 pub returns-clause-held : goal.returns-clause-held
 returns-clause-held g c =
-    let e : c.as_bytes.result.now ≡ decimal c.args.number = c.as_bytes.ensures ∙ c.of-digits.ensures.digits in
+    let e : c.as_bytes.result.now ≡ decimal c.args.number = c.as_bytes.ensures ∙ c.set.ensures.digits in
     rw (← e) (on_ok_weaker _ (held_both _ _ _ c.args.page.now c.put.new.self _ (32 ∷ []) c.as_bytes.result.now c.in_ok-put.ensures.held) c.put-2.ensures.held)
 
 pub returns-clause-prefix : goal.returns-clause-prefix
 returns-clause-prefix g c =
-    let e : c.as_bytes.result.now ≡ decimal c.args.number = c.as_bytes.ensures ∙ c.of-digits.ensures.digits in
+    let e : c.as_bytes.result.now ≡ decimal c.args.number = c.as_bytes.ensures ∙ c.set.ensures.digits in
     rw (← e) (on_err_weaker _ (prefix_in_second _ _ _ c.args.page.now c.put.new.self (32 ∷ []) c.as_bytes.result.now c.in_ok-put.ensures.held) c.put-2.ensures.prefix)
 
 pub returns-in_err-put-clause-prefix : goal.returns-in_err-put-clause-prefix

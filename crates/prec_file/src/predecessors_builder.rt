@@ -1,0 +1,102 @@
+//! Who rests on whom, listed block by block.
+
+ghost use Rattle.std.specs.Prelude.{◌≡◌, ◌+◌, ◌++◌, ◌<◌, ◌≤◌, [], All, IfOk, MatchResult, OnOk, OnErr, length, map};
+ghost use Rattle.prec_file.specs.Rests.{IsOfBlock, IsRowAdded};
+
+use crate::Predecessors;
+use crate::limits::MOST_PAIRS;
+use crate::pair_order::sorted_apart;
+use fixed_worth::MOST_BLOCKS;
+use std::alloc::{AllocError, Global};
+use std::marker::Model;
+
+/// A [`Predecessors`] in the making: the blocks are listed one after the other, each with its pairs.
+///
+/// It keeps what the whole keeps, and needs neither a list of all pairs nor a sort of it.
+#[derive(Drop)]
+pub struct PredecessorsBuilder {
+    blocks: u32,
+    // the first block that isn't listed yet
+    next: u32,
+    // at each block up to that one, the number of its first pair
+    firsts: Vec<u32>,
+    // the predecessor of each pair
+    predecessors: Vec<u32>,
+}
+
+impl Model for PredecessorsBuilder {
+    ghost use Rattle.prec_file.specs.Rests.{RowsView};
+    ghost use Rattle.prec_file.specs.Internal.{AreRows, pairs_by};
+
+    ghost Value = { RowsView };
+
+    ghost view = { λ r. record { blocks = r.blocks; next = r.next; pairs = pairs_by r.firsts.items r.predecessors.items } };
+
+    ghost invariant = { λ r. AreRows r.blocks r.next (pairs_by r.firsts.items r.predecessors.items) r.firsts.items r.predecessors.items };
+}
+
+// Puts the predecessors of pairs behind others, or nothing where there is no memory.
+fn append(list: &mut Vec<u32>, pairs: &[(u32, u32)]) -> Result<(), AllocError>
+    ensures added { OnOk result (list.new.items ≡ list.old.items ++ map (λ p. p.1) pairs.now) }
+    ensures same { OnErr result (list.new.items ≡ list.old.items) }
+{
+    list.reserve(pairs.len())?;
+    for (_, predecessor) in pairs {
+        list.push_reserved(*predecessor);
+    }
+    Ok(())
+}
+
+impl PredecessorsBuilder {
+    /// Of so many blocks none is listed yet.
+    ///
+    /// # Errors
+    /// Where memory is refused.
+    pub fn new(alloc: Global, blocks: u32) -> Result<PredecessorsBuilder, AllocError>
+        requires { blocks ≤ MOST_BLOCKS }
+        ensures { IfOk result (λ r. r ≡ record { blocks = blocks; next = 0; pairs = [] }) }
+    {
+        let mut firsts = Vec::with_capacity(alloc, blocks as usize + 1)?;
+        firsts.push_reserved(0);
+        Ok(PredecessorsBuilder {
+            blocks,
+            next: 0,
+            firsts,
+            predecessors: Vec::new(alloc),
+        })
+    }
+
+    /// How many pairs there are so far.
+    pub fn pairs(&self) -> usize
+        ensures is { result ≡ length self.now.pairs }
+        ensures few { result ≤ MOST_PAIRS }
+    {
+        self.predecessors.len()
+    }
+
+    /// Lists the next block with its pairs, and gives these back: each once and in order, but that with itself.
+    ///
+    /// # Errors
+    /// Where memory is refused; then nothing is listed.
+    pub fn push_block(&mut self, pairs: Vec<(u32, u32)>) -> Result<Vec<(u32, u32)>, AllocError>
+        requires next { self.old.next < self.old.blocks }
+        requires own { All (IsOfBlock self.old.blocks self.old.next) pairs.items }
+        requires few { length self.old.pairs + length pairs.items ≤ MOST_PAIRS }
+        ensures { MatchResult result (λ added. IsRowAdded self.old self.new pairs.items added.items) (λ _. self.new ≡ self.old) }
+    {
+        let added = sorted_apart(pairs);
+        self.firsts.reserve(1)?;
+        append(&mut self.predecessors, &added)?;
+        self.firsts.push_reserved(self.predecessors.len() as u32);
+        self.next += 1;
+        Ok(added)
+    }
+
+    /// The pairs, where every block is listed.
+    pub fn finish(self) -> Predecessors
+        requires { self.next ≡ self.blocks }
+        ensures { result ≡ record { blocks = self.blocks; pairs = self.pairs } }
+    {
+        Predecessors::of_lists(self.blocks, self.firsts, self.predecessors)
+    }
+}
