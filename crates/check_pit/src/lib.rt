@@ -49,16 +49,3 @@ pub use room::Room;
 pub use stream_bytes::StreamBytes;
 pub use stream_fault::StreamFault;
 pub use writing::write_certificate;
-
-#[cfg(test)]
-mod certificate_tests;
-#[cfg(test)]
-mod check_stream_tests;
-#[cfg(test)]
-mod check_tests;
-#[cfg(test)]
-mod room_tests;
-#[cfg(test)]
-mod scaled_tests;
-#[cfg(test)]
-mod stream_tests;

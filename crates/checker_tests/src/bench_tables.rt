@@ -1,104 +1,21 @@
 //! Three blocks in two shells, and sums that are too large.
 
+use crate::prices_and_series::{COST, HIGH, LOW, REVENUE, added, opened, prices};
 use bench_report::{BenchRow, ReportFault, ReportWriteFault, rows, write_report};
 use blocks_file::read_blocks;
-use check_pit::check;
-use closure_net::{Carried, Flow, Net, Pit};
-use fixed_worth::{Counted, Micros};
-use ordered_group::WorthSize;
-use prec_file::Rests;
-use shells::{Factor, Prices, Series};
+use fixed_worth::Counted;
+use shells::Series;
 use std::alloc::Global;
 use std::process::Abort;
 use std::thread::Threads;
 
-fn column(rt: &impl Abort, alloc: Global, millionths: &[i64]) -> Vec<Micros> {
-    let mut amounts = Vec::new(alloc);
-    for amount in millionths {
-        let micros = Micros::new(*amount).expect(rt, "amount");
-        amounts.push(micros).expect(rt, "memory");
-    }
-    amounts
-}
-
-// The first of three blocks rests on the second.
-fn rests(rt: &impl Abort, alloc: Global) -> Rests {
-    Rests::from_pairs(alloc, 3, &[(0, 1)])
-        .ok()
-        .expect(rt, "pairs")
-}
-
-// Revenues of 10, 0 and 4, and costs of 4, 5 and 1.
-fn opened(rt: &impl Abort, alloc: Global) -> Series {
-    let revenue = column(rt, alloc, &[10_000_000, 0, 4_000_000]);
-    let cost = column(rt, alloc, &[4_000_000, 5_000_000, 1_000_000]);
-    let prices = Prices::new(revenue, cost).expect(rt, "prices");
-    Series::open(alloc, rests(rt, alloc), prices).expect(rt, "series")
-}
-
-fn net_at(
-    rt: &(impl Threads + Sync + Abort),
-    alloc: Global,
-    prices: &Prices,
-    factor: Factor,
-) -> Net<WorthSize> {
-    let worths = prices.worths_at(rt, alloc, factor).expect(rt, "memory");
-    Net::of_worths(alloc, rests(rt, alloc), &worths)
-        .ok()
-        .expect(rt, "net")
-}
-
-fn amounts(rt: &impl Abort, alloc: Global, amounts: &[WorthSize]) -> Vec<WorthSize> {
-    Vec::from_slice(alloc, amounts).expect(rt, "memory")
-}
-
-// So much goes from the source to the first block, from there to the second, and to the sink.
-fn through(rt: &impl Abort, alloc: Global, some: WorthSize) -> Flow<WorthSize> {
-    let none = WorthSize { nanos: 0, size: 0 };
-    Flow::new(
-        amounts(rt, alloc, &[some, none, none]),
-        Carried::from_list(amounts(rt, alloc, &[some])),
-        amounts(rt, alloc, &[none, some, none]),
-    )
-}
-
-fn pit_of(rt: &impl Abort, alloc: Global, blocks: &[u32]) -> Pit {
-    let blocks = Vec::from_slice(alloc, blocks).expect(rt, "memory");
-    Pit::new(blocks).expect(rt, "pit")
-}
-
-// Adds the pit at so many thousandths, which the flow proves.
-fn push_pit(
-    rt: &(impl Threads + Sync + Abort),
-    alloc: Global,
-    series: &mut Series,
-    thousandths: u32,
-    pit: &[u32],
-    carried: WorthSize,
-) {
-    let factor = Factor::new(thousandths).expect(rt, "factor");
-    let net = net_at(rt, alloc, series.prices(), factor);
-    let pit = pit_of(rt, alloc, pit);
-    let flow = through(rt, alloc, carried);
-    match check(&net, &pit, &flow) {
-        Ok(accepted) => series.push(factor, &accepted).expect(rt, "pushed"),
-        Err(_) => panic!(rt; "refused"),
-    }
-}
-
 // The last block in the shell 500, the others in the shell 1000.
 fn series(rt: &(impl Threads + Sync + Abort), alloc: Global) -> Series {
-    let mut series = opened(rt, alloc);
-    let low = WorthSize {
-        nanos: 1_000_000_000,
-        size: -1,
-    };
-    let high = WorthSize {
-        nanos: 5_000_000_000,
-        size: 1,
-    };
-    push_pit(rt, alloc, &mut series, 500, &[2], low);
-    push_pit(rt, alloc, &mut series, 1_000, &[0, 1, 2], high);
+    let mut series = opened(rt, alloc, prices(rt, alloc, &REVENUE, &COST));
+    for proved in [LOW, HIGH] {
+        let fault = added(rt, alloc, &mut series, proved, proved.at);
+        assert!(rt; fault.is_none());
+    }
     series
 }
 

@@ -1,5 +1,6 @@
 //! Three blocks at three prices, and a series that is full.
 
+use crate::pits_and_flows::same;
 use check_pit::{Accepted, Price, check};
 use closure_net::{Carried, Flow, Net, Pit};
 use fixed_worth::Micros;
@@ -7,14 +8,9 @@ use ordered_group::WorthSize;
 use prec_file::Rests;
 use shells::{Factor, Prices, PricesFault, Series, SeriesFault};
 use std::alloc::Global;
-use std::fmt::{Debug, Display};
+use std::fmt::Display;
 use std::process::Abort;
 use std::thread::Threads;
-
-// Fails the test where they differ.
-fn same<T: PartialEq + Debug + Drop>(rt: &impl Abort, got: T, wanted: T) {
-    assert_eq!(rt; got, wanted);
-}
 
 fn column(rt: &impl Abort, alloc: Global, millionths: &[i64]) -> Vec<Micros> {
     let mut amounts = Vec::new(alloc);
@@ -34,7 +30,7 @@ fn table(
     Prices::new(column(rt, alloc, revenue), column(rt, alloc, cost))
 }
 
-fn prices(rt: &impl Abort, alloc: Global, revenue: &[i64], cost: &[i64]) -> Prices {
+pub fn prices(rt: &impl Abort, alloc: Global, revenue: &[i64], cost: &[i64]) -> Prices {
     table(rt, alloc, revenue, cost).expect(rt, "prices")
 }
 
@@ -59,7 +55,7 @@ fn rests(rt: &impl Abort, alloc: Global) -> Rests {
         .expect(rt, "pairs")
 }
 
-fn opened(rt: &impl Abort, alloc: Global, prices: Prices) -> Series {
+pub fn opened(rt: &impl Abort, alloc: Global, prices: Prices) -> Series {
     Series::open(alloc, rests(rt, alloc), prices).expect(rt, "series")
 }
 
@@ -114,11 +110,37 @@ fn refusal(
 
 // A pit with the flow that proves it at a factor.
 #[derive(Clone, Copy)]
-struct Proved<'a> {
-    at: u32,
+pub struct Proved<'a> {
+    pub at: u32,
     pit: &'a [u32],
     carried: WorthSize,
 }
+
+/// Revenues of three blocks.
+pub const REVENUE: [i64; 3] = [10_000_000, 0, 4_000_000];
+
+/// Their costs.
+pub const COST: [i64; 3] = [4_000_000, 5_000_000, 1_000_000];
+
+/// Of these blocks the last one is dug at half the price.
+pub const LOW: Proved<'static> = Proved {
+    at: 500,
+    pit: &[2],
+    carried: WorthSize {
+        nanos: 1_000_000_000,
+        size: -1,
+    },
+};
+
+/// And all of them are at the whole price.
+pub const HIGH: Proved<'static> = Proved {
+    at: 1_000,
+    pit: &[0, 1, 2],
+    carried: WorthSize {
+        nanos: 5_000_000_000,
+        size: 1,
+    },
+};
 
 // Checks a pit of this net, and adds it at a factor.
 fn added_of(
@@ -138,7 +160,7 @@ fn added_of(
 }
 
 // Checks a pit at its factor, and adds it at another.
-fn added(
+pub fn added(
     rt: &(impl Threads + Sync + Abort),
     alloc: Global,
     series: &mut Series,
@@ -162,34 +184,13 @@ fn has_shells(series: &Series, shells: &[Option<u32>]) -> bool {
 #[test]
 fn each_block_has_the_lowest_factor_that_digs_it(rt: HostRuntime) {
     let alloc = rt.alloc();
-    let prices = prices(
-        &rt,
-        alloc,
-        &[10_000_000, 0, 4_000_000],
-        &[4_000_000, 5_000_000, 1_000_000],
-    );
+    let prices = prices(&rt, alloc, &REVENUE, &COST);
     let mut series = opened(&rt, alloc, prices);
-    let low = Proved {
-        at: 500,
-        pit: &[2],
-        carried: WorthSize {
-            nanos: 1_000_000_000,
-            size: -1,
-        },
-    };
-    let high = Proved {
-        at: 1_000,
-        pit: &[0, 1, 2],
-        carried: WorthSize {
-            nanos: 5_000_000_000,
-            size: 1,
-        },
-    };
     let pushes = [
-        (low, 500, None),
-        (high, 1_000, None),
-        (high, 1_000, Some(SeriesFault::NotHigher)),
-        (high, 1_200, Some(SeriesFault::WrongModel)),
+        (LOW, 500, None),
+        (HIGH, 1_000, None),
+        (HIGH, 1_000, Some(SeriesFault::NotHigher)),
+        (HIGH, 1_200, Some(SeriesFault::WrongModel)),
     ];
     for (proved, factor, fault) in pushes {
         let refusal = added(&rt, alloc, &mut series, proved, factor);

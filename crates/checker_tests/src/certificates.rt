@@ -1,9 +1,11 @@
+//! Certificates as texts: which are read, and as what they are written.
+
 ghost use Rattle.std.specs.Prelude.{◌≤◌, length, IfOk};
 ghost use Rattle.check_pit.specs.Certificate.{Covers};
 
-use crate::check_tests::{is_printed, rests_of, same};
-use crate::reading::header;
-use crate::{CertFault, Certificate, Header, Price, read_certificate, write_certificate};
+use crate::pits_and_flows::{is_printed, rests_of, same};
+use check_pit::reading::header;
+use check_pit::{CertFault, Certificate, Header, Price, read_certificate, write_certificate};
 use closure_net::Flow;
 use fixed_worth::{Counted, MOST_BLOCKS};
 use ordered_group::{Group, OrderedGroup, Worth, WorthSize};

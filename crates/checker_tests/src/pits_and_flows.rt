@@ -2,7 +2,8 @@
 
 ghost use Rattle.std.specs.Prelude.{◌≤◌, length};
 
-use crate::{PitFault, check};
+use check_pit::laws::tight_closed_set_is_greatest;
+use check_pit::{PitFault, check};
 use closure_net::{Carried, Flow, Net, Pit};
 use fixed_worth::MOST_BLOCKS;
 use ordered_group::{OrderedGroup, Worth, WorthSize};
@@ -286,5 +287,5 @@ fn faults_are_printed_by_name(rt: HostRuntime) -> Result<(), Fail> {
 
 #[test]
 fn law_can_be_called() {
-    crate::laws::tight_closed_set_is_greatest();
+    tight_closed_set_is_greatest();
 }

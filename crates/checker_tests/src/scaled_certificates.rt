@@ -1,9 +1,9 @@
 //! Certificates in units, worth and size in one number.
 
-use crate::certificate_tests::{fault_in, is_written_as, read_over, rests};
-use crate::check_tests::same;
-use crate::reading::header;
-use crate::{CertFault, Certificate, check};
+use crate::certificates::{fault_in, is_written_as, read_over, rests};
+use crate::pits_and_flows::same;
+use check_pit::reading::header;
+use check_pit::{CertFault, Certificate, check};
 use closure_net::Net;
 use ordered_group::{Group, OrderedGroup, Scaled, WorthSize};
 use prec_file::Rests;

@@ -4,15 +4,18 @@ ghost use Rattle.std.specs.Prelude.{◌≡◌, length, IfOk};
 ghost use Rattle.check_pit.specs.CertStreams.{IsReadFor};
 ghost use Rattle.ordered_group.specs.declared.groups.Group.TheVariants as group;
 
-use crate::check_tests::three_blocks;
-use crate::stream_fault::StreamFault;
-use crate::{Accepted, CertFault, CertStream, PitFault, Room, check_stream};
+use crate::pits_and_flows::{same, three_blocks};
+use check_pit::{
+    Accepted, CertFault, CertStream, Header, PitFault, Price, Room, StreamFault, check_stream,
+};
 use closure_net::Net;
 use fixed_worth::{Counted, Failing, Failure};
 use ordered_group::{Group, WorthSize};
 use std::alloc::Global;
 use std::process::Abort;
 use std::test::Fail;
+
+const HEADER: &[u8] = b"PITCERT 1\nBLOCKS 3\nPRICE OBJECTIVE\nGROUP PAIR\n";
 
 const WHOLE: &[u8] =
     b"PIT 0\nPIT 1\nPIT 2\nSOURCE 0 6 -1\nSOURCE 1 4 2\nREST 0 2 6 -1\nREST 1 2 4 2\nSINK 2 10 1\nEND\n";
@@ -21,10 +24,7 @@ type Device<'a> = Counted<Failing<&'a [u8]>>;
 
 // The header, and these lines behind it.
 fn with_header(alloc: Global, body: &[u8]) -> Result<Vec<u8>, Fail> {
-    let mut text = Vec::from_slice(
-        alloc,
-        b"PITCERT 1\nBLOCKS 3\nPRICE OBJECTIVE\nGROUP PAIR\n".as_slice(),
-    )?;
+    let mut text = Vec::from_slice(alloc, HEADER)?;
     text.extend_from_slice(body)?;
     Ok(text)
 }
@@ -72,31 +72,19 @@ fn worth_of(
     }
 }
 
-// What a check of lines behind the header answers in this room, where one read of the text fails.
+// What a check of lines behind the header answers in this room.
 fn answer_in(
     alloc: Global,
     room: &mut Room<WorthSize>,
     net: &Net<WorthSize>,
     body: &[u8],
-    fails_at: u64,
 ) -> Result<Result<WorthSize, StreamFault>, Fail> {
     if !room.is_for(net.len()) {
         return Err(Fail::from("room"));
     }
     let text = with_header(alloc, body)?;
-    let mut stream = stream_of(alloc, &text, fails_at, net)?;
+    let mut stream = stream_of(alloc, &text, 0, net)?;
     Ok(worth_of(check_stream(&mut stream, net, room)))
-}
-
-// The same of three blocks, in a room of their own.
-fn answer_of(
-    alloc: Global,
-    body: &[u8],
-    fails_at: u64,
-) -> Result<Result<WorthSize, StreamFault>, Fail> {
-    let net = three_blocks(alloc)?;
-    let mut room = Room::new(alloc, &net)?;
-    answer_in(alloc, &mut room, &net, body, fails_at)
 }
 
 // Two checks of the stream, one after the other.
@@ -155,9 +143,13 @@ fn answers_of(
 // Lines behind the header, and what a check of them answers.
 type Row = (&'static [u8], Result<WorthSize, StreamFault>);
 
+// Checks of three blocks in one room, one after another.
 fn have_their_answers(rt: &impl Abort, alloc: Global, rows: &[Row]) -> Result<(), Fail> {
+    let net = three_blocks(alloc)?;
+    let mut room = Room::new(alloc, &net)?;
     for (body, wanted) in rows {
-        assert!(rt; answer_of(alloc, body, 0)? == *wanted);
+        let answer = answer_in(alloc, &mut room, &net, body)?;
+        assert!(rt; answer == *wanted);
     }
     Ok(())
 }
@@ -251,25 +243,77 @@ fn a_stream_is_read_only_where_no_line_is_held(rt: HostRuntime) -> Result<(), Fa
     Ok(())
 }
 
-// Fails the test where this room of the three blocks doesn't serve two checks.
-fn serves_both(
-    rt: &impl Abort,
+#[test]
+fn one_room_serves_one_check_after_another(rt: HostRuntime) -> Result<(), Fail> {
+    let rows: [Row; 2] = [
+        (
+            b"PIT 0\nPIT 2\nSOURCE 0 6 -1\nEND\n",
+            refused(PitFault::Unbalanced(0)),
+        ),
+        (WHOLE, Ok(WorthSize { nanos: 1, size: -3 })),
+    ];
+    have_their_answers(&rt, rt.alloc(), rows.as_slice())
+}
+
+// What the first check has given to a block isn't there in the second one, in which each block is balanced.
+#[test]
+fn a_room_serves_one_check_after_another(rt: HostRuntime) -> Result<(), Fail> {
+    let rows: [Row; 2] = [
+        (b"SOURCE 0 6 -1\nEND\n", refused(PitFault::Unbalanced(0))),
+        (b"END\n", refused(PitFault::NotTight)),
+    ];
+    have_their_answers(&rt, rt.alloc(), rows.as_slice())
+}
+
+#[test]
+fn amounts_have_limits(rt: HostRuntime) -> Result<(), Fail> {
+    let rows: [Row; 2] = [
+        (b"SOURCE 0 -1 0\n", refused(PitFault::Negative)),
+        (b"SOURCE 1 6 0\n", refused(PitFault::OverCapacity(1))),
+    ];
+    have_their_answers(&rt, rt.alloc(), rows.as_slice())
+}
+
+// The header of a text of which each read gives at most five bytes and one read fails.
+fn header_of(
     alloc: Global,
-    room: &mut Room<WorthSize>,
-    net: &Net<WorthSize>,
-) -> Result<(), Fail> {
-    let unbalanced = b"PIT 0\nPIT 2\nSOURCE 0 6 -1\nEND\n";
-    let first = answer_in(alloc, room, net, unbalanced, 0)?;
-    assert!(rt; first == refused(PitFault::Unbalanced(0)));
-    assert!(rt; room.is_for(net.len()));
-    let second = answer_in(alloc, room, net, WHOLE, 0)?;
-    assert!(rt; second == Ok(WorthSize { nanos: 1, size: -3 }));
+    text: &[u8],
+    fails_at: u64,
+) -> Result<Result<Header, StreamFault>, Fail> {
+    let device = Failing::new(text, 5, fails_at, Failure::Broken);
+    let mut stream = CertStream::new(alloc, Counted::new(device))?;
+    Ok(stream.header())
+}
+
+#[test]
+fn lines_come_from_several_reads(rt: HostRuntime) -> Result<(), Fail> {
+    let header = Header {
+        blocks: 3,
+        price: Price::Objective,
+        group: Group::Pair,
+    };
+    same(&rt, header_of(rt.alloc(), HEADER, 0)?, Ok(header));
     Ok(())
 }
 
 #[test]
-fn one_room_serves_one_check_after_another(rt: HostRuntime) -> Result<(), Fail> {
-    let net = three_blocks(rt.alloc())?;
-    let mut room = Room::new(rt.alloc(), &net)?;
-    serves_both(&rt, rt.alloc(), &mut room, &net)
+fn a_text_that_ends_within_a_line_is_cut_off(rt: HostRuntime) -> Result<(), Fail> {
+    let cut = StreamFault::Cert(CertFault::Truncated);
+    same(
+        &rt,
+        header_of(rt.alloc(), b"PITCERT 1\nBLOCKS 3", 0)?,
+        Err(cut),
+    );
+    Ok(())
+}
+
+// The fifth read would be the one that finds the end.
+#[test]
+fn a_failed_read_is_not_the_end_of_the_text(rt: HostRuntime) -> Result<(), Fail> {
+    same(
+        &rt,
+        header_of(rt.alloc(), b"PITCERT 1\nBLOCKS 3", 5)?,
+        Err(StreamFault::Device),
+    );
+    Ok(())
 }
