@@ -1,7 +1,7 @@
 //! Certificates as texts: which are read, and as what they are written.
 
 ghost use Rattle.std.specs.Prelude.{◌≤◌, length, IfOk};
-ghost use Rattle.check_pit.specs.Certificate.{Covers};
+ghost use Rattle.certificate_file.specs.Certificate.{Covers};
 
 use crate::pits_and_flows::{is_printed, rests_of, same};
 use check_pit::reading::header;
