@@ -7,17 +7,15 @@ An edit has the lines that the kit's edits have, and one that names the function
     old: TEXT THAT STANDS EXACTLY ONCE IN THAT FILE
     new: TEXT IN ITS PLACE
 
-The function, and what it calls in its crate, is checked over the libraries as they were proved. The edits of a crate are
-tried one after another, each over what the tries before it checked of the texts that both have; the first begins with
-nothing. An edit that is proved there is tried on the whole crate, over nothing kept: it is refused only if the prover
-refuses that.
+The function, and what it calls in its crate, is checked from nothing over the libraries as they were proved. An edit
+that is proved there is tried on the whole crate: it is refused only if the prover refuses that.
 """
 import re
 import shutil
 import subprocess
 import sys
 import tempfile
-from concurrent.futures import ThreadPoolExecutor
+from concurrent.futures import ThreadPoolExecutor, as_completed
 from contextlib import contextmanager
 from pathlib import Path
 
@@ -102,8 +100,8 @@ def library(crate):
     return crate.folder / "out" / "rlib" / (crate.name + ".rlib")
 
 
-def checked(edit, texts, functions, kept=None):
-    """What a check of the crate with these texts in place of its own says: its status and its lines. Without functions of all of it, and without a folder of kept work from nothing."""
+def checked(edit, texts, functions):
+    """What a check of the crate with these texts in place of its own says: its status and its lines. Without functions of all of it."""
     with tempfile.TemporaryDirectory(prefix="pit-edit-") as room:
         for part in PARTS:
             if (edit.crate.folder / part).is_dir():
@@ -111,8 +109,7 @@ def checked(edit, texts, functions, kept=None):
         for path, text in texts.items():
             (Path(room) / path).write_text(text, encoding="utf-8")
         only = [word for name in functions for word in ("--only", name)]
-        over = ["--incremental", str(kept)] if kept else []
-        ran = subprocess.run([*words_for(edit.crate), *only, *over], cwd=room, stdin=subprocess.DEVNULL, stdout=subprocess.PIPE,
+        ran = subprocess.run([*words_for(edit.crate), *only], cwd=room, stdin=subprocess.DEVNULL, stdout=subprocess.PIPE,
                              stderr=subprocess.STDOUT, text=True, errors="replace")
     return ran.returncode, ran.stdout.rstrip("\n").split("\n")
 
@@ -148,14 +145,14 @@ def goal_refused(texts, lines):
     return next(filter(OPEN.match, goals), goals[0])
 
 
-def verdict(edit, kept):
-    """Whether the edit is refused, and what to say of it. Its check begins with what others kept in this folder, and adds to it."""
+def verdict(edit):
+    """Whether the edit is refused, and what to say of it."""
     try:
         texts, functions = edit.texts(), edit.functions()
         lacking = [other.name for other in edit.crate.below.values() if not library(other).is_dir()]
         if lacking:
             raise BadEdit("the library %s isn't built" % lacking[0])
-        status, lines = checked(edit, texts, functions, kept)
+        status, lines = checked(edit, texts, functions)
         by = ""
         if status == 0:
             by = " by the whole crate, and not by %s: name another function" % ", ".join(functions)
@@ -174,30 +171,20 @@ def processes():
     return max(1, min(machine.processors(), machine.free_memory() // TRY_MEMORY))
 
 
-def refused_in(crate):
-    """Tries the edits of a crate, a line each, and gives how many were refused.
-
-    No text of an edit that differs from the crate's is taken for the crate's: the prover keeps a module by all that it read for it.
-    """
-    refused = 0
-    with tempfile.TemporaryDirectory(prefix="pit-kept-") as kept:
-        for file in edits_in(crate):
-            is_refused, said = verdict(Edit(crate, file), kept)
-            print(said, flush=True)
-            refused += is_refused
-    return refused
-
-
 def try_all(names=()):
     """Tries the edits of the crates with these names, or of all, over the libraries that were built, and gives how many were refused and how many not."""
     crates = tree.read_crates()
     unknown = sorted(set(names) - set(crates))
     if unknown:
         sys.exit("no such crate: %s" % " ".join(unknown))
-    wanted = sorted((crate for crate in crates.values() if not names or crate.name in names), key=lambda it: -it.lines())
+    edits = [Edit(crate, file) for crate in crates.values() if not names or crate.name in names for file in edits_in(crate)]
+    refused = 0
     with ThreadPoolExecutor(processes()) as pool:
-        refused = sum(pool.map(refused_in, wanted))
-    return refused, sum(len(edits_in(crate)) for crate in wanted) - refused
+        for done in as_completed([pool.submit(verdict, edit) for edit in sorted(edits, key=lambda it: -it.crate.lines())]):
+            is_refused, said = done.result()
+            print(said, flush=True)
+            refused += is_refused
+    return refused, len(edits) - refused
 
 
 @contextmanager
