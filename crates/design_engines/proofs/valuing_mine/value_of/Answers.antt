@@ -1,9 +1,6 @@
-use Rattle.std.proofs.Common.{◌∙◌, rules, subst, FitsSigned}
+use Rattle.std.proofs.Common.{◌∙◌, rules, FitsSigned}
 use Rattle.std.specs.Int.{w128}
 use Rattle.std.proofs.lemmas.Int.{to_z-of_z}
-use Rattle.prec_file.specs.Rests.{RestsView}
-use Rattle.design_value.specs.OpenPairs.{AreOpen}
-use Rattle.design_value.specs.Sums.{marked_in}
 use Rattle.design_engines.proofs.Designed.{valued, leaves}
 use Rattle.design_engines.proofs.valuing_mine.value_of.Goals as goal
 
@@ -13,6 +10,5 @@ returns-in-None-clause-is c = λ texts design read drawn. leaves texts design c.
 pub returns-clause-is : goal.returns-clause-is
 returns-clause-is c = λ texts design read drawn.
     let fits : FitsSigned w128 c.in-Some.worth = search rules in
-    let P : RestsView → Type 0 = λ v. AreOpen (marked_in c.args.marks.now) v.pairs c.in_ok-open.open.count c.in_ok-open.open.first.items in
     valued texts design c.args.nanos.now c.args.rests.now c.args.marks.now read drawn c.len-blocks.ensures.all c.count_marked-count.result _ c.in_ok-open.open.count c.in_ok-open.open.first.items
-    c.count_marked-count.ensures (to_z-of_z w128 c.in-Some.worth fits ∙ c.in-Some.ensures) (subst P c.lent.ensures c.in_ok-open.ensures)
+    c.count_marked-count.ensures (to_z-of_z w128 c.in-Some.worth fits ∙ c.in-Some.ensures) c.in_ok-open.ensures

@@ -14,5 +14,5 @@ returns-in_err-net-clause-judged g c = λ texts text read named header stands.
 pub returns-clause-judged : goal.returns-clause-judged
 returns-clause-judged g c = λ texts text read named header stands.
     let P : List ℤ → Type 0 = λ nanos. AreRead texts nanos c.args.rests in
-    let known = net_known g.G.OrderedGroup.block_parts texts text g.G.OrderedGroup.name c.args.rests c.deref.result.now c.lent.result (subst P (sym c.deref.ensures.value) read) header (c.lent.ensures ∙ c.in_ok-net.ensures.0) c.in_ok-net.ensures.1 in
+    let known = net_known g.G.OrderedGroup.block_parts texts text g.G.OrderedGroup.name c.args.rests c.deref.result.now c.as_ref.result (subst P (sym c.deref.ensures.value) read) header (c.as_ref.ensures ∙ c.in_ok-net.ensures.0) c.in_ok-net.ensures.1 in
     c.judge_for.ensures.judged texts text known.mine named known.header stands known.of_mine
