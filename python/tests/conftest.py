@@ -1,5 +1,6 @@
 """Where the tests find the package and the program, and how many examples hypothesis tries."""
 import os
+import signal
 import sys
 from pathlib import Path
 
@@ -9,6 +10,9 @@ from hypothesis import HealthCheck, settings
 HERE = Path(__file__).resolve().parent
 sys.path.insert(0, str(HERE.parent))
 sys.path.insert(0, str(HERE))
+
+# Begun in the background of a script, tests ignore ctrl-C, and so would each process that they start and stop by it.
+signal.signal(signal.SIGINT, signal.default_int_handler)
 
 settings.register_profile("gate", max_examples=int(os.environ.get("EXAMPLES", "12")), deadline=None, derandomize=True,
                           suppress_health_check=list(HealthCheck))
