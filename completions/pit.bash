@@ -19,7 +19,7 @@ _pit() {
         "solve --blocks") files=1 ;;
         "solve --settings") files=1 ;;
         "solve --factor") : ;;
-        "solve --method") words="auto pseudoflow push-relabel words" ;;
+        "solve --method") words="auto pseudoflow push-relabel lock-free" ;;
         "solve --group") words="pair scaled worth" ;;
         "solve --steps") : ;;
         "solve --workers") : ;;

@@ -24,7 +24,7 @@ complete -c pit -n '__fish_seen_subcommand_from solve' -l upit -r -F -d 'What ea
 complete -c pit -n '__fish_seen_subcommand_from solve' -l blocks -r -F -d 'The blocks with columns of revenues and costs, or of a mill\'s charges'
 complete -c pit -n '__fish_seen_subcommand_from solve' -l settings -r -F -d 'The columns of revenues and costs, or of a mill\'s charges instead of costs, and the factors of the shells'
 complete -c pit -n '__fish_seen_subcommand_from solve' -l factor -x -d 'The share of the revenues that counts, in thousandths, from 0 to 10000'
-complete -c pit -n '__fish_seen_subcommand_from solve' -l method -x -a 'auto pseudoflow push-relabel words' -d 'Which solver computes the flow'
+complete -c pit -n '__fish_seen_subcommand_from solve' -l method -x -a 'auto pseudoflow push-relabel lock-free' -d 'Which solver computes the flow'
 complete -c pit -n '__fish_seen_subcommand_from solve' -l group -x -a 'pair scaled worth' -d 'What the flow counts'
 complete -c pit -n '__fish_seen_subcommand_from solve' -l steps -x -d 'The most steps of push-relabel, or turns of pseudoflow, from 1 to 1099511627776 (by default 1000000000 steps and 1099511627776 turns); without --method it chooses push-relabel'
 complete -c pit -n '__fish_seen_subcommand_from solve' -l workers -x -d 'The threads of push-relabel, from 1 to 64 (1 by default), which share one lock'

@@ -37,7 +37,7 @@ _pit() {
             '--blocks[The blocks with columns of revenues and costs, or of a mill'\''s charges]:blocks:_files' \
             '--settings[The columns of revenues and costs, or of a mill'\''s charges instead of costs, and the factors of the shells]:settings:_files' \
             '--factor[The share of the revenues that counts, in thousandths, from 0 to 10000]:factor: ' \
-            '--method[Which solver computes the flow]:method:(auto pseudoflow push-relabel words)' \
+            '--method[Which solver computes the flow]:method:(auto pseudoflow push-relabel lock-free)' \
             '--group[What the flow counts]:group:(pair scaled worth)' \
             '--steps[The most steps of push-relabel, or turns of pseudoflow, from 1 to 1099511627776 (by default 1000000000 steps and 1099511627776 turns); without --method it chooses push-relabel]:steps: ' \
             '--workers[The threads of push-relabel, from 1 to 64 (1 by default), which share one lock]:workers: ' \
