@@ -74,7 +74,7 @@ def try_all(top, names):
     with tempfile.TemporaryDirectory(prefix="pit-planted-") as room:
         tree = copy_of(top, room, wanted)
         # the libraries, before crates are tried side by side
-        if subprocess.run([str(tree / "build")], stdin=subprocess.DEVNULL).returncode:
+        if subprocess.run([str(tree / "build"), "--work"], stdin=subprocess.DEVNULL).returncode:
             return 0, 1
         with ThreadPoolExecutor(len(os.sched_getaffinity(0))) as pool:
             for done in as_completed([pool.submit(tried, tree, name) for name in sorted(wanted, key=lambda it: -len(wanted[it]))]):
