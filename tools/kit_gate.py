@@ -16,7 +16,7 @@ import proving
 import tree
 
 COPY = tree.ROOM / "tree"
-LEFT_OUT = shutil.ignore_patterns("out", "must-fail", "edits", "planted")
+LEFT_OUT = shutil.ignore_patterns("out", "must-fail", "edits", "planted.edits")
 ENDED = re.compile(r"rt: (\w+) (proved|NOT PROVED|is kept)\b")
 PATIENCE = 10  # the seconds in which processes that are told to end do so
 
