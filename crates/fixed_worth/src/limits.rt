@@ -1,4 +1,5 @@
-//! Limits that the files and the commands of a model share.
+//! How many blocks a model may have, how long an input and a line may be, and how many price factors a series may
+//! have, and up to which height.
 
 ghost use Rattle.std.specs.Prelude.{◌≡◌};
 
