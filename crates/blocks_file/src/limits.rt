@@ -1,4 +1,4 @@
-//! How many columns may be chosen.
+//! How many columns one reading of a `.blocks` text may choose.
 
 ghost use Rattle.std.specs.Prelude.{◌≡◌};
 

@@ -1,4 +1,4 @@
-//! How long a name may be.
+//! How many bytes the name of a model may have.
 
 ghost use Rattle.std.specs.Prelude.{◌≡◌};
 
