@@ -1,4 +1,4 @@
-//! Which way is up.
+//! Which direction along the third axis leads up.
 
 /// The direction along the third axis that leads up.
 #[derive(Clone, Copy, Debug, PartialEq, Eq)]
