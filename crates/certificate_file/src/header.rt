@@ -1,4 +1,5 @@
-//! The header of a certificate.
+//! What the first four lines of a certificate say: how many blocks, the price at which they are worth
+//! something, and in which amounts it counts.
 
 use ordered_group::Group;
 
