@@ -1,4 +1,4 @@
-//! Whether a net is that of pairs and prices at a factor.
+//! Decides whether a net is that of a mine's pairs and of its blocks' worths at a factor.
 
 ghost use Rattle.std.specs.Prelude.{◌≡◌, ◌↔◌, length, IsTrue};
 ghost use Rattle.shells.specs.Prices.{blocks_of};

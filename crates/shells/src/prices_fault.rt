@@ -1,4 +1,5 @@
-//! What is wrong with a table of prices.
+//! Why revenues and charges are no table of prices: unlike lengths, or a negative revenue and its
+//! block.
 
 ghost use Rattle.std.specs.Prelude.{Some};
 ghost use Rattle.shells.specs.FaultText.{prices_fault_text};
