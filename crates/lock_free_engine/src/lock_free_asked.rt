@@ -1,4 +1,5 @@
-//! What a run without a lock is asked for.
+//! What a caller asks for who has a mine solved without a lock: the factor, the workers and the
+//! most turns.
 
 use crate::lock_free_effort::LockFreeEffort;
 use shells::Factor;

@@ -1,4 +1,5 @@
-//! The pit that a run without a lock proves.
+//! Solves a net by one or two workers without a lock: gives the pit that their flow proves by a check of the whole
+//! net, or why there is none.
 
 ghost use Rattle.std.specs.Prelude.{MatchResult};
 ghost use Rattle.ordered_group.specs.Block.{scaled_worth};
