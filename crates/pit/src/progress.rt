@@ -1,4 +1,4 @@
-//! How far a run is and what it found, for the one who waits for it.
+//! Tells the user on standard error, at most once a second, how far a run is, and at its end which pit was proved.
 
 ghost use Rattle.std.specs.Prelude.{◌≡◌};
 
