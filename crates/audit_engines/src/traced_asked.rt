@@ -1,5 +1,5 @@
-//! What a caller asks for who wants a mine solved with a trace: the factor, the kind of amounts,
-//! the effort and the most steps of the trace.
+//! What is asked for where a mine is solved with a trace: the factor, the kind of amounts, the
+//! effort and the most steps of the trace.
 
 use engines::Effort;
 use ordered_group::Group;

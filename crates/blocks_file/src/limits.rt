@@ -1,4 +1,4 @@
-//! How many columns one reading of a `.blocks` text may choose.
+//! How many columns may be chosen.
 
 ghost use Rattle.std.specs.Prelude.{◌≡◌};
 

@@ -1,5 +1,5 @@
-//! What the first four lines of a certificate say: how many blocks, the price at which they are worth
-//! something, and in which amounts it counts.
+//! What the first four lines of a certificate say: the number of blocks, the price that their worths are of,
+//! and the kind of amounts.
 
 use ordered_group::Group;
 

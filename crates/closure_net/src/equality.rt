@@ -1,4 +1,4 @@
-//! Decides whether two lists of pairs, or of amounts, are the same.
+//! Whether two lists of pairs or of amounts are the same.
 
 ghost use Rattle.std.specs.Prelude.{◌≡◌, ◌↔◌, IsTrue, map};
 

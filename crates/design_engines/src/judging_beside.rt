@@ -1,4 +1,4 @@
-//! Gives what a design comes to in a mine that was read, and what a check says of a certificate for the same mine.
+//! What a design comes to, and what a check says of a certificate for the same mine.
 
 ghost use Rattle.std.specs.Prelude.{◌≡◌, ◌+◌, ◌-◌, ◌^◌, ◌<◌, ℕ, List, [], length, IfSome, MatchResult, IsErrOf};
 ghost use Rattle.std.specs.Thread.{IsSync};

@@ -1,5 +1,5 @@
-//! How many blocks a model may have, how long an input and a line may be, and how many price factors a series may
-//! have, and up to which height.
+//! The most blocks of a model, bytes of an input and of a line, and factors of a series that are accepted, and the
+//! highest factor.
 
 ghost use Rattle.std.specs.Prelude.{◌≡◌};
 

@@ -1,5 +1,5 @@
-//! What a caller asks for who has a mine solved without a lock: the factor, the workers and the
-//! most turns.
+//! What is asked for where a mine is solved without a lock: the factor, the workers and the most
+//! turns.
 
 use crate::lock_free_effort::LockFreeEffort;
 use shells::Factor;

@@ -1,4 +1,4 @@
-//! Gives how a mine is to be solved, by the arguments of a command, or the value that names nothing that there is.
+//! How a mine is to be solved, by the arguments of a command, or the value that names nothing that there is.
 
 ghost use Rattle.std.specs.Prelude.{◌≤◌, IfOk};
 

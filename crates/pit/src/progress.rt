@@ -1,4 +1,5 @@
-//! Tells the user on standard error, at most once a second, how far a run is, and at its end which pit was proved.
+//! Tells the user on standard error, at most once a second, how far a run is, and at its end how many blocks the
+//! proved pit has and what it is worth.
 
 ghost use Rattle.std.specs.Prelude.{◌≡◌};
 

@@ -1,4 +1,4 @@
-//! Decides whether a net is that of a mine's pairs and of its blocks' worths at a factor.
+//! Whether a net is that of pairs and prices at a factor.
 
 ghost use Rattle.std.specs.Prelude.{◌≡◌, ◌↔◌, length, IsTrue};
 ghost use Rattle.shells.specs.Prices.{blocks_of};

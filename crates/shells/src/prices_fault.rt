@@ -1,5 +1,5 @@
-//! Why revenues and charges are no table of prices: unlike lengths, or a negative revenue and its
-//! block.
+//! Why revenues and charges are no table of prices: their lengths differ, or a block's revenue is
+//! negative.
 
 ghost use Rattle.std.specs.Prelude.{Some};
 ghost use Rattle.shells.specs.FaultText.{prices_fault_text};

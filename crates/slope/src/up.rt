@@ -1,4 +1,4 @@
-//! Which direction along the third axis leads up.
+//! Which way is up.
 
 /// The direction along the third axis that leads up.
 #[derive(Clone, Copy, Debug, PartialEq, Eq)]

@@ -1,4 +1,4 @@
-//! How many bytes the name of a model may have.
+//! How long a name may be.
 
 ghost use Rattle.std.specs.Prelude.{◌≡◌};
 

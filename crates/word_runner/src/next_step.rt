@@ -1,5 +1,5 @@
-//! Tells the kind of a block's next step by its operation, and whether that step would take a label or a
-//! flow too far for a word.
+//! Tells the kind of a block's next step by its operation, and whether by that step a label or another word
+//! becomes too large.
 
 ghost use Rattle.std.specs.Prelude.{◌≡◌, ◌<◌, IsTrue, length, ◌↔◌};
 ghost use Rattle.machine_law.specs.Operations.{operation_as};
