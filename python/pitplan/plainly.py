@@ -1,10 +1,11 @@
 #!/usr/bin/env python3
 """Checks a certificate of a pit without `pit`: slowly, by Python's standard library alone (3.9 or later).
 
-    python3 plainly.py --prec FILE (--upit FILE | --blocks FILE --settings FILE) CERTIFICATE
+    python3 plainly.py --prec FILE (--upit FILE | --blocks FILE --settings FILE) CERTIFICATE ..
 
-The answer is a line as `pit check` prints it: ACCEPTED count worth (status 0), REFUSED why (1), or fault: certificate why
-(3). A certificate whose name ends in .gz is unpacked as it is read.
+The answer to each is a line as `pit check` prints it: ACCEPTED count worth (status 0), REFUSED why (1), or fault:
+certificate why (3); the status of several is the greatest. The model is read once. A certificate whose name ends in .gz is
+unpacked as it is read.
 
 What ACCEPTED says, over the model that these files denote: the pit holds each predecessor of each of its blocks, and no
 such set of blocks is worth more. The proof is the flow of the certificate. Ore gives no more than it is worth, waste takes
@@ -46,6 +47,9 @@ class Refused(Exception):
 
 class Fault(Exception):
     """The certificate isn't spelled as a certificate, and where."""
+
+
+UNREADABLE = (Wrong, OSError, EOFError, UnicodeDecodeError)
 
 
 def opened(name: str) -> IO[bytes]:
@@ -358,18 +362,24 @@ def spelled(nanos: int) -> str:
     return ("-" if nanos < 0 else "") + text.rstrip("0").rstrip(".")
 
 
-def answer(told: argparse.Namespace) -> tuple[str, int]:
-    """The line that `pit check` would print, and its exit status."""
-    values = read_values(told.upit) if told.upit else None
-    table = [] if told.upit else read_blocks(told.blocks, read_settings(told.settings))
-    count = len(values) if values is not None else len(table[0])
-    rests = Predecessors(told.prec, count)
-    certificate = Certificate(told.certificate)
+class Model:
+    """The files of a model, read: what its blocks are worth, by values or by a table of prices, and their predecessors."""
+
+    def __init__(self, told: argparse.Namespace) -> None:
+        self.values = read_values(told.upit) if told.upit else None
+        self.table = [] if told.upit else read_blocks(told.blocks, read_settings(told.settings))
+        self.count = len(self.values) if self.values is not None else len(self.table[0])
+        self.rests = Predecessors(told.prec, self.count)
+
+
+def answer(model: Model, name: str) -> tuple[str, int]:
+    """The line that `pit check` would print of a certificate, and its exit status."""
+    certificate = Certificate(name)
     try:
         found, price, group = certificate.header()
-        if found != count:
+        if found != model.count:
             raise Fault("Number(2)")
-        check = Check(certificate, rests, worths_of(price, table, values), group)
+        check = Check(certificate, model.rests, worths_of(price, model.table, model.values), group)
         check.run()
     except Fault as fault:
         return "fault: certificate %s" % fault, 3
@@ -381,22 +391,35 @@ def answer(told: argparse.Namespace) -> tuple[str, int]:
     return "ACCEPTED %d %s%s" % (len(check.pit), spelled(worth), " GROUP WORTH" if group == "WORTH" else ""), 0
 
 
+def attempted(model: Model, name: str) -> tuple[str, int]:
+    """The same, or a line that says why the certificate can't be read."""
+    try:
+        return answer(model, name)
+    except UNREADABLE as error:
+        return "plainly: %s" % error, 3
+
+
 def main() -> int:
-    """Judges the certificate that the words name, and gives the exit status."""
+    """Judges the certificates that the words name, and gives the exit status."""
     reading = argparse.ArgumentParser(description=__doc__.split("\n")[0])
     reading.add_argument("--prec", required=True)
     for name in ("upit", "blocks", "settings"):
         reading.add_argument("--" + name)
-    reading.add_argument("certificate")
+    reading.add_argument("certificates", nargs="+", metavar="certificate")
     told = reading.parse_args()
     if bool(told.upit) == bool(told.blocks) or bool(told.blocks) != bool(told.settings):
         reading.error("either --upit, or --blocks and --settings")
+    worst = 0
     try:
-        line, status = answer(told)
-    except (Wrong, OSError, EOFError, UnicodeDecodeError) as error:
-        line, status = "plainly: %s" % error, 3
-    print(line)
-    return status
+        model = Model(told)
+        for name in told.certificates:
+            line, status = attempted(model, name)
+            print(line, flush=True)
+            worst = max(worst, status)
+    except UNREADABLE as error:
+        print("plainly: %s" % error)
+        return 3
+    return worst
 
 
 if __name__ == "__main__":

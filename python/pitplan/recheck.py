@@ -193,7 +193,9 @@ def check_pits(told: Told, pit: str, blocks: Blocks, facts: dict[str, Any], is_p
     has it."""
     most = LINE * (3 * len(blocks.places) + facts["pairs"] + 10)
     shell, below, last = [0] * len(blocks.places), set[int](), 0
-    for verdict in load("verdicts.json"):
+    verdicts = load("verdicts.json")
+    plain = plainly([within(verdict["file"]) for verdict in verdicts]) if is_plain else []
+    for verdict, line in zip_longest(verdicts, plain):
         factor = verdict["factor"]
         at = f"factor {factor / THOUSAND:g}"
         found = told.attempt(f"the certificate at {at}", judged, pit, within(verdict["file"]), most)
@@ -203,7 +205,7 @@ def check_pits(told: Told, pit: str, blocks: Blocks, facts: dict[str, Any], is_p
         there = [block for block in found.held if block < len(shell)]
         if len(there) < len(found.held):
             told.check(False, f"the pit at {at} has {len(found.held) - len(there):,} blocks that the model hasn't")
-        check_pit(told, blocks, verdict, found._replace(held=there), is_plain)
+        check_pit(told, blocks, verdict, found._replace(held=there), line)
         now = set(there)
         if last:
             told.check(below <= now, f"the pit at {last / THOUSAND:g} lies within that at {factor / THOUSAND:g}")
@@ -213,8 +215,8 @@ def check_pits(told: Told, pit: str, blocks: Blocks, facts: dict[str, Any], is_p
     return shell
 
 
-def check_pit(told: Told, blocks: Blocks, verdict: dict[str, Any], found: Judged, is_plain: bool) -> None:
-    """A certificate: its digest, its factor, `pit check`, and its blocks added up. Without the factor a pit that is worth the
+def check_pit(told: Told, blocks: Blocks, verdict: dict[str, Any], found: Judged, plain: str | None) -> None:
+    """A certificate: its digest, its factor, `pit check`, what plainly.py says of it if that was asked, and its blocks added up. Without the factor a pit that is worth the
     same at another one, as the pit of no block, could stand for a best pit that it isn't."""
     factor, at = verdict["factor"], f"factor {verdict['factor'] / THOUSAND:g}"
     wanted = f"ACCEPTED {verdict['count']} {verdict['worth']}"
@@ -222,8 +224,7 @@ def check_pit(told: Told, blocks: Blocks, verdict: dict[str, Any], found: Judged
     its = "no factor" if found.factor is None else f"factor {found.factor / THOUSAND:g}"
     told.check(found.factor == factor, f"the certificate at {at} is of {its}")
     told.check(found.said == wanted, f"pit check at {at}: {found.said}" + ("" if found.said == wanted else f", and the bundle says {wanted}{other_mine(found.of, len(blocks.places))}"))
-    if is_plain:
-        plain = plainly(within(verdict["file"]))
+    if plain is not None:
         told.check(plain == wanted, f"plainly.py at {at}: {plain}")
     worth = spelled(sum(blocks.worth(block, factor) for block in found.held))
     told.check(worth == verdict["worth"] and len(found.held) == verdict["count"], f"its {len(found.held):,} blocks add up to {worth}")
@@ -262,10 +263,13 @@ def other_mine(of: int | None, here: int) -> str:
     return "" if of is None or of == here else f": the certificate is of another mine, of {of:,} blocks, and the model has {here:,}"
 
 
-def plainly(path: Path) -> str:
-    """What plainly.py says of a certificate."""
+def plainly(paths: list[Path]) -> list[str]:
+    """What plainly.py says of these certificates, for each a line."""
     words = ["--prec", "model/mine.prec", "--blocks", "model/mine.blocks", "--settings", "model/settings.toml"]
-    return subprocess.run([sys.executable, "-I", str(HERE / "plainly.py"), *words, str(path)], cwd=HERE, stdout=subprocess.PIPE, text=True).stdout.strip()
+    run = subprocess.run([sys.executable, "-I", str(HERE / "plainly.py"), *words, *map(str, paths)], cwd=HERE, stdout=subprocess.PIPE, text=True)
+    lines = run.stdout.splitlines()
+    # where the model can't be read, that is the one line
+    return lines + lines[-1:] * (len(paths) - len(lines)) if lines else ["no answer"] * len(paths)
 
 
 class Table:

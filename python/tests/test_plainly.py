@@ -114,6 +114,22 @@ def test_they_agree_on_sound_certificates(tmp_path, capsys):
             assert (line, status) == (f"ACCEPTED {found.count} {found.worth}", 0)
 
 
+def test_several_certificates_are_judged_in_one_reading_of_the_model(tmp_path, capsys, monkeypatch):
+    lines = (COPPER / "copper.cert").read_text().splitlines()
+    texts = {"sound": lines, "less": [line for line in lines if line != "PIT 3"], "cut": lines[:-1], "other": [lines[0], "BLOCKS 7", *lines[2:]]}
+    for name, text in texts.items():
+        (tmp_path / name).write_text("".join(line + "\n" for line in text))
+    (tmp_path / "no.gz").write_bytes(b"not packed")
+    read, predecessors = [], plainly.Predecessors
+    monkeypatch.setattr(plainly, "Predecessors", lambda *words: read.append(words) or predecessors(*words))
+    files = ["--prec", COPPER / "copper.prec", "--upit", COPPER / "copper.upit"]
+    names = [*texts, "no.gz", "sound"]
+    said, status = plain([*files, *(tmp_path / name for name in names)], capsys)
+    alone = [plain([*files, tmp_path / name], capsys) for name in names]
+    assert said.splitlines() == [line for line, _ in alone] and status == 3
+    assert [status for _, status in alone] == [0, 1, 3, 3, 3, 0] and len(read) == 1 + len(names)
+
+
 @pytest.mark.parametrize("text, what", [("0 0 0 0 1 2\n1 0 0 0 1 2\n1 0 0 1 1 2\n", "second record"), ("0 0 0 0 x 2\n", "no decimal"), ("0 0 0 0 1\n", "column is missing"),
                                         ("1 0 0 0 1 2\n", "numbered from 0"), ("0 0 0 0 -1 2\n", "below 0"), ("0 0.5 0 0 1 2\n", "coordinate")])
 def test_a_model_that_cannot_be_read_is_told(tmp_path, capsys, text, what):
