@@ -1,6 +1,6 @@
 //! A whole run of the machine by workers under one lock, from a net to a maximum flow or why there is none.
 
-ghost use Rattle.std.specs.Prelude.{◌≡◌, ◌↔◌, ◌<◌, ◌≤◌, MatchResult, IsErrOf};
+ghost use Rattle.std.specs.Prelude.{◌≡◌, ◌↔◌, ◌<◌, ◌≤◌, IsTrue, MatchResult, IsErrOf};
 ghost use Rattle.boards.specs.Boards.{shown};
 ghost use Rattle.workers.specs.Runs.{most_steps, Settles};
 ghost use Rattle.workers.specs.Solving.{AreBadWorkers, IsLeft, IsLoss, RunFaultStands, SolveFaultStands};
@@ -126,6 +126,13 @@ pub(crate) fn most_steps(limit: u64) -> u64
     limit.min(MOST_STEPS)
 }
 
+// Whether a board is over the net, and no more steps were made on it than the limit allows.
+fn is_left<G: OrderedGroup>(board: &TurnBoard<G>, net: &Net<G>, limit: u64) -> bool
+    ensures { IsTrue result → IsLeft net.now limit board.now }
+{
+    board.is_over(net) && board.count() <= most_steps(limit)
+}
+
 // The board of a net as so many workers leave it.
 fn board_after<G: OrderedGroup, R: Threads + Wait + Sync, T: Gate>(
     rt: &R,
@@ -146,7 +153,7 @@ where
         return Err(SolveFault::NoThread);
     }
     let board = shared.into_inner();
-    if board.is_over(net) && board.count() <= steps {
+    if is_left(&board, net, limit) {
         Ok(board)
     } else {
         Err(SolveFault::StrangerNet)
