@@ -30,6 +30,7 @@ mod reading;
 mod records;
 mod rests;
 mod rests_fault;
+mod rising;
 mod write_fault;
 mod writing;
 
@@ -38,7 +39,7 @@ pub use listed_pairs::ListedPairs;
 pub use prec_fault::PrecFault;
 pub use predecessors::Predecessors;
 pub use predecessors_builder::PredecessorsBuilder;
-pub use reading::{read_listed, read_prec};
+pub use reading::{read_listed, read_prec, read_predecessors};
 pub use rests::Rests;
 pub use rests_fault::RestsFault;
 pub use write_fault::PrecWriteFault;

@@ -1,4 +1,4 @@
-use Rattle.std.proofs.Common.{◌≡◌, ℕ, All, length, sym, subst}
+use Rattle.std.proofs.Common.{ℕ, All, length, sym, subst}
 use Rattle.prec_file.specs.Rests.{IsKnown, to_at}
 use Rattle.prec_file.specs.Internal.{IsStarts}
 use Rattle.prec_file.proofs.Sorting.{known_predecessors}
