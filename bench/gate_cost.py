@@ -94,6 +94,10 @@ def lines_in(folder, pattern, is_wanted=lambda file: True):
     return sum(file.read_bytes().count(b"\n") for file in folder.rglob(pattern) if is_wanted(file))
 
 
+def planted_in(file):
+    return sum(line.startswith("edit: ") for line in file.read_text().splitlines()) if file.exists() else 0
+
+
 def is_test(file):
     return file.stem in ("tests", "test_nets") or file.stem.endswith("_tests")
 
@@ -103,7 +107,7 @@ def sizes(crate):
     folder = TOP / "crates" / crate
     return (lines_in(folder / "src", "*.rt", lambda file: not is_test(file)), lines_in(folder / "src", "*.rt", is_test),
             lines_in(folder / "specs", "*.antt"), lines_in(folder / "proofs", "*.antt"),
-            *(len(list((folder / shelf).glob("*.edit"))) for shelf in ("must-fail", "edits", "planted")))
+            *(len(list((folder / shelf).glob("*.edit"))) for shelf in ("must-fail", "edits")), planted_in(folder / "planted.edits"))
 
 
 def row(name, counts, seconds):

@@ -26,8 +26,8 @@ def until(is_so, seconds=20):
 
 
 def proved(tree):
-    """The crates that the stand-in worked on."""
-    return sorted(line[0] for line in tree.log())
+    """The crates that the stand-in proved."""
+    return sorted(line[0] for line in tree.log() if line[0] != "ci" and line[1] != "kept")
 
 
 def is_left_alone(tree):
@@ -55,11 +55,11 @@ def the_program_stays_where_the_gate_leaves_it(tree):
 
 
 def a_change_is_proved(tree):
-    tree.ran("build")
+    tree.ran("build", "--work")
     tree.log()
     tree.crate("high", "fn two() {}\n")
     is_built = tree.ran("build", "--is-built")[0]
-    status, said = tree.ran("build")
+    status, said = tree.ran("build", "--work")
     changed = proved(tree)
     tree.write("crates/low/specs/Lib.antt", "a definition\n")
     tree.ran("build")
@@ -69,11 +69,11 @@ def a_change_is_proved(tree):
     tree.ran("build")
     lost = proved(tree)
     well = (is_built, status, changed) == (1, 0, ["high", "pit"]) and below == ["high", "low", "pit"] and lost == ["low", "pit"]
-    return well and tree.ran("build", "--is-built")[0] == 0 and "beside              as it was built          0 s" in said, said
+    return well and tree.ran("build", "--is-built")[0] == 0 and "beside              as it was proved         0 s" in said, said
 
 
 def the_room_is_in_the_tree(tree):
-    status, said = tree.ran("build")
+    status, said = tree.ran("build", "--work")
     folders = [line[2] for line in tree.log()]
     well = all(folder.startswith(str(tree.top / "out" / "room")) for folder in folders) and len(folders) == 4
     return status == 0 and well and is_left_alone(tree), "%s%r" % (said, folders)
@@ -82,7 +82,7 @@ def the_room_is_in_the_tree(tree):
 def stopped_by(tree, number, whole_group=False):
     """Stops a build while a crate is at work, and gives what it printed where all is as it should be, or None."""
     tree.crate("high", SLOW)
-    build = tree.starts("build")
+    build = tree.starts("build", "--work")
     until(lambda: tree.has("out/room/high/crates/high/out/incremental/half"))
     (os.killpg if whole_group else os.kill)(build.pid, number)
     said, _ = build.communicate(timeout=30)
@@ -91,7 +91,7 @@ def stopped_by(tree, number, whole_group=False):
     tree.log()
     tree.crate("high", "fn one() {}\n")
     is_free = is_left_alone(tree)
-    status, more = tree.ran("build")
+    status, more = tree.ran("build", "--work")
     goes_on = [line for line in tree.log() if line[0] == "high" and line[3] == "again"]
     return well and kept and is_free and status == 0 and bool(goes_on), said + more
 
@@ -110,21 +110,79 @@ def a_closed_terminal_leaves_nothing_behind(tree):
 
 def a_killed_build_is_cleared_away_by_the_next(tree):
     tree.crate("high", SLOW)
-    build = tree.starts("build")
+    build = tree.starts("build", "--work")
     until(lambda: tree.has("out/room/high/crates/high/out/incremental/half"))
     build.kill()
     build.communicate()
     was_there = tree.has("out/room")
     tree.crate("high", "fn one() {}\n")
-    status, said = tree.ran("build")
+    status, said = tree.ran("build", "--work")
     return was_there and status == 0 and is_left_alone(tree), said
+
+
+def what_a_build_proved_the_gate_keeps(tree):
+    tree.commit()
+    status, said = tree.ran("build")
+    first = [line[:2] for line in tree.log()]
+    gate = asked(tree, "gate()")
+    then = [line[1] for line in tree.log() if line[0] != "ci"]
+    in_order = [name for name in re.findall(r"^\[ \d/4\] (\w+) +1 functions proved after     0 s$", said, re.M)]
+    well = status == 0 and first == [["ci"], ["low", "gate"], ["high", "gate"], ["beside", "gate"], ["pit", "gate"]] and is_left_alone(tree)
+    return well and in_order == ["low", "high", "beside", "pit"] and then == ["kept"] * 4 and gate.endswith("(1, 0)\n"), said + gate
+
+
+def only_what_changed_is_proved_again(tree):
+    tree.ran("build")
+    tree.log()
+    tree.crate("high", "fn two() {}\n")
+    status, said = tree.ran("build")
+    changed = proved(tree)
+    built = tree.ran("build", "--anew")[0], proved(tree)
+    tree.ran("build", "--work")
+    tree.log()
+    tree.crate("beside", "fn two() {}\n")
+    tree.ran("build")
+    by_work = [line[0] for line in tree.log()]
+    well = status == 0 and changed == ["high", "pit"] and re.search(r"low +as it was proved +after", said)
+    return well and built == (0, ["beside", "high", "low", "pit"]) and by_work == ["beside", "pit"], said
+
+
+def the_gate_of_a_build_ends_with_it(tree, number, whole_group=False):
+    """Whether a build whose gate is stopped ends with one line, leaves nothing, and goes on from the crates that had ended."""
+    tree.crate("high", SLOW)
+    build = tree.starts("build")
+    until(lambda: (tree.kit / "LOG").exists() and "high gate" in (tree.kit / "LOG").read_text())
+    (os.killpg if whole_group else os.kill)(build.pid, number)
+    said, _ = build.communicate(timeout=30)
+    well = build.returncode == 128 + number and "Traceback" not in said and said.splitlines()[-1].startswith("stopped;") and is_left_alone(tree)
+    tree.log()
+    tree.crate("high", "fn one() {}\n")
+    status, more = tree.ran("build")
+    return well and status == 0 and proved(tree) == ["beside", "high", "pit"], said + more
+
+
+def ctrl_c_ends_the_gate_of_a_build(tree):
+    return the_gate_of_a_build_ends_with_it(tree, signal.SIGINT, whole_group=True)
+
+
+def sigterm_ends_the_gate_of_a_build(tree):
+    return the_gate_of_a_build_ends_with_it(tree, signal.SIGTERM)
+
+
+def a_crate_that_the_gate_refuses_is_told(tree):
+    tree.crate("high", "fn one() {}\n// FAIL\n")
+    status, said = tree.ran("build")
+    tree.log()
+    tree.crate("high", "fn one() {}\n")
+    well = status == 1 and "high NOT PROVED; the end of" in said and "a goal is open" in said and not tree.has("out/pit") and is_left_alone(tree)
+    return well and tree.ran("build")[0] == 0 and proved(tree) == ["beside", "high", "pit"], said
 
 
 def a_second_build_waits_and_says_so(tree):
     tree.crate("high", "fn one() {}\n// SLEEP 2\n")
-    first = tree.starts("build")
+    first = tree.starts("build", "--work")
     until(lambda: tree.has("out/room"))
-    status, said = tree.ran("build")
+    status, said = tree.ran("build", "--work")
     first.communicate(timeout=30)
     once = proved(tree) == ["beside", "high", "low", "pit"]
     return (status, first.returncode) == (0, 0) and once and said.startswith("another build, or the gate, is at work in this tree"), said
@@ -146,8 +204,8 @@ def the_gate_waits_for_a_build(tree):
     until(lambda: tree.has("out/room"))
     gate = asked(tree, "gate()")
     build.communicate(timeout=30)
-    last = tree.log()[-1][0]
-    well = gate.startswith("another build") and gate.endswith("(1, 0)\n") and last == "ci" and not tree.has("out/again")
+    order = [line[0] for line in tree.log()]
+    well = gate.startswith("another build") and gate.endswith("(1, 0)\n") and order == ["ci", "low", "high", "beside", "pit"] * 2 and not tree.has("out/again")
     return well and build.returncode == 0, gate
 
 
@@ -156,7 +214,7 @@ EDIT = "# function: one\nfile: src/lib.rt\nold: fn one() {}\nnew: fn one() {} //
 
 def the_gate_tries_edits_over_its_own_libraries(tree):
     tree.commit()
-    tree.ran("build")
+    tree.ran("build", "--work")
     tree.write("crates/high/edits/wrong.edit", EDIT % "REFUSED")
     tree.log()
     first = asked(tree, "gate()")
@@ -190,7 +248,7 @@ def what_is_proved_is_kept_where_one_fails(tree):
     tree.crate("low", "fn one() {}\n")
     tree.crate("beside", SLOW)
     tree.crate("high", "fn one() {}\n// FAIL\n")
-    status, said = tree.ran("build")
+    status, said = tree.ran("build", "--work")
     kept = tree.has("crates/low/out/rlib/stamp") and tree.has("crates/beside/out/incremental/half")
     kept = kept and tree.has("crates/high/out/incremental/half") and not tree.has("out/pit")
     return status == 1 and "high NOT PROVED" in said and "a goal is open" in said and kept and is_left_alone(tree), said
@@ -198,7 +256,7 @@ def what_is_proved_is_kept_where_one_fails(tree):
 
 def a_crate_of_few_functions_gets_one_process(tree):
     tree.crate("high", "fn one() {}\n" * 60)
-    tree.ran("build")
+    tree.ran("build", "--work")
     jobs = {line[0]: int(line[1]) for line in tree.log()}
     return (jobs["low"], jobs["high"], jobs["pit"]) == (1, min(4, len(os.sched_getaffinity(0))), 1), repr(jobs)
 
@@ -231,7 +289,7 @@ def an_answer_comes_before_any_proof(tree):
     parts = ["before anything is proved", "ACCEPTED 90 71040", "run-time checks, and not proved", "Now every function is proved",
              "[ 4/4] pit", "The same check by the proved program", "ACCEPTED 90 71040"]
     at = [match.start() for match in re.finditer("|".join(map(re.escape, parts)), said)]
-    return status == 0 and len(at) == 7 and log[0] == "try" and len(log) == 5, said
+    return status == 0 and len(at) == 7 and log == ["try", "ci", "low", "high", "beside", "pit"], said
 
 
 def quick_stops_after_the_first_answer(tree):
@@ -395,10 +453,13 @@ def a_release_holds_pitplan(tree):
 def a_release_is_compared_with_another_build(tree):
     released(tree)
     tree.log()
+    all_anew = "proved anew: low, high, beside, pit; 0 libraries taken"
     status, said = tree.ran("release", "--check")
-    well = status == 0 and said.count("same   ") == 6 and "proved anew: pit; 3 libraries taken" in said and not tree.has("out/again")
-    anew, more = tree.ran("release", "--check", "--anew")
-    return well and anew == 0 and "proved anew: " in more and "0 libraries taken" in more, said + more
+    well = status == 0 and said.count("same   ") == 6 and all_anew in said and not tree.has("out/again")
+    tree.ran("build", "--work")
+    taken, more = tree.ran("release", "--check")
+    anew, most = tree.ran("release", "--check", "--anew")
+    return well and taken == anew == 0 and "proved anew: pit; 3 libraries taken" in more and all_anew in most, said + more + most
 
 
 def another_program_fails_the_comparison(tree):
@@ -442,7 +503,8 @@ def the_manual_page_follows_the_help_texts(tree):
 CASES = [
     the_program_stays_where_the_gate_leaves_it, a_change_is_proved, the_room_is_in_the_tree, ctrl_c_ends_with_one_line,
     sigterm_leaves_nothing_behind, a_closed_terminal_leaves_nothing_behind, a_killed_build_is_cleared_away_by_the_next,
-    a_second_build_waits_and_says_so, the_gate_waits_for_a_build,
+    what_a_build_proved_the_gate_keeps, only_what_changed_is_proved_again, ctrl_c_ends_the_gate_of_a_build,
+    sigterm_ends_the_gate_of_a_build, a_crate_that_the_gate_refuses_is_told, a_second_build_waits_and_says_so, the_gate_waits_for_a_build,
     the_gate_tries_edits_over_its_own_libraries, each_edit_that_shows_nothing_fails_the_gate, what_is_proved_is_kept_where_one_fails, a_crate_of_few_functions_gets_one_process,
     limits_of_a_container_count, an_answer_comes_before_any_proof, quick_stops_after_the_first_answer, no_answer_without_proof_is_told,
     the_page_of_the_example_is_made,

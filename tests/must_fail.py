@@ -1,6 +1,7 @@
-"""Tries the edits of crates/*/edits: mistakes that the prover must refuse, each by a check of the function that it breaks.
+"""Tries edits: mistakes that the prover must refuse, each by a check of the function that it breaks.
 
-An edit has the lines that the kit's edits have, and one that names the function, which the kit doesn't read:
+Those of crates/*/edits are here; those of crates/*/planted.edits, which the gate doesn't try, in planted.py. An edit has
+the lines that the kit's edits have, and one that names the function, which the kit doesn't read:
 
     # function: rests::read_pairs
     file: src/rests.rt
@@ -40,11 +41,11 @@ class BadEdit(Exception):
 class Edit:
     """An edit of a crate: its name, the function that it names, and the texts that it changes, by their path in the crate."""
 
-    def __init__(self, crate, file):
-        self.crate, self.label = crate, "%s/%s" % (crate.name, file.stem)
-        self.text = file.read_text(encoding="utf-8")
+    def __init__(self, crate, name, text):
+        self.crate, self.label, self.text = crate, "%s/%s" % (crate.name, name), text
 
     def functions(self):
+        """The functions that are checked; none where the whole crate is."""
         named = re.findall(r"^# function: (\S+)$", self.text, re.M)
         if not named:
             raise BadEdit("no line `# function: PATH` names the function that it breaks")
@@ -78,7 +79,7 @@ def replaced(text, file, old, new):
 
 
 def edits_in(crate):
-    return sorted((crate.folder / "edits").glob("*.edit"))
+    return [Edit(crate, file.stem, file.read_text(encoding="utf-8")) for file in sorted((crate.folder / "edits").glob("*.edit"))]
 
 
 def words_for(crate):
@@ -145,18 +146,22 @@ def goal_refused(texts, lines):
     return next(filter(OPEN.match, goals), goals[0])
 
 
+def tried(edit):
+    """What a check says of the crate with the edit: its status, its lines, and a remark where all of it had to be checked."""
+    texts, functions = edit.texts(), edit.functions()
+    lacking = [other.name for other in edit.crate.below.values() if not library(other).is_dir()]
+    if lacking:
+        raise BadEdit("the library %s isn't built" % lacking[0])
+    status, lines = checked(edit, texts, functions)
+    if not functions or status != 0:
+        return texts, status, lines, ""
+    return texts, *checked(edit, texts, []), " by the whole crate, and not by %s: name another function" % ", ".join(functions)
+
+
 def verdict(edit):
     """Whether the edit is refused, and what to say of it."""
     try:
-        texts, functions = edit.texts(), edit.functions()
-        lacking = [other.name for other in edit.crate.below.values() if not library(other).is_dir()]
-        if lacking:
-            raise BadEdit("the library %s isn't built" % lacking[0])
-        status, lines = checked(edit, texts, functions)
-        by = ""
-        if status == 0:
-            by = " by the whole crate, and not by %s: name another function" % ", ".join(functions)
-            status, lines = checked(edit, texts, [])
+        texts, status, lines, by = tried(edit)
         if status == 0:
             return False, "%s: ACCEPTED: the crate is still proved with this mistake" % edit.label
         if status != 1 or not lines[-1].startswith(("only=", "logic=not-proved")):
@@ -171,20 +176,24 @@ def processes():
     return max(1, min(machine.processors(), machine.free_memory() // TRY_MEMORY))
 
 
+def try_each(edits, verdict_of=verdict):
+    """Tries these edits over the libraries that were built, and gives how many were refused and how many not."""
+    refused = 0
+    with ThreadPoolExecutor(processes()) as pool:
+        for done in as_completed([pool.submit(verdict_of, edit) for edit in sorted(edits, key=lambda it: -it.crate.lines())]):
+            is_refused, said = done.result()
+            print(said, flush=True)
+            refused += is_refused
+    return refused, len(edits) - refused
+
+
 def try_all(names=()):
     """Tries the edits of the crates with these names, or of all, over the libraries that were built, and gives how many were refused and how many not."""
     crates = tree.read_crates()
     unknown = sorted(set(names) - set(crates))
     if unknown:
         sys.exit("no such crate: %s" % " ".join(unknown))
-    edits = [Edit(crate, file) for crate in crates.values() if not names or crate.name in names for file in edits_in(crate)]
-    refused = 0
-    with ThreadPoolExecutor(processes()) as pool:
-        for done in as_completed([pool.submit(verdict, edit) for edit in sorted(edits, key=lambda it: -it.crate.lines())]):
-            is_refused, said = done.result()
-            print(said, flush=True)
-            refused += is_refused
-    return refused, len(edits) - refused
+    return try_each([edit for crate in crates.values() if not names or crate.name in names for edit in edits_in(crate)])
 
 
 @contextmanager

@@ -1,85 +1,82 @@
-"""Tries the edits of crates/*/planted: each is a mistake that the prover must refuse.
+"""Tries the edits of crates/*/planted.edits: mistakes that the prover must refuse too.
 
-All work is done in a copy of the tree, so nothing of the working tree changes.
+An entry is a line `edit: NAME` and the lines of an edit, as must_fail.py has them. Where it names no function, the one is
+checked in which its first change of `src` stands; a mistake elsewhere, as in a definition, is tried on the whole crate.
 """
-import os
 import re
-import shutil
-import subprocess
 import sys
-import tempfile
-from concurrent.futures import ThreadPoolExecutor, as_completed
-from pathlib import Path
 
-# What the kit says of an edit: `must-fail CRATE/NAME.edit: refused, as it must be: ..`, `.. NOT REFUSED: ..` or `.. BAD EDIT: ..`.
-SAID = re.compile(r"must-fail (\S+)/(\S+)\.edit: (refused, as it must be|NOT REFUSED|BAD EDIT)[:,]?\s*(.*)")
+import must_fail
+import tree
+
+ENTRY = re.compile(r"^edit: (\S+)\n(.*?)(?=^edit: |\Z)", re.M | re.S)
+FUNCTION = re.compile(r"^( *)(?:pub(?:\([^)]*\))? )?(?:ghost )?(?:const )?fn (\w+)", re.M)
+# the trait of an `impl`, if it is for one, and the type: a check names its functions by both, as `KindDisplay::fmt`
+IMPL = re.compile(r"^impl\b(?:<[^{]*?>)? *(?:(?:\w+::)*(\w+)(?:<[^{]*?>)? for )?&?(?:\w+::)*(\w+)", re.M)
+NOBODY = "has no function `"
 
 
-def edits_in(crate):
-    return sorted((crate / "planted").glob("*.edit"))
+class Planted(must_fail.Edit):
+    """An edit that may leave it to us which function it breaks."""
+
+    def functions(self):
+        if "# function: " in self.text:
+            return super().functions()
+        changed = re.search(r"^file: (src/\S+)\nold: ?(.*)$", self.text, re.M)
+        file = changed and self.crate.folder / changed[1]
+        found = function_around(file, changed[2]) if changed and file.is_file() else None
+        return [found] if found else []
 
 
-def wanted_edits(top, names):
-    """The names of the edits to be tried, by crate: those of the crates CRATE, those named CRATE/EDIT, or all where no name is given."""
-    found = {crate.name: [edit.stem for edit in edits_in(crate)] for crate in sorted((top / "crates").iterdir())}
+def function_around(file, line):
+    """The function in which this line of the file stands, as a check names it, or None."""
+    text = file.read_text(encoding="utf-8")
+    before = text[: text.find(line) + len(line)]
+    heads = list(FUNCTION.finditer(before))
+    if not heads or "\n}\n" in before[heads[-1].end():]:
+        return None
+    of = list(IMPL.finditer(before[: heads[-1].start()])) if heads[-1][1] else []
+    around = of[-1][2] + (of[-1][1] or "") if of else None if file.stem in ("lib", "main") else file.stem
+    return "%s::%s" % (around, heads[-1][2]) if around else heads[-1][2]
+
+
+def planted_in(crate):
+    """The planted edits of a crate, by name."""
+    file = crate.folder / "planted.edits"
+    text = file.read_text(encoding="utf-8") if file.exists() else ""
+    return {name: Planted(crate, name, lines) for name, lines in ENTRY.findall(text)}
+
+
+def wanted_edits(names):
+    """The edits to be tried: those of the crates CRATE, those named CRATE/EDIT, or all where no name is given."""
+    found = {crate.name: planted_in(crate) for crate in tree.read_crates().values()}
     wanted = {}
-    for name in names or [crate for crate, edits in found.items() if edits]:
+    for name in names or found:
         crate, _, edit = name.partition("/")
         if crate not in found or edit and edit not in found[crate]:
             sys.exit("no such %s: %s" % ("edit" if edit else "crate", name))
-        wanted.setdefault(crate, []).extend(it for it in ([edit] if edit else found[crate]) if it not in wanted.get(crate, []))
-    return {crate: edits for crate, edits in wanted.items() if edits}
+        wanted.update({it.label: it for it in ([found[crate][edit]] if edit else found[crate].values())})
+    return list(wanted.values())
 
 
-def copy_of(top, room, wanted):
-    """A copy of the tree in which the wanted edits stand where the kit looks for edits."""
-    tree = Path(room) / "tree"
-    shutil.copytree(top, tree, symlinks=True, ignore=shutil.ignore_patterns(".git", "__pycache__"))
-    for crate in (tree / "crates").iterdir():
-        shutil.rmtree(crate / "must-fail", ignore_errors=True)
-        for edit in wanted.get(crate.name, []):
-            (crate / "must-fail").mkdir(exist_ok=True)
-            (crate / "planted" / (edit + ".edit")).rename(crate / "must-fail" / (edit + ".edit"))
-    # so that the build looks at each library: the gate leaves the program, and not what the libraries were built to
-    (tree / "out" / "built-from").unlink(missing_ok=True)
-    return tree
+class Whole(Planted):
+    """An edit that is tried on the whole crate, since a check knows no function of the name that was found."""
+
+    def functions(self):
+        return []
 
 
-def tried(tree, name):
-    """What the kit says of each edit of a crate, by the edit's name."""
-    ran = subprocess.run(["rt", "must-fail", name], cwd=tree, stdin=subprocess.DEVNULL, stdout=subprocess.PIPE,
-                         stderr=subprocess.STDOUT, text=True, errors="replace")
-    found = {said[2]: (said[3], said[4]) for said in map(SAID.search, ran.stdout.splitlines()) if said}
-    return name, found, ran.stdout
+def verdict(edit):
+    """Whether the edit is refused, and what to say of it. Refused for a name alone counts, and is told."""
+    is_refused, said = must_fail.verdict(edit)
+    if not is_refused and NOBODY in said and "# function: " not in edit.text:
+        is_refused, said = must_fail.verdict(Whole(edit.crate, edit.label.partition("/")[2], edit.text))
+    for_name = "cannot be tried: it is refused for a name alone"
+    if not is_refused and for_name in said:
+        return True, "%s: refused for a name alone, which says little" % edit.label
+    return is_refused, said
 
 
-def tell(name, edit, found, said):
-    """Prints the line of one edit, and says whether it was refused."""
-    verdict, why = found.get(edit, ("BAD EDIT", "the kit said nothing of it; it ended with: " + said.strip()[-300:]))
-    label = "%s/%s" % (name, edit)
-    if verdict == "NOT REFUSED":
-        print("%s: ACCEPTED: the crate is still proved with this mistake" % label, flush=True)
-        return False
-    if verdict == "BAD EDIT":
-        print("%s: cannot be tried: %s" % (label, why), flush=True)
-        return False
-    print("%s: refused%s" % (label, " for a name alone, which says little" if "names what the edit took away" in why else ""), flush=True)
-    return True
-
-
-def try_all(top, names):
+def try_all(names):
     """Tries the planted edits of these names, CRATE or CRATE/EDIT, or all, and gives how many were refused and how many not."""
-    wanted = wanted_edits(top, names)
-    passed = failed = 0
-    with tempfile.TemporaryDirectory(prefix="pit-planted-") as room:
-        tree = copy_of(top, room, wanted)
-        # the libraries, before crates are tried side by side
-        if subprocess.run([str(tree / "build")], stdin=subprocess.DEVNULL).returncode:
-            return 0, 1
-        with ThreadPoolExecutor(len(os.sched_getaffinity(0))) as pool:
-            for done in as_completed([pool.submit(tried, tree, name) for name in sorted(wanted, key=lambda it: -len(wanted[it]))]):
-                name, found, said = done.result()
-                for edit in wanted[name]:
-                    is_refused = tell(name, edit, found, said)
-                    passed, failed = passed + is_refused, failed + (not is_refused)
-    return passed, failed
+    return must_fail.try_each(wanted_edits(names), verdict)

@@ -53,6 +53,7 @@ def repository(top, room):
     (tree / "crates.txt").write_text("small:\npit: small\n")
     write(tree, "small/src/lib.rt", CODE)
     write(tree, "pit/src/main.rt", MAIN)
+    write(tree, "pit/stdout", "ACCEPTED\n")
     (tree / "examples" / "copper").mkdir(parents=True)
     return tree
 
@@ -70,17 +71,19 @@ def ran(tree, *words):
 
 
 def refused_edits_pass(tree):
-    write(tree, "small/planted/the_number_itself.edit", REFUSED)
+    write(tree, "small/planted.edits", "edit: the_number_itself\n" + REFUSED)
     status, said = ran(tree, "tests/run", "--planted", "small")
-    return status == 0 and "small/the_number_itself: refused" in said and said.endswith("1 passed, 0 failed\n"), said
+    return status == 0 and "small/the_number_itself: refused: " in said and said.endswith("1 passed, 0 failed\n"), said
 
 
 def an_accepted_edit_fails(tree):
-    write(tree, "small/planted/harmless.edit", ACCEPTED)
-    write(tree, "small/planted/stale.edit", STALE)
+    """Beside those of a function that the entry names, or that is found by the line that it changes."""
+    entries = {"the_number_itself": REFUSED, "harmless": ACCEPTED, "stale": STALE, "of_next": NEXT + REFUSED, "of_another": SOME + REFUSED}
+    write(tree, "small/planted.edits", "\n".join("edit: %s\n%s" % entry for entry in entries.items()))
     status, said = ran(tree, "tests/run", "--planted")
     is_told = "small/harmless: ACCEPTED" in said and "small/stale: cannot be tried" in said
-    return status == 1 and is_told and said.endswith("1 passed, 2 failed\n"), said
+    is_told = is_told and "small/of_next: refused: " in said and "small/of_another: refused by the whole crate" in said
+    return status == 1 and is_told and said.endswith("3 passed, 2 failed\n"), said
 
 
 def named_edits_are_tried_alone(tree):
@@ -102,7 +105,7 @@ def edits_are_tried_by_their_function(tree):
 
 
 def a_build_says_what_it_proved(tree):
-    status, said = ran(tree, "build")
+    status, said = ran(tree, "build", "--anew")  # an earlier run of the tests may have proved the same
     again, nothing = ran(tree, "build")
     return status == 0 and "[ 1/2] small" in said and "functions proved" in said and (again, nothing) == (0, ""), said + nothing
 

@@ -1,7 +1,8 @@
 """A stand-in for the kit: an `rt` that proves nothing and does in moments what the scripts see of the real one.
 
 What it does with a crate is told by words in the crate's sources: `SLEEP 2` takes two seconds, `FAIL` isn't proved. Each
-crate that it works on is a line of the file LOG beside it: `NAME JOBS FOLDER`, and `again` where it goes on from earlier work.
+crate that it works on is a line of the file LOG beside it: `NAME JOBS FOLDER`, and `again` where it goes on from earlier work;
+its gate writes `ci`, and `NAME gate FOLDER` or, where it had kept the crate, `NAME kept FOLDER`.
 """
 import os
 import signal
@@ -47,6 +48,30 @@ def prove():
         (out / name).chmod(0o755)
     print("logic=proved functions=%d" % len(re.findall(r"\bfn ", text)))
 
+def gate(name, below):
+    # as the real one: it keeps what has passed, and its own libraries stay where no earlier build had made any
+    crate = here / "crates" / name
+    text, kept, made = "".join(source(here / "crates" / it) for it in [*below, name]), KIT / "kept" / name, crate / "out" / "rlib" / (name + ".rlib")
+    is_kept = kept.exists() and kept.read_text() == text and "--anew" not in words
+    log(" ".join([name, "kept" if is_kept else "gate", str(crate)]))
+    if is_kept:
+        print("rt: %s is kept: an earlier run on this machine proved the same files over the same libraries" % name, flush=True)
+    else:
+        for seconds in re.findall(r"SLEEP (\S+)", source(crate)):
+            time.sleep(float(seconds))
+        if "FAIL" in source(crate):
+            sys.exit("== %s\nerror: a goal is open\nlogic=not-proved\nrt: %s NOT PROVED" % (name, name))
+        print("== %s\nlogic=proved functions=%d\nrt: %s proved" % (name, len(re.findall(r"\bfn ", source(crate))), name), flush=True)
+    kept.parent.mkdir(exist_ok=True)
+    kept.write_text(text)
+    if (crate / "src" / "main.rt").exists():
+        (crate / "out").mkdir(exist_ok=True)
+        (crate / "out" / name).write_text(program(source(crate)))
+        (crate / "out" / name).chmod(0o755)
+    elif not made.exists():
+        made.mkdir(parents=True)
+        (made / "by-the-gate").write_text("")
+
 if words == ["version"]:
     print("stand-in logic 0123456789abcdef")
 elif words == ["doc"]:
@@ -62,12 +87,9 @@ elif words[0] in ("lib", "run"):
     prove()
 elif words[0] == "ci":
     log("ci " + " ".join(words[1:]))
-    # as the real one: its own libraries stay where no earlier build had made any
-    for crate in sorted((here / "crates").iterdir()):
-        made = crate / "out" / "rlib" / (crate.name + ".rlib")
-        if not made.exists():
-            made.mkdir(parents=True)
-            (made / "by-the-gate").write_text("")
+    lines = [line.partition(":") for line in (here / "crates.txt").read_text().splitlines()]
+    for name, _, below in lines:
+        gate(name, below.split())
     print("1 passed, 0 failed")
 else:
     sys.exit("the stand-in has no rt " + words[0])

@@ -1,4 +1,4 @@
-"""Proves crates side by side, each in a folder of its own.
+"""Proves crates side by side, each in a folder of its own, and keeps the work from which later checks go on.
 
 The kit lets one `rt` at a time into a crate and into all crates below it, so that two crates with a common library
 would wait for each other. Each crate is therefore proved in a folder of its own, beside copies of what it stands on,
@@ -47,6 +47,12 @@ def stop_by_signals():
             signal.signal(number, stop)
 
 
+def take_no_signals():
+    """Lets nothing more end the build, while it clears its room away."""
+    for number in STOPS:
+        signal.signal(number, signal.SIG_IGN)
+
+
 @contextmanager
 def unbroken():
     """Holds such signals back while something is half done."""
@@ -89,6 +95,16 @@ def is_as_built(crate):
     """Whether the crate's library is there, built from what the crate and those below it are now."""
     file = sum_file(crate.folder)
     return file.exists() and file.read_text() == tree.digest([*crate.below.values(), crate])
+
+
+def has_work(crates):
+    """Whether a library is there that a build of this kind has left."""
+    return any(sum_file(crate.folder).exists() for crate in crates.values())
+
+
+def has_all_work(crates):
+    """Whether every library is there, as such a build has left it."""
+    return all(is_as_built(crate) for crate in crates.values() if not crate.is_program)
 
 
 def weigh(crates):
@@ -189,14 +205,14 @@ class Screen:
             sys.stdout.flush()
             self.shown = 1
 
-    def crate(self, crate, said="", seconds=0):
+    def crate(self, crate, said="", time="    0 s"):
         self.ended += 1
         proved = re.findall(r"^logic=proved functions=(\d+)", said, re.M)
-        what = "%4s functions proved" % proved[-1] if proved else "   as it was built     "
-        self.line("[%2d/%d] %-16s %s %5d s" % (self.ended, self.count, crate.name, what, seconds))
+        what = "%4s functions proved" % proved[-1] if proved else "   as it was proved    "
+        self.line("[%2d/%d] %-16s %s %s" % (self.ended, self.count, crate.name, what, time))
 
-    def failed(self, proof, said, log):
-        self.line("%s NOT PROVED; the end of %s:\n" % (proof.crate.name, log))
+    def failed(self, crate, said, log):
+        self.line("%s NOT PROVED; the end of %s:\n" % (crate.name, log))
         self.line("\n".join(said.splitlines()[-40:]))
 
 
@@ -253,16 +269,15 @@ class Run:
             self.log.write("== %s\n%s" % (proof.crate.name, said))
             self.log.flush()
             if not is_proved:
-                self.screen.failed(proof, said, self.log.name)
+                self.screen.failed(proof.crate, said, self.log.name)
                 return False
             self.done.add(proof.crate.name)
-            self.screen.crate(proof.crate, said, proof.seconds())
+            self.screen.crate(proof.crate, said, "%5d s" % proof.seconds())
         return True
 
     def stop(self):
         """Ends what is at work, and clears the room away."""
-        for number in STOPS:
-            signal.signal(number, signal.SIG_IGN)
+        take_no_signals()
         for proof in self.running:
             proof.stop()
         shutil.rmtree(tree.ROOM, ignore_errors=True)
@@ -274,7 +289,7 @@ class Run:
         for crate in [it for it in self.waiting if is_as_built(it)]:
             self.waiting.remove(crate)
             self.done.add(crate.name)
-            self.log.write("== %s\nas it was built\n" % crate.name)
+            self.log.write("== %s\nas it was proved\n" % crate.name)
             self.screen.crate(crate)
 
     def all(self):

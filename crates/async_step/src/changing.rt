@@ -1,4 +1,5 @@
-//! A step's last part: the number that it changes, the block's next operation, and the count.
+//! Ends a step: changes the one number that the step writes, gives the block its next operation and counts the step.
+//! Refuses the step where no more of them may be counted.
 
 ghost use Rattle.std.specs.Prelude.{◌≡◌, ◌<◌, length};
 ghost use Rattle.machine_law.specs.Operations.{operation_as};

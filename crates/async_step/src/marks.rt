@@ -1,4 +1,5 @@
-//! A set of blocks in which the next one is found without looking at all.
+//! A set of blocks that gives the first of its blocks at or after a given one, and passes over empty stretches at
+//! once.
 
 ghost use Rattle.std.specs.Prelude.{◌≡◌, ◌↔◌, ℕ, ◌+◌, ◌<◌, ◌≤◌, ◌^◌, true, false, IsTrue, IfOk, MatchOption, length, replicate, slice_set};
 ghost use Rattle.async_step.specs.Marks.{mark_at, shifted, CanShift, NoneWithin, IsFirstWithin, IsFirstRound};

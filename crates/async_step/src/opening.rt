@@ -1,4 +1,4 @@
-//! The lists of the opening state.
+//! Makes the lists with which a run begins: each block's excess, no operation, and which blocks have excess.
 
 ghost use Rattle.std.specs.Prelude.{◌≡◌, ◌≤◌, not, IfOk, All, length, map, replicate};
 ghost use Rattle.ordered_group.specs.Amount.{is_zero, positive, FitsPair};

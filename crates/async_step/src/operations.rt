@@ -1,4 +1,5 @@
-//! What a block does next, by what it read.
+//! Decides what a block does next once it has read its excess, a capacity or a label: look at the next residual arc,
+//! push, raise its label, or end its operation.
 
 ghost use Rattle.std.specs.Prelude.{◌≡◌};
 ghost use Rattle.machine_law.specs.Operations.{operation_as};

@@ -1,4 +1,5 @@
-//! Tests of amounts and operations.
+//! Decides whether an amount is positive, whether a block has no operation, and whether it may
+//! begin one or isn't done yet.
 
 ghost use Rattle.std.specs.Prelude.{◌≡◌, not, ◌&&◌, ◌||◌};
 ghost use Rattle.ordered_group.specs.Amount.{is_zero, FitsPair};

@@ -1,4 +1,5 @@
-//! The steps of a push and of a raise.
+//! Makes the steps of a push, which change an arc's flow and the excess at its two ends, and the step that raises a
+//! block's label. A step after which a number wouldn't fit is refused.
 
 ghost use Rattle.std.specs.Prelude.{◌≡◌, ◌+◌, ◌<◌, length};
 ghost use Rattle.ordered_group.specs.Amount.{plus};

@@ -1,4 +1,5 @@
-//! The steps that read.
+//! Makes the steps that read: a block's own excess, the residual capacity of an arc, or the label at its other end.
+//! Each decides the block's next operation.
 
 ghost use Rattle.std.specs.Prelude.{◌≡◌, ◌<◌, length};
 ghost use Rattle.closure_net.specs.Ports.{ports};

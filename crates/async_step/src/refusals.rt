@@ -1,4 +1,5 @@
-//! Why a step, or a list of steps, is refused.
+//! Why a step is refused, and why a list of steps can't be repeated: memory, or the place of its
+//! first refused step.
 
 ghost use Rattle.std.specs.Prelude.{Some};
 ghost use Rattle.async_step.specs.FaultText.{step_refusal_text, replay_fault_text};

@@ -1,4 +1,5 @@
-//! Whole lists of steps.
+//! Repeats a list of steps from the machine's first state: gives the state after them, or the place
+//! of the first step that is refused.
 
 ghost use Rattle.std.specs.Prelude.{MatchResult};
 ghost use Rattle.machine_law.specs.States.{opening};

@@ -1,4 +1,5 @@
-//! What a step tells.
+//! What a step tells whoever made it: the excess, capacity or label that was read, the amount that
+//! was pushed, or the new label.
 
 /// What a step saw, moved or raised.
 #[derive(Clone, Copy, Debug, PartialEq, Eq)]

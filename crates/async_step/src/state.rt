@@ -1,4 +1,5 @@
-//! The state of the machine.
+//! The state of a push-relabel run over a net: excess, label and operation of each block, and the flow. Once no block
+//! has excess or an operation it gives a maximum flow.
 
 ghost use Rattle.std.specs.Prelude.{◌≡◌, ◌↔◌, ℕ, ◌+◌, ◌<◌, ◌≤◌, true, IsTrue, IfOk, MatchOption, MatchResult, length, map, slice_set, slice_index};
 ghost use Rattle.ordered_group.specs.Amount.{zero_amount};

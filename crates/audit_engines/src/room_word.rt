@@ -1,4 +1,4 @@
-//! The word that says for how many steps there is room in a history.
+//! Reads the word that says how many steps a trace may have; gives nothing for any other word.
 
 ghost use Rattle.std.specs.Prelude.{◌≡◌};
 ghost use Rattle.audit_engines.specs.RoomWord.{room_of};

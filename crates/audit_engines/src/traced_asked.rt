@@ -1,4 +1,5 @@
-//! What a solve with a trace is asked for.
+//! What is asked for where a mine is solved with a trace: the factor, the kind of amounts, the
+//! effort and the most steps of the trace.
 
 use engines::Effort;
 use ordered_group::Group;

@@ -1,4 +1,5 @@
-//! Solving a net by an audited run: its trace is written right after it, and then what it answers.
+//! Solves a net by a run that writes down its steps: writes the trace of the run, and then a certificate, or why
+//! there is none.
 
 ghost use Rattle.std.specs.Prelude.{◌≡◌, ◌+◌, ◌-◌, ◌^◌, ◌<◌, ◌≤◌, ◌↔◌, ℕ, List, length, MatchResult, IsErrOf};
 ghost use Rattle.std.specs.Io.KnownBytes.{Appends};

@@ -1,4 +1,5 @@
-//! Rows of the bench table.
+//! A row of the bench table: how many blocks of one shell lie on one bench, their tonnes and their
+//! worth.
 
 /// The blocks of one bench and one shell.
 #[derive(Clone, Copy, Debug, PartialEq, Eq)]

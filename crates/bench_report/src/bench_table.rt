@@ -1,4 +1,5 @@
-//! The rows of the bench table.
+//! Makes the bench table of a model and a series of shells: the blocks, tonnes and worth of each shell on each bench,
+//! or why there is no table.
 
 ghost use Rattle.std.specs.Prelude.{◌≡◌, ◌<◌, ◌↔◌, [], pos, length, IsTrue, IfOk, OnOk, IfErr, MatchResult, slice_index_or};
 ghost use Rattle.std.specs.BTreeMap.{get, values, IsOrdered};

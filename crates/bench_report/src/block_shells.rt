@@ -1,4 +1,4 @@
-//! The table of blocks and their shells, as comma-separated values.
+//! Gives the shell of each block of a series as comma-separated values.
 
 ghost use Rattle.std.specs.Prelude.{◌≡◌, ◌++◌, Some, None, IfOk, OnOk};
 ghost use Rattle.shells.specs.Prices.{blocks_of};

@@ -1,4 +1,5 @@
-//! Why there is no table.
+//! Why there is no bench table: inputs of different numbers of blocks, a sum that doesn't fit, or
+//! memory; and how each is printed.
 
 ghost use Rattle.std.specs.Prelude.{Some};
 ghost use Rattle.bench_report.specs.FaultText.{report_fault_text};

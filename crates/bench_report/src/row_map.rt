@@ -1,4 +1,4 @@
-//! Rows by their bench and shell, and adding blocks to them.
+//! Adds blocks to the rows of their bench and shell, which are kept in order, or tells that a sum doesn't fit.
 
 ghost use Rattle.std.specs.Prelude.{◌≡◌, ◌^◌, ◌<◌, Some, OnOk, IfErr, MatchResult};
 ghost use Rattle.std.specs.BTreeMap.{Updates, get};

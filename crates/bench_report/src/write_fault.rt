@@ -1,4 +1,4 @@
-//! Why a table isn't written.
+//! Why a bench table isn't written whole, and how each fault is printed.
 
 ghost use Rattle.std.specs.Prelude.{Some};
 ghost use Rattle.bench_report.specs.FaultText.{write_fault_text};

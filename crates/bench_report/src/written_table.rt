@@ -1,4 +1,4 @@
-//! Writing the bench table.
+//! Gives the bench table as comma-separated values, or writes it, or says why it couldn't be written.
 
 ghost use Rattle.std.specs.Prelude.{◌≡◌, ◌++◌, ◌+◌, ◌-◌, ◌^◌, ◌<◌, Err, IfOk, OnOk, map};
 ghost use Rattle.std.specs.Io.KnownBytes.{Appends};

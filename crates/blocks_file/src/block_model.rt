@@ -1,4 +1,5 @@
-//! What a `.blocks` file holds.
+//! A model as a `.blocks` text gives it: how many blocks there are, where each is, and its values of the chosen
+//! columns.
 
 ghost use Rattle.std.specs.Prelude.{◌≡◌, ◌+◌, ◌*◌, ◌<◌, ◌≤◌, [], pos, length, slice_index_or};
 ghost use Rattle.blocks_file.specs.Denotes as spec;

@@ -1,4 +1,4 @@
-//! What is wrong with a text of blocks.
+//! Why a text of blocks is refused, with the number of its first faulty line, and how each fault is printed.
 
 use std::fmt;
 

@@ -1,4 +1,5 @@
-//! How many records a text has.
+//! Counts the records of a text, before memory for their blocks is taken; refuses a line that is too long, and too
+//! many records.
 
 ghost use Rattle.std.specs.Prelude.{◌≡◌, ◌≤◌, not, Some, None, length, MatchResult};
 ghost use Rattle.fixed_worth.specs.Text.{fields_of};

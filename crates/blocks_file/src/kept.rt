@@ -1,4 +1,5 @@
-//! What the records have given.
+//! Gathers the places and the chosen values of blocks, record by record, and refuses an unknown block and a second
+//! record of one.
 
 ghost use Rattle.std.specs.Prelude.{◌≡◌, ℕ, ◌+◌, ◌*◌, ◌<◌, ◌≤◌, Bool, true, false, pos, Some, None, length, replicate, slice_set, slice_index_or, IfOk, MatchResult};
 ghost use Rattle.blocks_file.specs.Records as spec;

@@ -1,4 +1,4 @@
-//! Places of blocks.
+//! Where a block is, by its coordinates along three axes, and how a field is read as a coordinate.
 
 ghost use Rattle.std.specs.Prelude.{◌≡◌};
 ghost use Rattle.blocks_file.specs.Records as spec;

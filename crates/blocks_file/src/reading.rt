@@ -1,4 +1,4 @@
-//! Reading a text.
+//! Reads a `.blocks` text: gives its blocks with their places and the chosen columns, or the first fault of the text.
 
 ghost use Rattle.std.specs.Prelude.{◌≡◌, ◌≤◌, [], Some, None, Err, length, MatchResult};
 ghost use Rattle.blocks_file.specs.Records as spec;

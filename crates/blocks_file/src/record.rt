@@ -1,4 +1,5 @@
-//! Reading one line.
+//! Reads a line of a `.blocks` text: gives its block, its place and the values of the chosen columns, nothing for a
+//! line to skip, or what is wrong with it.
 
 ghost use Rattle.std.specs.Prelude.{◌≡◌, ◌≤◌, false, Some, None, length, MatchResult, MatchOption, IsTrue};
 ghost use Rattle.fixed_worth.specs.Text.{fields_of};

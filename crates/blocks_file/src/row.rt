@@ -1,4 +1,5 @@
-//! The values of a record's chosen columns.
+//! Reads the chosen columns among the fields of a record, and counts its columns, so that a missing column is
+//! noticed.
 
 ghost use Rattle.std.specs.Prelude.{◌≡◌, ◌==◌, ◌<◌, ◌≤◌, true, None, Some, length, map, MatchResult};
 ghost use Rattle.std.specs.List.{list_any};

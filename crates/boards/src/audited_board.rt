@@ -1,4 +1,5 @@
-//! A board beside the history of its steps.
+//! A push-relabel run over a net of its own that writes down each step. Once no block has excess or an operation it
+//! gives a maximum flow and the history that leads to it.
 
 ghost use Rattle.std.specs.Prelude.{◌≡◌, ◌↔◌, ◌<◌, ◌≤◌, min, IsTrue, IfOk, MatchResult};
 ghost use Rattle.machine_law.specs.declared.events.TheConstants.{MOST_EVENTS};

@@ -1,4 +1,4 @@
-//! All the turns that are left of a run.
+//! Makes all steps that are left of a run, on the caller's thread, and tells why the run ends.
 
 ghost use Rattle.std.specs.Prelude.{◌≡◌, ◌+◌, ◌<◌, ◌≤◌, true, MatchOption};
 ghost use Rattle.boards.specs.Boards.{shown, blocks_of, IsTurnBoard};

@@ -1,4 +1,5 @@
-//! What the boards on which nothing but turns makes steps have in common.
+//! What a run with a history and one without have in common: steps that are picked by turns alone, and written down
+//! where that is asked for.
 
 ghost use Rattle.std.specs.Prelude.{◌≡◌, ◌↔◌, ◌<◌, ◌≤◌, true, IsTrue, IfOk, vec_len, vec_capacity};
 ghost use Rattle.machine_law.specs.declared.operations.Operation.TheVariants.{Idle};

@@ -1,4 +1,5 @@
-//! What a turn answers.
+//! What a turn answers: the step that was made, that no block may begin one now, or why the run
+//! ends.
 
 /// What a turn did.
 #[derive(Clone, Copy, Debug, PartialEq, Eq)]

@@ -1,4 +1,5 @@
-//! A board on which nothing but turns makes steps.
+//! A push-relabel run in which a block begins an operation only where it has excess. Where the run
+//! can't go on, a number of the state after the next step would overflow.
 
 ghost use Rattle.std.specs.Prelude.{◌≡◌, ◌↔◌, ◌<◌, ◌≤◌, IsTrue, IfOk};
 ghost use Rattle.machine_law.specs.declared.operations.Operation.TheVariants.{Idle};

@@ -1,4 +1,5 @@
-//! The lines of a certificate behind its header, from the first to END.
+//! Reads the lines behind a certificate's header up to `END`, and adds each to the pit and the flow, or gives the
+//! first fault.
 
 ghost use Rattle.std.specs.Prelude.{◌≡◌, ℕ, [], ◌∷◌, length, Some, None, Ok, Err, MatchResult};
 ghost use Rattle.certificate_file.specs.BodyLines as spec;

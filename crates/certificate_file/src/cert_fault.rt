@@ -1,4 +1,4 @@
-//! What is wrong with the text of a certificate.
+//! Why a text is no certificate, with the number of its first faulty line, and how each fault is printed.
 
 ghost use Rattle.std.specs.Prelude.{◌≡◌};
 

@@ -1,4 +1,5 @@
-//! Certificates, and reading them.
+//! Reads the text of a certificate: gives its pit and its flow for a mine's blocks and pairs, or the first fault of
+//! the text.
 
 ghost use Rattle.std.specs.Prelude.{◌≡◌, None, Some, Err, MatchResult};
 ghost use Rattle.certificate_file.specs.Pieces.{pieces_of};

@@ -1,4 +1,5 @@
-//! The pit and the flow of a certificate while its lines are read.
+//! Gathers the pit and the flow of a certificate line by line, and refuses an amount over a pair that the mine
+//! doesn't have.
 
 ghost use Rattle.std.specs.Prelude.{◌≡◌, ◌≢◌, ℕ, ◌<◌, Bool, true, false, ◌⊎◌, pos, [], ◌∷◌, length, IfOk, MatchOption, MatchResult};
 ghost use Rattle.ordered_group.specs.Amount.{zero_amount};

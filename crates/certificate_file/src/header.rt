@@ -1,4 +1,5 @@
-//! The header of a certificate.
+//! What the first four lines of a certificate say: the number of blocks, the price that their worths are of,
+//! and the kind of amounts.
 
 use ordered_group::Group;
 

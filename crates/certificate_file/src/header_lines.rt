@@ -1,4 +1,5 @@
-//! The first four lines of a certificate, one after another.
+//! Reads the first four lines of a certificate one by one, and decides whether it is for the wanted number of blocks
+//! and kind of amounts.
 
 ghost use Rattle.std.specs.Prelude.{◌≡◌, ℕ, ◌+◌, List, drop, MatchOption, MatchResult, Some, None, Ok, Err};
 ghost use Rattle.std.specs.Str.{bytes_eq};

@@ -1,4 +1,5 @@
-//! The pieces of a text and the words of a line, one after another.
+//! Gives the lines of a certificate's text one after another, with their numbers, and the words of a line, which
+//! single spaces divide.
 
 ghost use Rattle.std.specs.Prelude.{◌≡◌, ℕ, ◌+◌, ◌<◌, ◌≤◌, ◌^◌, ◌==◌, Bool, true, cond, List, [], ◌∷◌, length, MatchResult, Some, None};
 ghost use Rattle.std.specs.Iterator.{item_count, YieldsFirstBy};

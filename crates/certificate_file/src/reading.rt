@@ -1,4 +1,5 @@
-//! What a certificate is for, from its first lines alone.
+//! Tells for which number of blocks, price and kind of amounts a certificate was made, by its first
+//! four lines alone.
 
 ghost use Rattle.std.specs.Prelude.{◌≡◌};
 ghost use Rattle.certificate_file.specs.Pieces.{pieces_of};

@@ -1,4 +1,5 @@
-//! Writing a certificate.
+//! Writes a pit and its flow as the text of a certificate, line by line, or stops at the first write that fails. It
+//! takes no memory.
 
 ghost use Rattle.std.specs.Prelude.{◌≡◌, ℕ, ◌+◌, ◌-◌, ◌^◌, ◌<◌, ◌≤◌, ◌⊎◌, All, [], ◌∷◌, ◌++◌, length, map, OnOk, OnErr};
 ghost use Rattle.std.specs.Fmt.{decimal, signed_decimal};

@@ -1,4 +1,5 @@
-//! Accepted pits.
+//! A net with a pit that a check has accepted: it is closed, no closed set sums to more, and its
+//! worth is known. Nothing but a check makes one.
 
 ghost use Rattle.std.specs.Prelude.{◌≡◌};
 ghost use Rattle.closure_net.specs.Network.{holds_of};

@@ -1,4 +1,5 @@
-//! Accepted pits of graphs.
+//! A graph with a pit that a check has accepted: it is closed, no closed set sums to more, and its worth is
+//! known. Nothing but a check makes one.
 
 ghost use Rattle.std.specs.Prelude.{◌≡◌, ℕ, ◌<◌, length, All};
 ghost use Rattle.ordered_group.specs.Amount.{AtMost};

@@ -1,4 +1,5 @@
-//! A certificate that is read from a device, line by line.
+//! Checks a certificate for a mine while it is read from a device, line by line: gives the accepted pit, or the first
+//! fault of its text or of its pit and flow.
 
 ghost use Rattle.std.specs.Prelude.{◌≡◌, ℕ, ◌+◌, ◌-◌, ◌^◌, ◌<◌, ◌≤◌, ◌++◌, true, false, List, [], length, Some, None, Ok, Err, IfOk, IfErr, IsErrOf, MatchResult};
 ghost use Rattle.check_pit.specs.CertStreams.{IsReadFor};

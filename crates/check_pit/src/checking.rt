@@ -1,4 +1,5 @@
-//! The check of a pit by a flow.
+//! Decides whether a flow proves that a pit is a maximum closure of a net: gives the accepted pit with its worth, or
+//! the first fault.
 
 ghost use Rattle.std.specs.Prelude.{◌≡◌, ◌↔◌, ◌<◌, ℕ, IsTrue, length, map, All, MatchOption, MatchResult};
 ghost use Rattle.std.specs.Result.{IsOk};

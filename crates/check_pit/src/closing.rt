@@ -1,4 +1,5 @@
-//! Whether a pit is closed.
+//! Decides whether a pit is closed: gives the first pair whose block is in the pit and whose
+//! predecessor isn't.
 
 ghost use Rattle.std.specs.Prelude.{◌<◌, MatchOption};
 ghost use Rattle.closure_net.specs.Network.{holds_of};

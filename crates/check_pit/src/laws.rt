@@ -1,4 +1,5 @@
-//! Laws, each the contract of a function that does nothing.
+//! Laws of what a check decides: that a closed set that is tight by a flow is a maximum closure, and is refused for
+//! nothing but sums that don't fit. Each is the contract of a function that does nothing.
 
 ghost use Rattle.check_pit.specs.Duality.{WeakDuality};
 ghost use Rattle.check_pit.specs.LineLaws.{LineSumsTell};

@@ -1,4 +1,5 @@
-//! Whether a set of blocks is closed that has a mark for each.
+//! Marks the blocks of a pit, and decides by these marks whether it is closed: gives the first pair that
+//! leads from the pit to a block outside.
 
 ghost use Rattle.std.specs.Prelude.{◌≡◌, ℕ, ◌<◌, false, length, slice_index_or, MatchOption};
 ghost use Rattle.closure_net.specs.Network.{holds_of};

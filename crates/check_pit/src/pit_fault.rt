@@ -1,4 +1,4 @@
-//! Why a pit and a flow are refused.
+//! Why a pit and a flow are refused, with the block or pair at fault, and how each fault is printed.
 
 ghost use Rattle.check_pit.specs.FaultText.{pit_fault_text};
 

@@ -1,4 +1,4 @@
-//! The blocks of a pit while they come, and the pit once they are all there.
+//! Collects the blocks of a pit as they are read, and gives the pit once they are all there, in the same memory.
 
 ghost use Rattle.std.specs.Prelude.{◌≡◌, ◌<◌, ◌≤◌, ◌∷◌, ◌++◌, [], true, false, length, IfOk, IsOk};
 ghost use Rattle.closure_net.specs.Network.{IsAscending};

@@ -1,4 +1,5 @@
-//! The sums of a check while lines are read.
+//! The memory of a check that reads line by line. Takes each line's amount into a block's balance or the pit's worth,
+//! and tells at the end whether all balances are zero and the pit is tight.
 
 ghost use Rattle.std.specs.Prelude.{◌≡◌, ◌↔◌, ℕ, ◌<◌, ◌≤◌, ◌⊎◌, true, false, IsTrue, pos, List, [], length, IfOk, IsOk, IfErr, IfSome, MatchOption, MatchResult};
 ghost use Rattle.ordered_group.specs.Amount.{zero_amount, plus, minus, positive, AtMost, FitsPair};

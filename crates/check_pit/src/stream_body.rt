@@ -1,4 +1,5 @@
-//! The lines of a stream behind its header, one after another.
+//! Reads the next line behind a certificate's header from a device, and refuses one out of its order or of a pair
+//! that the mine doesn't have.
 
 ghost use Rattle.std.specs.Prelude.{◌≡◌, ◌+◌, ◌-◌, ◌^◌, ◌<◌, ◌≤◌, true, false, length, IsErrOf, MatchResult};
 ghost use Rattle.fixed_worth.specs.declared.limits.TheConstants.{LINE_BYTES};

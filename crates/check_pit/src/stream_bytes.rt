@@ -1,4 +1,4 @@
-//! The bytes that a stream has read and no line has taken yet.
+//! Holds the bytes that a device has given and no line has taken yet, in memory for one line that is taken once.
 
 ghost use Rattle.std.specs.Prelude.{◌≡◌, ◌+◌, ◌-◌, ◌^◌, ◌<◌, ◌≤◌, [], length, take, drop, slice_range, IfOk, IfSome, IfNone};
 ghost use Rattle.std.specs.Io.KnownBytes.{Consumes, Keeps, IsAtEnd};

@@ -1,4 +1,5 @@
-//! The check of the lines of a stream, one after another.
+//! Checks all lines behind a certificate's header as they are read: decides whether the pit is closed, the flow
+//! balanced and the pit tight, or gives the first fault.
 
 ghost use Rattle.std.specs.Prelude.{◌≡◌, ℕ, ◌+◌, ◌-◌, ◌^◌, ◌<◌, ◌≤◌, ◌++◌, true, false, not, cond, List, length, IfOk, IsErrOf, MatchResult};
 ghost use Rattle.ordered_group.specs.Amount.{zero_amount};

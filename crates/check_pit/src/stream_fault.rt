@@ -1,4 +1,5 @@
-//! Why a stream of a certificate is refused.
+//! Why a certificate that is read from a device isn't accepted: the device, its length, a line, or
+//! the pit and its flow.
 
 use crate::pit_fault::PitFault;
 use certificate_file::CertFault;

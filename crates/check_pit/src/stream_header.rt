@@ -1,4 +1,5 @@
-//! The first four lines of a stream, one after another.
+//! Reads the first four lines of a certificate from a device: the number of blocks, the price and the kind of
+//! amounts, or the first fault.
 
 ghost use Rattle.std.specs.Prelude.{◌≡◌, ◌+◌, ◌-◌, ◌^◌, ◌<◌, length, None, Ok, Err, IsErrOf, MatchResult};
 ghost use Rattle.check_pit.specs.declared.stream_fault.StreamFault.TheVariants as fault;

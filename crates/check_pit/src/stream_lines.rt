@@ -1,4 +1,4 @@
-//! The lines of a text that is read from a device, one after another.
+//! Gives the lines of a text that is read from a device one after another, in memory for one line.
 //!
 //! A line is taken in three steps, so that no borrow of it is held while the device is read: [`StreamLines::next_length`]
 //! reads until it is held whole, [`StreamLines::front`] lends it, and [`StreamLines::pass`] goes behind it.

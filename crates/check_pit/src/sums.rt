@@ -1,4 +1,5 @@
-//! The sums of a check. Each is made in a stated order, and stops at the first sum that doesn't fit.
+//! Sums what flows into a block and out of it, what a pit is worth and what the source has left, in a stated order,
+//! and tells where a sum doesn't fit.
 
 ghost use Rattle.std.specs.Prelude.{◌≡◌, ◌↔◌, ◌<◌, ℕ, ◌⊎◌, IsTrue, map, length, MatchOption};
 ghost use Rattle.ordered_group.specs.Amount.{plus};

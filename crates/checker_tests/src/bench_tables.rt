@@ -1,4 +1,5 @@
-//! Three blocks in two shells, and sums that are too large.
+//! Tries the bench table of three blocks in two shells, inputs of different lengths, sums that
+//! don't fit, and a device that is full.
 
 use crate::prices_and_series::{COST, HIGH, LOW, REVENUE, added, opened, prices};
 use bench_report::{BenchRow, ReportFault, ReportWriteFault, rows, write_report};

@@ -1,4 +1,5 @@
-//! Certificates that a device gives, checked line by line.
+//! Tries checks of certificates that a device gives line by line: which are accepted, in what order faults are found,
+//! and what a failed read leads to.
 
 ghost use Rattle.std.specs.Prelude.{◌≡◌, length, IfOk};
 ghost use Rattle.check_pit.specs.CertStreams.{IsReadFor};

@@ -1,4 +1,5 @@
-//! Certificates as texts: which are read, and as what they are written.
+//! Tries which texts are read as certificates, with what faults others are refused, and that a certificate is written
+//! as it was read.
 
 ghost use Rattle.std.specs.Prelude.{◌≤◌, length, IfOk};
 ghost use Rattle.certificate_file.specs.Certificate.{Covers};

@@ -1,4 +1,5 @@
-//! Small nets, checked.
+//! Tries checks of pits and flows of small nets: a maximum closure is accepted, and each kind of
+//! mistake is refused by its name.
 
 ghost use Rattle.std.specs.Prelude.{◌≤◌, length};
 

@@ -1,4 +1,5 @@
-//! Three blocks at three prices, and a series that is full.
+//! Tries what three blocks are worth at several factors, with a mill and without, and series of
+//! shells: which pits they take, and the shell of each block.
 
 use crate::pits_and_flows::same;
 use check_pit::{Accepted, Price, check};

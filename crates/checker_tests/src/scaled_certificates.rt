@@ -1,4 +1,4 @@
-//! Certificates in units, worth and size in one number.
+//! Tries certificates whose amounts hold worth and size in one number: how they are read, checked and written.
 
 use crate::certificates::{fault_in, is_written_as, read_over, rests};
 use crate::pits_and_flows::same;

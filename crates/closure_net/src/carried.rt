@@ -1,4 +1,5 @@
-//! What the pairs carry.
+//! The flow over each pair of a block and its predecessor, read and set by the pair's number. Where few pairs carry a
+//! flow it takes little memory.
 
 ghost use Rattle.std.specs.Prelude.{◌≡◌, ℕ, ◌<◌, ◌≤◌, List, length, map, replicate, slice_set, IfOk, IfErr, MatchResult};
 ghost use Rattle.ordered_group.specs.Amount.{zero_amount};

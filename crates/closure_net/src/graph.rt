@@ -1,4 +1,5 @@
-//! Graphs of blocks that are worth something.
+//! The blocks of a mine with their predecessors and their worths as amounts, which is all that a check needs. Worths
+//! whose sums don't fit are refused.
 
 ghost use Rattle.std.specs.Prelude.{◌≡◌, ◌<◌, length, map, MatchResult};
 ghost use Rattle.ordered_group.specs.Amount.{positive, negative};

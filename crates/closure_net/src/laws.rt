@@ -1,4 +1,5 @@
-//! The laws of pits, each the contract of a function that does nothing.
+//! Laws that lead from a maximum closure of a net to its mine's best pit, and from lower worths to higher ones; each
+//! is the contract of a function that does nothing.
 
 ghost use Rattle.std.specs.Prelude.{ℕ, Bool};
 ghost use Rattle.ordered_group.specs.Block.{worth_block};

@@ -1,4 +1,5 @@
-//! Nets.
+//! Picard's network of a mine, as a solver needs it: pairs that are found by block and by predecessor, and each
+//! block's worth. Worths whose sums don't fit are refused.
 
 ghost use Rattle.std.specs.Prelude.{◌≡◌, ◌↔◌, ◌<◌, IsTrue, Some, length, map, IfOk, MatchResult};
 ghost use Rattle.ordered_group.specs.Amount.{positive, negative};

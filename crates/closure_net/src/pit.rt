@@ -1,4 +1,5 @@
-//! Pits.
+//! A set of blocks as the ascending list of their numbers: made from such a list or refused, and asked whether it
+//! holds a block.
 
 ghost use Rattle.std.specs.Prelude.{◌≡◌, ◌↔◌, ℕ, ◌<◌, ◌≤◌, ◌+◌, ◌-◌, ◌^◌, false, IsTrue, List, length, slice_index, MatchBool, MatchOption};
 ghost use Rattle.closure_net.specs.Network.{IsAscending, holds_of};

@@ -1,4 +1,5 @@
-//! The ports of a block.
+//! The residual arcs at a block in a fixed order: to the sink, to its predecessors, to the blocks whose predecessor
+//! it is, and to the source.
 
 ghost use Rattle.std.specs.Prelude.{◌≡◌, ◌+◌, ◌<◌, ◌≤◌, Some, length, MatchOption, slice_get};
 ghost use Rattle.ordered_group.specs.Sums.{amount_at};

@@ -1,4 +1,5 @@
-//! A breadth-first search among the blocks of a net.
+//! The queue of a breadth-first search among blocks: takes each block once, gives them in the order
+//! in which they came, and at the end ascending.
 
 ghost use Rattle.std.specs.Prelude.{◌≡◌, [], ◌<◌, ◌≤◌, length, IfOk, slice_index};
 ghost use Rattle.closure_net.specs.Network.{holds_of};

@@ -1,4 +1,5 @@
-//! What the source of a network reaches.
+//! The pit of a flow: all blocks that the source reaches in the residual network. Of a maximum flow it is the least
+//! maximum closure.
 
 ghost use Rattle.std.specs.Prelude.{◌≡◌, ◌↔◌, ◌<◌, All, IsTrue, length, IfOk};
 ghost use Rattle.prec_file.specs.Rests.{above_of, below_of};

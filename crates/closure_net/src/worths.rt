@@ -1,4 +1,5 @@
-//! Whether amounts can be the worths of a net, and the amounts of blocks.
+//! Turns the worths of blocks into the amounts of a net, and decides whether their opposites and the sums of the
+//! positive ones fit.
 
 ghost use Rattle.std.specs.Prelude.{◌≡◌, ◌<◌, length, map, MatchBool, MatchResult};
 ghost use Rattle.ordered_group.specs.Amount.{negative};

@@ -1,4 +1,4 @@
-//! The command `check`.
+//! The command `check`: its options and help, and the files that its arguments name.
 
 use crate::options::{
     ModelArgs, STATUSES, file_arg, model_args, model_options, text_of, verbose_option, with_options,

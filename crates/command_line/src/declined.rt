@@ -1,4 +1,5 @@
-//! Why the arguments are no request.
+//! Why the arguments are no request, for a caller to print: a help text, the version, or what is wrong, with the exit
+//! status.
 
 use clap::Error;
 use clap::error::ErrorKind;

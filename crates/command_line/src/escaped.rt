@@ -1,4 +1,4 @@
-//! Texts as they are shown.
+//! Shows a text with its control characters escaped, so that none of them acts on the terminal.
 
 use std::fmt;
 

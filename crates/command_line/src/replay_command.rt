@@ -1,4 +1,4 @@
-//! The command `replay`.
+//! The command `replay`: its options and help, and what its arguments ask for, with the names of the files.
 
 use crate::options::{
     ModelArgs, STATUSES, file_arg, group_option, model_args, model_at_factor_options, text_of,

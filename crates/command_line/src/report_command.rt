@@ -1,4 +1,4 @@
-//! The command `report`.
+//! The command `report` with its help. Its options are those of all commands over a series of factors.
 
 use crate::options::STATUSES;
 use crate::series_options::with_series;

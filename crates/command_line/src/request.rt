@@ -1,4 +1,4 @@
-//! Reading the arguments: one request, or an answer that prints itself.
+//! Reads the arguments of the program: gives the one request that they make, or why there is none.
 
 use crate::check_command::{CheckArgs, check_args, check_command};
 use crate::declined::Declined;

@@ -1,5 +1,5 @@
-//! What the commands share that go over a series of factors: the files of a mine with prices, and how each of its pits is
-//! found.
+//! The options of `shells` and `report`, and what their arguments ask for: the files of a mine with prices, and how
+//! each of its pits is found.
 
 use crate::options::{
     PREC_HELP, PRICED_BLOCKS_HELP, file_option, method_option, named_option, progress_option,

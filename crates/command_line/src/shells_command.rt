@@ -1,4 +1,4 @@
-//! The command `shells`.
+//! The command `shells` with its help. Its options are those of all commands over a series of factors.
 
 use crate::options::{SETTINGS_HELP, STATUSES};
 use crate::series_options::with_series;

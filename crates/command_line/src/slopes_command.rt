@@ -1,4 +1,5 @@
-//! The command `slopes`.
+//! The command `slopes`: its options and help, and what its arguments ask for: the file of blocks, the pattern or the
+//! settings, and the way up.
 
 use crate::options::{STATUSES, file_option, named_option, text_of, verbose_option, with_options};
 use clap::{Arg, ArgAction, ArgMatches, Command};

@@ -1,4 +1,5 @@
-//! The command `solve`.
+//! The command `solve`: its options and help, and what its arguments ask for: the files of a mine, and how it is
+//! solved.
 
 use crate::options::{
     ModelArgs, STATUSES, group_option, method_option, model_args, model_at_factor_options,

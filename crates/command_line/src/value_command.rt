@@ -1,4 +1,5 @@
-//! The command `value`.
+//! The command `value`: its options and help, and what its arguments ask for: the files of a design and its mine, and
+//! what it is compared with.
 
 use crate::options::{
     ModelArgs, STATUSES, file_arg, model_args, model_options, named_option, number_option, text_of,

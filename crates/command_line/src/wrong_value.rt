@@ -1,4 +1,5 @@
-//! A value that names nothing for its option, reported in the library's form of error.
+//! Declines a request whose option has a value that names nothing: the text says which option, which value, and
+//! what the option takes.
 
 use crate::declined::Declined;
 use crate::escaped::Escaped;

@@ -1,4 +1,5 @@
-//! Telling a design beside the pit of a certificate.
+//! Writes what a design comes to and, beside it, the pit that a certificate proves and how much more that is worth,
+//! or that the certificate is refused.
 
 ghost use Rattle.std.specs.Prelude.{◌≡◌, ◌+◌, ◌-◌, ◌^◌, ◌<◌, ◌↔◌, ◌++◌, ◌-ℤ◌, ℕ, List, SomeIff, FitsSigned, IfOk, OnOk, IfErr, IsErrOf};
 ghost use Rattle.std.specs.Int.{w128};

@@ -1,4 +1,4 @@
-//! Reading a design as an input of an engine.
+//! Reads a design as an input of an engine: gives a mark for each block of the mine, or the first fault of the text.
 
 ghost use Rattle.std.specs.Prelude.{◌≡◌, ◌+◌, ◌-◌, ◌^◌, ◌<◌, ◌≤◌, ◌↔◌, ◌⊎◌, length, IfOk, IfSome, MatchResult, IsErrOf};
 ghost use Rattle.engines.specs.Limits.{IsTooLong, IsWithinLimit};

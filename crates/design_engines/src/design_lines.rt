@@ -1,4 +1,5 @@
-//! The lines of a design.
+//! Writes the lines of a design: its blocks and worth, and whether it is closed, or which pairs lead from it to
+//! predecessors outside.
 
 ghost use Rattle.std.specs.Prelude.{◌≡◌, ◌+◌, ◌-◌, ◌^◌, ◌<◌, ◌↔◌, ◌++◌, ℕ, OnOk, IfOk, IfErr, IsErrOf};
 ghost use Rattle.std.specs.Io.KnownBytes.{Appends};

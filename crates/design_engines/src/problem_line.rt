@@ -1,4 +1,4 @@
-//! The line of what is wrong with a design, made without memory.
+//! Writes the line that says what is wrong with a design, without taking memory.
 
 ghost use Rattle.std.specs.Prelude.{◌≡◌, ◌+◌, ◌-◌, ◌^◌, ◌<◌, ◌≤◌, ◌++◌, length, OnOk, OnErr};
 ghost use Rattle.std.specs.Io.KnownBytes.{Appends};

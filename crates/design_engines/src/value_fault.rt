@@ -1,4 +1,4 @@
-//! Why a design could not be judged.
+//! Why a design could not be judged: a fault of the design or of its mine, or memory or a device.
 
 use design_file::DesignFault;
 use engines::EngineFault;

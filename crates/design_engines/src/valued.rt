@@ -1,4 +1,5 @@
-//! What a design comes to.
+//! What a design comes to: its blocks, its worth and the pairs that lead out of it, and how an
+//! engine ends with it.
 
 ghost use Rattle.std.specs.Prelude.{◌≡◌};
 ghost use Rattle.design_engines.specs.Designs.{verdict_for};

@@ -1,4 +1,5 @@
-//! A design over a mine that was read.
+//! Judges a design over a mine that was read: sums its blocks' worths, looks for pairs that lead out of it, and
+//! writes what it comes to.
 
 ghost use Rattle.std.specs.Prelude.{◌≡◌, ◌+◌, ◌-◌, ◌^◌, ◌<◌, ◌↔◌, ℕ, List, length, MatchResult, IsErrOf};
 ghost use Rattle.engines.specs.Mines.{MineTexts};

@@ -1,4 +1,4 @@
-//! What is wrong with a design.
+//! Why the text of a design is refused, with the number of the line, and how each fault is printed.
 
 ghost use Rattle.std.specs.Prelude.{Some};
 ghost use Rattle.design_file.specs.FaultText.{design_fault_text};

@@ -1,4 +1,4 @@
-//! The block that a line names.
+//! Decides whether a line of a design is passed over, and finds the field of any other that names its block.
 
 ghost use Rattle.std.specs.Prelude.{◌≡◌, ◌≤◌, None, Some, length, MatchOption};
 ghost use Rattle.fixed_worth.specs.Text.{fields_of};

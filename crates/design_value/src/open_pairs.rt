@@ -1,4 +1,5 @@
-//! The pairs that lead out of a set of marked blocks.
+//! Counts the pairs that lead from a block of a design to a predecessor outside it, and gives the first of them; also
+//! counts the design's blocks.
 
 ghost use Rattle.std.specs.Prelude.{◌≡◌, ℕ, ◌+◌, ◌<◌, ◌≤◌, Bool, cond, List, [], ◌∷◌, ◌++◌, take, length, IfOk, OnOk};
 ghost use Rattle.prec_file.specs.Rests.{first_of};

@@ -1,4 +1,4 @@
-//! What a set of marked blocks is worth.
+//! Sums the worths of the marked blocks, or tells that a sum doesn't fit.
 
 ghost use Rattle.std.specs.Prelude.{◌≡◌, pos, ◌+ℤ◌, cond, length, MatchOption, FitsSigned};
 ghost use Rattle.std.specs.Int.{w128};

@@ -1,4 +1,4 @@
-//! The pit that a flow proves, whatever engine made it: the one place where a solver's flow is trusted or not.
+//! The pit that a flow proves, whatever solver made it: the one place where a solver's flow is trusted or not.
 
 ghost use Rattle.std.specs.Prelude.{◌≡◌, IfOk, MatchResult, IsErrOf};
 ghost use Rattle.closure_net.specs.Network.{FlowFits};

@@ -1,4 +1,5 @@
-//! The engine of `check`: bytes in, a verdict out.
+//! The engine of `check`: takes the bytes of a mine and a certificate, decides whether the certificate proves its
+//! pit, and writes the verdict.
 
 ghost use Rattle.std.specs.Prelude.{◌≡◌, ◌+◌, ◌-◌, ◌^◌, ◌<◌, IfSome, IsErrOf};
 ghost use Rattle.engines.specs.Checking.{Checks, SoundIsAccepted};

@@ -1,4 +1,4 @@
-//! How a mine is solved, and how much that may use.
+//! What a caller allows for solving a mine: the method, the number of threads, and the most steps and turns.
 
 ghost use Rattle.std.specs.Prelude.{◌≡◌, ℕ, ◌≤◌, ◌^◌};
 ghost use Rattle.workers.specs.declared.solving.TheConstants.{MOST_WORKERS};

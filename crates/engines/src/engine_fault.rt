@@ -1,4 +1,5 @@
-//! Why an engine could not answer.
+//! Why an engine could not answer: which of its inputs is at fault and how, or that memory, a device or a thread
+//! failed.
 
 use blocks_file::BlocksFault;
 use check_pit::CertFault;

@@ -1,4 +1,5 @@
-//! The line of a fault, made without memory, and the exit status.
+//! Writes the line of a fault, which names the input and what is wrong with it, without taking memory. Gives the exit
+//! status of an engine's answer.
 //!
 //! Each fault's text is here a second time, beside its `Display`: the kit's `fmt::Write` says what was written only on `Ok`,
 //! and this line must not fail.

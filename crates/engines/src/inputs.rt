@@ -1,4 +1,4 @@
-//! Reading the inputs of an engine, each whole and with its own fault.
+//! Reads one input of a mine to its end, as blocks, values or predecessors, or says which input is at fault and why.
 
 ghost use Rattle.std.specs.Prelude.{◌≡◌, ◌+◌, ◌-◌, ◌^◌, ◌<◌, ◌≤◌, ◌↔◌, ℕ, ◌⊎◌, length, IfOk, IfSome, MatchResult, IsErrOf};
 ghost use Rattle.engines.specs.Limits.{IsWithinLimit};

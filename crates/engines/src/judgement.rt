@@ -1,4 +1,5 @@
-//! What a check says, and how an engine ends.
+//! What a check says of a certificate: accepted with its count and worth, or refused. What an
+//! engine says at its end: done, or no.
 
 ghost use Rattle.std.specs.Prelude.{◌≡◌};
 

@@ -1,4 +1,4 @@
-//! The line of a verdict.
+//! Writes the line of a verdict: `ACCEPTED` with the pit's blocks and worth, or `REFUSED` with the fault.
 
 ghost use Rattle.std.specs.Prelude.{◌≡◌, ◌+◌, ◌-◌, ◌^◌, ◌<◌, ℕ, OnOk, IfOk, IfErr, IsErrOf, ◌↔◌, Some};
 ghost use Rattle.std.specs.Io.KnownBytes.{Appends, Keeps};

@@ -1,4 +1,5 @@
-//! Judging a certificate for a mine that was read.
+//! Judges a certificate for a mine that was read: takes the price and the kind of amounts from its header, and gives
+//! what the check decides of its pit.
 
 ghost use Rattle.std.specs.Prelude.{◌≡◌, ◌≢◌, ◌+◌, ◌-◌, ◌^◌, ◌<◌, ◌≤◌, ℕ, List, [], length, Some, Ok, Err, IfSome, IfOk, MatchResult, IsErrOf};
 ghost use Rattle.std.specs.Thread.{IsSync};

@@ -1,4 +1,5 @@
-//! Laws of accepted pits and of slopes, each the contract of a function that does nothing.
+//! Laws that accepted pits at rising factors are nested, and that a slope's reduced pairs have the same best pit as
+//! all of its pairs; each is the contract of a function that does nothing.
 
 ghost use Rattle.engines.specs.Nested.{AcceptedAreNested};
 ghost use Rattle.engines.specs.Reduced.{ReducedPairsDecide};

@@ -1,4 +1,4 @@
-//! Which engine makes the flow of a mine.
+//! Chooses the solver that computes a mine's flow, by the method that was named and the number of blocks.
 
 ghost use Rattle.std.specs.Prelude.{◌≡◌};
 ghost use Rattle.engines.specs.Methods.{method_of, begins_with_pseudoflow, ends_with_pseudoflow, method_under};

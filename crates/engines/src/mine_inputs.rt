@@ -1,4 +1,5 @@
-//! The inputs of a mine, of either kind, and reading them.
+//! Reads the inputs of a mine, whether its blocks have values or prices: gives what a check needs of it, or what a
+//! solver needs.
 
 ghost use Rattle.std.specs.Prelude.{◌≡◌, ◌+◌, ◌-◌, ◌^◌, ◌<◌, ℕ, List, IfOk, IfSome, MatchResult, IsErrOf};
 ghost use Rattle.certificate_file.specs.ReadBack.{IsPrice};

@@ -1,4 +1,5 @@
-//! The words that name a factor, a kind of amount, a number of steps and a number of workers.
+//! Reads the words of options as a factor, a kind of amount, a number of steps or a number of
+//! workers; gives nothing for any other word.
 
 ghost use Rattle.std.specs.Prelude.{◌≡◌, ◌≤◌, IfSome};
 ghost use Rattle.engines.specs.OptionWords.{factor_of, group_of, steps_of, workers_of};

@@ -1,4 +1,5 @@
-//! Who is told of the pit that was found.
+//! Who is told how many blocks a proved pit has and what it is worth, once its certificate is
+//! written.
 
 /// Is told of a pit once its certificate is written.
 pub trait Outcome {

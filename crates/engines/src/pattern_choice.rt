@@ -1,4 +1,4 @@
-//! Which pattern of offsets is asked for.
+//! Which slope patterns can be named: 1:5, 1:9, or a cone by its levels, run and rise.
 
 /// A pattern that the command line can name.
 #[derive(Clone, Copy, Debug, PartialEq, Eq)]

@@ -1,4 +1,4 @@
-//! The words that name a pattern and a direction.
+//! Reads the words that name a slope pattern or say which way is up; gives nothing for any other word.
 
 ghost use Rattle.std.specs.Prelude.{◌≡◌, IfSome};
 ghost use Rattle.fixed_worth.specs.Text.{parts};

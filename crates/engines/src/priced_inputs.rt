@@ -1,4 +1,5 @@
-//! Reading what prices blocks: settings, and the columns of blocks that they name.
+//! Reads settings and the columns of blocks that they name: gives each block's revenue and charges, or the first
+//! fault of an input.
 
 ghost use Rattle.std.specs.Prelude.{◌≡◌, ◌+◌, ◌-◌, ◌^◌, ◌<◌, ◌↔◌, true, false, [], ◌∷◌, ◌++◌, length, None, IfOk, IfSome, MatchResult, IsErrOf};
 ghost use Rattle.settings_file.specs.Settings.{names_mill, first_missing};

@@ -1,4 +1,5 @@
-//! The pattern that is asked for, the pairs that a pattern gives of a model, and their text.
+//! Makes the pattern that is asked for, gives the predecessors of each block of a model by it, and writes them as a
+//! precedence text.
 
 ghost use Rattle.std.specs.Prelude.{◌≡◌, ◌+◌, ◌-◌, ◌^◌, ◌<◌, Contains, OnOk, IfOk, IfErr, MatchResult, IsErrOf};
 ghost use Rattle.std.specs.Io.KnownBytes.{Appends};

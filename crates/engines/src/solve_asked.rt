@@ -1,4 +1,4 @@
-//! What a solve is asked for.
+//! What a caller of the engine of `solve` asks for: the factor, the kind of amounts and the effort.
 
 use crate::effort::Effort;
 use ordered_group::Group;

@@ -1,4 +1,5 @@
-//! Solving a net: a solver makes a flow, and a check decides.
+//! Solves a net: a solver computes a flow, a check decides whether it proves a pit, and where it doesn't another
+//! solver may follow. Gives the pit with its flow, or why there is none.
 
 ghost use Rattle.std.specs.Prelude.{◌≡◌, IfSome, MatchResult, IfOk};
 ghost use Rattle.engines.specs.Certifying.{IsSolution};

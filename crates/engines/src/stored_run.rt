@@ -1,4 +1,5 @@
-//! The run that the program carries: three blocks, of which the third must be dug for the other two.
+//! Checks a certificate that the program carries for a mine that it carries: three blocks, of which the third is a
+//! predecessor of the others.
 
 ghost use Rattle.std.specs.Prelude.{◌≡◌, ◌+◌, ◌-◌, ◌^◌, ◌<◌, IsErrOf};
 ghost use Rattle.engines.specs.Checking.{Checks};

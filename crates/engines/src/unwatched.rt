@@ -1,4 +1,4 @@
-//! A run that nobody watches.
+//! For callers that watch nothing: makes no worker wait, and tells nobody of progress or of a pit.
 
 use crate::outcome::Outcome;
 use pseudoflow::Progress;

@@ -1,4 +1,4 @@
-//! Words that name a whole number.
+//! Reads a word as a whole number between two bounds; gives nothing where it is none.
 
 ghost use Rattle.std.specs.Prelude.{◌≡◌, ◌≤◌, IfSome};
 ghost use Rattle.engines.specs.WholeNumbers.{whole_within};

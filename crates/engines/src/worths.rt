@@ -1,4 +1,5 @@
-//! What the blocks of a mine are worth, whether its texts give values or prices.
+//! Gives what each block of a mine is worth in billionths, at a factor or at the price that a certificate names,
+//! whether its texts give values or prices.
 
 ghost use Rattle.std.specs.Prelude.{◌≡◌, ◌≢◌, ◌≤◌, ◌*ℤ◌, ℕ, pos, IfOk, MatchOption};
 ghost use Rattle.fixed_worth.specs.declared.limits.TheConstants.{MOST_FACTOR};

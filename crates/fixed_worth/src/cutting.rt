@@ -1,4 +1,5 @@
-//! Cutting a text at a byte.
+//! Parts a text at the first place where a given byte stands: gives the text before it and the text
+//! behind it, or nothing where the byte isn't there.
 
 ghost use Rattle.std.specs.Prelude.{◌≡◌, [], ◌∷◌, MatchOption};
 ghost use Rattle.fixed_worth.specs.Text.{parts};

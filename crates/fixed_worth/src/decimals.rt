@@ -1,4 +1,5 @@
-//! Numerals with a point and an exponent, cut into their parts and rounded to millionths.
+//! Reads a decimal, with or without a point and an exponent, as a whole number of millionths, rounded to the nearest,
+//! or says why the text is none.
 
 ghost use Rattle.std.specs.Prelude.{◌≡◌, ◌+◌, ◌-◌, ◌<◌, ◌^◌, ◌&&◌, ◌||◌, ◌++◌, false, not, cond, nat_lt, length, SomeIff, IsTrue, position, Ok, Err};
 ghost use Rattle.std.specs.List.{list_all, position_or_len};

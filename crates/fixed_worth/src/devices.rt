@@ -1,4 +1,4 @@
-//! Readers and writers that count the calls that failed.
+//! Counts the failed calls of a reader or a writer, so that a contract can say whether the device failed.
 
 ghost use Rattle.std.specs.Prelude.{◌≡◌, ℕ, ◌+◌, ◌-◌, ◌^◌, ◌<◌, ◌≤◌, take, length, IfSome, IfNone, is_err};
 ghost use Rattle.std.specs.Io.{ReadsAtMost, WritesAtMost};

@@ -1,4 +1,4 @@
-//! A device for tests, one of whose calls fails.
+//! A reader or writer for tests: each call passes on at most a given number of bytes, and one chosen call fails.
 
 ghost use Rattle.std.specs.Prelude.{◌≡◌, ℕ, ◌+◌, ◌-◌, ◌^◌, ◌<◌, ◌↔◌, length, true, min, IsTrue, is_err};
 ghost use Rattle.std.specs.Io.{ReadsAtMost, WritesAtMost};

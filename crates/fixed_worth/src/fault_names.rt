@@ -1,4 +1,4 @@
-//! Faults print as their names.
+//! How a fault of a number, a text, an input or a write is printed: as its name.
 
 ghost use Rattle.std.specs.Prelude.{Some};
 ghost use Rattle.fixed_worth.specs.FaultText.{number_fault_name, text_fault_name, input_fault_name, write_fault_name};

@@ -1,4 +1,5 @@
-//! The fields of a line, and where each begins.
+//! Gives the fields of a line one after another: each with its place in the line, or read as a whole number or an
+//! amount.
 
 ghost use Rattle.std.specs.Prelude.{◌≡◌, ◌+◌, ◌<◌, ◌≤◌, ◌^◌, ◌==◌, List, length, drop, not, position};
 ghost use Rattle.std.specs.List.{position_or_len};

@@ -1,4 +1,5 @@
-//! A field that stands first in a text and is a decimal of the usual form: its bytes are looked at once.
+//! Reads the amount with which a text begins, in one pass over its bytes, and gives what is left behind its field.
+//! Only short decimals without an exponent are read; for other fields there is no answer.
 
 ghost use Rattle.std.specs.Prelude.{◌≡◌, ℕ, ◌+◌, ◌-◌, ◌*◌, ◌<◌, ◌≤◌, ◌^◌, List, cond, pos, neg_ℤ, Ok, IfSome};
 ghost use Rattle.fixed_worth.specs.Decimal.{decimal_of};

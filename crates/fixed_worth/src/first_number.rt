@@ -1,4 +1,5 @@
-//! A field that stands first in a text and is a short number: its bytes are looked at once.
+//! Reads the whole number with which a text begins, in one pass over its bytes, and gives what is left behind its
+//! field. Only numbers of at most nineteen digits are read; for other fields there is no answer.
 
 ghost use Rattle.std.specs.Prelude.{◌≡◌, ◌<◌, ◌≤◌, ◌^◌, ℕ, List, Ok, IfSome, IsTrue, length, take, drop, slice_index_or};
 ghost use Rattle.std.specs.List.{list_all};

@@ -1,4 +1,5 @@
-//! Limits that the files and the commands of a model share.
+//! The most blocks of a model, bytes of an input and of a line, and factors of a series that are accepted, and the
+//! highest factor.
 
 ghost use Rattle.std.specs.Prelude.{◌≡◌};
 

@@ -1,4 +1,5 @@
-//! The lines of a text.
+//! Gives the lines of a text one after another, with their numbers and without their line feeds, and refuses a line
+//! that is too long.
 
 ghost use Rattle.std.specs.Prelude.{◌≡◌, ◌+◌, ◌<◌, ◌≤◌, ◌^◌, ◌==◌, [], ◌∷◌, length, MatchResult, MatchOption, position, drop};
 ghost use Rattle.std.specs.List.{position_or_len};

@@ -1,4 +1,5 @@
-//! Amounts in millionths, as files and the command line give them.
+//! An amount in millionths, as files and the command line give it: read from a decimal and rounded to the nearest, or
+//! refused, and printed as a decimal again.
 
 ghost use Rattle.std.specs.Prelude.{◌≡◌, ℤ, ◌≤◌, ◌^◌, SomeIff, Some, unsigned_abs};
 ghost use Rattle.fixed_worth.specs.Decimal.{decimal_of};

@@ -1,4 +1,5 @@
-//! Whole numbers as they are written: digits, with or without a sign.
+//! Reads whole numbers: without a sign, with an optional sign, or in their one plain spelling. Otherwise says why a
+//! text is no such number.
 
 ghost use Rattle.std.specs.Prelude.{◌≡◌, ◌+◌, ◌-◌, ◌*◌, ◌<◌, ◌≤◌, ◌^◌, SomeIff, IsTrue, length, pos, neg_ℤ};
 ghost use Rattle.std.specs.List.{list_all};

@@ -1,4 +1,4 @@
-//! Gathering the short pieces of a text into few writes, with no memory taken.
+//! Gathers the short pieces of a text and sends them to a writer in few writes. It takes no memory.
 
 ghost use Rattle.std.specs.Prelude.{◌≡◌, ℕ, ◌+◌, ◌-◌, ◌^◌, ◌<◌, ◌≤◌, List, [], ◌++◌, length, take, OnOk, OnErr};
 ghost use Rattle.std.specs.Io.KnownBytes.{Appends};

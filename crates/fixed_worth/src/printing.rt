@@ -1,4 +1,5 @@
-//! How amounts are printed: a minus where it is needed, the whole part, and what is left of the fraction.
+//! Prints amounts in billionths or millionths as decimals: a minus where it is needed, the whole part, and the
+//! fraction without trailing zeros.
 
 ghost use Rattle.std.specs.Prelude.{◌≡◌, ◌<◌, ◌≤◌, ◌/◌, ◌%◌, ◌^◌, Some, unsigned_abs};
 ghost use Rattle.std.specs.Fmt.{DisplaysOnOk, decimal, sign_text};

@@ -1,4 +1,4 @@
-//! Lines that are remarks.
+//! Decides by its first field whether a line is a remark, which readers skip.
 
 ghost use Rattle.std.specs.Prelude.{◌≡◌};
 ghost use Rattle.fixed_worth.specs.Record as records;

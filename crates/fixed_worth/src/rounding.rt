@@ -1,4 +1,5 @@
-//! Rounding to a whole number, with every power of ten inside 128 bits.
+//! Multiplies a number by one power of ten and divides it by another, rounded to the nearest whole
+//! number, without overflow; nothing where the result is above 10^18.
 
 ghost use Rattle.std.specs.Prelude.{◌≡◌, ◌+◌, ◌-◌, ◌*◌, ◌/◌, ◌<◌, ◌≤◌, ◌^◌, SomeIff};
 ghost use Rattle.fixed_worth.specs.Rounding.{rounded_of};

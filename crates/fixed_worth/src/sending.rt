@@ -1,4 +1,4 @@
-//! Sending a text to a writer.
+//! Sends a whole text to a writer, in as many writes as that takes, and stops at the first write that fails.
 
 ghost use Rattle.std.specs.Prelude.{◌≡◌, ◌+◌, ◌-◌, ◌^◌, ◌<◌, OnOk, OnErr};
 ghost use Rattle.std.specs.Io.KnownBytes.{Appends};

@@ -1,4 +1,5 @@
-//! A line of output that is made without memory.
+//! Puts a line of output together from texts and numbers, of at most 192 bytes and without taking
+//! memory.
 
 ghost use Rattle.std.specs.Prelude.{◌≡◌, ℕ, ◌+◌, ◌≤◌, [], ◌++◌, length};
 ghost use Rattle.std.specs.Fmt.{decimal};

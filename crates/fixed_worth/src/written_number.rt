@@ -1,4 +1,4 @@
-//! The digits of a number, without memory.
+//! Gives the decimal digits of a number as bytes, without taking memory.
 
 ghost use Rattle.std.specs.Prelude.{◌≡◌, ℕ, ◌≤◌, List, length};
 ghost use Rattle.std.specs.Fmt.{decimal};

@@ -1,4 +1,5 @@
-//! The law of runs without a lock, the contract of a function that does nothing.
+//! The law that a run without a lock leaves a maximum flow of the net that was handed in, though its own net has
+//! clipped worths. It is the contract of a function that does nothing.
 
 ghost use Rattle.lock_free_engine.specs.Tightness.{RunsAreTight};
 

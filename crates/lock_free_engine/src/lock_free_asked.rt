@@ -1,4 +1,5 @@
-//! What a run without a lock is asked for.
+//! What is asked for where a mine is solved without a lock: the factor, the workers and the most
+//! turns.
 
 use crate::lock_free_effort::LockFreeEffort;
 use shells::Factor;

@@ -1,4 +1,5 @@
-//! How much a run without a lock may use.
+//! What a run without a lock may use: one worker or two, and a number of turns. Any other number of
+//! workers is refused.
 
 ghost use Rattle.std.specs.Prelude.{◌≡◌, ◌≤◌, IfSome, IfNone};
 ghost use Rattle.word_runner.specs.Tells.{AreBadWorkers};

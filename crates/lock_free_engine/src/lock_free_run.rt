@@ -1,4 +1,5 @@
-//! The pit that a run without a lock proves.
+//! Solves a net by one or two workers without a lock, has their flow checked over the net itself, and gives the pit
+//! that it proves, or why there is none.
 
 ghost use Rattle.std.specs.Prelude.{MatchResult};
 ghost use Rattle.ordered_group.specs.Block.{scaled_worth};

@@ -1,4 +1,4 @@
-//! The names of the method that runs without a lock.
+//! Decides whether a method's name asks for a run without a lock.
 
 ghost use Rattle.std.specs.Prelude.{◌≡◌};
 ghost use Rattle.lock_free_engine.specs.MethodName.{is_lock_free};

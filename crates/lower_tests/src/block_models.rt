@@ -1,3 +1,6 @@
+//! Tries which places and columns are read from texts of blocks, and with what faults other texts are
+//! refused.
+
 use blocks_file::{BlockModel, BlocksFault, Place, read_blocks};
 use std::alloc::Global;
 use std::fmt::Debug;

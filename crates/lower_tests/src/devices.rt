@@ -1,3 +1,6 @@
+//! Tries how failed calls of devices are counted, whole inputs are read and texts are sent, with
+//! devices that fail or take few bytes at once.
+
 // Devices of the tests' own: they claim nothing of their bytes, so what they received or gave is
 // asserted as the tests run.
 use fixed_worth::{

@@ -1,4 +1,5 @@
-//! The groups at the ends of their numbers, and their order.
+//! Tries sums and differences of amounts at the ends of their numbers, their order, and the numbers
+//! and words that certificates have for them.
 
 use ordered_group::{
     Group, OrderedGroup, Worth, WorthSize, at_most, is_zero, laws, negative_part, positive_part,

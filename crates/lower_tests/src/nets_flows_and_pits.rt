@@ -1,3 +1,6 @@
+//! Tries small nets: which blocks the source reaches by a flow, which blocks a pit holds, what each pair
+//! carries, which arcs a block has, and which nets are refused.
+
 ghost use Rattle.std.specs.Prelude.{◌≤◌};
 
 use closure_net::{Carried, Flow, Graph, GraphRef, Net, NetFault, Pit, Port, PortKind, pit_of};

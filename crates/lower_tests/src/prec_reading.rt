@@ -1,3 +1,6 @@
+//! Tries which pairs are read from precedence texts and how they are found, and with what faults other
+//! texts are refused.
+
 ghost use Rattle.std.specs.Prelude.{◌≡◌, IfOk};
 
 use prec_file::{PrecFault, Predecessors, Rests, RestsFault, read_listed, read_prec};

@@ -1,3 +1,6 @@
+//! Tries how predecessors are written as precedence texts, up to the widest line, and what a failing writer
+//! has received.
+
 // Devices of the tests' own claim nothing of their bytes, so what they received is asserted as the tests run.
 ghost use Rattle.std.specs.Prelude.{◌≤◌};
 

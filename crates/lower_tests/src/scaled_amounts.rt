@@ -1,4 +1,5 @@
-//! Worth and size in one number: units at their ends, and what they tell of sets.
+//! Tries amounts that hold worth and size in one number: at the ends of their numbers, and what
+//! they tell of sets of blocks.
 
 use crate::groups::equal;
 use ordered_group::{Group, OrderedGroup, Scaled, laws};

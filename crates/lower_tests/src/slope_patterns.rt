@@ -1,3 +1,6 @@
+//! Tries which offsets slope patterns have, and which predecessors they give the blocks of small models:
+//! all pairs, and those that others don't imply.
+
 use blocks_file::{BlockModel, Place, read_blocks};
 use prec_file::Rests;
 use slope::{Pattern, PatternFault, Selection, SlopeFault, Up, predecessors_of, rests_of};

@@ -1,3 +1,6 @@
+//! Tries how texts are cut into lines and fields, how numbers are read or refused, and how amounts and
+//! faults are printed.
+
 use fixed_worth::NumberFault::{NotANumber, TooLarge, TooLong};
 use fixed_worth::{
     Field, Fields, InputFault, Lines, Micros, MicrosTotal, Nanos, NumberFault, TextFault,

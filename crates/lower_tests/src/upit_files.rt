@@ -1,3 +1,6 @@
+//! Tries which names and values are read from `.upit` texts, with what faults other texts are refused, and how names
+//! and values are written.
+
 use fixed_worth::{Counted, CountedWrite, Micros, WriteFault};
 use std::alloc::Global;
 use std::fmt::Debug;

@@ -1,4 +1,5 @@
-//! The steps of a run.
+//! The kinds of step of the push-relabel machine, a step of a run as its kind and its block, and how many steps a
+//! history may have.
 
 ghost use Rattle.std.specs.Prelude.{◌≡◌, Some};
 ghost use Rattle.machine_law.specs.KindText.{kind_text};

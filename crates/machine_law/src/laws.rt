@@ -1,4 +1,5 @@
-//! The laws of the machine, each the contract of a function that does nothing.
+//! Laws of push-relabel runs: their states keep the invariants, nothing that the source gave is lost, and a
+//! flow at the end is a maximum flow. Each is the contract of a function that does nothing.
 
 ghost use Rattle.machine_law.specs.Conservation.{RunsConserve};
 ghost use Rattle.machine_law.specs.Law.{StepsKeepLaw, RunsKeepLaw};

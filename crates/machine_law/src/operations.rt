@@ -1,4 +1,5 @@
-//! What a block is doing.
+//! What a block is doing between two of its steps: the phase of its push or relabel, with the
+//! amounts and labels that it has read.
 
 use closure_net::Port;
 

@@ -1,4 +1,5 @@
-//! What a block does next by what it read, where that asks nothing of its amounts.
+//! Decides what a block does next where no amounts are compared: which of two residual arcs is
+//! better, and whether it goes on looking, pushes or raises its label.
 
 ghost use Rattle.std.specs.Prelude.{◌≡◌, Some};
 ghost use Rattle.machine_law.specs.Reads.{better, ended, passed_by, IsScan};

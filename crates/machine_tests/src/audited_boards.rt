@@ -1,4 +1,5 @@
-//! Histories of turns.
+//! Tries runs that write down each step: that a history ends where its room, the limit of steps or
+//! the numbers do, and that its replay leads to the run's flow.
 
 ghost use Rattle.std.specs.Prelude.{◌≤◌};
 

@@ -1,4 +1,5 @@
-//! Whole runs whose steps are written down, and turns under the lock of an audited board.
+//! Tries whole runs by threads that write down each step: where their histories end, and that all
+//! workers write one history.
 
 use crate::audited_boards::{FIRST, replays};
 use crate::board_turns::{holds, same};

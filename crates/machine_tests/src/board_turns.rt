@@ -1,4 +1,5 @@
-//! Turns at a board whose answers are known from elsewhere.
+//! Tries which block a turn takes next, and how runs end: with a flow and the net, at their limit, or
+//! where a number is too large.
 
 ghost use Rattle.std.specs.Prelude.{◌<◌};
 

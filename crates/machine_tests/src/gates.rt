@@ -1,4 +1,5 @@
-//! Gates that make workers wait for each other, and one that counts.
+//! Tries runs by up to 64 workers, with gates that make workers wait for each other and one that counts: each step
+//! passes the gate.
 
 use crate::board_turns::holds;
 use crate::small_nets::{net_of, two_on_dear_waste, two_on_waste};

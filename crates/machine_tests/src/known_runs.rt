@@ -1,5 +1,5 @@
-//! Whole runs whose ends are known from elsewhere. Small nets against the best of all their closed sets are tests of the
-//! engines, which have both solvers.
+//! Tries whole runs whose flows and numbers of steps are known from elsewhere. Small nets against the best of all
+//! their closed sets are tests of the engines, which have both solvers.
 
 use crate::board_turns::{holds, same};
 use crate::small_nets::{net_of, two_on_waste};

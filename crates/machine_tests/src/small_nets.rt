@@ -1,4 +1,4 @@
-//! Small nets whose best pits are known.
+//! Gives the tests small nets whose best pits are known.
 
 ghost use Rattle.std.specs.Prelude.{◌≤◌};
 

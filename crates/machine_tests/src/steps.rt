@@ -1,4 +1,5 @@
-//! Runs whose steps and states are known from elsewhere.
+//! Tries single steps of the push-relabel machine against a run that is known from elsewhere, step
+//! by step and state by state, and which steps are refused.
 
 ghost use Rattle.std.specs.Prelude.{◌≤◌};
 ghost use Rattle.async_step.specs.Answers.{IsStateOf};

@@ -1,4 +1,5 @@
-//! Whole runs on one thread, by turns alone.
+//! Tries whole runs on one thread that picks its steps by rule: that they end with a maximum flow,
+//! at their limit, or where a number is too large.
 
 ghost use Rattle.std.specs.Prelude.{◌≤◌};
 

@@ -1,4 +1,5 @@
-//! Whole runs whose pits are known from elsewhere.
+//! Tries whole runs by 1 to 64 workers under one lock: which pits they find on nets whose best pits
+//! are known, and how runs end that find none.
 
 use crate::board_turns::{leaves, same};
 use crate::small_nets::{

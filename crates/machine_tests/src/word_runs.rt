@@ -1,4 +1,5 @@
-//! Whole runs without a lock, whose pits and ends are known from elsewhere.
+//! Tries whole runs without a lock: which pits they find on nets whose best pits are known, how runs end that find
+//! none, and that both workers run at once.
 
 use crate::gates::{Meeting, becomes};
 use closure_net::{Net, pit_of};

@@ -1,4 +1,5 @@
-//! The words and the seats of a net by their public calls, one thread for all seats.
+//! Tries the calls by which a run without a lock is opened, stepped and ended, on one thread that serves all
+//! seats.
 
 ghost use Rattle.std.specs.Prelude.{◌≡◌, ◌<◌, IfOk, IfSome};
 ghost use Rattle.word_runner.specs.Tells.{IsFirst, AreFirst, IsServing, IsServed, AreSeats};

@@ -1,4 +1,5 @@
-//! What a worker asks of what it shares, and a turn under the lock.
+//! Tries which block a worker asks for next, when its turns are over, and that turns under the lock make
+//! steps.
 
 ghost use Rattle.std.specs.Prelude.{◌<◌};
 

@@ -1,4 +1,5 @@
-//! Functions of amounts of any kind.
+//! What can be asked of amounts of any kind: comparisons, positive and negative parts, the lesser of two, lists of
+//! zeros, and sums that tell when they don't fit.
 
 ghost use Rattle.std.specs.Prelude.{◌≡◌, ◌↔◌, IsTrue, IfOk, MatchOption, length, map, replicate};
 ghost use Rattle.ordered_group.specs.Amount.{zero_amount, is_zero, minus, AtMost, FitsPair, positive, negative, least};

@@ -1,4 +1,5 @@
-//! What the solver and the checker need of amounts.
+//! What solvers and the checker ask of a block's worth: sums and differences that tell when they don't fit, an order,
+//! and the numbers that a certificate writes. It also lists the kinds of amounts and their names.
 
 ghost use Rattle.std.specs.Prelude.{FitsSigned, ◌≤◌, ◌≡◌, ◌↔◌, ℕ, ℤ, Bool, IsTrue, false, length, pos};
 ghost use Rattle.std.specs.Int.{w128};

@@ -1,4 +1,5 @@
-//! The laws of amounts, each the contract of a function that does nothing.
+//! Laws of amounts: they are an ordered group, the sum of a set tells its worth, and where amounts count
+//! blocks the order of sums is that of sets. Each is the contract of a function that does nothing.
 
 ghost use Rattle.std.specs.Prelude.{◌≡◌};
 ghost use Rattle.std.specs.Ordering.{MatchOrdering};

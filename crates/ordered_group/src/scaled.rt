@@ -1,4 +1,5 @@
-//! Worth and size in one number.
+//! Amounts that hold a set's worth and its number of blocks in one number, so that of sets worth the
+//! same the one with fewer blocks is greater.
 
 use crate::groups::{Group, OrderedGroup};
 use crate::size::SizeGroup;

@@ -1,4 +1,5 @@
-//! Groups whose order of sums is the order of the sets.
+//! Which kinds of amounts tell, of two sets that are worth the same, which has fewer blocks, so
+//! that a maximum closure is the best pit.
 
 ghost use Rattle.ordered_group.specs.Laws.{SumsOrderSets};
 

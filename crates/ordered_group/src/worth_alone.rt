@@ -1,4 +1,5 @@
-//! Worth alone.
+//! Amounts that count worth alone, in billionths. Sets that are worth the same are equal, so a
+//! maximum closure is one best pit of perhaps many.
 
 use crate::groups::{Group, OrderedGroup};
 

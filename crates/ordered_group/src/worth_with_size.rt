@@ -1,4 +1,5 @@
-//! Worth with a count of blocks.
+//! Amounts that count worth in billionths and, where worths are equal, the number of blocks: fewer
+//! blocks are greater.
 
 use crate::groups::{Group, OrderedGroup};
 use crate::size::SizeGroup;

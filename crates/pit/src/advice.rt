@@ -1,4 +1,5 @@
-//! What to try where no pit is proved, and which options have no effect.
+//! Tells the user what to try where no pit is proved, and which options have no effect, by the arguments and the
+//! answer.
 
 use crate::solving_asked::SolvingAsked;
 use command_line::{SeriesArgs, SolveArgs};

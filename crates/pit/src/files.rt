@@ -1,4 +1,5 @@
-//! The engines on files, but for those of `solve`: all files of a command are opened before any is read.
+//! Runs the engines of all commands but `solve` on files: opens all files of a command before any is read,
+//! and gives the engine's answer.
 
 ghost use Rattle.engines.specs.Slopes.{IsChoice};
 

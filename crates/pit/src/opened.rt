@@ -1,4 +1,5 @@
-//! The files of a mine, opened, with their failures counted.
+//! Opens the files of a mine and those that are written, with their failures counted, or says that one can't be
+//! opened.
 
 ghost use Rattle.std.specs.Prelude.{◌≡◌, IfOk};
 ghost use Rattle.engines.specs.MineInputs.{CanCount};

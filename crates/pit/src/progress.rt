@@ -1,4 +1,5 @@
-//! How far a run is and what it found, for the one who waits for it.
+//! Tells the user on standard error, at most once a second, how far a run is, and at its end how many blocks the
+//! proved pit has and what it is worth.
 
 ghost use Rattle.std.specs.Prelude.{◌≡◌};
 

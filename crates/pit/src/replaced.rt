@@ -1,4 +1,4 @@
-//! A file whose bytes stay until others take their place.
+//! Opens a file to be written whose old bytes stay until the first write.
 
 use std::fs::{OpenFile, OpenOptions};
 use std::io;

@@ -1,4 +1,4 @@
-//! What the arguments of `shells` and `report` may not ask for.
+//! Refuses arguments of `shells` and `report` that would write the table of blocks over an input.
 
 use command_line::{Commanded, NamedOption, SeriesArgs, WrongValue};
 

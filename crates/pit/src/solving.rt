@@ -1,4 +1,5 @@
-//! The engines of `solve` on files: all files are opened before any is read.
+//! Runs the engines of `solve` on files: opens all files before any is read, and gives the engine's
+//! answer.
 
 use crate::advice::advice_to_solve;
 use crate::opened::{made_file, open_mine};

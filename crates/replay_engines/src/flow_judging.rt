@@ -1,4 +1,4 @@
-//! What a check says of the flow of a quiet state.
+//! Decides by a check whether the flow that a repeated run left proves a pit.
 
 ghost use Rattle.std.specs.Prelude.{IfOk};
 ghost use Rattle.machine_law.specs.Quiet.{IsSolved};

@@ -1,4 +1,5 @@
-//! The law of replayed histories, the contract of a function that does nothing.
+//! The law that the history of a run, written as a trace and replayed over the same net, leads to the run's flow. It
+//! is the contract of a function that does nothing.
 
 ghost use Rattle.replay_engines.specs.Histories.{HistoriesAreReplayed};
 

@@ -1,4 +1,5 @@
-//! What comes of the steps of a trace, and its lines.
+//! What comes of repeating a trace, and its lines: a run at its end with the check's verdict, a run that isn't at
+//! its end, or a step that is refused.
 
 ghost use Rattle.std.specs.Prelude.{◌≡◌, ◌+◌, ◌-◌, ◌^◌, ◌<◌, ◌↔◌, OnOk, IfOk, IfErr, IsErrOf};
 ghost use Rattle.std.specs.Io.KnownBytes.{Appends};

@@ -1,4 +1,4 @@
-//! What a replay is asked for.
+//! What a caller of the engine of `replay` asks for: the factor and the kind of amounts.
 
 use ordered_group::Group;
 use shells::Factor;

@@ -1,4 +1,4 @@
-//! The steps of a trace over a mine that was read.
+//! Repeats the steps of a trace over a mine that was read, and writes what comes of them.
 
 ghost use Rattle.std.specs.Prelude.{◌≡◌, ◌+◌, ◌-◌, ◌^◌, ◌<◌, ◌↔◌, ℕ, List, IfOk, MatchResult, IsErrOf};
 ghost use Rattle.engines.specs.Mines.{MineTexts};

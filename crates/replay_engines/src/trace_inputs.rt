@@ -1,4 +1,4 @@
-//! Reading a trace as an input of an engine.
+//! Reads a trace as an input of an engine: gives its steps, or its first fault.
 
 ghost use Rattle.std.specs.Prelude.{◌≡◌, ◌+◌, ◌-◌, ◌^◌, ◌<◌, ◌↔◌, IfSome, MatchResult, IsErrOf};
 ghost use Rattle.engines.specs.Limits.{IsWithinLimit};

@@ -1,4 +1,4 @@
-//! The rows of the bench table of a mine's shells.
+//! Gives the rows of the bench table of a mine's shells, with the blocks' worths at one factor.
 
 ghost use Rattle.std.specs.Prelude.{IfOk, OnOk};
 ghost use Rattle.shells.specs.Prices.{worths_at};

@@ -1,4 +1,5 @@
-//! Reading a mine that is reported: its prices, its tonnes and its precedence, and the factors of the settings.
+//! Reads settings, blocks and predecessors: gives a mine with prices and tonnes, the factors of its shells and that
+//! of the report, or the first fault of an input.
 
 ghost use Rattle.std.specs.Prelude.{◌≡◌, ◌≤◌, ◌+◌, ◌-◌, ◌^◌, ◌<◌, ◌↔◌, ℕ, [], None, length, unwrap_or, IfOk, IfSome, MatchResult, IsErrOf};
 ghost use Rattle.settings_file.specs.Settings.{first_missing};

@@ -1,4 +1,5 @@
-//! The engine of `report`.
+//! The engine of `report`: takes the bytes of settings, blocks and predecessors, and writes the blocks, tonnes and
+//! worth of each shell on each bench.
 
 ghost use Rattle.std.specs.Prelude.{ℕ, List, ◌+◌, ◌≡◌, MatchResult, IsErrOf};
 ghost use Rattle.shell_engines.specs.Devices.{ForSeries, InputsCanCount, OutputsCanCount, input_failures, output_failures, NoInputFailed, NoOutputFailed, is_asked, contents_in};

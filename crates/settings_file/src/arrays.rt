@@ -1,4 +1,5 @@
-//! Reading arrays.
+//! Reads the arrays of settings: the factors of a series, and the offsets of a slope. Of a value that is no such
+//! array it gives nothing.
 
 ghost use Rattle.std.specs.Prelude.{◌≡◌, ◌≤◌, IfOk, IfSome, option_map};
 ghost use Rattle.std.specs.List.{All};

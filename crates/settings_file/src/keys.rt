@@ -1,4 +1,4 @@
-//! The keys of settings.
+//! Which keys settings may have, how each is written, and in which order their faults are answered.
 
 ghost use Rattle.std.specs.Prelude.{◌≡◌};
 ghost use Rattle.settings_file.specs.Keys.{key_name, is_known};

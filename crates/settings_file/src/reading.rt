@@ -1,4 +1,5 @@
-//! Reading a text.
+//! Reads the text of settings: gives the value of each of its keys, or says that it is no TOML, or has an unknown key
+//! or a bad value.
 
 ghost use Rattle.std.specs.Prelude.{◌≡◌, ◌≤◌, ◌⊎◌, Ok, Err, IfOk, IfErr, IfSome, MatchResult, option_map, is_some};
 ghost use Rattle.toml.specs.Data.{get_member};

@@ -1,4 +1,5 @@
-//! What settings say.
+//! What settings say: the columns of revenue, costs and tonnes, the factors of the shells and of the report, and the
+//! offsets of a slope, each where its key is there.
 
 ghost use Rattle.std.specs.Prelude.{◌≡◌, ◌≤◌, IfSome, option_map};
 ghost use Rattle.settings_file.specs.Values.{AreFactors};

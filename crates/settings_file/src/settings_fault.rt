@@ -1,4 +1,4 @@
-//! What is wrong with a text of settings.
+//! Why settings are refused, with the key at fault where there is one, and how each fault is printed.
 
 use crate::keys::Key;
 use std::fmt;

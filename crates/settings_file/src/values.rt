@@ -1,4 +1,5 @@
-//! Reading one number.
+//! Reads one whole number of settings within its range, such as a column's number or a factor; tells a missing key
+//! from a bad value.
 
 ghost use Rattle.std.specs.Prelude.{◌≡◌, ◌≤◌, IfSome, IfOk, IfErr};
 ghost use Rattle.toml.specs.View.{view, table_view};

@@ -1,4 +1,4 @@
-//! The best pit of a mine at a factor, and its net.
+//! Makes the net of a mine at a factor, and gives the best pit that its solution proves, with its count and worth.
 
 ghost use Rattle.std.specs.Prelude.{◌≡◌, ◌<◌, All, Contains, length, IfOk, IfSome, MatchResult};
 ghost use Rattle.ordered_group.specs.Block.{scaled_block};

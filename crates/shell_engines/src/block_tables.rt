@@ -1,4 +1,4 @@
-//! The table of blocks and their shells, where it is asked for.
+//! Gives the table of blocks and their shells as a text where it is asked for, and else nothing.
 
 ghost use Rattle.std.specs.Prelude.{IfOk, OnOk};
 ghost use Rattle.shells.specs.Series.{IsSeries};

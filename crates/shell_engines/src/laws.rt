@@ -1,4 +1,5 @@
-//! The law of the table of blocks, the contract of a function that does nothing.
+//! The law that the table of blocks follows from the texts alone, whatever the threads of a run did. It is the
+//! contract of a function that does nothing.
 
 ghost use Rattle.shell_engines.specs.BlockTables.{BlockTablesAreOne};
 

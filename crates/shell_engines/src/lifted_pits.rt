@@ -1,4 +1,5 @@
-//! Pits of a part of a mine as pits of the mine: their blocks by the numbers of the mine, and what they are worth.
+//! Turns a pit of a part of a mine into one of the mine: gives its blocks the mine's numbers, adds the lower pit, and
+//! sums what they are worth.
 
 ghost use Rattle.std.specs.Prelude.{◌≡◌, ℕ, ◌<◌, ◌≤◌, Bool, All, List, IfOk, IfSome, length, map};
 ghost use Rattle.fixed_worth.specs.declared.limits.TheConstants.{MOST_BLOCKS};

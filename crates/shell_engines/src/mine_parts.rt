@@ -1,4 +1,5 @@
-//! Parts of a mine between two pits, within which the best pits of some factors are looked for.
+//! Solves a part of a mine between two nested pits at one factor: gives the best pit there, and the two parts in
+//! which those of lower and of higher factors lie.
 
 ghost use Rattle.std.specs.Prelude.{◌≡◌, ℕ, ◌<◌, ◌≤◌, All, List, [], IfOk, IfSome, length, map, slice_index};
 ghost use Rattle.fixed_worth.specs.declared.limits.TheConstants.{MOST_BLOCKS};

@@ -1,4 +1,5 @@
-//! Why there is no series of shells.
+//! Why there is no series of shells: a factor at which no pit is proved or amounts don't fit, or
+//! memory.
 
 use closure_net::NetFault;
 use engines::solving::Unsolved;

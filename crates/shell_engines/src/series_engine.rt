@@ -1,4 +1,5 @@
-//! The engine of `shells`.
+//! The engine of `shells`: takes the bytes of settings, blocks and predecessors, and writes a line for the best pit
+//! at each factor and, where asked for, each block's shell.
 
 ghost use Rattle.std.specs.Prelude.{◌≡◌, ℕ, List, [], ◌+◌, MatchResult, IsErrOf};
 ghost use Rattle.shell_engines.specs.Devices.{ForSeries, InputsCanCount, OutputsCanCount, input_failures, output_failures, NoInputFailed, NoOutputFailed, is_asked, contents_in};

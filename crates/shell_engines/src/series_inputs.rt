@@ -1,4 +1,5 @@
-//! Reading a mine of which shells are drawn: its prices, its precedence, and the factors of the settings.
+//! Reads settings, blocks and predecessors: gives a mine with prices and the factors at which its shells are drawn,
+//! or the first fault of an input.
 
 ghost use Rattle.std.specs.Prelude.{◌≡◌, ◌≤◌, ◌+◌, ◌-◌, ◌^◌, ◌<◌, ◌⊎◌, ◌∷◌, [], None, unwrap_or, All, IfOk, IfErr, IfSome, MatchResult, IsErrOf};
 ghost use Rattle.settings_file.specs.Settings.{first_missing};

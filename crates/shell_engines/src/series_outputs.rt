@@ -1,4 +1,5 @@
-//! The outputs of an engine over the factors of settings, and writing its answer to them.
+//! Takes the answer of an engine over several factors, and writes its table of blocks, where asked for, and then its
+//! lines.
 
 ghost use Rattle.std.specs.Prelude.{◌≡◌, ◌+◌, ◌-◌, ◌^◌, ◌<◌, OnOk, OnErr, IfOk, IfErr, IsErrOf};
 ghost use Rattle.std.specs.Io.KnownBytes.{Appends};

@@ -1,4 +1,4 @@
-//! Who is told how far a series is.
+//! Who is told when the pit at a factor is proved, and how many factors there are.
 
 use engines::Unwatched;
 

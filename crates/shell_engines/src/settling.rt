@@ -1,4 +1,5 @@
-//! Settling a series: at each factor the mine's net is solved, its flow is checked, and the pit is added.
+//! Draws the shells of a mine: solves it at each factor, has each flow checked, and gives the series of nested pits
+//! with each pit's count and worth, or why there is none.
 
 ghost use Rattle.std.specs.Prelude.{◌≡◌, ℕ, ◌+◌, ◌<◌, List, take, length, All, Contains, OnOk, IfOk, IfErr, MatchResult};
 ghost use Rattle.ordered_group.specs.Block.{scaled_block};

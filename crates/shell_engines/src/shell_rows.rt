@@ -1,4 +1,4 @@
-//! The rows of a table of shells, and their lines.
+//! A row for the best pit at a factor, its blocks and its worth, and the lines of such rows.
 
 ghost use Rattle.std.specs.Prelude.{◌≡◌, Some, IfOk};
 ghost use Rattle.std.specs.String.{string_bytes};

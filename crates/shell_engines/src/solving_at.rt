@@ -1,4 +1,5 @@
-//! The pit at a factor: the workers of the machine run without a lock where that can be.
+//! Solves a mine at one factor without a lock where one or two workers are asked for and numbers fit a word, and else
+//! by the method of the effort.
 
 ghost use Rattle.std.specs.Prelude.{MatchResult};
 ghost use Rattle.ordered_group.specs.Block.{scaled_worth};

@@ -1,4 +1,5 @@
-//! What is charged for blocks.
+//! What is charged for each block, its cost or a mill's two charges, and what is left of its revenue at a
+//! factor.
 
 ghost use Rattle.std.specs.Prelude.{◌≡◌, ◌<◌, ◌≤◌, ◌^◌, ◌*◌, ◌+◌, pos, ◌*ℤ◌, ◌-ℤ◌, ◌↔◌, unsigned_abs, IsTrue};
 ghost use Rattle.std.specs.Int.{int_max};

@@ -1,4 +1,5 @@
-//! Factors.
+//! A factor of the price in thousandths: the share of the revenue that counts, made of a number
+//! from 0 to 10,000 or refused.
 
 ghost use Rattle.std.specs.Prelude.{◌≡◌, ◌≤◌, ℕ, SomeIff};
 ghost use Rattle.fixed_worth.specs.declared.limits.TheConstants.{MOST_FACTOR};

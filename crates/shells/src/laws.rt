@@ -1,4 +1,5 @@
-//! The laws of best pits over one table of prices, each the contract of a function that does nothing.
+//! Laws that over one table of prices the best pit at a factor lies within that at a higher one; each
+//! is the contract of a function that does nothing.
 
 ghost use Rattle.shells.specs.Nesting.{BestPitsAreNested, AcceptedPitsAreNested};
 

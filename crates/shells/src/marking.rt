@@ -1,4 +1,5 @@
-//! Giving shells to the blocks of a pit.
+//! Gives a factor as their shell to the blocks of a pit that have none yet, and decides whether a factor is above all
+//! earlier ones.
 
 ghost use Rattle.std.specs.Prelude.{◌≡◌, ◌<◌, ◌≤◌, ℕ, length, ◌↔◌, IsTrue};
 ghost use Rattle.closure_net.specs.Network.{IsAscending, holds_of};

@@ -1,4 +1,5 @@
-//! Tables of prices.
+//! The revenue and the charges of each block, and what a block is worth at a factor of the price. Tables of different
+//! lengths and negative revenues are refused.
 
 ghost use Rattle.std.specs.Prelude.{◌≡◌, ◌≢◌, ◌<◌, ◌≤◌, ◌≤ℤ◌, ℕ, pos, length, IfOk, MatchOption, MatchResult};
 ghost use Rattle.certificate_file.specs.ReadBack.{IsPrice};

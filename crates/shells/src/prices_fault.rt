@@ -1,4 +1,5 @@
-//! What is wrong with a table of prices.
+//! Why revenues and charges are no table of prices: their lengths differ, or a block's revenue is
+//! negative.
 
 ghost use Rattle.std.specs.Prelude.{Some};
 ghost use Rattle.shells.specs.FaultText.{prices_fault_text};

@@ -1,4 +1,4 @@
-//! Why a series refuses.
+//! Why a series of shells can't be opened or doesn't take a pit, and how each fault is printed.
 
 ghost use Rattle.std.specs.Prelude.{Some};
 ghost use Rattle.shells.specs.FaultText.{series_fault_text};

@@ -1,4 +1,5 @@
-//! Series of shells.
+//! A series of nested pits at rising factors: takes the best pit of each factor, refuses one out of order or of
+//! another mine, and tells the shell of each block.
 
 ghost use Rattle.std.specs.Prelude.{◌≡◌, ◌<◌, ◌≤◌, ◌↔◌, length, IsTrue, OnOk, IfErr, MatchResult};
 ghost use Rattle.closure_net.specs.Mine.{IsBest};

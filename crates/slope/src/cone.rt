@@ -1,4 +1,5 @@
-//! The offsets of a cone, level by level.
+//! Lists the offsets of a cone that opens upward by a slope of run to rise, level by level, and stops where there are
+//! too many.
 
 ghost use Rattle.std.specs.Prelude.{◌≡◌, ◌≤◌, ◌<◌, ◌+◌, ◌++◌, ◌∷◌, ◌+ℤ◌, ◌-ℤ◌, [], pos, IsTrue, ◌↔◌, MatchResult, length, unsigned_abs};
 ghost use Rattle.slope.specs.Patterns.{IsInCone, IsNear, ConeFaultStands};

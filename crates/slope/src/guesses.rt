@@ -1,4 +1,5 @@
-//! Where the block at an offset is looked for first.
+//! Guesses where in the index of places the block at an offset is found, from where it was found last. A wrong guess
+//! costs time and changes no answer.
 
 use std::alloc::{AllocError, Global};
 

@@ -1,4 +1,5 @@
-//! What follows of the pairs that a pattern gives, as laws of their definition.
+//! Laws of the pairs that a pattern gives: a block has at most as many predecessors as there are offsets, and the
+//! reduced pairs have the same closures as all pairs.
 //!
 //! The functions do nothing. A caller names one where its own proof needs the law.
 

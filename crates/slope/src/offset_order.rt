@@ -1,4 +1,4 @@
-//! Offsets in order, each once.
+//! Puts a list of offsets in order and drops repeats.
 
 ghost use Rattle.std.specs.Prelude.{◌≤◌, length, Contains};
 ghost use Rattle.slope.specs.Offsets.{Offset, IsRising};

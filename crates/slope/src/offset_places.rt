@@ -1,4 +1,4 @@
-//! The place at an offset from another.
+//! Gives the place at an offset from another, by which way is up, or nothing where a coordinate wouldn't fit.
 
 ghost use Rattle.std.specs.Prelude.{◌≡◌, ◌≢◌, ◌≤◌, ◌^◌, ◌+ℤ◌, ℤ, FitsSigned, MatchOption, unsigned_abs};
 ghost use Rattle.std.specs.Int.{w32};

@@ -1,4 +1,5 @@
-//! Patterns of offsets.
+//! The offsets from a block to its predecessors: 1:5, 1:9, a cone of a slope, or those of a list, which is refused
+//! where an offset doesn't lead up.
 
 ghost use Rattle.std.specs.Prelude.{◌≡◌, ◌<◌, ◌≤◌, Err, All, IfOk, List, MatchOption, MatchResult, Contains, length};
 ghost use Rattle.prec_file.specs.Rests.{IsFirstNot};

@@ -1,4 +1,5 @@
-//! Why there is no such pattern.
+//! Why offsets give no pattern: one doesn't lead up, there are too many, or there is no memory for
+//! them.
 
 ghost use Rattle.std.specs.Prelude.{Some};
 ghost use Rattle.slope.specs.FaultText.{pattern_fault_text};

@@ -1,4 +1,5 @@
-//! The blocks of a model in the order of their places.
+//! Sorts the blocks of a model by their places, so that the block at a place can be looked up, and refuses two blocks
+//! with one place.
 
 ghost use Rattle.std.specs.Prelude.{◌≡◌, IfOk, MatchOption, MatchResult, map};
 ghost use Rattle.blocks_file.specs.Denotes.{BlocksView};

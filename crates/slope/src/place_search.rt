@@ -1,4 +1,4 @@
-//! Where a place stands among places in order.
+//! Finds the block that stands at an offset from a place, by a search of the index that begins at a guess.
 
 ghost use Rattle.std.specs.Prelude.{◌≡◌, ◌≢◌, ℕ, ◌<◌, ◌≤◌, IfSome, IsTrue, MatchOption, length};
 ghost use Rattle.slope.specs.Places.{place_of};

@@ -1,4 +1,5 @@
-//! The pairs of blocks that lead over no third block.
+//! Gives the pairs of a block and a predecessor that no chain over a third block implies. They have the same closures
+//! as all pairs.
 
 ghost use Rattle.std.specs.Prelude.{◌≡◌, ◌<◌, ◌+◌, MatchResult, length};
 ghost use Rattle.slope.specs.Offsets.{IsPattern};

@@ -1,4 +1,4 @@
-//! Which slope pairs are wanted.
+//! Whether a slope gives all of its pairs, or only those that the others don't imply.
 
 /// Which of the pairs that a pattern gives are listed.
 #[derive(Clone, Copy, Debug, PartialEq, Eq)]

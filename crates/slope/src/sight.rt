@@ -1,4 +1,4 @@
-//! What is known of an offset from a place.
+//! What is known of the block at an offset from a place: not looked up yet, none, or its number.
 
 ghost use Rattle.std.specs.Prelude.{◌≡◌, MatchOption};
 

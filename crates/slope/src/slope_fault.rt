@@ -1,4 +1,5 @@
-//! Why a pattern gives no pairs of a model.
+//! Why a pattern gives no pairs of a model: two blocks have one place, there are too many pairs, or there is no
+//! memory for them.
 
 ghost use Rattle.std.specs.Prelude.{Some};
 ghost use Rattle.slope.specs.FaultText.{slope_fault_text};

@@ -1,4 +1,4 @@
-//! What stands around a block at the offsets of a pattern.
+//! Tells which block stands at each offset of a pattern from a given block, and looks each up at most once.
 
 ghost use Rattle.std.specs.Prelude.{◌≡◌, ◌<◌, ◌⊎◌, true, false, All, MatchOption, MatchResult, length};
 ghost use Rattle.slope.specs.Places.{place_of};

@@ -1,4 +1,5 @@
-//! In which two steps an offset can be made.
+//! Lists for each offset of a pattern by which first steps it can be made in two, so that a pair that other pairs
+//! imply can be left out.
 
 ghost use Rattle.std.specs.Prelude.{◌≡◌, ◌↔◌, ◌≤◌, ◌-ℤ◌, IfOk, IsTrue, Contains, length};
 ghost use Rattle.slope.specs.declared.pattern.TheConstants.{MOST_OFFSETS};

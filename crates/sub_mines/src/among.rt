@@ -1,4 +1,4 @@
-//! The pairs among some of the blocks.
+//! Gives the pairs among some of a mine's blocks, with these blocks numbered anew by their places in a list.
 
 ghost use Rattle.std.specs.Prelude.{◌≡◌, ℕ, ◌<◌, ◌≤◌, ◌+◌, All, IfOk, OnOk, length};
 ghost use Rattle.prec_file.specs.Rests.{IsKnown};

@@ -1,4 +1,5 @@
-//! Laws, each the contract of a function that does nothing.
+//! Laws of a best pit that is known to lie between two pits, and of the mine of the blocks between them; each is the
+//! contract of a function that does nothing.
 
 ghost use Rattle.sub_mines.specs.Laws.{BestByPart, PartOfBest, BestWithin, BestOfRest, KnownByBest, KnownByBounds, AlwaysBounded, BestBounds, BestBetween, BestByNumbers, BestBySmallMine, RowBySmallMine, ListsMakeImages, PassingAreKept};
 

@@ -1,4 +1,4 @@
-//! The line of an event, as it is read and as it is written.
+//! Reads a line of a trace as a step of a run, and writes a step as its line.
 
 ghost use Rattle.std.specs.Prelude.{◌≡◌, ◌+◌, ◌-◌, ◌<◌, ◌^◌, ◌∷◌, [], ◌++◌, None, MatchOption, OnOk, OnErr};
 ghost use Rattle.fixed_worth.specs.Device.{ReceivedPrefix, SentOrHeld};

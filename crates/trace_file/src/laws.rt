@@ -1,4 +1,5 @@
-//! What the definitions of reading and writing say of each other.
+//! Laws that the text that is written of a run's steps is read as these steps, and that a text
+//! without a fault is the one text of its steps.
 //!
 //! These functions do nothing. A caller names one where its own proof needs the law.
 

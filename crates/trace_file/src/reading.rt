@@ -1,4 +1,4 @@
-//! Reading a trace.
+//! Reads the text of a trace: gives the steps of a run in their order, or the first faulty line.
 
 ghost use Rattle.std.specs.Prelude.{◌≡◌, [], Some, None, MatchResult};
 ghost use Rattle.fixed_worth.specs.Text.{parts};

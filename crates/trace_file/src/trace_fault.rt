@@ -1,4 +1,4 @@
-//! What is wrong with the text of a trace.
+//! Why a text is no trace, with the number of its first faulty line, and how each fault is printed.
 
 ghost use Rattle.std.specs.Prelude.{Some};
 ghost use Rattle.trace_file.specs.FaultText.{fault_text};

@@ -1,4 +1,4 @@
-//! Writing a trace.
+//! Writes the steps of a run as the text of a trace, or stops at the first write that fails.
 
 ghost use Rattle.std.specs.Prelude.{◌≡◌, ◌+◌, ◌-◌, ◌^◌, ◌<◌, ◌≤◌, length, OnOk, OnErr};
 ghost use Rattle.std.specs.Io.KnownBytes.{Appends};

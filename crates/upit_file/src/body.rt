@@ -1,4 +1,5 @@
-//! Reading what stands behind the header.
+//! Reads the records of block values up to the end of the text: gives a value for each block, or the first
+//! fault.
 
 ghost use Rattle.std.specs.Prelude.{◌≡◌, ℕ, ◌<◌, ◌≤◌, Some, None, [], pos, length, slice_index_or, MatchResult};
 ghost use Rattle.fixed_worth.specs.Record.{numbered};

@@ -1,4 +1,5 @@
-//! Reading the header.
+//! Reads the header of a `.upit` text: gives the name and the number of blocks, and refuses another type of file, a
+//! number of blocks that isn't the wanted one, and a header that doesn't end.
 
 ghost use Rattle.std.specs.Prelude.{[], ◌≡◌, ◌≤◌, ◌==◌, ◌||◌, length, drop, MatchResult, OnSome, unwrap_or, Some, None};
 ghost use Rattle.fixed_worth.specs.Text.{fields_of};

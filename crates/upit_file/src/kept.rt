@@ -1,4 +1,4 @@
-//! The values that records have given.
+//! Gathers the values of blocks, record by record, and refuses an unknown block and a second record of one.
 
 ghost use Rattle.std.specs.Prelude.{◌≡◌, ℕ, ◌≤◌, Bool, true, false, pos, Some, None, length, replicate, slice_set, slice_index_or, IfOk, MatchResult};
 ghost use Rattle.upit_file.specs.Body as spec;

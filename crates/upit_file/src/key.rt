@@ -1,4 +1,4 @@
-//! The keys of the header.
+//! Decides which record a line of the header is, by the word with which it begins.
 
 ghost use Rattle.std.specs.Prelude.{◌≡◌, ◌≤◌, length};
 ghost use Rattle.fixed_worth.specs.Text.{fields_of};

@@ -1,4 +1,4 @@
-//! What the definitions of reading and writing say of each other.
+//! The law that the text that is written of a name and values is read as the same name and values.
 //!
 //! The function changes nothing. A caller names it where its own proof needs the law.
 

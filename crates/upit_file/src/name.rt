@@ -1,4 +1,4 @@
-//! The name that a NAME record gives.
+//! Takes the name from a `NAME` record, or refuses one that is too long.
 
 ghost use Rattle.std.specs.Prelude.{◌≡◌, ◌≤◌, Some, None, length, MatchResult};
 ghost use Rattle.upit_file.specs.Header as spec;

@@ -1,4 +1,5 @@
-//! Reading a text.
+//! Reads a `.upit` text: first how many blocks it declares, and then its name and a value for each block, or its
+//! first fault.
 
 ghost use Rattle.std.specs.Prelude.{◌≡◌, ◌≤◌, Some, None, Err, MatchResult, IfOk};
 ghost use Rattle.upit_file.specs.Header.{header_fault};

@@ -1,4 +1,5 @@
-//! Reading one line behind the header.
+//! Reads one line behind the header: gives its block and the block's value, or tells that the line is skipped,
+//! that it ends the text, or what is wrong with it.
 
 ghost use Rattle.std.specs.Prelude.{◌≡◌, ℕ, ◌≤◌, false, Some, length, IfSome, MatchResult};
 ghost use Rattle.fixed_worth.specs.Text.{fields_of};

@@ -1,4 +1,4 @@
-//! The line of a block.
+//! Makes the line that a `.upit` text has for a block and its value.
 
 ghost use Rattle.std.specs.Prelude.{◌≡◌, ℕ, ◌+◌, ◌-◌, ◌*◌, ◌/◌, ◌%◌, ◌<◌, ◌≤◌, ◌^◌, [], ◌∷◌, ◌++◌, length, unsigned_abs};
 ghost use Rattle.fixed_worth.specs.Printed.{fraction_text, printed};

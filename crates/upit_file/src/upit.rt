@@ -1,4 +1,5 @@
-//! What a `.upit` file holds.
+//! What a `.upit` text holds: a name, and the value of each block. It can be made of any name and values that such a
+//! text can give.
 
 ghost use Rattle.std.specs.Prelude.{◌≡◌, ◌==◌, ◌<◌, ◌≤◌, ◌-◌, ◌&&◌, ◌||◌, pos, length, slice_index_or, IsTrue, SomeIff};
 ghost use Rattle.std.specs.List.{list_any};

@@ -1,4 +1,5 @@
-//! What is wrong with a text of block values.
+//! Why a text of block values is refused, with the number of its first faulty line, and how each
+//! fault is printed.
 
 use std::fmt;
 

@@ -1,4 +1,4 @@
-//! Writing the text of a name and values.
+//! Writes a name and the values of blocks as a `.upit` text, or stops at the first write that fails.
 
 ghost use Rattle.std.specs.Prelude.{◌≡◌, ℕ, ◌+◌, ◌-◌, ◌^◌, ◌<◌, ◌≤◌, [], ◌∷◌, ◌++◌, length, codes, OnOk, OnErr};
 ghost use Rattle.std.specs.Fmt.{decimal};

@@ -1,4 +1,5 @@
-//! The amounts of a net in units that fit a word.
+//! Gives the worths of a net as whole units that fit a word, the positive ones with their sum, or refuses a net whose
+//! positive worths sum to too much.
 
 ghost use Rattle.std.specs.Prelude.{◌≡◌, ◌<◌, ◌≤◌, ◌⊎◌, ◌<ℤ◌, ◌≤ℤ◌, ◌^◌, length, MatchOption, MatchResult, IfOk, pos};
 ghost use Rattle.word_runner.specs.Words.{units};

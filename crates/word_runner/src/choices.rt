@@ -1,4 +1,4 @@
-//! What a block does next, by what it read.
+//! Decides what a block does next by the word that it has read, and how many units a push moves.
 
 ghost use Rattle.std.specs.Prelude.{◌≡◌, ◌<◌, length};
 ghost use Rattle.closure_net.specs.Ports.{ports};

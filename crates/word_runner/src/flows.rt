@@ -1,4 +1,4 @@
-//! The flow that words have once no seat steps any more.
+//! Reads the flow out of the words of a run that has ended.
 
 ghost use Rattle.std.specs.Prelude.{pos, ◌≡◌, ◌+◌, ◌-ℤ◌, ◌≤ℤ◌, ◌≤◌, map, IfOk};
 ghost use Rattle.std.specs.Mem.Slots.{slots_items, slots_len, IsFull};

@@ -1,4 +1,4 @@
-//! The words of a net.
+//! The state of a push-relabel run over a net, in words that one or two workers share without a lock.
 
 ghost use Rattle.std.specs.Prelude.{◌≡◌, ◌≤◌, ◌^◌, length};
 ghost use Rattle.word_runner.specs.Tells.{WordsView, IsWords};

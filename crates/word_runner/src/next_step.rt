@@ -1,4 +1,5 @@
-//! The step that is next for a block, by its operation.
+//! Tells the kind of a block's next step by its operation, and whether by that step a label or another word
+//! becomes too large.
 
 ghost use Rattle.std.specs.Prelude.{◌≡◌, ◌<◌, IsTrue, length, ◌↔◌};
 ghost use Rattle.machine_law.specs.Operations.{operation_as};

@@ -1,4 +1,5 @@
-//! The words of a net, and its seats.
+//! Opens a run without a lock: takes a net and a number of workers, and gives the shared words and each worker's
+//! private data.
 
 ghost use Rattle.std.specs.Prelude.{◌≡◌, ◌<◌, ◌≤◌, ◌^◌, length, IfOk, MatchResult, IsErrOf, ◌↔◌};
 ghost use Rattle.machine_law.specs.declared.operations.Operation.TheVariants.{Idle};

@@ -1,4 +1,5 @@
-//! Whole runs by one or two workers without a lock.
+//! Runs push-relabel by one or two workers without a lock: gives a maximum flow of the net and the number of steps,
+//! or why there is no flow.
 
 ghost use Rattle.std.specs.Prelude.{◌≡◌, ◌+◌, ◌<◌, ◌^◌, ◌++◌, false, MatchResult};
 ghost use Rattle.word_runner.specs.Tells.{solve_fault, settle_fault, IsServed, IsQuietEnd, RunFaultStands, IsSolvedBy, SolveFaultStands};

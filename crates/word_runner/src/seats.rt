@@ -1,4 +1,5 @@
-//! A worker's seat.
+//! A worker's private data and its next step: the operation of its block and the labels of its blocks. A step is one
+//! atomic operation on one shared word.
 
 ghost use Rattle.std.specs.Prelude.{◌≡◌, ◌<◌, ◌+◌, ◌⊎◌, ◌^◌, true, false, not, length};
 ghost use Rattle.machine_law.specs.declared.operations.Operation.TheVariants.{Idle};

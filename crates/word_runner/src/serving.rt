@@ -1,4 +1,5 @@
-//! One worker.
+//! The turns of one worker without a lock: goes round its blocks step by step until all has arrived, a number of
+//! either worker is too large, or the turns are used up.
 
 ghost use Rattle.std.specs.Prelude.{◌≡◌, ◌<◌, ◌≤◌, ◌+◌, ◌^◌, length, MatchResult};
 ghost use Rattle.word_runner.specs.Tells.{IsFirst, IsServing, IsRound, HasServed};

@@ -1,4 +1,4 @@
-//! Why words give no flow.
+//! Why the words of a run give no flow: it isn't over yet, or memory was refused.
 
 /// Why the words give no flow.
 #[derive(Clone, Copy, Debug, PartialEq, Eq)]

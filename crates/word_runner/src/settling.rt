@@ -1,4 +1,5 @@
-//! Closing the words.
+//! Ends a run without a lock: takes the shared words and all seats, and gives a maximum flow where nothing is left to
+//! do, or why there is none.
 
 ghost use Rattle.std.specs.Prelude.{◌≡◌, ◌+◌, ◌≤◌, ◌⊎◌, slice_index, ◌++◌, IsTrue, ◌↔◌, MatchOption, MatchResult};
 ghost use Rattle.std.specs.Mem.Slots.{slots_items, slots_len, IsFull};

@@ -1,4 +1,5 @@
-//! The four operations on words by which steps are made.
+//! The atomic operations by which steps are made: to load, add to, subtract from or store the next word of a
+//! block.
 
 ghost use Rattle.std.specs.Prelude.{◌<◌};
 ghost use Rattle.word_runner.specs.Tells.{IsSeat, IsNextAt, HasTurned, IsSame, Reads, Adds, Subtracts, Stores};

@@ -1,4 +1,5 @@
-//! The table of words that the seats share.
+//! The type of the shared words, with the rule that holds between any two operations on them: some run of the
+//! machine leads to the state that they show.
 
 use crate::view::View;
 use atomic_table::{Seat, Shared, Table, TableRule};

@@ -1,4 +1,5 @@
-//! Two workers.
+//! Lets two workers take their turns in threads of their own until both have ended, and gives their private data
+//! back, or nothing where a thread couldn't start.
 
 ghost use Rattle.std.specs.Prelude.{◌≡◌, IfSome};
 ghost use Rattle.word_runner.specs.Tells.{IsFirst, HasServed};

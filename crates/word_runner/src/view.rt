@@ -1,4 +1,5 @@
-//! What a seat knows.
+//! What a proof knows of a worker's seat: its net, its blocks' labels, its operation, and the steps that it
+//! made. No value of it exists when the program runs.
 
 use closure_net::Net;
 use machine_law::{Event, Operation};

@@ -1,4 +1,4 @@
-//! Why there are no words.
+//! Why a net gives no words: not one or two workers, worths that sum to too much, or memory.
 
 /// Why there are no words of a net.
 #[derive(Clone, Copy, Debug, PartialEq, Eq)]

@@ -1,4 +1,5 @@
-//! Whole runs whose steps are all written down.
+//! Runs push-relabel by several threads and writes down each step: gives a maximum flow and the history that leads to
+//! it, or why there is no flow.
 
 ghost use Rattle.std.specs.Prelude.{◌≡◌, ℕ, ◌≤◌, [], MatchResult};
 ghost use Rattle.boards.specs.Boards.{shown};

@@ -1,4 +1,5 @@
-//! Gates, which a worker passes before each of its turns.
+//! What a caller may have done before each turn of a worker, such as showing progress or, in tests,
+//! making workers wait. It changes nothing of the run.
 
 /// What a worker calls before each of its turns: to show progress, or in a test to make workers wait
 /// for each other. It can't change the run.

@@ -1,4 +1,5 @@
-//! The lock that a board is under.
+//! Lets several threads take turns at one run, one at a time under a lock, and gives the run back at
+//! the end.
 
 use boards::{Audited, Board, Turn, TurnBoard};
 use ordered_group::{OrderedGroup, Scaled, Worth, WorthSize};

@@ -1,4 +1,5 @@
-//! One worker.
+//! The turns of one worker at a shared run, up to a limit: goes on with its block's operation or picks
+//! an active block, waits where there is none, and tells why it ended.
 
 ghost use Rattle.std.specs.Prelude.{◌≡◌, ◌+◌, ◌<◌, ◌%◌};
 
