@@ -118,16 +118,18 @@ impl PredecessorsBuilder {
         requires few { length self.old.pairs + length row.now ≤ MOST_PAIRS }
         ensures { OnOk result ((added : List (ℕ × ℕ)) × IsRowAdded self.old self.new (map (λ p. (self.old.next, p)) row.now) added) }
     {
-        if !row_rises(self.next, row) {
+        let block = self.next;
+        if !row_rises(block, row) {
             let mut pairs = Vec::new(alloc);
-            add_pairs(&mut pairs, self.next, row)?;
+            add_pairs(&mut pairs, block, row)?;
             self.push_block(pairs)?;
             return Ok(());
         }
         self.firsts.reserve(1)?;
         self.predecessors.extend_from_slice(row)?;
-        self.firsts.push_reserved(self.predecessors.len() as u32);
-        self.next += 1;
+        let behind = self.predecessors.len() as u32;
+        self.firsts.push_reserved(behind);
+        self.next = block + 1;
         Ok(())
     }
 

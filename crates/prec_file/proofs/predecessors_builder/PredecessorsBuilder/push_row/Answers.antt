@@ -23,8 +23,8 @@ returns-then-not-row_rises c =
     (added, subst (λ (xs : List (ℕ × ℕ)). IsRowAdded c.args.self.now c.push_block.new.self xs added) listed c.in_ok-push_block.ensures)
 
 -- the lists as they were written
-begun : (c : goal.After-self-1) → c.push_reserved.new.self.items ≡ c.self.inside.firsts.items ++ c.len.result ∷ []
-begun c = c.push_reserved.ensures.items ∙ ap (λ xs. xs ++ c.len.result ∷ []) c.in_ok-reserve.ensures.items
+begun : (c : goal.After-self-1) → c.push_reserved.new.self.items ≡ c.self.inside.firsts.items ++ c.len-behind.result ∷ []
+begun c = c.push_reserved.ensures.items ∙ ap (λ xs. xs ++ c.len-behind.result ∷ []) c.in_ok-reserve.ensures.items
 
 listed : (c : goal.After-self-1) → c.extend_from_slice.new.self.items ≡ c.self.inside.predecessors.items ++ map (λ (q : ℕ × ℕ). q.1) (map (λ p. (c.self.inside.next, p)) c.args.row.now)
 listed c = c.in_ok-extend_from_slice.ensures.items ∙ ap (λ xs. c.self.inside.predecessors.items ++ xs) (sym (row_seconds c.self.inside.next c.args.row.now))
@@ -40,15 +40,15 @@ own c = row_own c.self.inside.blocks c.self.inside.next c.args.row.now (subst (�
 within : (c : goal.After-self-1) → c.self.inside.next < c.self.inside.blocks
 within c = subst (λ (v : RowsView). v.next < v.blocks) (sym c.self.view_is) c.requires.next
 
-counted : (c : goal.After-self-1) → c.len.result ≡ length c.extend_from_slice.new.self.items
-counted c = omega (arith, c.extend_from_slice.new.self.ok, c.len.ensures)
+counted : (c : goal.After-self-1) → c.len-behind.result ≡ length c.extend_from_slice.new.self.items
+counted c = omega (arith, c.extend_from_slice.new.self.ok, c.len-behind.ensures)
 
 pub invariant_of-self-2 : goal.invariant_of-self-2
 invariant_of-self-2 c =
     let row = map {B = ℕ × ℕ} (λ p. (c.self.inside.next, p)) c.args.row.now in
     pushed_rows c.self.inside.blocks c.self.inside.next (pairs_by c.self.inside.firsts.items c.self.inside.predecessors.items) row c.self.inside.firsts.items c.self.inside.predecessors.items c.self.invariant (within c) (few c)
     (c.if-not-row_rises.ensures.rising refl) (c.if-not-row_rises.ensures.apart refl) (own c)
-    c.push_reserved.new.self.items c.extend_from_slice.new.self.items c.len.result (begun c) (listed c) (counted c)
+    c.push_reserved.new.self.items c.extend_from_slice.new.self.items c.len-behind.result (begun c) (listed c) (counted c)
 
 pub returns : goal.returns
 returns c =
@@ -59,9 +59,9 @@ returns c =
     let rising = c.if-not-row_rises.ensures.rising refl in
     let apart = c.if-not-row_rises.ensures.apart refl in
     let told = pushed_told n b ps row c.self.inside.firsts.items c.self.inside.predecessors.items c.self.invariant (within c) (few c) rising apart (own c)
-    c.push_reserved.new.self.items c.extend_from_slice.new.self.items c.len.result (begun c) (listed c) (counted c) in
+    c.push_reserved.new.self.items c.extend_from_slice.new.self.items c.len-behind.result (begun c) (listed c) (counted c) in
     let rows = pushed_rows n b ps row c.self.inside.firsts.items c.self.inside.predecessors.items c.self.invariant (within c) (few c) rising apart (own c)
-    c.push_reserved.new.self.items c.extend_from_slice.new.self.items c.len.result (begun c) (listed c) (counted c) in
+    c.push_reserved.new.self.items c.extend_from_slice.new.self.items c.len-behind.result (begun c) (listed c) (counted c) in
     let new : RowsView = record { blocks = n; next = b + 1; pairs = pairs_by c.push_reserved.new.self.items c.extend_from_slice.new.self.items } in
     let added : IsRowAdded (record { blocks = n; next = b; pairs = ps }) new row row = record { blocks = refl; next = refl; pairs = told; own = own_pairs row rising apart; fewer = omega arith; rests = rows.rests } in
     subst (λ (v : RowsView). (x : List (ℕ × ℕ)) × IsRowAdded v new (map {B = ℕ × ℕ} (λ p. (v.next, p)) c.args.row.now) x) c.self.view_is (row, added)
