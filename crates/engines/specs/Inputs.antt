@@ -35,10 +35,6 @@ UpitReadFails text engine.Memory = Unit {0}
 UpitReadFails text engine.Device = Unit {0}
 UpitReadFails text _ = ⊥
 
--- the pairs are those that the text lists, as it lists them
-abbrev pub ListsPrec : ℕ → List ℕ → RestsView → Type 0
-ListsPrec n text listed = IsWithinLimit text × (prec.fault_of n text ≡ None) × (listed.blocks ≡ n) × (listed.pairs ≡ prec.listed text)
-
 -- the pairs are those of the text
 abbrev pub ReadsPrec : ℕ → List ℕ → RestsView → Type 0
 ReadsPrec n text rests = IsWithinLimit text × (prec.fault_of n text ≡ None) × (rests.blocks ≡ n) × ArePairsOf (prec.listed text) rests.pairs

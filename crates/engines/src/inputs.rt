@@ -3,12 +3,12 @@
 ghost use Rattle.std.specs.Prelude.{◌≡◌, ◌+◌, ◌-◌, ◌^◌, ◌<◌, ◌≤◌, ◌↔◌, ℕ, ◌⊎◌, length, IfOk, IfSome, MatchResult, IsErrOf};
 ghost use Rattle.engines.specs.Limits.{IsWithinLimit};
 ghost use Rattle.engines.specs.BlockTexts.{ReadsBlocks, BlocksReadFails};
-ghost use Rattle.engines.specs.Inputs.{ReadsUpit, ListsPrec, ReadsPrec, UpitReadFails, PrecReadFails, TextFails};
+ghost use Rattle.engines.specs.Inputs.{ReadsUpit, ReadsPrec, UpitReadFails, PrecReadFails, TextFails};
 
 use crate::engine_fault::{EngineFault, Problem};
 use blocks_file::{BlockModel, MOST_COLUMNS, read_blocks};
 use fixed_worth::{CountedRead, InputFault, MOST_BLOCKS, MOST_BYTES, read_whole};
-use prec_file::{ListedPairs, Predecessors, Rests, read_listed};
+use prec_file::{Predecessors, Rests, read_predecessors};
 use std::alloc::Global;
 use upit_file::{Upit, declared_blocks, read_upit};
 
@@ -85,30 +85,10 @@ fn upit_of(alloc: Global, text: &[u8]) -> Result<Upit, EngineFault>
     Ok(read_upit(alloc, text, blocks)?)
 }
 
-// The pairs that a text lists. Its bytes are given back here, before the pairs are put in order and indexed.
-fn listed_from<R: CountedRead>(
-    alloc: Global,
-    from: &mut R,
-    n: u32,
-) -> Result<ListedPairs, EngineFault>
-    requires blocks { n ≤ MOST_BLOCKS }
-    requires room { R.failed from.old < 2 ^ 64 - 1 }
-    ensures read { IfSome (R.remaining from.old) (λ text. MatchResult result (ListsPrec n text) (PrecReadFails n text)) }
-    ensures size { IfOk result (λ listed. listed.blocks ≡ n) }
-    ensures device { IsErrOf result EngineFault.Device ↔ (R.failed from.new ≡ R.failed from.old + 1) }
-    ensures kept { ¬ IsErrOf result EngineFault.Device → R.failed from.new ≡ R.failed from.old }
-{
-    let text = text_from(alloc, from, EngineFault::Prec(Problem::InputTooLong))?;
-    match read_listed(alloc, text.as_slice(), n) {
-        Ok(listed) => Ok(listed),
-        Err(fault) => Err(EngineFault::from(fault)),
-    }
-}
-
 /// What rests on what among n blocks.
 ///
 /// # Errors
-/// `Prec` for more than 2^32 bytes, or for a fault of [`read_listed`]. `Memory` where memory is refused, `Device` where
+/// `Prec` for more than 2^32 bytes, or for a fault of [`read_predecessors`]. `Memory` where memory is refused, `Device` where
 /// a read fails.
 pub fn rests_from<R: CountedRead>(alloc: Global, from: &mut R, n: u32) -> Result<Rests, EngineFault>
     requires blocks { n ≤ MOST_BLOCKS }
@@ -118,8 +98,8 @@ pub fn rests_from<R: CountedRead>(alloc: Global, from: &mut R, n: u32) -> Result
     ensures device { IsErrOf result EngineFault.Device ↔ (R.failed from.new ≡ R.failed from.old + 1) }
     ensures kept { ¬ IsErrOf result EngineFault.Device → R.failed from.new ≡ R.failed from.old }
 {
-    let listed = listed_from(alloc, from, n)?;
-    Ok(listed.into_rests(alloc)?)
+    let predecessors = predecessors_from(alloc, from, n)?;
+    Ok(predecessors.into_rests(alloc)?)
 }
 
 /// The predecessors of each of n blocks, without what only those need who look for a flow.
@@ -138,6 +118,9 @@ pub fn predecessors_from<R: CountedRead>(
     ensures device { IsErrOf result EngineFault.Device ↔ (R.failed from.new ≡ R.failed from.old + 1) }
     ensures kept { ¬ IsErrOf result EngineFault.Device → R.failed from.new ≡ R.failed from.old }
 {
-    let listed = listed_from(alloc, from, n)?;
-    Ok(listed.into_predecessors(alloc)?)
+    let text = text_from(alloc, from, EngineFault::Prec(Problem::InputTooLong))?;
+    match read_predecessors(alloc, text, n) {
+        Ok(predecessors) => Ok(predecessors),
+        Err(fault) => Err(EngineFault::from(fault)),
+    }
 }

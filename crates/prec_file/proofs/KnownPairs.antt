@@ -11,11 +11,11 @@ use Rattle.prec_file.specs.Rests.{IsKnown}
 use Rattle.prec_file.proofs.History.{third, shape_block, or_none, none_behind}
 
 -- The pairs of a record without fault are of known blocks.
-or_parts : (a b : Bool) → (a || b) ≡ false → (a ≡ false) × (b ≡ false)
+pub or_parts : (a b : Bool) → (a || b) ≡ false → (a ≡ false) × (b ≡ false)
 or_parts true b h = absurd cc
 or_parts false b h = (refl, h)
 
-none_large : (n : ℕ) (ps : List ℕ) → list_any (nat_le n) ps ≡ false → All (λ p. p < n) ps
+pub none_large : (n : ℕ) (ps : List ℕ) → list_any (nat_le n) ps ≡ false → All (λ p. p < n) ps
 none_large n [] h = All-nil (λ p. p < n)
 none_large n (p ∷ ps) h =
     let q = or_parts (nat_le n p) (list_any (nat_le n) ps) h in

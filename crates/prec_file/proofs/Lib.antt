@@ -11,11 +11,14 @@ pub mod SortedApart
 pub mod Finding
 pub mod Rows
 pub mod RowSteps
+pub mod RowChecks
 pub mod Shapes
 pub mod History
 pub mod KnownPairs
+pub mod RowReading
 pub mod Marks
 pub mod Progress
+pub mod RisingProgress
 pub mod WrittenPieces
 pub mod WrittenLines
 pub mod OneListing

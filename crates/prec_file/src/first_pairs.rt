@@ -9,7 +9,7 @@ use fixed_worth::MOST_BLOCKS;
 use std::alloc::{AllocError, Global};
 
 // Puts a number until there are so many.
-fn fill(list: &mut Vec<u32>, size: usize, number: u32)
+pub(crate) fn fill(list: &mut Vec<u32>, size: usize, number: u32)
     requires space { size ≤ vec_capacity list.old }
     requires fewer { length list.old.items ≤ size }
     ensures size { length list.new.items ≡ size }

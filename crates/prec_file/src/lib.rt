@@ -2,7 +2,7 @@
 //!
 //! A pair (b, p) says that block b rests on block p, so that b can be dug only after p. `Rests` holds such pairs,
 //! each once and in order, and answers both ways at once: what a block rests on, and which pairs rest on a block.
-//! `Predecessors` holds them to answer the first alone, with about a quarter of the memory. `read_prec` and `read_listed`
+//! `Predecessors` holds them to answer the first alone, with about a third of the memory. `read_prec` and `read_listed`
 //! read them from a precedence file, and `write_prec` writes them to one.
 //!
 //! It stands on `fixed_worth` for lines, fields, whole numbers and devices.
@@ -30,6 +30,7 @@ mod reading;
 mod records;
 mod rests;
 mod rests_fault;
+mod rising;
 mod write_fault;
 mod writing;
 
@@ -38,7 +39,7 @@ pub use listed_pairs::ListedPairs;
 pub use prec_fault::PrecFault;
 pub use predecessors::Predecessors;
 pub use predecessors_builder::PredecessorsBuilder;
-pub use reading::{read_listed, read_prec};
+pub use reading::{read_listed, read_prec, read_predecessors};
 pub use rests::Rests;
 pub use rests_fault::RestsFault;
 pub use write_fault::PrecWriteFault;

@@ -5,7 +5,6 @@ ghost use Rattle.prec_file.specs.Rests.{ArePairsOf, IsKnown};
 
 use crate::limits::MOST_PAIRS;
 use crate::pair_order::sorted_apart;
-use crate::rests::indexed;
 use crate::{Predecessors, Rests};
 use fixed_worth::MOST_BLOCKS;
 use std::alloc::{AllocError, Global};
@@ -52,7 +51,8 @@ impl ListedPairs {
     pub fn into_rests(self, alloc: Global) -> Result<Rests, AllocError>
         ensures { IfOk result (λ r. (r.blocks ≡ self.blocks) × ArePairsOf self.pairs r.pairs) }
     {
-        indexed(alloc, self.blocks, sorted_apart(self.pairs))
+        let predecessors = self.into_predecessors(alloc)?;
+        predecessors.into_rests(alloc)
     }
 
     /// The same pairs without the index by predecessor; the list of the pairs is freed.

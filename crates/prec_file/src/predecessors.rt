@@ -10,7 +10,7 @@ use crate::first_pairs::firsts_of;
 use crate::index::part;
 use crate::limits::MOST_PAIRS;
 use crate::pair_order::predecessors_in;
-use crate::rests::{pairs_of, with_index};
+use crate::rests::with_index;
 use fixed_worth::MOST_BLOCKS;
 use std::alloc::{AllocError, Global};
 use std::marker::Model;
@@ -18,7 +18,7 @@ use std::marker::Model;
 /// Pairs (b, p) of n blocks, in which b rests on p, as the predecessors of each block: each pair once, ordered by b and
 /// then by p.
 ///
-/// It takes about a quarter of the memory of a [`crate::Rests`], which also has the pairs themselves and finds them by
+/// It takes about a third of the memory of a [`crate::Rests`], which also has the block of each pair and finds the pairs by
 /// predecessor.
 #[derive(Drop)]
 pub struct Predecessors {
@@ -102,8 +102,7 @@ impl Predecessors {
     pub fn into_rests(self, alloc: Global) -> Result<Rests, AllocError>
         ensures { IfOk result (λ r. r ≡ self) }
     {
-        let pairs = pairs_of(alloc, &self)?;
-        with_index(alloc, self, pairs)
+        with_index(alloc, self)
     }
 
     /// How many blocks there are.

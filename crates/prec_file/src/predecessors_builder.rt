@@ -1,11 +1,12 @@
 //! Who rests on whom, listed block by block.
 
-ghost use Rattle.std.specs.Prelude.{◌≡◌, ◌+◌, ◌++◌, ◌<◌, ◌≤◌, [], All, IfOk, MatchResult, OnOk, OnErr, length, map};
-ghost use Rattle.prec_file.specs.Rests.{IsOfBlock, IsRowAdded};
+ghost use Rattle.std.specs.Prelude.{◌≡◌, ℕ, ◌+◌, ◌++◌, ◌<◌, ◌≤◌, List, [], All, IfOk, IsTrue, MatchResult, OnOk, OnErr, length, map};
+ghost use Rattle.prec_file.specs.Rests.{IsOfBlock, IsRowAdded, IsRising, AreApart};
 
 use crate::Predecessors;
+use crate::first_pairs::fill;
 use crate::limits::MOST_PAIRS;
-use crate::pair_order::sorted_apart;
+use crate::pair_order::{add_pairs, sorted_apart};
 use fixed_worth::MOST_BLOCKS;
 use std::alloc::{AllocError, Global};
 use std::marker::Model;
@@ -47,6 +48,22 @@ fn append(list: &mut Vec<u32>, pairs: &[(u32, u32)]) -> Result<(), AllocError>
     Ok(())
 }
 
+// Whether predecessors of a block rise, and the block isn't among them.
+fn row_rises(block: u32, row: &[u32]) -> bool
+    ensures rising { IsTrue result → IsRising (map (λ p. (block, p)) row.now) }
+    ensures apart { IsTrue result → AreApart (map (λ p. (block, p)) row.now) }
+{
+    // the least number that the next one may be
+    let mut least: u64 = 0;
+    for predecessor in row {
+        if (*predecessor as u64) < least || *predecessor == block {
+            return false;
+        }
+        least = *predecessor as u64 + 1;
+    }
+    true
+}
+
 impl PredecessorsBuilder {
     /// Of so many blocks none is listed yet.
     ///
@@ -74,6 +91,48 @@ impl PredecessorsBuilder {
         self.predecessors.len()
     }
 
+    // The first block that isn't listed yet.
+    pub(crate) fn next(&self) -> u32
+        ensures { result ≡ self.now.next }
+    {
+        self.next
+    }
+
+    // Lists the blocks before one, as far as they aren't listed yet, without pairs.
+    pub(crate) fn skip_to(&mut self, block: u32) -> Result<(), AllocError>
+        requires behind { self.old.next ≤ block }
+        requires within { block ≤ self.old.blocks }
+        ensures { OnOk result (self.new ≡ record { blocks = self.old.blocks; next = block; pairs = self.old.pairs }) }
+    {
+        self.firsts.reserve((block - self.next) as usize)?;
+        let size = block as usize + 1;
+        fill(&mut self.firsts, size, self.predecessors.len() as u32);
+        self.next = block;
+        Ok(())
+    }
+
+    // Lists the next block with its predecessors: each once and in order, but itself.
+    pub(crate) fn push_row(&mut self, alloc: Global, row: &[u32]) -> Result<(), AllocError>
+        requires next { self.old.next < self.old.blocks }
+        requires known { All (λ p. p < self.old.blocks) row.now }
+        requires few { length self.old.pairs + length row.now ≤ MOST_PAIRS }
+        ensures { OnOk result ((added : List (ℕ × ℕ)) × IsRowAdded self.old self.new (map (λ p. (self.old.next, p)) row.now) added) }
+    {
+        let block = self.next;
+        if !row_rises(block, row) {
+            let mut pairs = Vec::new(alloc);
+            add_pairs(&mut pairs, block, row)?;
+            self.push_block(pairs)?;
+            return Ok(());
+        }
+        self.firsts.reserve(1)?;
+        self.predecessors.extend_from_slice(row)?;
+        let behind = self.predecessors.len() as u32;
+        self.firsts.push_reserved(behind);
+        self.next = block + 1;
+        Ok(())
+    }
+
     /// Lists the next block with its pairs, and gives these back: each once and in order, but that with itself.
     ///
     /// # Errors
@@ -98,5 +157,14 @@ impl PredecessorsBuilder {
         ensures { result ≡ record { blocks = self.blocks; pairs = self.pairs } }
     {
         Predecessors::of_lists(self.blocks, self.firsts, self.predecessors)
+    }
+
+    // The pairs, where the blocks that aren't listed have none.
+    pub(crate) fn whole(mut self) -> Result<Predecessors, AllocError>
+        ensures { IfOk result (λ r. r ≡ record { blocks = self.blocks; pairs = self.pairs }) }
+    {
+        let blocks = self.blocks;
+        self.skip_to(blocks)?;
+        Ok(self.finish())
     }
 }

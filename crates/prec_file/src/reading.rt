@@ -1,51 +1,51 @@
 //! Reading a precedence file.
 
-ghost use Rattle.std.specs.Prelude.{◌≡◌, ◌≤◌, ◌++◌, false, length, slice_index_or, All, MatchResult};
+ghost use Rattle.std.specs.Prelude.{◌≡◌, ◌≤◌, ◌++◌, false, length, slice_index_or, vec_capacity, All, MatchResult};
 ghost use Rattle.fixed_worth.specs.Text.{fields_of};
 ghost use Rattle.prec_file.specs.Rests.{ArePairsOf, IsKnown};
 ghost use Rattle.prec_file.specs.Records.{record_fault, pairs_in, fault_of, listed, UnlessMemory};
 ghost use Rattle.prec_file.specs.Internal.{marked, TellsFault};
 
 use crate::limits::MOST_PAIRS;
-use crate::records::read_record;
-use crate::{ListedPairs, PrecFault, Rests};
+use crate::pair_order::add_pairs;
+use crate::records::{counted, read_record};
+use crate::rising::read_rising;
+use crate::{ListedPairs, PrecFault, Predecessors, Rests};
 use fixed_worth::{LINE_BYTES, Lines, MOST_BLOCKS};
 use std::alloc::Global;
 
-// Reads a line, adds its pairs, and marks its block as seen.
+// Reads a line, adds its pairs, and marks its block as seen. The row has the predecessors in the meantime.
 fn read_line(
     seen: &mut [bool],
     pairs: &mut Vec<(u32, u32)>,
+    row: &mut Vec<u32>,
     text: &[u8],
     n: u32,
     line: u64,
 ) -> Result<(), PrecFault>
     requires short { length text.now ≤ LINE_BYTES }
     requires all { length seen.old ≡ n }
-    requires room { length pairs.old.items ≤ MOST_PAIRS }
+    requires few { length pairs.old.items ≤ MOST_PAIRS }
+    requires room { LINE_BYTES ≤ vec_capacity row.old }
     ensures { MatchResult result
         (λ _. (record_fault n (λ b. slice_index_or seen.old b false) (length pairs.old.items) line (fields_of text.now) ≡ None)
         × (pairs.new.items ≡ pairs.old.items ++ pairs_in (fields_of text.now))
         × (length pairs.new.items ≤ MOST_PAIRS)
-        × (seen.new ≡ marked (fields_of text.now) seen.old))
+        × (seen.new ≡ marked (fields_of text.now) seen.old)
+        × (LINE_BYTES ≤ vec_capacity row.new))
         (λ e. TellsFault e (record_fault n (λ b. slice_index_or seen.old b false) (length pairs.old.items) line (fields_of text.now))) }
 {
     let before = pairs.as_slice().len();
-    let Some(record) = read_record(pairs, text, n, line)? else {
+    let Some(record) = read_record(row, text, n, line)? else {
         return Ok(());
     };
     if seen[record.block as usize] {
         return Err(PrecFault::Repeated(line));
     }
-    if record.count != record.found {
-        return Err(PrecFault::WrongCount(line));
-    }
-    if before as u64 + record.found > MOST_PAIRS as u64 {
-        return Err(PrecFault::TooMany(line));
-    }
-    if record.refused {
+    counted(record, before as u64, line)?;
+    let Ok(()) = add_pairs(pairs, record.block, row) else {
         return Err(PrecFault::NoMemory);
-    }
+    };
     seen[record.block as usize] = true;
     Ok(())
 }
@@ -59,13 +59,16 @@ fn read_pairs(alloc: Global, text: &[u8], n: u32) -> Result<Vec<(u32, u32)>, Pre
         (λ e. UnlessMemory e (fault_of n text.now ≡ Some e)) }
 {
     let mut seen = vec![in alloc; false; n as usize].map_err(|_| PrecFault::NoMemory)?;
+    let Ok(mut row) = Vec::with_capacity(alloc, LINE_BYTES) else {
+        return Err(PrecFault::NoMemory);
+    };
     let mut pairs = Vec::new(alloc);
     let mut lines = Lines::new(text);
     loop {
         match lines.next_line() {
             Ok(Some(line)) => {
                 let number = lines.number();
-                read_line(seen.as_mut_slice(), &mut pairs, line, n, number)?;
+                read_line(seen.as_mut_slice(), &mut pairs, &mut row, line, n, number)?;
             }
             Ok(None) => return Ok(pairs),
             Err(_) => return Err(PrecFault::Text(lines.number() + 1)),
@@ -103,6 +106,34 @@ pub fn read_prec(alloc: Global, text: &[u8], n: u32) -> Result<Rests, PrecFault>
         (λ r. (fault_of n text.now ≡ None) × (r.blocks ≡ n) × ArePairsOf (listed text.now) r.pairs)
         (λ e. UnlessMemory e (fault_of n text.now ≡ Some e)) }
 {
+    if let Some(predecessors) = read_rising(alloc, text, n)? {
+        return predecessors
+            .into_rests(alloc)
+            .map_err(|_| PrecFault::NoMemory);
+    }
     let listed = read_listed(alloc, text, n)?;
     listed.into_rests(alloc).map_err(|_| PrecFault::NoMemory)
+}
+
+/// The same pairs by block alone. The bytes are freed before pairs are put in order.
+///
+/// Where the blocks of the records rise, as in most files, the pairs are never held but as the result holds them.
+/// Otherwise the text is read again.
+///
+/// # Errors
+/// Those of [`read_prec`].
+pub fn read_predecessors(alloc: Global, text: Vec<u8>, n: u32) -> Result<Predecessors, PrecFault>
+    requires { n ≤ MOST_BLOCKS }
+    ensures { MatchResult result
+        (λ r. (fault_of n text.items ≡ None) × (r.blocks ≡ n) × ArePairsOf (listed text.items) r.pairs)
+        (λ e. UnlessMemory e (fault_of n text.items ≡ Some e)) }
+{
+    if let Some(predecessors) = read_rising(alloc, text.as_slice(), n)? {
+        return Ok(predecessors);
+    }
+    let listed = read_listed(alloc, text.as_slice(), n)?;
+    drop(text);
+    listed
+        .into_predecessors(alloc)
+        .map_err(|_| PrecFault::NoMemory)
 }

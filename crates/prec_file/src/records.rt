@@ -1,12 +1,14 @@
 //! The records of a precedence file: `b k p1 .. pk`, a block, how many predecessors it has, and these.
 
-ghost use Rattle.std.specs.Prelude.{◌≡◌, ℕ, ◌<◌, ◌≤◌, ◌||◌, ◌++◌, false, length, map, take, nat_le, MatchResult, MatchOption, IsTrue};
+ghost use Rattle.std.specs.Prelude.{◌≡◌, ℕ, ◌<◌, ◌≤◌, ◌+◌, ◌||◌, Bool, List, false, length, map, take, nat_le, MatchResult, MatchOption, IsTrue, vec_capacity};
 ghost use Rattle.std.specs.List.{list_all, list_any};
 ghost use Rattle.fixed_worth.specs.Text.{Run, fields_of};
 ghost use Rattle.fixed_worth.specs.Record.{reads, number_of, is_skipped};
-ghost use Rattle.prec_file.specs.Records.{block_of, count_of, predecessors_of, shape_fault, pairs_in};
+ghost use Rattle.prec_file.specs.Records.{predecessors_of, shape_fault, record_fault};
+ghost use Rattle.prec_file.specs.Internal.{IsRecordOf, TellsFault};
 
 use crate::PrecFault;
+use crate::limits::MOST_PAIRS;
 use fixed_worth::{Fields, LINE_BYTES, is_remark};
 
 // A record whose blocks are known.
@@ -17,8 +19,6 @@ pub(crate) struct Record {
     pub count: u64,
     // the number of those that it has
     pub found: u64,
-    // there was no memory for its pairs
-    pub refused: bool,
 }
 
 // The predecessors of a record.
@@ -27,48 +27,42 @@ struct Predecessors {
     found: u64,
     // the record's block or one of these isn't known
     unknown: bool,
-    // there was no memory for the pairs
-    refused: bool,
 }
 
-// Reads a block's predecessors. A field that is no number comes before an unknown block, and each fault of the record
-// before want of memory, so the fields are read to the end.
+// Reads a block's predecessors. A field that is no number comes before an unknown block, so the fields are read to the
+// end.
 fn read_predecessors(
-    pairs: &mut Vec<(u32, u32)>,
+    row: &mut Vec<u32>,
     mut fields: Fields,
     block: u64,
     n: u32,
     line: u64,
 ) -> Result<Predecessors, PrecFault>
-    requires { length fields ≤ LINE_BYTES }
+    requires few { length fields ≤ LINE_BYTES }
+    requires room { LINE_BYTES ≤ vec_capacity row.old }
     ensures { MatchResult result
         (λ r. IsTrue (list_all reads (map (λ f. f.text) fields.entry))
         × (r.unknown ≡ (nat_le n block || list_any (nat_le n) (map number_of (map (λ f. f.text) fields.entry))))
         × (r.found ≡ length fields.entry)
-        × (r.unknown ≡ false → r.refused ≡ false → pairs.new.items ≡ pairs.old.items ++ map (λ p. (block, p)) (map number_of (map (λ f. f.text) fields.entry))))
+        × (r.unknown ≡ false → row.new.items ≡ map number_of (map (λ f. f.text) fields.entry))
+        × (LINE_BYTES ≤ vec_capacity row.new))
         (λ e. (e ≡ PrecFault.Number line) × (list_all reads (map (λ f. f.text) fields.entry) ≡ false)) }
 {
     let mut unknown = block >= n as u64;
-    let mut refused = false;
     let mut found: u64 = 0;
+    row.clear();
     while let Some(read) = fields.next_whole() {
         let Ok(predecessor) = read else {
             return Err(PrecFault::Number(line));
         };
-        if block < n as u64 && predecessor < n as u64 {
-            if pairs.push((block as u32, predecessor as u32)).is_err() {
-                refused = true;
-            }
+        if predecessor < n as u64 {
+            row.push_reserved(predecessor as u32);
         } else {
             unknown = true;
         }
         found += 1;
     }
-    Ok(Predecessors {
-        found,
-        unknown,
-        refused,
-    })
+    Ok(Predecessors { found, unknown })
 }
 
 // What is wrong with a line whose first field is no number, unless it is a remark: a second field that is missing comes
@@ -91,23 +85,21 @@ fn fault_before_numbers(text: &[u8], line: u64) -> Option<PrecFault>
     }
 }
 
-// Reads a line that may be a record, and adds its pairs where there is memory for them.
+// Reads a line that may be a record, and its predecessors to a row.
 pub(crate) fn read_record(
-    pairs: &mut Vec<(u32, u32)>,
+    row: &mut Vec<u32>,
     text: &[u8],
     n: u32,
     line: u64,
 ) -> Result<Option<Record>, PrecFault>
-    requires { length text.now ≤ LINE_BYTES }
+    requires short { length text.now ≤ LINE_BYTES }
+    requires room { LINE_BYTES ≤ vec_capacity row.old }
     ensures { MatchResult result
         (λ given. MatchOption given
-        (IsTrue (is_skipped (fields_of text.now)) × (pairs.new.items ≡ pairs.old.items))
-        (λ r. (is_skipped (fields_of text.now) ≡ false)
-        × (shape_fault n line (fields_of text.now) ≡ None)
-        × (r.block ≡ block_of (fields_of text.now)) × (r.block < n)
-        × (r.count ≡ count_of (fields_of text.now))
-        × (r.found ≡ length (predecessors_of (fields_of text.now))) × (r.found ≤ LINE_BYTES)
-        × (r.refused ≡ false → pairs.new.items ≡ pairs.old.items ++ pairs_in (fields_of text.now))))
+        (IsTrue (is_skipped (fields_of text.now)) × (LINE_BYTES ≤ vec_capacity row.new))
+        (λ r. IsRecordOf n line (fields_of text.now) r.block r.count r.found
+        × (row.new.items ≡ predecessors_of (fields_of text.now))
+        × (LINE_BYTES ≤ vec_capacity row.new)))
         (λ e. (is_skipped (fields_of text.now) ≡ false) × (shape_fault n line (fields_of text.now) ≡ Some e)) }
 {
     let mut fields = Fields::new(text);
@@ -123,7 +115,7 @@ pub(crate) fn read_record(
     let Ok(count) = second else {
         return Err(PrecFault::Number(line));
     };
-    let listed = read_predecessors(pairs, fields, block, n, line)?;
+    let listed = read_predecessors(row, fields, block, n, line)?;
     if listed.unknown {
         return Err(PrecFault::UnknownBlock(line));
     }
@@ -131,6 +123,22 @@ pub(crate) fn read_record(
         block: block as u32,
         count,
         found: listed.found,
-        refused: listed.refused,
     }))
+}
+
+// What is wrong with the record of a block that had none before, where so many predecessors were listed before it.
+pub(crate) fn counted(read: Record, before: u64, line: u64) -> Result<(), PrecFault>
+    requires before { before ≤ MOST_PAIRS }
+    requires found { read.found ≤ LINE_BYTES }
+    ensures { (n : ℕ) (fields : List (List ℕ)) (had : ℕ → Bool) → IsRecordOf n line fields read.block read.count read.found → had read.block ≡ false → MatchResult result
+        (λ _. (record_fault n had before line fields ≡ None) × (before + read.found ≤ MOST_PAIRS))
+        (λ e. TellsFault e (record_fault n had before line fields)) }
+{
+    if read.count != read.found {
+        return Err(PrecFault::WrongCount(line));
+    }
+    if before + read.found > MOST_PAIRS as u64 {
+        return Err(PrecFault::TooMany(line));
+    }
+    Ok(())
 }

@@ -1,8 +1,8 @@
 //! Who rests on whom, by block and by predecessor.
 
-ghost use Rattle.std.specs.Prelude.{◌≡◌, ◌<◌, ◌≤◌, All, IfOk, MatchResult, MatchOption, length, slice_index_or};
+ghost use Rattle.std.specs.Prelude.{◌≡◌, ◌<◌, ◌≤◌, All, IfOk, MatchResult, MatchOption, length, map, slice_index_or};
 ghost use Rattle.std.specs.List.{Contains};
-ghost use Rattle.prec_file.specs.Rests.{IsRests, AreApart, IsKnown, KnownAt, IsFirstNot, IsRising, ArePairsOf, first_of, above_of, below_of};
+ghost use Rattle.prec_file.specs.Rests.{IsRests, IsKnown, KnownAt, IsFirstNot, ArePairsOf, first_of, above_of, below_of};
 ghost use Rattle.prec_file.specs.FaultStands.{FaultStands};
 
 use crate::index::{filled_by, part, starts_of};
@@ -16,7 +16,8 @@ use std::marker::Model;
 #[derive(Drop)]
 pub struct Rests {
     predecessors: Predecessors,
-    pairs: Vec<(u32, u32)>,
+    // the block of each pair
+    blocks: Vec<u32>,
     // at each block up to n, how many pairs have a predecessor below it
     starts: Vec<u32>,
     // the numbers of the pairs, by predecessor
@@ -31,54 +32,37 @@ impl Model for Rests {
 
     ghost view = { λ r. r.predecessors };
 
-    ghost invariant = { λ r. IsIndexed r.predecessors r.pairs.items r.starts.items r.filled.items };
+    ghost invariant = { λ r. IsIndexed r.predecessors r.blocks.items r.starts.items r.filled.items };
 }
 
-// The pairs by their blocks and predecessors.
-pub(crate) fn pairs_of(alloc: Global, of: &Predecessors) -> Result<Vec<(u32, u32)>, AllocError>
-    ensures { IfOk result (λ v. v.items ≡ of.now.pairs) }
+// The block of each pair.
+fn blocks_of(alloc: Global, of: &Predecessors) -> Result<Vec<u32>, AllocError>
+    ensures { IfOk result (λ v. v.items ≡ map (λ p. p.0) of.now.pairs) }
 {
-    let mut pairs = Vec::new(alloc);
+    let mut blocks = Vec::with_capacity(alloc, of.of_all().len())?;
     for block in 0..of.len() {
         let above = of.above(block);
-        for predecessor in above {
-            pairs.push((block, *predecessor))?;
+        for _predecessor in above {
+            blocks.push(block)?;
         }
     }
-    Ok(pairs)
+    Ok(blocks)
 }
 
-// Predecessors with their pairs, and with these by predecessor.
-pub(crate) fn with_index(
-    alloc: Global,
-    predecessors: Predecessors,
-    pairs: Vec<(u32, u32)>,
-) -> Result<Rests, AllocError>
-    requires { pairs.items ≡ predecessors.pairs }
+// Predecessors with the block of each pair, and with the pairs by predecessor.
+pub(crate) fn with_index(alloc: Global, predecessors: Predecessors) -> Result<Rests, AllocError>
     ensures { IfOk result (λ r. r ≡ predecessors) }
 {
     let n = predecessors.len();
+    let blocks = blocks_of(alloc, &predecessors)?;
     let starts = starts_of(alloc, n, predecessors.of_all())?;
     let filled = filled_by(alloc, n, predecessors.of_all(), &starts)?;
     Ok(Rests {
         predecessors,
-        pairs,
+        blocks,
         starts,
         filled,
     })
-}
-
-// The two indexes of pairs in order.
-pub(crate) fn indexed(alloc: Global, n: u32, pairs: Vec<(u32, u32)>) -> Result<Rests, AllocError>
-    requires blocks { n ≤ MOST_BLOCKS }
-    requires few { length pairs.items ≤ MOST_PAIRS }
-    requires known { All (IsKnown n) pairs.items }
-    requires rising { IsRising pairs.items }
-    requires apart { AreApart pairs.items }
-    ensures { IfOk result (λ r. (r.blocks ≡ n) × (r.pairs ≡ pairs.items)) }
-{
-    let predecessors = Predecessors::of_pairs(alloc, n, &pairs)?;
-    with_index(alloc, predecessors, pairs)
 }
 
 // The first pair with a block at n or above.
@@ -121,13 +105,13 @@ impl Rests {
     pub fn copy(&self, alloc: Global) -> Result<Rests, AllocError>
         ensures { IfOk result (λ r. r ≡ self.now) }
     {
-        let pairs = Vec::from_slice(alloc, &self.pairs)?;
         let predecessors = self.predecessors.copy(alloc)?;
+        let blocks = Vec::from_slice(alloc, &self.blocks)?;
         let starts = Vec::from_slice(alloc, &self.starts)?;
         let filled = Vec::from_slice(alloc, &self.filled)?;
         Ok(Rests {
             predecessors,
-            pairs,
+            blocks,
             starts,
             filled,
         })
@@ -154,7 +138,7 @@ impl Rests {
     {
         // proof: what is known of all pairs, that they are few
         let _blocks = self.predecessors.len();
-        self.pairs.len() as u32
+        self.blocks.len() as u32
     }
 
     /// The pair of this number: a block, and the block that it rests on.
@@ -162,7 +146,10 @@ impl Rests {
         requires { i < length self.now.pairs }
         ensures { result ≡ slice_index_or self.now.pairs i (0, 0) }
     {
-        self.pairs[i as usize]
+        (
+            self.blocks[i as usize],
+            self.predecessors.of_all()[i as usize],
+        )
     }
 
     /// The number of b's first pair, or of the first pair of the blocks behind b where b has none.

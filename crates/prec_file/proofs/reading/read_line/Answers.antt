@@ -1,43 +1,33 @@
-use Rattle.std.proofs.Common.{ℕ, ◌+◌, ◌≤◌, Bool, false, length, get_or, ap, arith, length-append}
+use Rattle.std.proofs.Common.{ℕ, Bool, false, length, get_or, ap, sym, ◌∙◌, ◌++◌, arith, length-append, List, map}
+use Rattle.std.proofs.lemmas.List.{length-map}
 use Rattle.std.proofs.lemmas.Result.{err_from_is_err_and}
-use Rattle.prec_file.specs.declared.limits.TheConstants.{MOST_PAIRS}
 use Rattle.fixed_worth.specs.Text.{fields_of}
-use Rattle.prec_file.proofs.History.{told, repeated, wrong_count, too_many, no_fault, pairs_length}
+use Rattle.prec_file.specs.Records.{record_fault}
+use Rattle.prec_file.proofs.History.{told, repeated}
 use Rattle.prec_file.proofs.Marks.{marks}
+use Rattle.prec_file.proofs.RowReading.{record_pairs}
 use Rattle.prec_file.proofs.reading.read_line.Goals as goal
 
 pub returns-then-seen-record : goal.returns-then-seen-record
 returns-then-seen-record c =
     let q = rw c.in-Some.is at c.in_ok-record.ensures in
     let had : ℕ → Bool = λ b. get_or c.args.seen.now b false in
-    repeated c.args.n had (length c.args.pairs.now.items) c.args.line c.in-Some.record.block (fields_of c.args.text.now) q.0 q.1 q.2 c.if-seen-record.true
-
-pub returns-then-record : goal.returns-then-record
-returns-then-record c =
-    let q = rw c.in-Some.is at c.in_ok-record.ensures in
-    let had : ℕ → Bool = λ b. get_or c.args.seen.now b false in
-    wrong_count c.args.n had (length c.args.pairs.now.items) c.args.line c.in-Some.record.block c.in-Some.record.count c.in-Some.record.found (fields_of c.args.text.now) q.0 q.1 q.2 c.if-seen-record.false q.4 q.5 c.if-record.true
-
-pub returns-then-before-record : goal.returns-then-before-record
-returns-then-before-record c =
-    let q = rw c.in-Some.is at c.in_ok-record.ensures in
-    let had : ℕ → Bool = λ b. get_or c.args.seen.now b false in
-    let k = ap length c.as_slice-before.ensures.value in
-    too_many c.args.n had (length c.args.pairs.now.items) c.args.line c.in-Some.record.block c.in-Some.record.count c.in-Some.record.found (fields_of c.args.text.now) q.0 q.1 q.2 c.if-seen-record.false q.4 q.5 c.if-record.false (omega (arith, k))
+    repeated c.args.n had (length c.args.pairs.now.items) c.args.line c.in-Some.record.block (fields_of c.args.text.now) q.0.is q.0.sound q.0.block c.if-seen-record.true
 
 pub returns : goal.returns
 returns c =
     let q = rw c.in-Some.is at c.in_ok-record.ensures in
+    let fs = fields_of c.args.text.now in
     let had : ℕ → Bool = λ b. get_or c.args.seen.now b false in
     let k = ap length c.as_slice-before.ensures.value in
-    let few : length c.args.pairs.now.items + c.in-Some.record.found ≤ MOST_PAIRS = omega (arith, k) in
-    let stored = q.7 c.if-record-2.false in
-    let all = ap length stored in
-    let more = pairs_length (fields_of c.args.text.now) q.0 in (
-      no_fault c.args.n had (length c.args.pairs.now.items) c.args.line c.in-Some.record.block c.in-Some.record.count c.in-Some.record.found (fields_of c.args.text.now) q.0 q.1 q.2 c.if-seen-record.false q.4 q.5 c.if-record.false few,
-      stored,
-      omega (arith, simp length-append at all, more, q.5),
-      marks (fields_of c.args.text.now) c.args.seen.now c.in-Some.record.block q.0 q.2,
+    let good = c.in_ok-counted.ensures c.args.n fs had q.0 c.if-seen-record.false in
+    let stored = c.in-Ok.ensures in
+    let all = ap length stored in (
+      ap (λ (x : ℕ). record_fault c.args.n had x c.args.line fs) (sym k) ∙ good.0,
+      stored ∙ ap (λ xs. c.args.pairs.now.items ++ xs) (ap (λ (xs : List ℕ). map (λ (p : ℕ). (c.in-Some.record.block, p)) xs) (c.deref.ensures.value ∙ q.1) ∙ record_pairs c.in-Some.record.block fs q.0.is q.0.block),
+      omega (arith, all, length-append c.args.pairs.now.items (map {B = ℕ × ℕ} (λ (p : ℕ). (c.in-Some.record.block, p)) c.deref.result.now), length-map {B = ℕ × ℕ} c.deref.result.now (λ (p : ℕ). (c.in-Some.record.block, p)), ap length (c.deref.ensures.value ∙ q.1), k, good.1, q.0.found),
+      marks fs c.args.seen.now c.in-Some.record.block q.0.is q.0.block,
+      q.2,
     )
 
 pub returns-in_err-record : goal.returns-in_err-record
@@ -46,11 +36,3 @@ returns-in_err-record c =
     let p = err_from_is_err_and c.from_residual.result c.from_residual.ensures.1 in
     let h = c.in_err-record.ensures in
     rw (p.1, p.2) (told c.args.n had (length c.args.pairs.now.items) c.args.line (fields_of c.args.text.now) c.in_err-record.field-0.0 h.0 h.1)
-
--- no fault of the record stands where its pairs found no memory
-pub returns-then-record-2 : goal.returns-then-record-2
-returns-then-record-2 c =
-    let q = rw c.in-Some.is at c.in_ok-record.ensures in
-    let had : ℕ → Bool = λ b. get_or c.args.seen.now b false in
-    let k = ap length c.as_slice-before.ensures.value in
-    no_fault c.args.n had (length c.args.pairs.now.items) c.args.line c.in-Some.record.block c.in-Some.record.count c.in-Some.record.found (fields_of c.args.text.now) q.0 q.1 q.2 c.if-seen-record.false q.4 q.5 c.if-record.false (omega (arith, k))

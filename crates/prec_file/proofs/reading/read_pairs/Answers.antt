@@ -21,6 +21,7 @@ loop-line-preserved c =
           g (ap length lent ∙ c.loop-line.invariant.all) c.number-number.ensures.value q.1 q.2 q.0 r.0 r.1 r.3);
       all = ap length back ∙ same ∙ c.loop-line.invariant.all;
       room = r.2;
+      free = r.4;
       known = more_known c.args.n _ (length c.loop-line.pairs.items) c.number-number.result (fields_of c.in-Ok-Some.line.now) c.loop-line.pairs.items c.read_line.new.pairs.items r.0 c.loop-line.invariant.known r.1;
     }
 

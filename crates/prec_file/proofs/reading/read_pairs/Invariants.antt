@@ -1,4 +1,5 @@
-use Rattle.std.proofs.Common.{◌≡◌, ◌≤◌, length, All}
+use Rattle.std.proofs.Common.{◌≡◌, ◌≤◌, length, All, vec_capacity}
+use Rattle.fixed_worth.specs.declared.limits.TheConstants.{LINE_BYTES}
 use Rattle.prec_file.specs.declared.limits.TheConstants.{MOST_PAIRS}
 use Rattle.prec_file.specs.Rests.{IsKnown}
 use Rattle.prec_file.proofs.Progress.{ReadSoFar}
@@ -9,6 +10,7 @@ invariant-loop-line l = record {
   going : ReadSoFar l.n l.text l.seen.items l.pairs.items l.lines;
   all : length l.seen.items ≡ l.n;
   room : length l.pairs.items ≤ MOST_PAIRS;
+  free : LINE_BYTES ≤ vec_capacity l.row;
   known : All (IsKnown l.n) l.pairs.items;
 }
 

@@ -1,4 +1,4 @@
-use Rattle.std.proofs.Common.{◌≡◌, ◌+◌, ◌<◌, ◌≤◌, ◌++◌, false, length, map}
+use Rattle.std.proofs.Common.{◌≡◌, ◌+◌, ◌≤◌, ◌++◌, false, length, map, vec_capacity}
 use Rattle.std.specs.Prelude.{◌||◌, nat_le}
 use Rattle.std.specs.List.{list_all, list_any}
 use Rattle.fixed_worth.specs.declared.limits.TheConstants.{LINE_BYTES}
@@ -15,7 +15,9 @@ invariant-loop-read l =
       known : (l.unknown || list_any (nat_le l.n) (map number_of left)) ≡ (nat_le l.n l.block || list_any (nat_le l.n) (map number_of all));
       count : l.found + length left ≡ length all;
       few : length all ≤ LINE_BYTES;
-      pairs : l.unknown ≡ false → l.refused ≡ false → (l.block < l.n) × (l.pairs.items ++ map (λ p. (l.block, p)) (map number_of left) ≡ l.fn.pairs.items ++ map (λ p. (l.block, p)) (map number_of all));
+      row : l.unknown ≡ false → l.row.items ++ map number_of left ≡ map number_of all;
+      within : length l.row.items ≤ l.found;
+      room : LINE_BYTES ≤ vec_capacity l.row;
     }
 
 abbrev pub decreases-loop-read : goal.decreases-loop-read

@@ -1,7 +1,7 @@
-use Rattle.std.proofs.Common.{◌++◌, length, Some, sym, ap, ◌∙◌, arith}
+use Rattle.std.proofs.Common.{length, Some, sym, ap, ◌∙◌, arith}
 use Rattle.prec_file.specs.Records.{block_of, count_of, predecessors_of}
 use Rattle.std.proofs.lemmas.Result.{err_from_is_err_and}
-use Rattle.prec_file.proofs.Shapes.{one_read, two_read, reads_ok, reads_err, too_few, bad_second, bad_rest, unknown, sound, known, texts_length, pairs_at, texts}
+use Rattle.prec_file.proofs.Shapes.{one_read, two_read, reads_ok, reads_err, too_few, bad_second, bad_rest, unknown, sound, known, texts_length, texts}
 use Rattle.fixed_worth.proofs.FirstNumbers.{number_no_remark}
 use Rattle.prec_file.proofs.records.read_record.Goals as goal
 
@@ -36,12 +36,15 @@ returns c =
     let k = reads_ok q.count c.in-Ok-second.count (sym c.in-Ok-second.is ∙ q.second) in
     let no = sym c.in_ok-listed.ensures.1 ∙ c.if-listed.false in
     let s = sound c.args.n c.args.line c.in-Ok.block _ q.block q.count (texts c.next_whole-2.new.self) e q.plain q.good q.value k.0 c.in_ok-listed.ensures.0 no in (
-      s.0,
-      s.1,
-      sym (ap block_of e ∙ q.value),
-      known c.args.n c.in-Ok.block _ no,
-      sym (ap count_of e ∙ k.1),
-      c.in_ok-listed.ensures.2 ∙ sym (texts_length c.next_whole-2.new.self) ∙ sym (ap (λ fs. length (predecessors_of fs)) e),
-      omega (arith, q.fewer, c.new-fields.ensures.few, c.requires, c.in_ok-listed.ensures.2),
-      λ stored. c.in_ok-listed.ensures.3 c.if-listed.false stored ∙ ap (λ ps. c.args.pairs.now.items ++ ps) (sym (pairs_at c.in-Ok.block _ _ _ _ e q.plain q.value)),
+      record {
+        is = s.0;
+        sound = s.1;
+        block = sym (ap block_of e ∙ q.value);
+        known = known c.args.n c.in-Ok.block _ no;
+        count = sym (ap count_of e ∙ k.1);
+        found = c.in_ok-listed.ensures.2 ∙ sym (texts_length c.next_whole-2.new.self) ∙ sym (ap (λ fs. length (predecessors_of fs)) e);
+        few = omega (arith, q.fewer, c.new-fields.ensures.few, c.requires.short, c.in_ok-listed.ensures.2);
+      },
+      c.in_ok-listed.ensures.3 c.if-listed.false ∙ ap predecessors_of (sym e),
+      c.in_ok-listed.ensures.4,
     )

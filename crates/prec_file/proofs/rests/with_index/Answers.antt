@@ -1,4 +1,4 @@
-use Rattle.std.proofs.Common.{◌≡◌, ℕ, All, length, sym, subst}
+use Rattle.std.proofs.Common.{ℕ, All, length, sym, subst}
 use Rattle.prec_file.specs.Rests.{IsKnown, to_at}
 use Rattle.prec_file.specs.Internal.{IsStarts}
 use Rattle.prec_file.proofs.Sorting.{known_predecessors}
@@ -23,7 +23,7 @@ invariant_of-result c =
     let starts = c.in_ok-starts.starts.items in
     let P : ℕ → Type 0 = λ n. IsStarts (to_at ps) (length ps) n starts in
     record {
-      pairs = c.requires;
+      blocks = c.in_ok-blocks.ensures;
       starts = subst P c.len-n.ensures.is (predecessors_moved c.of_all.result.now ps c.len-n.result starts c.of_all.ensures c.in_ok-starts.ensures);
       filled = filled_moved c.of_all-2.result.now ps c.in_ok-filled.filled.items c.of_all-2.ensures c.in_ok-filled.ensures;
     }

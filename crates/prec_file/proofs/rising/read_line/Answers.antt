@@ -1,0 +1,42 @@
+use Rattle.std.proofs.Common.{◌≡◌, ℕ, ◌≤◌, List, All, length, false, refl, ◌<◌, ap, sym, subst, ◌∙◌, arith}
+use Rattle.std.proofs.lemmas.Result.{err_from_is_err_and}
+use Rattle.fixed_worth.specs.Text.{fields_of}
+use Rattle.prec_file.specs.Rests.{RowsView}
+use Rattle.prec_file.proofs.History.{told}
+use Rattle.prec_file.proofs.RowReading.{predecessors_known, line_read}
+use Rattle.prec_file.proofs.rising.read_line.Goals as goal
+
+pub returns-in_err-record : goal.returns-in_err-record
+returns-in_err-record c =
+    let p = err_from_is_err_and c.from_residual.result c.from_residual.ensures.1 in
+    let h = c.in_err-record.ensures in
+    rw (p.1, p.2) (λ had new. told c.args.n had c.args.to.now.listed c.args.line (fields_of c.args.text.now) c.in_err-record.field-0.0 h.0 h.1)
+
+pub push_row-requires-clause-known : goal.push_row-requires-clause-known
+push_row-requires-clause-known c =
+    let q = rw c.in-Some.is at c.in_ok-record.ensures in
+    let P : List ℕ → Type 0 = λ xs. All (λ p. p < c.args.n) xs in
+    let known = subst P (sym (c.deref.ensures.value ∙ q.1)) (predecessors_known c.args.n c.args.line c.in-Some.record.block c.in-Some.record.count c.in-Some.record.found (fields_of c.args.text.now) q.0) in
+    let blocks : c.args.n ≡ c.skip_to.new.self.blocks = sym c.requires.blocks ∙ sym (ap (λ (v : RowsView). v.blocks) c.in-Ok.ensures) in
+    subst (λ (x : ℕ). All (λ p. p < x) c.deref.result.now) blocks known
+
+pub push_row-requires-clause-few : goal.push_row-requires-clause-few
+push_row-requires-clause-few c =
+    let q = rw c.in-Some.is at c.in_ok-record.ensures in
+    let few = (c.in_ok-counted.ensures c.args.n (fields_of c.args.text.now) (λ b. false) q.0 refl).1 in
+    let same = ap (λ (v : RowsView). length v.pairs) c.in-Ok.ensures in
+    let row = ap length (c.deref.ensures.value ∙ q.1) in
+    omega (arith, few, same, row, q.0.found, c.requires.kept)
+
+pub returns : goal.returns
+returns c = λ rises.
+    let q = rw c.in-Some.is at c.in_ok-record.ensures in
+    let fs = fields_of c.args.text.now in
+    let few = (c.in_ok-counted.ensures c.args.n fs (λ b. false) q.0 refl).1 in
+    let behind : c.args.to.now.rows.next ≤ c.in-Some.record.block = omega (arith, c.next.ensures, c.if-record-next.false) in
+    let a = c.in-Ok-push_row.ensures in (
+      line_read c.args.n c.args.line c.in-Some.record.block c.in-Some.record.count c.in-Some.record.found c.args.to.now.listed fs c.deref.result.now c.args.to.now.rows c.skip_to.new.self c.push_row.new.self a.0 q.0
+          (c.deref.ensures.value ∙ q.1) behind c.in-Ok.ensures a.1
+          (λ had new. (c.in_ok-counted.ensures c.args.n fs had q.0 (new c.in-Some.record.block behind)).0) few c.requires.kept,
+      q.2,
+    )
