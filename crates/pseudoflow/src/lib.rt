@@ -23,6 +23,8 @@
 #![tactic(auto)]
 
 mod amounts;
+mod arcs;
+mod branches;
 mod buckets;
 mod budget;
 mod fault;
@@ -33,12 +35,15 @@ mod labels;
 mod lifting;
 mod links;
 mod merging;
+mod numbering;
+mod part;
 mod preorder;
 mod pushing;
 mod recovery;
 mod reporting;
 mod search;
 mod solving;
+mod units;
 
 pub use fault::PseudoflowFault;
 pub use reporting::{Progress, Silent};

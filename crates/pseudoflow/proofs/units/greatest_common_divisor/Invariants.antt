@@ -1,0 +1,5 @@
+use Rattle.std.proofs.Common.{⊤}
+use Rattle.pseudoflow.proofs.units.greatest_common_divisor.Given as goal
+
+abbrev pub decreases-loop-rest : goal.decreases-loop-rest
+decreases-loop-rest l = l.rest
