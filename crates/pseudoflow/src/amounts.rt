@@ -5,8 +5,9 @@ ghost use Rattle.std.specs.Prelude.{◌≡◌, ◌<◌, length, IfOk};
 use crate::fault::PseudoflowFault;
 use crate::links::Link;
 use closure_net::Net;
-use ordered_group::{OrderedGroup, smaller};
+use ordered_group::OrderedGroup;
 use std::alloc::Global;
+use std::cmp::Ordering;
 
 /// What the search needs of an amount.
 ///
@@ -78,8 +79,10 @@ impl<G: OrderedGroup> Amount for OfGroup<G> {
     }
 
     fn lesser(self, other: OfGroup<G>) -> OfGroup<G> {
-        let amount = smaller(self.amount, other.amount);
-        OfGroup { amount }
+        match self.amount.cmp(&other.amount) {
+            Ordering::Greater => other,
+            _ => self,
+        }
     }
 }
 

@@ -4,7 +4,6 @@ ghost use Rattle.std.specs.Prelude.{◌≡◌, ◌<◌, ◌≤◌, All, IfOk, If
 
 use crate::fault::PseudoflowFault;
 use crate::links::Link;
-use crate::numbering::Numbering;
 use prec_file::Rests;
 use std::alloc::Global;
 use std::marker::Model;
@@ -60,14 +59,15 @@ fn add_above(
 }
 
 impl Arcs {
-    /// The pairs among the blocks that have a number.
+    /// The pairs among so many blocks, of which each block of the net has its number, or none.
     ///
     /// # Errors
     /// `NoMemory` where memory was refused; `Broken` never.
     pub(crate) fn of(
         alloc: Global,
         rests: &Rests,
-        numbering: &Numbering,
+        blocks: &[Link],
+        numbers: &[Link],
         count: u32,
     ) -> Result<Arcs, PseudoflowFault>
         ensures { IfOk result (λ a. a ≡ count) }
@@ -75,9 +75,9 @@ impl Arcs {
         let n = rests.len() as usize;
         let mut above = Vec::new(alloc);
         let mut ends = Vec::new(alloc);
-        for block in numbering.blocks() {
+        for block in blocks {
             let b = block.block(n).ok_or(PseudoflowFault::Broken)?;
-            add_above(rests, numbering.numbers(), b, count, &mut above)?;
+            add_above(rests, numbers, b, count, &mut above)?;
             let end = u32::try_from(above.len()).map_err(|_| PseudoflowFault::Broken)?;
             ends.push(end).map_err(|_| PseudoflowFault::NoMemory)?;
         }

@@ -1,6 +1,6 @@
 //! The forest: which block hangs under which.
 
-ghost use Rattle.std.specs.Prelude.{◌≡◌, ◌<◌, length, IfSome, IfOk};
+ghost use Rattle.std.specs.Prelude.{◌≡◌, ◌<◌, ◌≤◌, length, IfSome, IfOk};
 
 use crate::amounts::Amount;
 use crate::arcs::Arcs;

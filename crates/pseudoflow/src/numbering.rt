@@ -17,10 +17,10 @@ use std::marker::Model;
 /// the model.
 #[derive(Drop)]
 pub(crate) struct Numbering {
-    // the blocks in the order of their numbers
-    blocks: Vec<Link>,
-    // for each block of the net its number
-    numbers: Vec<Link>,
+    /// The blocks in the order of their numbers.
+    pub(crate) blocks: Vec<Link>,
+    /// For each block of the net a link to its number.
+    pub(crate) numbers: Vec<Link>,
 }
 
 impl Model for Numbering {
@@ -41,38 +41,6 @@ impl Numbering {
             blocks: Vec::new(alloc),
             numbers,
         })
-    }
-
-    /// The blocks that have a number, in the order of these.
-    pub(crate) fn blocks(&self) -> &[Link] {
-        &self.blocks
-    }
-
-    /// The blocks that have a number, in the order of these, alone.
-    pub(crate) fn into_blocks(self) -> Vec<Link> {
-        let Numbering { blocks, numbers: _ } = self;
-        blocks
-    }
-
-    /// For each block of the net the link to its number.
-    pub(crate) fn numbers(&self) -> &[Link] {
-        &self.numbers
-    }
-
-    /// How many blocks have a number.
-    ///
-    /// # Errors
-    /// `Broken` where these are more than the blocks of the net, which never comes.
-    pub(crate) fn len(&self) -> Result<u32, PseudoflowFault>
-        ensures most { IfOk result (λ count. count ≤ self.now) }
-        ensures is { IfOk result (λ count. count ≡ length self.blocks.items) }
-    {
-        let count = self.blocks.len();
-        if count <= self.numbers.len() {
-            Ok(count as u32)
-        } else {
-            Err(PseudoflowFault::Broken)
-        }
     }
 
     // Whether b has a number.

@@ -8,7 +8,7 @@ use crate::fault::PseudoflowFault;
 use crate::first_labels::first_labels;
 use crate::labels::Labels;
 use crate::links::Link;
-use crate::numbering::numbering_of;
+use crate::numbering::{Numbering, numbering_of};
 use closure_net::Net;
 use ordered_group::OrderedGroup;
 use std::alloc::Global;
@@ -36,6 +36,20 @@ impl Model for Part {
     ghost view = { λ p. length p.blocks.items };
 
     ghost invariant = { λ p. (p.arcs ≡ length p.blocks.items) × (p.labels ≡ length p.blocks.items) };
+}
+
+// How many blocks these are, of n.
+//
+// # Errors
+// `Broken` where they are more than n.
+fn count_of(blocks: &[Link], n: u32) -> Result<u32, PseudoflowFault>
+    ensures is { IfOk result (λ count. count ≡ length blocks.now) }
+    ensures most { IfOk result (λ count. count ≤ n) }
+{
+    if blocks.len() > n as usize {
+        return Err(PseudoflowFault::Broken);
+    }
+    Ok(blocks.len() as u32)
 }
 
 // The labels of so many blocks of a net, by their numbers.
@@ -76,10 +90,9 @@ impl Part {
         let rests = net.rests();
         let n = rests.len();
         let all = first_labels(alloc, net, budget)?;
-        let numbering = numbering_of(alloc, rests, &all, budget)?;
-        let count = numbering.len()?;
-        let arcs = Arcs::of(alloc, rests, &numbering, count)?;
-        let blocks = numbering.into_blocks();
+        let Numbering { blocks, numbers } = numbering_of(alloc, rests, &all, budget)?;
+        let count = count_of(&blocks, n)?;
+        let arcs = Arcs::of(alloc, rests, &blocks, &numbers, count)?;
         let labels = labels_by_number(alloc, &all, n, &blocks, count)?;
         Ok(Part {
             blocks,

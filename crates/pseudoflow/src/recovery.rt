@@ -100,7 +100,7 @@ impl<'a, G: OrderedGroup> Draft<'a, G> {
 
     // The flow.
     fn finish(self) -> Flow<G>
-        ensures { FlowFits self result }
+        ensures { FlowFits self.entry result }
     {
         let Draft {
             net: _,

@@ -1,4 +1,3 @@
-use Rattle.std.proofs.Common.{⊤}
 use Rattle.pseudoflow.proofs.units.greatest_common_divisor.Given as goal
 
 abbrev pub decreases-loop-rest : goal.decreases-loop-rest
