@@ -53,6 +53,29 @@ impl Amount for i64 {
     }
 }
 
+/// Units, where 64 bits are too few.
+impl Amount for i128 {
+    fn zero() -> i128 {
+        0
+    }
+
+    fn sum(self, other: i128) -> Option<i128> {
+        self.checked_add(other)
+    }
+
+    fn difference(self, other: i128) -> Option<i128> {
+        self.checked_sub(other)
+    }
+
+    fn is_positive(self) -> bool {
+        self > 0
+    }
+
+    fn lesser(self, other: i128) -> i128 {
+        if other < self { other } else { self }
+    }
+}
+
 /// An amount of the net's group.
 #[derive(Clone, Copy)]
 pub(crate) struct OfGroup<G: OrderedGroup> {

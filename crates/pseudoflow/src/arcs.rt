@@ -73,8 +73,8 @@ impl Arcs {
         ensures { IfOk result (λ a. a ≡ count) }
     {
         let n = rests.len() as usize;
-        let mut above = Vec::new(alloc);
-        let mut ends = Vec::new(alloc);
+        let mut above = Vec::with_capacity(alloc, rests.pairs() as usize)?;
+        let mut ends = Vec::with_capacity(alloc, blocks.len())?;
         for block in blocks {
             let b = block.block(n).ok_or(PseudoflowFault::Broken)?;
             add_above(rests, numbers, b, count, &mut above)?;

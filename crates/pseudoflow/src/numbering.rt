@@ -36,11 +36,9 @@ impl Numbering {
     fn new(alloc: Global, n: u32) -> Result<Numbering, AllocError>
         ensures { IfOk result (λ s. s ≡ n) }
     {
+        let blocks = Vec::with_capacity(alloc, n as usize)?;
         let numbers = vec![in alloc; NO_LINK; n as usize]?;
-        Ok(Numbering {
-            blocks: Vec::new(alloc),
-            numbers,
-        })
+        Ok(Numbering { blocks, numbers })
     }
 
     // Whether b has a number.

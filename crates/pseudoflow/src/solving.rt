@@ -11,7 +11,7 @@ use crate::part::Part;
 use crate::recovery::flow_of_forest;
 use crate::reporting::Progress;
 use crate::search::Search;
-use crate::units::units_of;
+use crate::units::{Scale, small_worths};
 use closure_net::{Flow, Net};
 use ordered_group::OrderedGroup;
 use std::alloc::Global;
@@ -38,6 +38,27 @@ fn searched<A: Amount, P: Progress>(
     branches_of(alloc, &search.forest, &of_net, budget)
 }
 
+// The forest that a search of a part of the net leaves: over units, of 64 bits where these do, or else over the net's amounts.
+fn forest_of<G: OrderedGroup, P: Progress>(
+    alloc: Global,
+    net: &Net<G>,
+    part: Part,
+    budget: &mut Budget,
+    progress: &P,
+) -> Result<Vec<Branch>, PseudoflowFault> {
+    let n = net.len();
+    let Some(worths) = small_worths(alloc, net, &part.blocks)? else {
+        let amounts = amounts_of(alloc, net, &part.blocks)?;
+        return searched(alloc, part, &amounts, n, budget, progress);
+    };
+    let scale = Scale::of(&worths, part.arcs.len());
+    if let Some(units) = scale.small_units(alloc, &worths)? {
+        return searched(alloc, part, &units, n, budget, progress);
+    }
+    let units = scale.large_units(alloc, &worths)?;
+    searched(alloc, part, &units, n, budget, progress)
+}
+
 /// A flow of the net, by highest-label pseudoflow (Hochbaum 2008).
 ///
 /// It has an amount for each block and each pair of the net. Nothing else is promised of it: that it is a greatest flow,
@@ -60,13 +81,6 @@ pub fn solve<G: OrderedGroup, P: Progress>(
 {
     let mut budget = Budget { left: turns };
     let part = Part::of(alloc, net, &mut budget)?;
-    let n = net.len();
-    let branches = match units_of(alloc, net, &part.blocks, part.arcs.len())? {
-        Some(units) => searched(alloc, part, &units, n, &mut budget, progress)?,
-        None => {
-            let amounts = amounts_of(alloc, net, &part.blocks)?;
-            searched(alloc, part, &amounts, n, &mut budget, progress)?
-        }
-    };
+    let branches = forest_of(alloc, net, part, &mut budget, progress)?;
     flow_of_forest(alloc, net, &branches)
 }

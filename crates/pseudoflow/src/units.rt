@@ -1,4 +1,4 @@
-//! Amounts of 64 bits, in the order of the net's own.
+//! Units: worths as single numbers, in the order of the net's amounts.
 
 ghost use Rattle.std.specs.Prelude.{◌≡◌, ◌<◌, length, IfOk, IfSome};
 
@@ -28,8 +28,11 @@ fn small_worth<G: OrderedGroup>(net: &Net<G>, block: Link) -> Option<i64> {
     i64::try_from(nanos).ok()
 }
 
-// What the blocks are worth in billionths, where these fit.
-fn small_worths<G: OrderedGroup>(
+/// What each of these blocks of the net is worth in billionths, where all of that fits 64 bits.
+///
+/// # Errors
+/// `NoMemory` where memory was refused.
+pub(crate) fn small_worths<G: OrderedGroup>(
     alloc: Global,
     net: &Net<G>,
     blocks: &[Link],
@@ -46,66 +49,85 @@ fn small_worths<G: OrderedGroup>(
     Ok(Some(worths))
 }
 
-// The greatest number that divides all worths: 0 where each is 0.
-fn divisor_of(worths: &[i64]) -> u64 {
-    let mut divisor = 0;
-    for worth in worths {
-        divisor = greatest_common_divisor(worth.unsigned_abs(), divisor);
-    }
-    divisor
-}
-
-// A worth in units: divided, times the scale, less one.
-fn unit_of(worth: i64, divisor: i64, scale: i64) -> Option<i64> {
-    worth
-        .checked_div(divisor)?
-        .checked_mul(scale)?
-        .checked_sub(1)
-}
-
-// Turns worths to units: whether each of these fits, and the sum of the positive ones too.
-fn into_units(worths: &mut [i64], divisor: i64, scale: i64) -> bool
-    ensures { length worths.new ≡ length worths.old }
-{
-    let mut total: i64 = 0;
-    for k in 0..worths.len() {
-        let Some(unit) = unit_of(worths[k], divisor, scale) else {
-            return false;
-        };
-        let Some(sum) = total.checked_add(unit.max(0)) else {
-            return false;
-        };
-        worths[k] = unit;
-        total = sum;
-    }
-    true
-}
-
-/// The amounts of so many blocks in units: what a block is worth, divided by the greatest number that divides the worths of
-/// all, times one more than there are blocks, less one. `None` where these don't fit 64 bits.
+/// How worths become units: each is divided by the greatest number that divides all of them, taken one more time than there
+/// are blocks, and made less by one.
 ///
-/// Of two sets of the blocks that one is less which is worth less, or the same with more blocks. No excess and no flow of
-/// a search is more than the sum of the positive amounts, and no deficit grows, so that no number of it overflows.
-///
-/// # Errors
-/// `NoMemory` where memory was refused.
-pub(crate) fn units_of<G: OrderedGroup>(
-    alloc: Global,
-    net: &Net<G>,
-    blocks: &[Link],
-    count: u32,
-) -> Result<Option<Vec<i64>>, PseudoflowFault>
-    ensures { IfOk result (λ found. IfSome found (λ v. length v.items ≡ length blocks.now)) }
-{
-    let Some(mut worths) = small_worths(alloc, net, blocks)? else {
-        return Ok(None);
-    };
-    let Ok(divisor) = i64::try_from(divisor_of(&worths).max(1)) else {
-        return Ok(None);
-    };
-    if into_units(worths.as_mut_slice(), divisor, count as i64 + 1) {
-        Ok(Some(worths))
-    } else {
-        Ok(None)
+/// Of two sets of the blocks that one has the lower sum of units which is worth less, or the same with more blocks.
+#[derive(Clone, Copy)]
+pub(crate) struct Scale {
+    divisor: i64,
+    factor: i64,
+}
+
+impl Scale {
+    /// The scale of these worths, of so many blocks.
+    pub(crate) fn of(worths: &[i64], blocks: u32) -> Scale {
+        let mut divisor = 0;
+        for worth in worths {
+            divisor = greatest_common_divisor(worth.unsigned_abs(), divisor);
+        }
+        Scale {
+            divisor: i64::try_from(divisor.max(1)).unwrap_or(1),
+            factor: blocks as i64 + 1,
+        }
+    }
+
+    // A worth in units, where these fit 64 bits.
+    fn small_unit(self, worth: i64) -> Option<i64> {
+        let parts = worth.checked_div(self.divisor)?;
+        parts.checked_mul(self.factor)?.checked_sub(1)
+    }
+
+    // A worth in units.
+    fn large_unit(self, worth: i64) -> Option<i128> {
+        let parts = worth.checked_div(self.divisor)? as i128;
+        parts.checked_mul(self.factor as i128)?.checked_sub(1)
+    }
+
+    /// The worths in units, where each of these fits 64 bits, and the sum of the positive ones too.
+    ///
+    /// No excess and no flow of a search is more than that sum, and no deficit grows, so that no number of it overflows.
+    ///
+    /// # Errors
+    /// `NoMemory` where memory was refused.
+    pub(crate) fn small_units(
+        self,
+        alloc: Global,
+        worths: &[i64],
+    ) -> Result<Option<Vec<i64>>, PseudoflowFault>
+        ensures { IfOk result (λ found. IfSome found (λ v. length v.items ≡ length worths.now)) }
+    {
+        let mut units = Vec::with_capacity(alloc, worths.len())?;
+        let mut total: i64 = 0;
+        for worth in worths {
+            let Some(unit) = self.small_unit(*worth) else {
+                return Ok(None);
+            };
+            let Some(sum) = total.checked_add(unit.max(0)) else {
+                return Ok(None);
+            };
+            total = sum;
+            units.push_reserved(unit);
+        }
+        Ok(Some(units))
+    }
+
+    /// The worths in units.
+    ///
+    /// # Errors
+    /// `NoMemory` where memory was refused; `TooLarge` never.
+    pub(crate) fn large_units(
+        self,
+        alloc: Global,
+        worths: &[i64],
+    ) -> Result<Vec<i128>, PseudoflowFault>
+        ensures { IfOk result (λ v. length v.items ≡ length worths.now) }
+    {
+        let mut units = Vec::with_capacity(alloc, worths.len())?;
+        for worth in worths {
+            let unit = self.large_unit(*worth).ok_or(PseudoflowFault::TooLarge)?;
+            units.push_reserved(unit);
+        }
+        Ok(units)
     }
 }
