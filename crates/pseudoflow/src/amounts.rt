@@ -1,83 +1,132 @@
-//! The excess of the blocks, and the flow of the tree arcs.
+//! Amounts as the search has them: what the blocks have left, and what the arcs of the trees carry.
 
 ghost use Rattle.std.specs.Prelude.{◌≡◌, ◌<◌, length, IfOk};
 
 use crate::fault::PseudoflowFault;
+use crate::links::Link;
+use closure_net::Net;
 use ordered_group::OrderedGroup;
-use std::alloc::{AllocError, Global};
-use std::marker::Model;
+use std::alloc::Global;
+use std::cmp::Ordering;
 
-/// For each block its excess, which is a deficit where it is negative, and what the arc of the block and its parent
-/// carries.
-#[derive(Drop)]
-pub(crate) struct Amounts<G: OrderedGroup> {
-    of_blocks: Vec<(G, G)>,
+/// What the search needs of an amount.
+///
+/// Nothing is claimed of sums and orders. They lead the search to a forest; the flow is found from the forest alone, in the
+/// net's own amounts, and a checker judges it.
+pub(crate) trait Amount: Copy {
+    /// Nothing.
+    fn zero() -> Self;
+
+    /// The sum, or `None` where it doesn't fit.
+    fn sum(self, other: Self) -> Option<Self>;
+
+    /// The difference, or `None` where it doesn't fit.
+    fn difference(self, other: Self) -> Option<Self>;
+
+    /// Whether it is greater than zero.
+    fn is_positive(self) -> bool;
+
+    /// The lesser of two.
+    fn lesser(self, other: Self) -> Self;
 }
 
-impl<G: OrderedGroup> Model for Amounts<G> {
-    ghost use Rattle.std.specs.Prelude.{ℕ, length};
+/// Units, in a number that a machine adds at once.
+impl Amount for i64 {
+    fn zero() -> i64 {
+        0
+    }
 
-    ghost Value = { ℕ };
+    fn sum(self, other: i64) -> Option<i64> {
+        self.checked_add(other)
+    }
 
-    ghost view = { λ a. length a.of_blocks.items };
+    fn difference(self, other: i64) -> Option<i64> {
+        self.checked_sub(other)
+    }
+
+    fn is_positive(self) -> bool {
+        self > 0
+    }
+
+    fn lesser(self, other: i64) -> i64 {
+        if other < self { other } else { self }
+    }
 }
 
-impl<G: OrderedGroup> Amounts<G> {
-    /// The amounts where the arcs of the source and of the sink are saturated: the excess of each block is its worth,
-    /// and nothing goes over an arc.
-    pub(crate) fn new(alloc: Global, worths: &[G]) -> Result<Amounts<G>, AllocError>
-        ensures { IfOk result (λ a. a ≡ length worths.now) }
-    {
-        let mut of_blocks = Vec::with_capacity(alloc, worths.len())?;
-        for worth in worths {
-            of_blocks.push_reserved((*worth, G::zero()));
+/// Units, where 64 bits are too few.
+impl Amount for i128 {
+    fn zero() -> i128 {
+        0
+    }
+
+    fn sum(self, other: i128) -> Option<i128> {
+        self.checked_add(other)
+    }
+
+    fn difference(self, other: i128) -> Option<i128> {
+        self.checked_sub(other)
+    }
+
+    fn is_positive(self) -> bool {
+        self > 0
+    }
+
+    fn lesser(self, other: i128) -> i128 {
+        if other < self { other } else { self }
+    }
+}
+
+/// An amount of the net's group.
+#[derive(Clone, Copy)]
+pub(crate) struct OfGroup<G: OrderedGroup> {
+    pub(crate) amount: G,
+}
+
+impl<G: OrderedGroup> Amount for OfGroup<G> {
+    fn zero() -> OfGroup<G> {
+        OfGroup { amount: G::zero() }
+    }
+
+    fn sum(self, other: OfGroup<G>) -> Option<OfGroup<G>> {
+        let amount = self.amount.try_add(other.amount)?;
+        Some(OfGroup { amount })
+    }
+
+    fn difference(self, other: OfGroup<G>) -> Option<OfGroup<G>> {
+        let amount = self.amount.try_sub(other.amount)?;
+        Some(OfGroup { amount })
+    }
+
+    fn is_positive(self) -> bool {
+        self.amount.is_positive()
+    }
+
+    fn lesser(self, other: OfGroup<G>) -> OfGroup<G> {
+        match self.amount.cmp(&other.amount) {
+            Ordering::Greater => other,
+            _ => self,
         }
-        Ok(Amounts { of_blocks })
-    }
-
-    /// The excess of b.
-    pub(crate) fn excess(&self, b: u32) -> G
-        requires { b < self.now }
-    {
-        self.of_blocks[b as usize].0
-    }
-
-    /// What the arc of b and its parent carries.
-    pub(crate) fn flow(&self, b: u32) -> G
-        requires { b < self.now }
-    {
-        self.of_blocks[b as usize].1
-    }
-
-    /// Sets the excess of b.
-    pub(crate) fn set_excess(&mut self, b: u32, amount: G)
-        requires { b < self.old }
-        ensures { self.new ≡ self.old }
-    {
-        self.of_blocks[b as usize].0 = amount;
-    }
-
-    /// Sets what the arc of b and its parent carries.
-    pub(crate) fn set_flow(&mut self, b: u32, amount: G)
-        requires { b < self.old }
-        ensures { self.new ≡ self.old }
-    {
-        self.of_blocks[b as usize].1 = amount;
     }
 }
 
-/// The sum.
+/// The worths of these blocks of the net, in its own amounts.
 ///
 /// # Errors
-/// `TooLarge` where it doesn't fit.
-pub(crate) fn sum<G: OrderedGroup>(a: G, b: G) -> Result<G, PseudoflowFault> {
-    a.try_add(b).ok_or(PseudoflowFault::TooLarge)
-}
-
-/// The difference.
-///
-/// # Errors
-/// `TooLarge` where it doesn't fit.
-pub(crate) fn difference<G: OrderedGroup>(a: G, b: G) -> Result<G, PseudoflowFault> {
-    a.try_sub(b).ok_or(PseudoflowFault::TooLarge)
+/// `NoMemory` where memory was refused; `Broken` where one is no block of the net.
+pub(crate) fn amounts_of<G: OrderedGroup>(
+    alloc: Global,
+    net: &Net<G>,
+    blocks: &[Link],
+) -> Result<Vec<OfGroup<G>>, PseudoflowFault>
+    ensures { IfOk result (λ v. length v.items ≡ length blocks.now) }
+{
+    let n = net.len();
+    let mut amounts = Vec::with_capacity(alloc, blocks.len())?;
+    for block in blocks {
+        let b = block.block(n as usize).ok_or(PseudoflowFault::Broken)?;
+        amounts.push_reserved(OfGroup {
+            amount: net.worth(b),
+        });
+    }
+    Ok(amounts)
 }

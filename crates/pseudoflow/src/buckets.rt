@@ -2,6 +2,7 @@
 
 ghost use Rattle.std.specs.Prelude.{◌≡◌, ◌<◌, IfSome};
 
+use crate::amounts::Amount;
 use crate::fault::PseudoflowFault;
 use crate::forest::Forest;
 use crate::links::{Link, NO_LINK};
@@ -34,7 +35,7 @@ impl Buckets {
     }
 
     /// Whether a root waits at the label.
-    pub(crate) fn has(&self, forest: &Forest, label: u32) -> bool {
+    pub(crate) fn has<A: Amount>(&self, forest: &Forest<A>, label: u32) -> bool {
         match self.ends.get(label as usize) {
             Some(ends) => forest.block(ends.first).is_some(),
             None => false,
@@ -45,9 +46,9 @@ impl Buckets {
     ///
     /// # Errors
     /// `Broken` where there is no such label.
-    pub(crate) fn push(
+    pub(crate) fn push<A: Amount>(
         &mut self,
-        forest: &mut Forest,
+        forest: &mut Forest<A>,
         label: u32,
         root: u32,
     ) -> Result<(), PseudoflowFault>
@@ -72,7 +73,7 @@ impl Buckets {
     }
 
     /// Takes the first root out of the bucket of a label.
-    pub(crate) fn pop(&mut self, forest: &Forest, label: u32) -> Option<u32>
+    pub(crate) fn pop<A: Amount>(&mut self, forest: &Forest<A>, label: u32) -> Option<u32>
         ensures { IfSome result (λ root. root < forest.now) }
     {
         if label as usize >= self.ends.len() {

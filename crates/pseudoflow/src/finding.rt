@@ -2,13 +2,12 @@
 
 ghost use Rattle.std.specs.Prelude.{◌≡◌, ◌+◌, ◌<◌, ◌≤◌, All, IfOk, IfSome, length, slice_index};
 
+use crate::amounts::Amount;
 use crate::budget::Budget;
 use crate::fault::PseudoflowFault;
 use crate::forest::Forest;
 use crate::labels::Labels;
 use crate::search::Search;
-use ordered_group::OrderedGroup;
-use prec_file::Rests;
 
 /// An arc over which a strong tree is merged: a block of the tree, and one that it rests on whose label is one lower than
 /// that of the tree's root.
@@ -18,13 +17,13 @@ pub(crate) struct MergerArc {
     pub(crate) weak: u32,
 }
 
-// Up to which of so many pairs there are turns to look, from one on.
-fn end_of_look(from: usize, pairs: usize, turns: u64) -> usize
-    ensures pairs { result ≤ pairs }
+// Up to which pair there are turns to look, from one on.
+fn end_of_look(from: usize, end: usize, turns: u64) -> usize
+    ensures pairs { result ≤ end }
     ensures turns { result ≤ from + turns }
 {
-    let most = turns.min(pairs as u64) as usize;
-    from.saturating_add(most).min(pairs)
+    let most = turns.min(end as u64) as usize;
+    from.saturating_add(most).min(end)
 }
 
 /// The first place in a range of a block with the label, or the end of the range where none has it.
@@ -47,11 +46,11 @@ pub(crate) fn first_with_label(
     to
 }
 
-// The block at a place, if there is one.
-fn block_at(blocks: &[u32], place: usize) -> Option<u32>
+// The block at a place before an end, if the place is one.
+fn block_before(blocks: &[u32], place: usize, end: usize) -> Option<u32>
     ensures { IfSome result (λ b. (place < length blocks.now) × (b ≡ slice_index blocks.now place)) }
 {
-    if place < blocks.len() {
+    if place < end && place < blocks.len() {
         Some(blocks[place])
     } else {
         None
@@ -59,36 +58,33 @@ fn block_at(blocks: &[u32], place: usize) -> Option<u32>
 }
 
 // The first block of the label on which b rests, from the current arc of b on, which moves there.
-fn find_weak(
-    rests: &Rests,
+fn find_weak<A: Amount>(
+    above: &[u32],
     labels: &Labels,
-    forest: &mut Forest,
+    forest: &mut Forest<A>,
     b: u32,
     label: u32,
     budget: &mut Budget,
 ) -> Result<Option<u32>, PseudoflowFault>
     requires block { b < forest.old }
-    requires rests { rests.now.blocks ≡ forest.old }
+    requires above { All (λ p. p < labels.now) above.now }
     requires labels { labels.now ≡ forest.old }
     ensures kept { forest.new ≡ forest.old }
     ensures less { budget.new.left ≤ budget.old.left }
     ensures known { IfOk result (λ found. IfSome found (λ p. p < forest.old)) }
 {
-    // proof: the pairs are of the blocks of `rests`
-    let _blocks = rests.len();
-    let above = rests.above(b);
-    let from = forest.current_arc(b) as usize;
-    let to = end_of_look(from, above.len(), budget.left);
-    let place = first_with_label(labels, above, from, to, label);
+    let (from, end) = forest.arcs_left(b);
+    let to = end_of_look(from as usize, (end as usize).min(above.len()), budget.left);
+    let place = first_with_label(labels, above, from as usize, to, label);
     forest.set_current_arc(b, place as u32);
-    budget.spend((place.saturating_sub(from) as u64).saturating_add(1))?;
-    Ok(block_at(above, place))
+    budget.spend((place.saturating_sub(from as usize) as u64).saturating_add(1))?;
+    Ok(block_before(above, place, end as usize))
 }
 
 // Moves the walk over the children of b to the next one that has its label. Where there is none, b gets the next higher
 // label, and its pairs are all to be looked at again.
-fn check_children(
-    forest: &mut Forest,
+fn check_children<A: Amount>(
+    forest: &mut Forest<A>,
     labels: &mut Labels,
     b: u32,
     budget: &mut Budget,
@@ -108,11 +104,11 @@ fn check_children(
         forest.pass_child(b, child);
     }
     labels.raise(b)?;
-    forest.set_current_arc(b, 0);
+    forest.begin_arcs(b);
     Ok(())
 }
 
-impl<'a, G: OrderedGroup> Search<'a, G> {
+impl<A: Amount> Search<A> {
     /// Merges a strong tree, and pushes its excess up. Where no arc is found over which it can be merged, it waits again:
     /// its root has got a higher label, as each block of the root's label that had no child of that label.
     pub(crate) fn process_root(
@@ -126,7 +122,7 @@ impl<'a, G: OrderedGroup> Search<'a, G> {
     {
         match self.find_merger(root, budget)? {
             Some(arc) => {
-                self.forest.merge(&mut self.amounts, arc, budget)?;
+                self.forest.merge(arc, budget)?;
                 self.push_excess(root, budget)
             }
             None => {
@@ -179,7 +175,7 @@ impl<'a, G: OrderedGroup> Search<'a, G> {
         let label = self.highest.checked_sub(1).ok_or(PseudoflowFault::Broken)?;
         self.forest.begin_visits(strong);
         let found = find_weak(
-            self.rests,
+            self.arcs.above(),
             &self.labels,
             &mut self.forest,
             strong,

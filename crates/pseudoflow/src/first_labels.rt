@@ -1,29 +1,30 @@
 //! The labels that the blocks have before the search.
 
-ghost use Rattle.std.specs.Prelude.{◌≡◌, ◌<◌, ◌≤◌, IfOk};
+ghost use Rattle.std.specs.Prelude.{◌≡◌, ◌<◌, ◌≤◌, length, IfOk};
 
-use crate::amounts::Amounts;
 use crate::budget::Budget;
 use crate::fault::PseudoflowFault;
 use crate::finding::first_with_label;
 use crate::labels::Labels;
 use crate::links::Link;
+use closure_net::Net;
 use ordered_group::OrderedGroup;
 use prec_file::Rests;
 use std::alloc::Global;
 
 // Lifts the blocks of positive worth. Those that are found get a lower label.
 fn lift_positive_blocks<G: OrderedGroup>(
-    amounts: &Amounts<G>,
-    n: u32,
+    net: &Net<G>,
     labels: &mut Labels,
+    budget: &mut Budget,
 ) -> Result<(), PseudoflowFault>
-    requires amounts { amounts.now ≡ n }
-    requires labels { labels.old ≡ n }
-    ensures { labels.new ≡ labels.old }
+    requires labels { labels.old ≡ length net.now.worths }
+    ensures kept { labels.new ≡ labels.old }
+    ensures less { budget.new.left ≤ budget.old.left }
 {
-    for b in 0..n {
-        if amounts.excess(b).is_positive() {
+    for b in 0..net.len() {
+        budget.spend(1)?;
+        if net.worth(b).is_positive() {
             labels.lift(b)?;
         }
     }
@@ -143,17 +144,16 @@ fn find_all(
 /// `Unsettled` where the turns are used up; `NoMemory` where memory was refused; `Broken` never.
 pub(crate) fn first_labels<G: OrderedGroup>(
     alloc: Global,
-    rests: &Rests,
-    amounts: &Amounts<G>,
+    net: &Net<G>,
     budget: &mut Budget,
 ) -> Result<Labels, PseudoflowFault>
-    requires { amounts.now ≡ rests.now.blocks }
-    ensures blocks { IfOk result (λ labels. labels ≡ rests.now.blocks) }
+    ensures blocks { IfOk result (λ labels. labels ≡ length net.now.worths) }
     ensures less { budget.new.left ≤ budget.old.left }
 {
+    let rests = net.rests();
     let n = rests.len();
     let mut labels = Labels::new(alloc, n)?;
-    lift_positive_blocks(amounts, n, &mut labels)?;
+    lift_positive_blocks(net, &mut labels, budget)?;
     let mut found = Vec::with_capacity(alloc, n as usize)?;
     find_lowest(rests, &mut labels, &mut found, budget)?;
     find_all(rests, &mut labels, &mut found, budget)?;

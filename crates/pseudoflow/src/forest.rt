@@ -1,7 +1,9 @@
 //! The forest: which block hangs under which.
 
-ghost use Rattle.std.specs.Prelude.{◌≡◌, ◌<◌, IfSome, IfOk};
+ghost use Rattle.std.specs.Prelude.{◌≡◌, ◌<◌, ◌≤◌, length, IfSome, IfOk};
 
+use crate::amounts::Amount;
+use crate::arcs::Arcs;
 use crate::links::{Link, NO_LINK};
 use std::alloc::{AllocError, Global};
 use std::marker::Model;
@@ -25,9 +27,14 @@ impl Direction {
     }
 }
 
-// What the forest keeps of a block: the links of its tree, and where two searches at it stand.
+// What the search keeps of a block, side by side, since it looks at most of it at once: what it has left, the links of its
+// tree, and where two searches at it stand.
 #[derive(Clone, Copy)]
-struct Node {
+struct Node<A: Amount> {
+    // a deficit where it is negative
+    excess: A,
+    // what the arc of the block and its parent carries
+    flow: A,
     parent: Link,
     // the children of a block form a list, linked both ways so that any of them is taken out at once
     first_child: Link,
@@ -35,33 +42,42 @@ struct Node {
     previous_sibling: Link,
     // the child with which the depth-first walk goes on
     unvisited: Link,
-    // how many of its pairs have been passed since it got its label
+    // where its pairs begin and end among those of the search, and which was not passed yet since it got its label
+    first_arc: u32,
+    end_of_arcs: u32,
     current_arc: u32,
     // the root behind it in the bucket of its label
     next_root: Link,
     direction: Direction,
 }
 
-const ALONE: Node = Node {
-    parent: NO_LINK,
-    first_child: NO_LINK,
-    next_sibling: NO_LINK,
-    previous_sibling: NO_LINK,
-    unvisited: NO_LINK,
-    current_arc: 0,
-    next_root: NO_LINK,
-    direction: Direction::Up,
-};
+// A block that is a tree of its own.
+fn alone<A: Amount>(excess: A, first_arc: u32, end_of_arcs: u32) -> Node<A> {
+    Node {
+        excess,
+        flow: A::zero(),
+        parent: NO_LINK,
+        first_child: NO_LINK,
+        next_sibling: NO_LINK,
+        previous_sibling: NO_LINK,
+        unvisited: NO_LINK,
+        first_arc,
+        end_of_arcs,
+        current_arc: first_arc,
+        next_root: NO_LINK,
+        direction: Direction::Up,
+    }
+}
 
 /// The rooted trees of a pseudoflow, the branches of Hochbaum's normalized tree without the root that joins them. Only
 /// their arcs carry anything. A tree is strong where its root has an excess, and weak otherwise, as in Lerchs and
 /// Grossmann's algorithm.
 #[derive(Drop)]
-pub(crate) struct Forest {
-    nodes: Vec<Node>,
+pub(crate) struct Forest<A: Amount> {
+    nodes: Vec<Node<A>>,
 }
 
-impl Model for Forest {
+impl<A: Amount> Model for Forest<A> {
     ghost use Rattle.std.specs.Prelude.{ℕ, length};
 
     ghost Value = { ℕ };
@@ -69,13 +85,57 @@ impl Model for Forest {
     ghost view = { λ f. length f.nodes.items };
 }
 
-impl Forest {
-    /// So many blocks, each a tree of its own.
-    pub(crate) fn new(alloc: Global, n: u32) -> Result<Forest, AllocError>
-        ensures { IfOk result (λ f. f ≡ n) }
+impl<A: Amount> Forest<A> {
+    /// Each block a tree of its own. The arcs of the source and of the sink are saturated: what a block has left is what it is
+    /// worth.
+    pub(crate) fn new(alloc: Global, worths: &[A], arcs: &Arcs) -> Result<Forest<A>, AllocError>
+        ensures { IfOk result (λ f. f ≡ length worths.now) }
     {
-        let nodes = vec![in alloc; ALONE; n as usize]?;
+        let mut nodes = Vec::with_capacity(alloc, worths.len())?;
+        let mut first_arc = 0;
+        for k in 0..worths.len() {
+            let end_of_arcs = arcs.end(k);
+            nodes.push_reserved(alone(worths[k], first_arc, end_of_arcs));
+            first_arc = end_of_arcs;
+        }
         Ok(Forest { nodes })
+    }
+
+    /// How many blocks there are, where a number takes them.
+    pub(crate) fn len(&self) -> u32
+        ensures { result ≤ self.now }
+    {
+        u32::try_from(self.nodes.len()).unwrap_or(0)
+    }
+
+    /// The excess of b.
+    pub(crate) fn excess(&self, b: u32) -> A
+        requires { b < self.now }
+    {
+        self.nodes[b as usize].excess
+    }
+
+    /// What the arc of b and its parent carries.
+    pub(crate) fn flow(&self, b: u32) -> A
+        requires { b < self.now }
+    {
+        self.nodes[b as usize].flow
+    }
+
+    /// Sets the excess of b.
+    pub(crate) fn set_excess(&mut self, b: u32, amount: A)
+        requires { b < self.old }
+        ensures { self.new ≡ self.old }
+    {
+        self.nodes[b as usize].excess = amount;
+    }
+
+    /// Sets what the arc of b and its parent carries.
+    pub(crate) fn set_flow(&mut self, b: u32, amount: A)
+        requires { b < self.old }
+        ensures { self.new ≡ self.old }
+    {
+        self.nodes[b as usize].flow = amount;
     }
 
     /// The block to which a link leads.
@@ -182,19 +242,30 @@ impl Forest {
         self.nodes[b as usize].unvisited = next;
     }
 
-    /// The current arc of b: how many of its pairs have been passed since it got its label.
-    pub(crate) fn current_arc(&self, b: u32) -> u32
+    /// The pairs of b that are to be looked at: from its current arc on, the first that was not passed since it got its label,
+    /// up to the end of its pairs.
+    pub(crate) fn arcs_left(&self, b: u32) -> (u32, u32)
         requires { b < self.now }
     {
-        self.nodes[b as usize].current_arc
+        let node = &self.nodes[b as usize];
+        (node.current_arc, node.end_of_arcs)
     }
 
-    /// Sets how many of the pairs of b have been passed.
-    pub(crate) fn set_current_arc(&mut self, b: u32, passed: u32)
+    /// Sets the current arc of b.
+    pub(crate) fn set_current_arc(&mut self, b: u32, arc: u32)
         requires { b < self.old }
         ensures { self.new ≡ self.old }
     {
-        self.nodes[b as usize].current_arc = passed;
+        self.nodes[b as usize].current_arc = arc;
+    }
+
+    /// Makes the first pair of b its current arc.
+    pub(crate) fn begin_arcs(&mut self, b: u32)
+        requires { b < self.old }
+        ensures { self.new ≡ self.old }
+    {
+        let node = &mut self.nodes[b as usize];
+        node.current_arc = node.first_arc;
     }
 
     /// The link from b to the root behind it in its bucket.

@@ -6,16 +6,22 @@
 //! algorithms for the maximum flow problem, Operations Research, 2009). It grew out of the trees of Lerchs and Grossmann
 //! (Optimum design of open-pit mines, 1965):
 //!
+//! - The first labels (`first_labels`) are exact: how many pairs lead from a block, at the fewest, to one of no positive
+//!   worth. Where none leads to such a block, it is in the pit, and takes no more part.
+//! - Only the other blocks of positive worth and what they rest on are searched (`part`). They are numbered depth first
+//!   (`numbering`), so that what a walk looks at stands close together, with the pairs among them (`arcs`).
+//! - Amounts are single numbers of 64 bits, or of 128, where the worths can be scaled to such in the same order (`units`), and
+//!   else those of the net (`amounts`).
 //! - All arcs of the source and the sink are saturated at first, so that each block has its worth as its excess, or as its
 //!   deficit where it is negative. The other arcs that carry something form a forest (`forest`). A tree is strong where its
-//!   root has an excess, and weak otherwise. The labels are exact then (`first_labels`).
+//!   root has an excess, and weak otherwise.
 //! - The strong tree whose root has the highest label (`labels`, `buckets`) is searched for a merger arc, a pair that leads
 //!   to a block of the next lower label (`finding`). The tree is hung under that block (`merging`), and its excess is pushed
 //!   up to the new root. A block whose arc can't take all of it is split off as a new strong tree (`pushing`).
 //! - A strong tree over a gap in the labels has no merger arc left, and is lifted out of the search (`lifting`). When no
 //!   other strong tree is left, the blocks that were lifted are the pit.
-//! - The flow is that of the forest's arcs. What the roots have left, or lack, is taken off the arcs that brought it
-//!   (`recovery`).
+//! - The search hands on its forest alone (`branches`). What an arc of it carries is what the blocks under it are worth, in the
+//!   net's amounts; what the roots have left, or lack, is taken off the arcs that brought it (`recovery`).
 //!
 //! Stands on `closure_net`, `ordered_group` and `prec_file`. Promises upward: the call ends within the number of turns that
 //! it is given, and the flow has the lengths of the net. Nothing is claimed of the amounts in it: a checker decides whether
@@ -23,6 +29,8 @@
 #![tactic(auto)]
 
 mod amounts;
+mod arcs;
+mod branches;
 mod buckets;
 mod budget;
 mod fault;
@@ -33,12 +41,15 @@ mod labels;
 mod lifting;
 mod links;
 mod merging;
+mod numbering;
+mod part;
 mod preorder;
 mod pushing;
 mod recovery;
 mod reporting;
 mod search;
 mod solving;
+mod units;
 
 pub use fault::PseudoflowFault;
 pub use reporting::{Progress, Silent};

@@ -2,17 +2,17 @@
 
 ghost use Rattle.std.specs.Prelude.{◌≡◌, ◌<◌, ◌≤◌, IfOk, IfSome};
 
+use crate::amounts::Amount;
 use crate::buckets::Buckets;
 use crate::budget::Budget;
 use crate::fault::PseudoflowFault;
 use crate::forest::Forest;
 use crate::labels::Labels;
 use crate::search::Search;
-use ordered_group::OrderedGroup;
 
 // Lifts the blocks of a tree out of the search.
-fn lift(
-    forest: &Forest,
+fn lift<A: Amount>(
+    forest: &Forest<A>,
     labels: &mut Labels,
     root: u32,
     budget: &mut Budget,
@@ -32,9 +32,9 @@ fn lift(
 }
 
 // Lifts each tree whose root waits at the label.
-fn lift_all(
+fn lift_all<A: Amount>(
     buckets: &mut Buckets,
-    forest: &Forest,
+    forest: &Forest<A>,
     labels: &mut Labels,
     label: u32,
     budget: &mut Budget,
@@ -52,9 +52,9 @@ fn lift_all(
 
 // The highest label, from one on down, at which a strong root waits and below which there is a block: 0 where there is
 // none. The strong trees over a gap, a label that no block has, can't be merged with any other, and are lifted.
-fn highest_label(
+fn highest_label<A: Amount>(
     buckets: &mut Buckets,
-    forest: &Forest,
+    forest: &Forest<A>,
     labels: &mut Labels,
     from: u32,
     budget: &mut Budget,
@@ -78,9 +78,9 @@ fn highest_label(
 }
 
 // Gives label 1 to the strong roots that wait at label 0.
-fn raise_lowest(
+fn raise_lowest<A: Amount>(
     buckets: &mut Buckets,
-    forest: &mut Forest,
+    forest: &mut Forest<A>,
     labels: &mut Labels,
     budget: &mut Budget,
 ) -> Result<(), PseudoflowFault>
@@ -92,13 +92,13 @@ fn raise_lowest(
     while let Some(root) = buckets.pop(forest, 0) {
         budget.spend(1)?;
         labels.raise(root)?;
-        forest.set_current_arc(root, 0);
+        forest.begin_arcs(root);
         buckets.push(forest, 1, root)?;
     }
     Ok(())
 }
 
-impl<'a, G: OrderedGroup> Search<'a, G> {
+impl<A: Amount> Search<A> {
     /// Takes the first of the strong roots of the highest label. Where all that wait have label 0, they get label 1.
     pub(crate) fn highest_strong_root(
         &mut self,

@@ -2,41 +2,37 @@
 
 ghost use Rattle.std.specs.Prelude.{◌≡◌, ◌<◌, ◌≤◌};
 
-use crate::amounts::Amounts;
+use crate::amounts::Amount;
 use crate::budget::Budget;
 use crate::fault::PseudoflowFault;
 use crate::finding::MergerArc;
 use crate::forest::{Direction, Forest};
-use ordered_group::OrderedGroup;
 
-impl Forest {
+impl<A: Amount> Forest<A> {
     /// Hangs the strong tree of a merger arc under its weak block. The tree is turned over: each arc from the strong block
     /// up to the old root keeps what it carries, and its two blocks change places.
-    pub(crate) fn merge<G: OrderedGroup>(
+    pub(crate) fn merge(
         &mut self,
-        amounts: &mut Amounts<G>,
         arc: MergerArc,
         budget: &mut Budget,
     ) -> Result<(), PseudoflowFault>
         requires strong { arc.strong < self.old }
         requires weak { arc.weak < self.old }
-        requires amounts { amounts.old ≡ self.old }
         ensures kept { self.new ≡ self.old }
-        ensures amounts { amounts.new ≡ amounts.old }
         ensures less { budget.new.left ≤ budget.old.left }
     {
         let mut block = arc.strong;
         let mut parent = arc.weak;
         let mut direction = Direction::Up;
-        let mut flow = G::zero();
+        let mut flow = A::zero();
         loop {
             budget.spend(1)?;
             let old_parent = self.parent(block);
             let old_direction = self.direction(block);
-            let old_flow = amounts.flow(block);
+            let old_flow = self.flow(block);
             self.cut(block);
             self.link(parent, block, direction);
-            amounts.set_flow(block, flow);
+            self.set_flow(block, flow);
             let Some(next) = old_parent else {
                 return Ok(());
             };

@@ -2,11 +2,12 @@
 
 ghost use Rattle.std.specs.Prelude.{◌≡◌, ◌<◌, ◌≤◌, IfOk, IfSome};
 
+use crate::amounts::Amount;
 use crate::budget::Budget;
 use crate::fault::PseudoflowFault;
 use crate::forest::Forest;
 
-impl Forest {
+impl<A: Amount> Forest<A> {
     /// The block behind b in its tree, in preorder: each block stands before those that hang under it.
     pub(crate) fn next_in_preorder(
         &self,

@@ -2,41 +2,48 @@
 
 ghost use Rattle.std.specs.Prelude.{◌≡◌, ◌<◌, ◌≤◌};
 
-use crate::amounts::{Amounts, difference, sum};
+use crate::amounts::Amount;
 use crate::budget::Budget;
 use crate::fault::PseudoflowFault;
 use crate::forest::{Direction, Forest};
 use crate::search::Search;
-use ordered_group::{OrderedGroup, smaller};
+
+// The sum.
+fn sum<A: Amount>(a: A, b: A) -> Result<A, PseudoflowFault> {
+    a.sum(b).ok_or(PseudoflowFault::TooLarge)
+}
+
+// The difference.
+fn difference<A: Amount>(a: A, b: A) -> Result<A, PseudoflowFault> {
+    a.difference(b).ok_or(PseudoflowFault::TooLarge)
+}
 
 // Pushes as much of a block's excess to its parent as their arc's residual capacity takes.
-fn push_to_parent<G: OrderedGroup>(
-    forest: &Forest,
-    amounts: &mut Amounts<G>,
+fn push_to_parent<A: Amount>(
+    forest: &mut Forest<A>,
     block: u32,
     parent: u32,
 ) -> Result<(), PseudoflowFault>
-    requires block { block < forest.now }
-    requires parent { parent < forest.now }
-    requires amounts { amounts.old ≡ forest.now }
-    ensures { amounts.new ≡ amounts.old }
+    requires block { block < forest.old }
+    requires parent { parent < forest.old }
+    ensures { forest.new ≡ forest.old }
 {
-    let excess = amounts.excess(block);
-    let flow = amounts.flow(block);
+    let excess = forest.excess(block);
+    let flow = forest.flow(block);
     let (pushed, flow) = match forest.direction(block) {
         Direction::Up => (excess, sum(flow, excess)?),
         Direction::Down => {
-            let pushed = smaller(excess, flow);
+            let pushed = excess.lesser(flow);
             (pushed, difference(flow, pushed)?)
         }
     };
-    amounts.set_flow(block, flow);
-    amounts.set_excess(parent, sum(amounts.excess(parent), pushed)?);
-    amounts.set_excess(block, difference(excess, pushed)?);
+    forest.set_flow(block, flow);
+    forest.set_excess(parent, sum(forest.excess(parent), pushed)?);
+    forest.set_excess(block, difference(excess, pushed)?);
     Ok(())
 }
 
-impl<'a, G: OrderedGroup> Search<'a, G> {
+impl<A: Amount> Search<A> {
     /// Pushes the excess of a block up to the root of its tree. A block that keeps some of it, since its arc's residual
     /// capacity is less, is split off: it becomes a strong root.
     pub(crate) fn push_excess(
@@ -51,7 +58,7 @@ impl<'a, G: OrderedGroup> Search<'a, G> {
         let mut block = from;
         // whether the block had an excess before it got this one: such a root waits in its bucket already
         let mut waits = true;
-        while self.amounts.excess(block).is_positive() {
+        while self.forest.excess(block).is_positive() {
             let Some(parent) = self.forest.parent(block) else {
                 return if waits {
                     Ok(())
@@ -60,9 +67,9 @@ impl<'a, G: OrderedGroup> Search<'a, G> {
                 };
             };
             budget.spend(1)?;
-            waits = self.amounts.excess(parent).is_positive();
-            push_to_parent(&self.forest, &mut self.amounts, block, parent)?;
-            if self.amounts.excess(block).is_positive() {
+            waits = self.forest.excess(parent).is_positive();
+            push_to_parent(&mut self.forest, block, parent)?;
+            if self.forest.excess(block).is_positive() {
                 self.forest.cut(block);
                 self.add_strong_root(block)?;
             }

@@ -1,216 +1,221 @@
-//! The flow of a finished forest: what its roots have left, or lack, is taken off the arcs that bring it.
+//! The flow of a finished forest, in the net's own amounts.
 
-ghost use Rattle.std.specs.Prelude.{◌≡◌, ◌<◌, ◌≤◌, length, IfOk, IfSome};
+ghost use Rattle.std.specs.Prelude.{◌≡◌, ◌<◌, length, IfOk, IfSome};
 ghost use Rattle.closure_net.specs.Network.{FlowFits};
 
-use crate::amounts::{Amounts, difference};
-use crate::budget::Budget;
+use crate::branches::Branch;
 use crate::fault::PseudoflowFault;
-use crate::forest::{Direction, Forest};
+use crate::forest::Direction;
 use closure_net::{Carried, Flow, Net};
-use ordered_group::{OrderedGroup, smaller};
-use prec_file::Rests;
+use ordered_group::{OrderedGroup, smaller, zeros};
 use std::alloc::Global;
+use std::marker::Model;
 
-// The amounts of saturated arcs, from the source to each block and from each block to the sink.
-fn saturated<G: OrderedGroup>(
-    alloc: Global,
-    net: &Net<G>,
-) -> Result<(Vec<G>, Vec<G>), PseudoflowFault>
-    ensures { IfOk result (λ ends. (length ends.0.items ≡ length net.now.worths) × (length ends.1.items ≡ length net.now.worths)) }
-{
-    let n = net.len();
-    let mut source = Vec::with_capacity(alloc, n as usize)?;
-    let mut sink = Vec::with_capacity(alloc, n as usize)?;
-    for b in 0..n {
-        source.push_reserved(net.positive(b));
-        sink.push_reserved(net.negative(b));
+// The sum.
+fn sum<G: OrderedGroup>(a: G, b: G) -> Result<G, PseudoflowFault> {
+    a.try_add(b).ok_or(PseudoflowFault::TooLarge)
+}
+
+// The difference.
+fn difference<G: OrderedGroup>(a: G, b: G) -> Result<G, PseudoflowFault> {
+    a.try_sub(b).ok_or(PseudoflowFault::TooLarge)
+}
+
+// A flow that is being made.
+#[derive(Drop)]
+struct Draft<'a, G: OrderedGroup> {
+    net: &'a Net<G>,
+    source: Vec<G>,
+    carried: Carried<G>,
+    sink: Vec<G>,
+}
+
+impl<'a, G: OrderedGroup> Model for Draft<'a, G> {
+    ghost use Rattle.std.specs.Prelude.{◌≡◌, length};
+    ghost use Rattle.closure_net.specs.Network.{NetView};
+
+    ghost Value = { NetView };
+
+    ghost view = { λ d. d.net.now };
+
+    ghost invariant = { λ d. (length d.source.items ≡ length d.net.now.worths) × (length d.carried ≡ length d.net.now.pairs) × (length d.sink.items ≡ length d.net.now.worths) };
+}
+
+impl<'a, G: OrderedGroup> Draft<'a, G> {
+    // Nothing flows.
+    fn new(alloc: Global, net: &'a Net<G>) -> Result<Draft<'a, G>, PseudoflowFault>
+        ensures { IfOk result (λ d. d ≡ net.now) }
+    {
+        let n = net.len();
+        Ok(Draft {
+            net,
+            source: zeros(alloc, n)?,
+            carried: Carried::nothing(alloc, net.rests().pairs())?,
+            sink: zeros(alloc, n)?,
+        })
     }
-    Ok((source, sink))
-}
 
-// Takes as much of an imbalance as an amount has off both: what is left of the imbalance, and of the amount.
-fn cancel<G: OrderedGroup>(imbalance: G, amount: G) -> Result<(G, G), PseudoflowFault> {
-    let part = smaller(imbalance, amount);
-    Ok((difference(imbalance, part)?, difference(amount, part)?))
-}
+    // Takes as much of an imbalance off the end of a block that brings it as that has, the arc of the source in a strong tree
+    // and else that of the sink: what is left of the imbalance.
+    fn cancel_at_end(&mut self, b: u32, is_strong: bool, imbalance: G) -> Result<G, PseudoflowFault>
+        requires { b < length self.old.worths }
+        ensures { self.new ≡ self.old }
+    {
+        let positive = self.net.positive(b);
+        let negative = self.net.negative(b);
+        let end = if is_strong { positive } else { negative };
+        let part = smaller(imbalance, end);
+        let rest = difference(end, part)?;
+        self.source[b as usize] = if is_strong { rest } else { positive };
+        self.sink[b as usize] = if is_strong { negative } else { rest };
+        difference(imbalance, part)
+    }
 
-// Takes an imbalance off the arcs of the children of a block that bring it: what is left of it. What is taken off such an
-// arc is the child's imbalance then.
-fn cancel_at_children<G: OrderedGroup>(
-    forest: &Forest,
-    amounts: &mut Amounts<G>,
-    imbalance: G,
-    block: u32,
-    brings: Direction,
-    budget: &mut Budget,
-) -> Result<G, PseudoflowFault>
-    requires block { block < forest.now }
-    requires amounts { amounts.old ≡ forest.now }
-    ensures kept { amounts.new ≡ amounts.old }
-    ensures less { budget.new.left ≤ budget.old.left }
-{
-    let mut left = imbalance;
-    let mut next = forest.first_child(block);
-    while let Some(child) = next {
-        budget.spend(1)?;
-        if forest.direction(child) == brings {
-            amounts.set_excess(child, smaller(left, amounts.flow(child)));
-            let (rest, flow) = cancel(left, amounts.flow(child))?;
-            amounts.set_flow(child, flow);
-            left = rest;
+    // Sets what the pair of a block and its parent carries, where that is something.
+    fn carry(
+        &mut self,
+        b: u32,
+        parent: u32,
+        direction: Direction,
+        amount: G,
+    ) -> Result<(), PseudoflowFault>
+        requires block { b < length self.old.worths }
+        requires parent { parent < length self.old.worths }
+        ensures { self.new ≡ self.old }
+    {
+        if !amount.is_positive() {
+            return Ok(());
         }
-        next = forest.next_sibling(child);
-    }
-    Ok(left)
-}
-
-// Takes the imbalance that stands at a block, as its excess, off the block's arc of the source or the sink, and what is
-// left of it off the arcs of those children that bring it.
-//
-// # Errors
-// `Broken` where something is left then.
-fn cancel_at<G: OrderedGroup>(
-    forest: &Forest,
-    amounts: &mut Amounts<G>,
-    ends: &mut [G],
-    block: u32,
-    brings: Direction,
-    budget: &mut Budget,
-) -> Result<(), PseudoflowFault>
-    requires block { block < forest.now }
-    requires amounts { amounts.old ≡ forest.now }
-    requires ends { length ends.old ≡ forest.now }
-    ensures kept { amounts.new ≡ amounts.old }
-    ensures less { budget.new.left ≤ budget.old.left }
-{
-    let (left, end) = cancel(amounts.excess(block), ends[block as usize])?;
-    ends[block as usize] = end;
-    let left = cancel_at_children(forest, amounts, left, block, brings, budget)?;
-    if left.is_positive() {
-        return Err(PseudoflowFault::Broken);
-    }
-    Ok(())
-}
-
-// Takes the imbalance of a root off the arcs that bring it, block by block of its tree.
-fn cancel_below<G: OrderedGroup>(
-    forest: &Forest,
-    amounts: &mut Amounts<G>,
-    ends: &mut [G],
-    root: u32,
-    brings: Direction,
-    budget: &mut Budget,
-) -> Result<(), PseudoflowFault>
-    requires root { root < forest.now }
-    requires amounts { amounts.old ≡ forest.now }
-    requires ends { length ends.old ≡ forest.now }
-    ensures kept { amounts.new ≡ amounts.old }
-    ensures less { budget.new.left ≤ budget.old.left }
-{
-    let mut next = Some(root);
-    while let Some(block) = next {
-        budget.spend(1)?;
-        // where nothing is left to be taken off, nothing is below
-        next = if amounts.excess(block).is_positive() {
-            cancel_at(forest, amounts, ends, block, brings, budget)?;
-            forest.next_in_preorder(block, budget)?
-        } else {
-            forest.next_beyond(block, budget)?
+        let rests = self.net.rests();
+        let found = match direction {
+            Direction::Up => rests.find(b, parent),
+            Direction::Down => rests.find(parent, b),
         };
-    }
-    Ok(())
-}
-
-// Takes the excess of each strong root back to the source, and the deficit of each weak one off what goes to the sink.
-fn cancel_all<G: OrderedGroup>(
-    blocks: u32,
-    forest: &Forest,
-    amounts: &mut Amounts<G>,
-    source: &mut [G],
-    sink: &mut [G],
-    budget: &mut Budget,
-) -> Result<(), PseudoflowFault>
-    requires blocks { blocks ≡ forest.now }
-    requires amounts { amounts.old ≡ forest.now }
-    requires source { length source.old ≡ forest.now }
-    requires sink { length sink.old ≡ forest.now }
-    ensures kept { amounts.new ≡ amounts.old }
-{
-    for b in 0..blocks {
-        if forest.parent(b).is_some() {
-            continue;
-        }
-        let excess = amounts.excess(b);
-        if excess.is_positive() {
-            cancel_below(forest, amounts, source, b, Direction::Up, budget)?;
-        } else {
-            amounts.set_excess(b, difference(G::zero(), excess)?);
-            cancel_below(forest, amounts, sink, b, Direction::Down, budget)?;
-        }
-    }
-    Ok(())
-}
-
-// The pair of a block and its parent.
-fn pair_of(rests: &Rests, forest: &Forest, b: u32, parent: u32) -> Option<u32>
-    requires block { b < rests.now.blocks }
-    requires parent { parent < rests.now.blocks }
-    requires forest { rests.now.blocks ≡ forest.now }
-    ensures { IfSome result (λ k. k < length rests.now.pairs) }
-{
-    match forest.direction(b) {
-        Direction::Up => rests.find(b, parent),
-        Direction::Down => rests.find(parent, b),
-    }
-}
-
-// What each pair carries: what its arc does where that is one of the forest, and else nothing.
-fn carried_by<G: OrderedGroup>(
-    alloc: Global,
-    rests: &Rests,
-    forest: &Forest,
-    amounts: &Amounts<G>,
-) -> Result<Carried<G>, PseudoflowFault>
-    requires forest { rests.now.blocks ≡ forest.now }
-    requires amounts { amounts.now ≡ forest.now }
-    ensures { IfOk result (λ c. length c ≡ length rests.now.pairs) }
-{
-    let mut carried = Carried::nothing(alloc, rests.pairs())?;
-    for b in 0..rests.len() {
-        let flow = amounts.flow(b);
-        if !flow.is_positive() {
-            continue;
-        }
-        let Some(parent) = forest.parent(b) else {
-            continue;
-        };
-        let Some(pair) = pair_of(rests, forest, b, parent) else {
+        let Some(pair) = found else {
             return Err(PseudoflowFault::Broken);
         };
-        carried.set(pair, flow)?;
+        self.carried.set(pair, amount)?;
+        Ok(())
     }
-    Ok(carried)
+
+    // The flow.
+    fn finish(self) -> Flow<G>
+        ensures { FlowFits self.entry result }
+    {
+        let Draft {
+            net: _,
+            source,
+            carried,
+            sink,
+        } = self;
+        Flow::new(source, carried, sink)
+    }
+}
+
+// The block of a branch.
+fn block_of<G: OrderedGroup>(net: &Net<G>, branch: Branch) -> Result<u32, PseudoflowFault>
+    ensures { IfOk result (λ b. b < length net.now.worths) }
+{
+    let found = branch.block.block(net.len() as usize);
+    found.ok_or(PseudoflowFault::Broken)
+}
+
+// For each branch the sum of the worths of its block and of all that hang under it: what its arc carries up.
+fn sums_of<G: OrderedGroup>(
+    alloc: Global,
+    net: &Net<G>,
+    branches: &[Branch],
+) -> Result<Vec<G>, PseudoflowFault>
+    ensures { IfOk result (λ v. length v.items ≡ length branches.now) }
+{
+    let mut sums = Vec::with_capacity(alloc, branches.len())?;
+    for branch in branches {
+        let b = block_of(net, *branch)?;
+        sums.push_reserved(net.worth(b));
+    }
+    for k in (0..branches.len()).rev() {
+        if let Some(parent) = branches[k].parent.block(branches.len()) {
+            sums[parent as usize] = sum(sums[parent as usize], sums[k])?;
+        }
+    }
+    Ok(sums)
+}
+
+// Takes as much of what is left of the parent's imbalance off the arc of a branch as that brings, and sets what the arc
+// carries then: how much was taken off, which is the imbalance of the branch now.
+fn cancel_at_arc<G: OrderedGroup>(
+    draft: &mut Draft<'_, G>,
+    branches: &[Branch],
+    amounts: &mut [G],
+    k: usize,
+    parent: u32,
+    is_strong: bool,
+) -> Result<G, PseudoflowFault>
+    requires place { k < length branches.now }
+    requires parent { parent < length branches.now }
+    requires amounts { length amounts.old ≡ length branches.now }
+    ensures draft { draft.new ≡ draft.old }
+    ensures amounts { length amounts.new ≡ length amounts.old }
+{
+    let branch = branches[k];
+    let b = block_of(draft.net, branch)?;
+    let above = block_of(draft.net, branches[parent as usize])?;
+    let flow = match branch.direction {
+        Direction::Up => amounts[k],
+        Direction::Down => difference(G::zero(), amounts[k])?,
+    };
+    let brings = (branch.direction == Direction::Up) == is_strong;
+    let left = amounts[parent as usize];
+    let taken = if brings {
+        smaller(left, flow)
+    } else {
+        G::zero()
+    };
+    amounts[parent as usize] = difference(left, taken)?;
+    draft.carry(b, above, branch.direction, difference(flow, taken)?)?;
+    Ok(taken)
+}
+
+// Takes the imbalance of each root off the arcs that bring it, branch by branch. The amounts are the sums of the branches;
+// of those that were passed they are what is left of the imbalance.
+fn cancel_all<G: OrderedGroup>(
+    draft: &mut Draft<'_, G>,
+    branches: &[Branch],
+    amounts: &mut [G],
+) -> Result<(), PseudoflowFault>
+    requires { length amounts.old ≡ length branches.now }
+    ensures { draft.new ≡ draft.old }
+{
+    let mut is_strong = false;
+    for k in 0..branches.len() {
+        let imbalance = match branches[k].parent.block(branches.len()) {
+            Some(parent) => cancel_at_arc(draft, branches, amounts, k, parent, is_strong)?,
+            None => {
+                is_strong = amounts[k].is_positive();
+                let deficit = difference(G::zero(), amounts[k])?;
+                if is_strong { amounts[k] } else { deficit }
+            }
+        };
+        let b = block_of(draft.net, branches[k])?;
+        amounts[k] = draft.cancel_at_end(b, is_strong, imbalance)?;
+    }
+    Ok(())
 }
 
 /// The flow of a forest in which no tree is strong but those from which no pair leads to another.
 ///
-/// All arcs of the source and the sink are saturated at first. What a strong root has left goes back to the source by the
-/// arcs that brought it, and what a weak root lacks is taken off what goes to the sink.
+/// All arcs of the source and the sink are saturated at first, and what an arc of the forest carries up is what the blocks
+/// under it are worth. What a strong root has left goes back to the source by the arcs that brought it, and what a weak root
+/// lacks is taken off what goes to the sink. Between the other blocks of the net nothing flows.
 pub(crate) fn flow_of_forest<G: OrderedGroup>(
     alloc: Global,
     net: &Net<G>,
-    forest: &Forest,
-    amounts: &mut Amounts<G>,
-    budget: &mut Budget,
+    branches: &[Branch],
 ) -> Result<Flow<G>, PseudoflowFault>
-    requires forest { forest.now ≡ length net.now.worths }
-    requires amounts { amounts.old ≡ forest.now }
     ensures { IfOk result (λ flow. FlowFits net.now flow) }
 {
-    let (mut source, mut sink) = saturated(alloc, net)?;
-    let (sources, sinks) = (source.as_mut_slice(), sink.as_mut_slice());
-    cancel_all(net.len(), forest, amounts, sources, sinks, budget)?;
-    let carried = carried_by(alloc, net.rests(), forest, amounts)?;
-    Ok(Flow::new(source, carried, sink))
+    let mut sums = sums_of(alloc, net, branches)?;
+    let mut draft = Draft::new(alloc, net)?;
+    cancel_all(&mut draft, branches, sums.as_mut_slice())?;
+    Ok(draft.finish())
 }

@@ -1,54 +1,49 @@
 //! A search for a greatest flow.
 
 ghost use Rattle.std.specs.Prelude.{◌≡◌, ◌<◌, ◌≤◌, length, IfOk};
-ghost use Rattle.closure_net.specs.Network.{FlowFits};
 
-use crate::amounts::Amounts;
+use crate::amounts::Amount;
+use crate::arcs::Arcs;
 use crate::buckets::Buckets;
 use crate::budget::Budget;
 use crate::fault::PseudoflowFault;
-use crate::first_labels::first_labels;
 use crate::forest::Forest;
 use crate::labels::Labels;
-use crate::recovery::flow_of_forest;
 use crate::reporting::Progress;
-use closure_net::{Flow, Net};
-use ordered_group::OrderedGroup;
-use prec_file::Rests;
 use std::alloc::Global;
 use std::marker::Model;
 
 // How many turns there are from one report to the next: a millisecond or less.
 const STRIDE: u64 = 1 << 16;
 
-/// A search: a pseudoflow whose arcs that carry something form a forest, and the labels that guide it.
+/// A search: a pseudoflow whose arcs that carry something form a forest, and the labels that guide it. Its blocks go by the
+/// numbers of a part of the net.
 #[derive(Drop)]
-pub(crate) struct Search<'a, G: OrderedGroup> {
-    pub(crate) rests: &'a Rests,
-    pub(crate) forest: Forest,
+pub(crate) struct Search<A: Amount> {
+    pub(crate) arcs: Arcs,
+    pub(crate) forest: Forest<A>,
     pub(crate) labels: Labels,
     pub(crate) buckets: Buckets,
-    pub(crate) amounts: Amounts<G>,
     // no strong root waits at a higher label
     pub(crate) highest: u32,
 }
 
-impl<'a, G: OrderedGroup> Model for Search<'a, G> {
+impl<A: Amount> Model for Search<A> {
     ghost use Rattle.std.specs.Prelude.{◌≡◌, ℕ};
 
     ghost Value = { ℕ };
 
     ghost view = { λ s. s.forest };
 
-    ghost invariant = { λ s. (s.rests.now.blocks ≡ s.forest) × (s.labels ≡ s.forest) × (s.amounts ≡ s.forest) };
+    ghost invariant = { λ s. (s.arcs ≡ s.forest) × (s.labels ≡ s.forest) };
 }
 
-// Puts the blocks of positive worth that aren't lifted, of which each is a tree of its own, into the buckets of their
-// labels: the highest of these labels, and 0 where there are none.
-fn add_strong_blocks(
+// Puts the blocks of positive worth, of which each is a tree of its own, into the buckets of their labels: the highest of
+// these labels, and 0 where there are none.
+fn add_strong_blocks<A: Amount>(
     labels: &Labels,
     n: u32,
-    forest: &mut Forest,
+    forest: &mut Forest<A>,
     buckets: &mut Buckets,
 ) -> Result<u32, PseudoflowFault>
     requires blocks { n ≡ forest.old }
@@ -58,7 +53,7 @@ fn add_strong_blocks(
     let mut highest = 0;
     for b in (0..n).rev() {
         let label = labels.at(b);
-        if label > 0 && !labels.is_lifted(b) {
+        if label > 0 {
             buckets.push(forest, label, b)?;
             highest = label.max(highest);
         }
@@ -66,29 +61,27 @@ fn add_strong_blocks(
     Ok(highest)
 }
 
-impl<'a, G: OrderedGroup> Search<'a, G> {
+impl<A: Amount> Search<A> {
     /// Each block is a tree of its own, and those of positive worth wait as strong roots.
     pub(crate) fn open(
         alloc: Global,
-        net: &'a Net<G>,
-        budget: &mut Budget,
-    ) -> Result<Search<'a, G>, PseudoflowFault>
-        ensures blocks { IfOk result (λ s. s ≡ length net.now.worths) }
-        ensures less { budget.new.left ≤ budget.old.left }
+        arcs: Arcs,
+        labels: Labels,
+        worths: &[A],
+    ) -> Result<Search<A>, PseudoflowFault>
+        requires labels { labels ≡ arcs }
+        requires worths { length worths.now ≡ arcs }
+        ensures { IfOk result (λ s. s ≡ arcs) }
     {
-        let rests = net.rests();
-        let n = rests.len();
-        let amounts = Amounts::new(alloc, net.worths())?;
-        let mut forest = Forest::new(alloc, n)?;
-        let labels = first_labels(alloc, rests, &amounts, budget)?;
+        let n = arcs.len();
+        let mut forest = Forest::new(alloc, worths, &arcs)?;
         let mut buckets = Buckets::new(alloc, n as usize + 2)?;
         let highest = add_strong_blocks(&labels, n, &mut forest, &mut buckets)?;
         Ok(Search {
-            rests,
+            arcs,
             forest,
             labels,
             buckets,
-            amounts,
             highest,
         })
     }
@@ -102,46 +95,28 @@ impl<'a, G: OrderedGroup> Search<'a, G> {
         self.buckets.push(&mut self.forest, label, root)
     }
 
-    /// Merges or lifts strong trees, those of the highest label first, until there is none.
+    /// Merges or lifts strong trees, those of the highest label first, until there is none. So many of the net's blocks were
+    /// lifted before.
     pub(crate) fn run<P: Progress>(
         &mut self,
+        lifted: u32,
+        blocks: u32,
         budget: &mut Budget,
         progress: &P,
     ) -> Result<(), PseudoflowFault>
         ensures kept { self.new ≡ self.old }
+        ensures less { budget.new.left ≤ budget.old.left }
     {
-        let blocks = self.rests.len();
         let mut report_at = budget.left;
         while let Some(root) = self.highest_strong_root(budget)? {
             budget.spend(1)?;
             self.process_root(root, budget)?;
             if budget.left <= report_at {
-                progress.report(self.labels.lifted(), blocks);
+                progress.report(lifted.saturating_add(self.labels.lifted()), blocks);
                 report_at = budget.left.saturating_sub(STRIDE);
             }
         }
         progress.report(blocks, blocks);
         Ok(())
-    }
-
-    /// The flow of the forest once no tree is strong but those that were lifted.
-    pub(crate) fn flow(
-        self,
-        alloc: Global,
-        net: &Net<G>,
-        budget: &mut Budget,
-    ) -> Result<Flow<G>, PseudoflowFault>
-        requires { self ≡ length net.now.worths }
-        ensures { IfOk result (λ flow. FlowFits net.now flow) }
-    {
-        let Search {
-            rests: _,
-            forest,
-            labels: _,
-            buckets: _,
-            mut amounts,
-            highest: _,
-        } = self;
-        flow_of_forest(alloc, net, &forest, &mut amounts, budget)
     }
 }

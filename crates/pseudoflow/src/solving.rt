@@ -1,15 +1,63 @@
 //! The public call: from a net and a bound on its turns to a flow, or why there is none.
 
-ghost use Rattle.std.specs.Prelude.{IfOk};
+ghost use Rattle.std.specs.Prelude.{◌≡◌, length, IfOk};
 ghost use Rattle.closure_net.specs.Network.{FlowFits};
 
+use crate::amounts::{Amount, amounts_of};
+use crate::branches::{Branch, branches_of};
 use crate::budget::Budget;
 use crate::fault::PseudoflowFault;
+use crate::part::Part;
+use crate::recovery::flow_of_forest;
 use crate::reporting::Progress;
 use crate::search::Search;
+use crate::units::{Scale, small_worths};
 use closure_net::{Flow, Net};
 use ordered_group::OrderedGroup;
 use std::alloc::Global;
+
+// The forest that a search of a part of a net of so many blocks leaves.
+fn searched<A: Amount, P: Progress>(
+    alloc: Global,
+    part: Part,
+    worths: &[A],
+    blocks: u32,
+    budget: &mut Budget,
+    progress: &P,
+) -> Result<Vec<Branch>, PseudoflowFault>
+    requires { length worths.now ≡ part }
+{
+    let Part {
+        blocks: of_net,
+        arcs,
+        labels,
+        lifted,
+    } = part;
+    let mut search = Search::open(alloc, arcs, labels, worths)?;
+    search.run(lifted, blocks, budget, progress)?;
+    branches_of(alloc, &search.forest, &of_net, budget)
+}
+
+// The forest that a search of a part of the net leaves: over units, of 64 bits where these do, or else over the net's amounts.
+fn forest_of<G: OrderedGroup, P: Progress>(
+    alloc: Global,
+    net: &Net<G>,
+    part: Part,
+    budget: &mut Budget,
+    progress: &P,
+) -> Result<Vec<Branch>, PseudoflowFault> {
+    let n = net.len();
+    let Some(worths) = small_worths(alloc, net, &part.blocks)? else {
+        let amounts = amounts_of(alloc, net, &part.blocks)?;
+        return searched(alloc, part, &amounts, n, budget, progress);
+    };
+    let scale = Scale::of(&worths, part.arcs.len());
+    if let Some(units) = scale.small_units(alloc, &worths)? {
+        return searched(alloc, part, &units, n, budget, progress);
+    }
+    let units = scale.large_units(alloc, &worths)?;
+    searched(alloc, part, &units, n, budget, progress)
+}
 
 /// A flow of the net, by highest-label pseudoflow (Hochbaum 2008).
 ///
@@ -32,7 +80,7 @@ pub fn solve<G: OrderedGroup, P: Progress>(
     ensures { IfOk result (λ flow. FlowFits net.now flow) }
 {
     let mut budget = Budget { left: turns };
-    let mut search = Search::open(alloc, net, &mut budget)?;
-    search.run(&mut budget, progress)?;
-    search.flow(alloc, net, &mut budget)
+    let part = Part::of(alloc, net, &mut budget)?;
+    let branches = forest_of(alloc, net, part, &mut budget, progress)?;
+    flow_of_forest(alloc, net, &branches)
 }

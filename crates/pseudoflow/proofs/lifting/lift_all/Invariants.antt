@@ -2,10 +2,10 @@ use Rattle.std.proofs.Common.{◌≡◌, ◌≤◌}
 use Rattle.pseudoflow.proofs.lifting.lift_all.Given as goal
 
 abbrev pub invariant-loop-root : goal.invariant-loop-root
-invariant-loop-root l = record {
+invariant-loop-root g l = record {
   same : l.labels ≡ l.fn.labels;
   spent : l.budget.left ≤ l.fn.budget.left;
 }
 
 abbrev pub decreases-loop-root : goal.decreases-loop-root
-decreases-loop-root l = l.budget.left
+decreases-loop-root g l = l.budget.left

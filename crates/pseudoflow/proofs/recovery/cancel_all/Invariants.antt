@@ -1,9 +1,8 @@
 use Rattle.std.proofs.Common.{◌≡◌, length}
 use Rattle.pseudoflow.proofs.recovery.cancel_all.Given as goal
 
-abbrev pub invariant-loop-b : goal.invariant-loop-b
-invariant-loop-b g l = record {
-  same : l.amounts ≡ l.fn.amounts;
-  source : length l.source ≡ length l.fn.source;
-  sink : length l.sink ≡ length l.fn.sink;
+abbrev pub invariant-loop-k : goal.invariant-loop-k
+invariant-loop-k g l = record {
+  same : l.draft ≡ l.fn.draft;
+  amounts : length l.amounts ≡ length l.fn.amounts;
 }

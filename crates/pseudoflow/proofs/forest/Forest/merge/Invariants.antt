@@ -4,7 +4,6 @@ use Rattle.pseudoflow.proofs.forest.Forest.merge.Given as goal
 abbrev pub invariant-loop-self : goal.invariant-loop-self
 invariant-loop-self g l = record {
   same : l.self ≡ l.fn.self;
-  amounts : l.amounts ≡ l.fn.amounts;
   block : l.block < l.fn.self;
   parent : l.parent < l.fn.self;
   spent : l.budget.left ≤ l.fn.budget.left;

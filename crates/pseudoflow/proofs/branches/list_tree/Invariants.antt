@@ -1,11 +1,10 @@
-use Rattle.std.proofs.Common.{◌≡◌, ◌<◌, ◌≤◌, IfSome}
-use Rattle.pseudoflow.proofs.recovery.cancel_at_children.Given as goal
+use Rattle.std.proofs.Common.{◌≡◌, ◌<◌, ◌≤◌, length, IfSome}
+use Rattle.pseudoflow.proofs.branches.list_tree.Given as goal
 
 abbrev pub invariant-loop-next : goal.invariant-loop-next
 invariant-loop-next g l = record {
   known : IfSome l.next (λ b. b < l.forest);
-  same : l.amounts ≡ l.fn.amounts;
-  spent : l.budget.left ≤ l.fn.budget.left;
+  places : length l.places ≡ length l.fn.places;
 }
 
 abbrev pub decreases-loop-next : goal.decreases-loop-next

@@ -1,0 +1,9 @@
+use Rattle.std.proofs.Common.{◌≡◌, length, vec_len}
+use Rattle.std.specs.Vec.{vec_capacity}
+use Rattle.pseudoflow.proofs.forest.Forest.new.Given as goal
+
+abbrev pub invariant-loop-k : goal.invariant-loop-k
+invariant-loop-k g l = record {
+  made : vec_len l.nodes ≡ l.k;
+  room : vec_capacity l.nodes ≡ length l.worths;
+}

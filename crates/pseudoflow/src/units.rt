@@ -1,0 +1,133 @@
+//! Units: worths as single numbers, in the order of the net's amounts.
+
+ghost use Rattle.std.specs.Prelude.{◌≡◌, ◌<◌, length, IfOk, IfSome};
+
+use crate::fault::PseudoflowFault;
+use crate::links::Link;
+use closure_net::Net;
+use ordered_group::OrderedGroup;
+use std::alloc::Global;
+
+// The greatest common divisor.
+fn greatest_common_divisor(a: u64, b: u64) -> u64 {
+    let mut divisor = a;
+    let mut rest = b;
+    while rest != 0 {
+        let next = divisor % rest;
+        divisor = rest;
+        rest = next;
+    }
+    divisor
+}
+
+// What a block is worth in billionths, where that fits 64 bits.
+fn small_worth<G: OrderedGroup>(net: &Net<G>, block: Link) -> Option<i64> {
+    let n = net.len();
+    let b = block.block(n as usize)?;
+    let nanos = net.worth(b).nanos_of_set(n, 1)?;
+    i64::try_from(nanos).ok()
+}
+
+/// What each of these blocks of the net is worth in billionths, where all of that fits 64 bits.
+///
+/// # Errors
+/// `NoMemory` where memory was refused.
+pub(crate) fn small_worths<G: OrderedGroup>(
+    alloc: Global,
+    net: &Net<G>,
+    blocks: &[Link],
+) -> Result<Option<Vec<i64>>, PseudoflowFault>
+    ensures { IfOk result (λ found. IfSome found (λ v. length v.items ≡ length blocks.now)) }
+{
+    let mut worths = Vec::with_capacity(alloc, blocks.len())?;
+    for block in blocks {
+        let Some(worth) = small_worth(net, *block) else {
+            return Ok(None);
+        };
+        worths.push_reserved(worth);
+    }
+    Ok(Some(worths))
+}
+
+/// How worths become units: each is divided by the greatest number that divides all of them, taken one more time than there
+/// are blocks, and made less by one.
+///
+/// Of two sets of the blocks that one has the lower sum of units which is worth less, or the same with more blocks.
+#[derive(Clone, Copy)]
+pub(crate) struct Scale {
+    divisor: i64,
+    factor: i64,
+}
+
+impl Scale {
+    /// The scale of these worths, of so many blocks.
+    pub(crate) fn of(worths: &[i64], blocks: u32) -> Scale {
+        let mut divisor = 0;
+        for worth in worths {
+            divisor = greatest_common_divisor(worth.unsigned_abs(), divisor);
+        }
+        Scale {
+            divisor: i64::try_from(divisor.max(1)).unwrap_or(1),
+            factor: blocks as i64 + 1,
+        }
+    }
+
+    // A worth in units, where these fit 64 bits.
+    fn small_unit(self, worth: i64) -> Option<i64> {
+        let parts = worth.checked_div(self.divisor)?;
+        parts.checked_mul(self.factor)?.checked_sub(1)
+    }
+
+    // A worth in units.
+    fn large_unit(self, worth: i64) -> Option<i128> {
+        let parts = worth.checked_div(self.divisor)? as i128;
+        parts.checked_mul(self.factor as i128)?.checked_sub(1)
+    }
+
+    /// The worths in units, where each of these fits 64 bits, and the sum of the positive ones too.
+    ///
+    /// No excess and no flow of a search is more than that sum, and no deficit grows, so that no number of it overflows.
+    ///
+    /// # Errors
+    /// `NoMemory` where memory was refused.
+    pub(crate) fn small_units(
+        self,
+        alloc: Global,
+        worths: &[i64],
+    ) -> Result<Option<Vec<i64>>, PseudoflowFault>
+        ensures { IfOk result (λ found. IfSome found (λ v. length v.items ≡ length worths.now)) }
+    {
+        let mut units = Vec::with_capacity(alloc, worths.len())?;
+        let mut total: i64 = 0;
+        for worth in worths {
+            let Some(unit) = self.small_unit(*worth) else {
+                return Ok(None);
+            };
+            let Some(sum) = total.checked_add(unit.max(0)) else {
+                return Ok(None);
+            };
+            total = sum;
+            units.push_reserved(unit);
+        }
+        Ok(Some(units))
+    }
+
+    /// The worths in units.
+    ///
+    /// # Errors
+    /// `NoMemory` where memory was refused; `TooLarge` never.
+    pub(crate) fn large_units(
+        self,
+        alloc: Global,
+        worths: &[i64],
+    ) -> Result<Vec<i128>, PseudoflowFault>
+        ensures { IfOk result (λ v. length v.items ≡ length worths.now) }
+    {
+        let mut units = Vec::with_capacity(alloc, worths.len())?;
+        for worth in worths {
+            let unit = self.large_unit(*worth).ok_or(PseudoflowFault::TooLarge)?;
+            units.push_reserved(unit);
+        }
+        Ok(units)
+    }
+}
