@@ -1,8 +1,8 @@
 //! Reading a design as an input of an engine.
 
 ghost use Rattle.std.specs.Prelude.{◌≡◌, ◌+◌, ◌-◌, ◌^◌, ◌<◌, ◌≤◌, ◌↔◌, ◌⊎◌, length, IfOk, IfSome, MatchResult, IsErrOf};
-ghost use Rattle.engines.specs.Limits.{IsTooLong, IsWithinLimit};
-ghost use Rattle.engines.specs.declared.engine_fault.EngineFault.TheVariants as engine;
+ghost use Rattle.mine_inputs.specs.Limits.{IsTooLong, IsWithinLimit};
+ghost use Rattle.mine_inputs.specs.declared.engine_fault.EngineFault.TheVariants as engine;
 ghost use Rattle.design_engines.specs.declared.value_fault.DesignProblem.TheVariants as problem;
 ghost use Rattle.design_engines.specs.declared.value_fault.ValueFault.TheVariants as value;
 ghost use Rattle.design_engines.specs.DesignTexts.{ReadsDesign, DesignReadFails};

@@ -3,14 +3,13 @@
 ghost use Rattle.std.specs.Prelude.{◌≡◌, ◌+◌, ◌-◌, ◌^◌, ◌<◌, IfSome, IsErrOf};
 ghost use Rattle.engines.specs.Checking.{Checks, SoundIsAccepted};
 ghost use Rattle.engines.specs.Judging.{factor_in};
-ghost use Rattle.engines.specs.MineInputs.{ForTexts, CanCount, NoneFailed, OneFailed};
+ghost use Rattle.mine_inputs.specs.MineInputs.{ForTexts, CanCount, NoneFailed, OneFailed};
 
-use crate::engine_fault::EngineFault;
 use crate::judgement::{Judgement, Verdict};
 use crate::judgement_line::write_judgement;
 use crate::judging::judge;
-use crate::mine_inputs::{MineInputs, mine_to_check};
 use fixed_worth::{CountedRead, CountedWrite};
+use mine_inputs::{EngineFault, MineInputs, mine_to_check};
 use std::alloc::Global;
 use std::thread::Threads;
 
@@ -27,7 +26,7 @@ use std::thread::Threads;
 /// first fault.
 ///
 /// # Errors
-/// Those of [`worths_from`](crate::mine_inputs::worths_from), then `Prec`, then those of [`judge`].
+/// Those of [`worths_from`](mine_inputs::worths_from), then `Prec`, then those of [`judge`].
 ///
 /// Each device must have counted fewer than 2^64 - 1 failures, so that one more can be counted.
 pub fn check_engine<R: Threads + Sync, D: CountedRead, C: CountedRead, W: CountedWrite>(

@@ -11,15 +11,13 @@ ghost use Rattle.closure_net.specs.Mine.{IsNetOf};
 ghost use Rattle.check_pit.specs.CertStreams.{IsReadFor};
 ghost use Rattle.check_pit.specs.declared.pit_fault.PitFault.{PitFault};
 ghost use Rattle.check_pit.specs.declared.stream_fault.StreamFault.TheVariants as stream;
-ghost use Rattle.engines.specs.Mines.{MineTexts, DenoteMine, mine_of};
-ghost use Rattle.engines.specs.Readings.{IsHeader};
+ghost use Rattle.mine_inputs.specs.Mines.{MineTexts, DenoteMine, mine_of};
+ghost use Rattle.engines.specs.Readings.{IsHeader, IsGroupNamed};
 ghost use Rattle.engines.specs.FaultStands.{Fails};
 ghost use Rattle.engines.specs.Judging.{Judges, IsFresh, IsOpen, StandsBehind, of_stream, factor_in};
-ghost use Rattle.engines.specs.ReadMines.{AreRead, IsMineRead, IsGroupNamed};
+ghost use Rattle.mine_inputs.specs.ReadMines.{AreRead, IsMineRead};
 
-use crate::engine_fault::{CertificateProblem, EngineFault};
 use crate::judgement::Judgement;
-use crate::mine_inputs::MineToCheck;
 use check_pit::{
     Accepted, AcceptedPit, CertFault, CertStream, Header, Room, StreamBytes, StreamFault,
     check_graph,
@@ -27,6 +25,7 @@ use check_pit::{
 use closure_net::{Graph, GraphRef, laws};
 use core::mem::replace_with;
 use fixed_worth::CountedRead;
+use mine_inputs::{CertificateProblem, EngineFault, MineToCheck};
 use ordered_group::{Group, OrderedGroup, Scaled, Worth, WorthSize};
 use prec_file::Predecessors;
 use std::alloc::Global;

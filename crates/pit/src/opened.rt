@@ -1,7 +1,7 @@
 //! The files of a mine, opened, with their failures counted.
 
 ghost use Rattle.std.specs.Prelude.{◌≡◌, IfOk};
-ghost use Rattle.engines.specs.MineInputs.{CanCount};
+ghost use Rattle.mine_inputs.specs.MineInputs.{CanCount};
 ghost use Rattle.shell_engines.specs.Devices.{InputsCanCount, failures_in};
 
 use crate::heard::Heard;

@@ -1,8 +1,9 @@
 //! The steps of a trace over a mine that was read.
 
 ghost use Rattle.std.specs.Prelude.{◌≡◌, ◌+◌, ◌-◌, ◌^◌, ◌<◌, ◌↔◌, ℕ, List, IfOk, MatchResult, IsErrOf};
-ghost use Rattle.engines.specs.Mines.{MineTexts};
-ghost use Rattle.engines.specs.ReadMines.{AreRead, IsGroupNamed};
+ghost use Rattle.mine_inputs.specs.Mines.{MineTexts};
+ghost use Rattle.mine_inputs.specs.ReadMines.{AreRead};
+ghost use Rattle.engines.specs.Readings.{IsGroupNamed};
 ghost use Rattle.engines.specs.Solving.{IsNetBy};
 ghost use Rattle.replay_engines.specs.Outcomes.{IsOutcome};
 ghost use Rattle.replay_engines.specs.Replays.{ComesOf, NothingComes, Replays};
@@ -12,10 +13,10 @@ use crate::flow_judging::judge_flow;
 use crate::outcome::{Outcome, write_outcome};
 use async_step::{Event, ReplayFault, replay};
 use closure_net::{Net, laws};
-use engines::mine_inputs::MineToSolve;
 use engines::{EngineFault, Verdict};
 use fixed_worth::CountedWrite;
 use machine_law::laws as machine_laws;
+use mine_inputs::MineToSolve;
 use ordered_group::{Group, OrderedGroup, Scaled, Worth, WorthSize};
 use std::alloc::{AllocError, Global};
 

@@ -1,6 +1,6 @@
 use Rattle.std.proofs.Common.{ℤ, List, sym, ◌∙◌, subst}
 use Rattle.std.proofs.lemmas.Result.{err_from_is_err_and}
-use Rattle.engines.specs.ReadMines.{AreRead}
+use Rattle.mine_inputs.specs.ReadMines.{AreRead}
 use Rattle.engines.proofs.Judged.{net_fails, net_known}
 use Rattle.engines.proofs.judging.judge_by.Goals as goal
 

@@ -1,5 +1,5 @@
 use Rattle.std.proofs.lemmas.Result.{err_from_is_err_and}
-use Rattle.engines.proofs.Judged.{read_as}
+use Rattle.mine_inputs.proofs.MinesRead.{read_as}
 use Rattle.engines.proofs.Solutions.{net_by}
 use Rattle.replay_engines.proofs.Comings.{no_net}
 use Rattle.replay_engines.proofs.replaying_mine.outcome_by.Goals as goal
