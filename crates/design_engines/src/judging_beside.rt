@@ -18,7 +18,7 @@ use crate::valued::Valued;
 use crate::valuing_mine::value_of;
 use check_pit::{CertStream, StreamBytes};
 use core::mem::replace_with;
-use engines::judging::{header_for, judge_in};
+use engines::certificate_judge::{header_for, judge_in};
 use engines::{CertificateProblem, EngineFault, Judgement};
 use fixed_worth::CountedRead;
 use mine_inputs::MineToCheck;
@@ -41,7 +41,7 @@ pub(crate) struct Beside {
 /// or to its first fault. The values or prices and the marks are given back before the check takes memory.
 ///
 /// # Errors
-/// Those of `engines::judging::judge`, and `TooLarge` where a sum of the worths of the design's blocks doesn't fit.
+/// Those of `engines::certificate_judge::judge`, and `TooLarge` where a sum of the worths of the design's blocks doesn't fit.
 pub(crate) fn judge_beside<R: Threads + Sync, C: CountedRead>(
     rt: &R,
     alloc: Global,

@@ -14,8 +14,8 @@ use Rattle.engines.specs.declared.judgement.Verdict.TheVariants.{Done}
 use Rattle.mine_inputs.specs.declared.engine_fault.EngineFault.{EngineFault}
 use Rattle.mine_inputs.specs.declared.engine_fault.EngineFault.TheVariants as engine
 use Rattle.engines.specs.declared.method.Method.{Method}
-use Rattle.engines.specs.declared.solving.Unsolved.{Unsolved}
-use Rattle.engines.specs.declared.solving.Unsolved.TheVariants.{Unsettled, TooLarge, GaveUp, NoMemory, NoThread, Stranger}
+use Rattle.engines.specs.declared.solvers.Unsolved.{Unsolved}
+use Rattle.engines.specs.declared.solvers.Unsolved.TheVariants.{Unsettled, TooLarge, GaveUp, NoMemory, NoThread, Stranger}
 use Rattle.engines.specs.NetAnswers.{SendsCertificate, SendsLine, SendsNo, certificate_text, unsettled_line, too_large_line}
 use Rattle.engines.specs.Solving.{UnsolvedStands, IsNoOf, SolvesNet}
 

@@ -7,13 +7,13 @@
 //! line is kept out: the program `pit` opens the files and hands them on.
 #![tactic(auto)]
 
+pub mod certificate_judge;
 pub mod certify;
-mod checking;
+mod checking_engine;
 mod effort;
 mod fault_line;
 mod judgement;
 pub mod judgement_line;
-pub mod judging;
 pub mod laws;
 mod listed_slopes;
 mod method;
@@ -25,13 +25,13 @@ mod pattern_words;
 mod slope_pairs;
 mod slopes;
 mod solve_asked;
-pub mod solving;
+pub mod solvers;
 mod solving_engine;
 mod stored_run;
 mod unwatched;
 mod whole_numbers;
 
-pub use checking::check_engine;
+pub use checking_engine::check_engine;
 pub use effort::Effort;
 pub use fault_line::{status, write_fault};
 pub use judgement::{Judgement, Verdict};

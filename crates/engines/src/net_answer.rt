@@ -10,7 +10,7 @@ ghost use Rattle.engines.specs.NetAnswers.{SendsCertificate, SendsNo};
 use crate::certify::Solution;
 use crate::judgement::Verdict;
 use crate::outcome::Outcome;
-use crate::solving::Unsolved;
+use crate::solvers::Unsolved;
 use check_pit::{Certificate, Price, write_certificate};
 use closure_net::Net;
 use fixed_worth::{CountedWrite, write_text};

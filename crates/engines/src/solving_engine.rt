@@ -13,7 +13,7 @@ use crate::judgement::Verdict;
 use crate::net_answer::write_answer;
 use crate::outcome::Outcome;
 use crate::solve_asked::SolveAsked;
-use crate::solving::solution_of;
+use crate::solvers::solution_of;
 use closure_net::{Net, laws};
 use fixed_worth::{CountedRead, CountedWrite};
 use mine_inputs::{EngineFault, MineInputs, MineToSolve, mine_to_solve};

@@ -4,7 +4,7 @@ ghost use Rattle.std.specs.Prelude.{◌≡◌, ◌+◌, ◌-◌, ◌^◌, ◌<�
 ghost use Rattle.engines.specs.Checking.{Checks};
 ghost use Rattle.mine_inputs.specs.Mines.{mine_texts};
 
-use crate::checking::check_engine;
+use crate::checking_engine::check_engine;
 use crate::judgement::Verdict;
 use fixed_worth::{CountedRead, CountedWrite};
 use mine_inputs::{EngineFault, MineInputs, WorthInputs};

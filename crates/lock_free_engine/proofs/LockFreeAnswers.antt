@@ -14,8 +14,8 @@ use Rattle.check_pit.proofs.Tightness.{refused_for_size_only}
 use Rattle.engines.specs.declared.judgement.Verdict.{Verdict}
 use Rattle.engines.specs.declared.judgement.Verdict.TheVariants.{No}
 use Rattle.mine_inputs.specs.declared.engine_fault.EngineFault.{EngineFault}
-use Rattle.engines.specs.declared.solving.Unsolved.{Unsolved}
-use Rattle.engines.specs.declared.solving.Unsolved.TheVariants.{Unsettled, TooLarge, GaveUp, NoMemory, NoThread, Stranger}
+use Rattle.engines.specs.declared.solvers.Unsolved.{Unsolved}
+use Rattle.engines.specs.declared.solvers.Unsolved.TheVariants.{Unsettled, TooLarge, GaveUp, NoMemory, NoThread, Stranger}
 use Rattle.engines.specs.NetAnswers.{SendsCertificate, SendsLine, SendsNo, certificate_text, unsettled_line, too_large_line}
 use Rattle.engines.specs.Readings.{counts_by}
 use Rattle.engines.specs.Certifying.{IsRefusedFlow}

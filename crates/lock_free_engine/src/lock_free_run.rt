@@ -9,7 +9,7 @@ use crate::laws;
 use crate::lock_free_effort::LockFreeEffort;
 use closure_net::Net;
 use engines::certify::{Solution, Uncertified, certified};
-use engines::solving::Unsolved;
+use engines::solvers::Unsolved;
 use ordered_group::Scaled;
 use std::alloc::Global;
 use std::sync::Wait;

@@ -14,8 +14,8 @@ use Rattle.shells.specs.Series.{mine_at}
 use Rattle.shells.specs.Nesting.{BestPitsAreNested}
 use Rattle.shells.proofs.OverNets.{net_of_over}
 use Rattle.engines.specs.declared.effort.Effort.{Effort}
-use Rattle.engines.specs.declared.solving.Unsolved.{Unsolved}
-use Rattle.engines.specs.declared.solving.Unsolved.TheVariants.{Unsettled, TooLarge, GaveUp, NoMemory, NoThread, Stranger}
+use Rattle.engines.specs.declared.solvers.Unsolved.{Unsolved}
+use Rattle.engines.specs.declared.solvers.Unsolved.TheVariants.{Unsettled, TooLarge, GaveUp, NoMemory, NoThread, Stranger}
 use Rattle.engines.specs.declared.judgement.Verdict.{Verdict}
 use Rattle.engines.specs.declared.judgement.Verdict.TheVariants.{No}
 use Rattle.mine_inputs.specs.declared.engine_fault.EngineFault.{EngineFault}

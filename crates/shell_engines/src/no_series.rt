@@ -1,7 +1,7 @@
 //! Why there is no series of shells.
 
 use closure_net::NetFault;
-use engines::solving::Unsolved;
+use engines::solvers::Unsolved;
 use std::alloc::AllocError;
 
 /// Why there is no series.

@@ -15,7 +15,7 @@ use crate::series_progress::SeriesProgress;
 use crate::shell_rows::ShellRow;
 use crate::solving_at::solution_at;
 use engines::Effort;
-use engines::solving::Unsolved;
+use engines::solvers::Unsolved;
 use fixed_worth::MOST_FACTORS;
 use prec_file::Rests;
 use pseudoflow::Progress;

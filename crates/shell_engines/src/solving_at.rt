@@ -8,7 +8,7 @@ ghost use Rattle.shell_engines.specs.Settling.{NotSolvedStands};
 use closure_net::Net;
 use engines::Effort;
 use engines::certify::Solution;
-use engines::solving::{Unsolved, solution_of};
+use engines::solvers::{Unsolved, solution_of};
 use lock_free_engine::{LockFreeEffort, by_lock_free_run};
 use ordered_group::Scaled;
 use pseudoflow::Progress;

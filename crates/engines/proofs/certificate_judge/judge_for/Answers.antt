@@ -4,7 +4,7 @@ use Rattle.std.proofs.lemmas.Int.{to_z-of_z}
 use Rattle.engines.specs.Refusals.{flow_for}
 use Rattle.engines.proofs.Judged.{judged_accepted}
 use Rattle.engines.proofs.Streamed.{IsAsked, stream_answered, stream_read, stream_proves, stream_short}
-use Rattle.engines.proofs.judging.judge_for.Goals as goal
+use Rattle.engines.proofs.certificate_judge.judge_for.Goals as goal
 
 pub returns-in-Ok-clause-judged : goal.returns-in-Ok-clause-judged
 returns-in-Ok-clause-judged g c = λ texts text mine named header stands of_mine.

@@ -1,5 +1,5 @@
 use Rattle.engines.proofs.HeaderAnswers.{header_given, other_blocks}
-use Rattle.engines.proofs.judging.header_for.Goals as goal
+use Rattle.engines.proofs.certificate_judge.header_for.Goals as goal
 
 pub returns-then-header-n-clause-read : goal.returns-then-header-n-clause-read
 returns-then-header-n-clause-read g c =

@@ -1,6 +1,6 @@
 use Rattle.std.proofs.Common.{length, ap, arith}
 use Rattle.closure_net.specs.Network.{NetView}
-use Rattle.engines.proofs.judging.worth_of_pit.Goals as goal
+use Rattle.engines.proofs.certificate_judge.worth_of_pit.Goals as goal
 
 pub unreachable-requires : goal.unreachable-requires
 unreachable-requires g c =

@@ -2,7 +2,7 @@ use Rattle.std.proofs.Common.{ℤ, List, sym, ◌∙◌, subst}
 use Rattle.std.proofs.lemmas.Result.{err_from_is_err_and}
 use Rattle.mine_inputs.specs.ReadMines.{AreRead}
 use Rattle.engines.proofs.Judged.{net_fails, net_known}
-use Rattle.engines.proofs.judging.judge_by.Goals as goal
+use Rattle.engines.proofs.certificate_judge.judge_by.Goals as goal
 
 pub returns-in_err-net-clause-judged : goal.returns-in_err-net-clause-judged
 returns-in_err-net-clause-judged g c = λ texts text read named header stands.

@@ -1,7 +1,7 @@
 use Rattle.std.proofs.Common.{refl, subst}
 use Rattle.ordered_group.specs.declared.groups.Group.{Group}
 use Rattle.engines.specs.Readings.{IsHeader}
-use Rattle.engines.proofs.judging.judge_in.Goals as goal
+use Rattle.engines.proofs.certificate_judge.judge_in.Goals as goal
 
 pub returns-in-Worth-clause-judged : goal.returns-in-Worth-clause-judged
 returns-in-Worth-clause-judged g c = λ texts text read header stands.

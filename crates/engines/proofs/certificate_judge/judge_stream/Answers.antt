@@ -1,7 +1,7 @@
 use Rattle.std.proofs.Common.{◌∙◌}
 use Rattle.std.proofs.lemmas.Result.{err_from_is_err_and}
 use Rattle.engines.proofs.StreamAnswers.{found_none, found_some, header_unjudged, price_unjudged, stream_judged}
-use Rattle.engines.proofs.judging.judge_stream.Goals as goal
+use Rattle.engines.proofs.certificate_judge.judge_stream.Goals as goal
 
 pub returns-in_err-header-clause-judged : goal.returns-in_err-header-clause-judged
 returns-in_err-header-clause-judged g c =

@@ -3,7 +3,7 @@ use Rattle.std.proofs.lemmas.Result.{err_from_is_err_and}
 use Rattle.engines.proofs.Answered.{unread, unjudged, untold, told, complete}
 use Rattle.mine_inputs.proofs.Failed.{raised, stayed, went, well, first_of_two, second_of_two}
 use Rattle.mine_inputs.proofs.MineDevices.{mine_once, other_once}
-use Rattle.engines.proofs.checking.check_engine.Goals as goal
+use Rattle.engines.proofs.checking_engine.check_engine.Goals as goal
 
 pub returns-in_err-mine-clause-answer : goal.returns-in_err-mine-clause-answer
 returns-in_err-mine-clause-answer g c =

@@ -1,7 +1,7 @@
 use Rattle.std.proofs.Common.{◌≡◌, ℕ, ◌≤◌, ◌<◌, List, length, All, arith, subst, sym, ap}
 use Rattle.closure_net.specs.Network.{NetView, IsAscending}
 use Rattle.engines.proofs.Counted.{ascending_short}
-use Rattle.engines.proofs.judging.size_of_pit.Goals as goal
+use Rattle.engines.proofs.certificate_judge.size_of_pit.Goals as goal
 
 few : (xs ys : List ℕ) (n : ℕ) → xs ≡ ys → IsAscending xs → All (λ b. b < n) ys → length xs ≤ n
 few xs ys n e a h = let P : List ℕ → Type 0 = λ zs. All (λ b. b < n) zs in ascending_short xs n a (subst P (sym e) h)
