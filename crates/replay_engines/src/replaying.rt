@@ -5,7 +5,7 @@ ghost use Rattle.mine_inputs.specs.MineInputs.{ForTexts, CanCount, NoneFailed, O
 ghost use Rattle.replay_engines.specs.Replays.{Replays};
 
 use crate::replay_asked::ReplayAsked;
-use crate::replaying_mine::replay_mine;
+use crate::replayed_mine::replay_mine;
 use crate::trace_inputs::events_from;
 use engines::{EngineFault, MineInputs, Verdict};
 use fixed_worth::{CountedRead, CountedWrite};

@@ -13,7 +13,7 @@ use crate::no_series::NoSeries;
 use crate::series_inputs::SeriesMine;
 use crate::series_progress::SeriesProgress;
 use crate::shell_rows::ShellRow;
-use crate::solving_at::solution_at;
+use crate::solver_at::solution_at;
 use engines::Effort;
 use engines::solvers::Unsolved;
 use fixed_worth::MOST_FACTORS;

@@ -1,6 +1,6 @@
 use Rattle.std.proofs.Common.{refl}
 use Rattle.async_step.specs.Views.{state_of}
-use Rattle.replay_engines.proofs.replaying_mine.outcome_over.Goals as goal
+use Rattle.replay_engines.proofs.replayed_mine.outcome_over.Goals as goal
 
 pub returns-in-Ok-into_flow : goal.returns-in-Ok-into_flow
 returns-in-Ok-into_flow g c = record {

@@ -2,7 +2,7 @@ use Rattle.std.proofs.lemmas.Result.{err_from_is_err_and}
 use Rattle.mine_inputs.proofs.MinesRead.{read_as}
 use Rattle.engines.proofs.Solutions.{net_by}
 use Rattle.replay_engines.proofs.Comings.{no_net}
-use Rattle.replay_engines.proofs.replaying_mine.outcome_by.Goals as goal
+use Rattle.replay_engines.proofs.replayed_mine.outcome_by.Goals as goal
 
 pub returns-in_err-net-clause-comes : goal.returns-in_err-net-clause-comes
 returns-in_err-net-clause-comes g c = λ texts read named.

@@ -1,6 +1,6 @@
 use Rattle.std.proofs.lemmas.Result.{err_from_is_err_and}
 use Rattle.replay_engines.proofs.Comings.{replayed, lines_failed}
-use Rattle.replay_engines.proofs.replaying_mine.replay_mine.Goals as goal
+use Rattle.replay_engines.proofs.replayed_mine.replay_mine.Goals as goal
 
 pub returns-in_err-write_outcome-clause-answer : goal.returns-in_err-write_outcome-clause-answer
 returns-in_err-write_outcome-clause-answer g c = λ texts trace read events.

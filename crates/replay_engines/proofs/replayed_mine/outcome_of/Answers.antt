@@ -1,7 +1,7 @@
 use Rattle.std.proofs.Common.{refl, sym, subst, MatchResult}
 use Rattle.ordered_group.specs.declared.groups.Group.{Group}
 use Rattle.replay_engines.specs.Replays.{ComesOf, NothingComes}
-use Rattle.replay_engines.proofs.replaying_mine.outcome_of.Goals as goal
+use Rattle.replay_engines.proofs.replayed_mine.outcome_of.Goals as goal
 
 pub returns-in-Worth-clause-comes : goal.returns-in-Worth-clause-comes
 returns-in-Worth-clause-comes c = λ texts read.
