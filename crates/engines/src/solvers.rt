@@ -1,8 +1,8 @@
 //! Solving a net: a solver makes a flow, and a check decides.
 
-ghost use Rattle.std.specs.Prelude.{◌≡◌, IfSome, MatchResult, IfOk};
+ghost use Rattle.std.specs.Prelude.{IfSome, MatchResult, IfOk};
 ghost use Rattle.engines.specs.Certifying.{IsSolution};
-ghost use Rattle.engines.specs.Solving.{UnsolvedStands, MachineStands, unsolved_by};
+ghost use Rattle.engines.specs.Solving.{UnsolvedStands, MachineStands};
 
 use crate::certify::{Solution, Uncertified, certified};
 use crate::effort::Effort;
@@ -34,16 +34,20 @@ pub enum Unsolved {
     Stranger,
 }
 
-// What a fault of a run means here.
-fn unsolved_by(fault: SolveFault) -> Unsolved
-    ensures { result ≡ unsolved_by fault }
-{
-    match fault {
-        SolveFault::Unsettled => Unsolved::Unsettled,
-        SolveFault::TooLarge => Unsolved::TooLarge,
-        SolveFault::NoMemory => Unsolved::NoMemory,
-        SolveFault::NoThread => Unsolved::NoThread,
-        SolveFault::StrangerNet | SolveFault::BadWorkers => Unsolved::Stranger,
+impl From<SolveFault> for Unsolved {
+    ghost use Rattle.std.specs.Prelude.{◌≡◌};
+    ghost use Rattle.engines.specs.Solving.{unsolved_by};
+
+    ghost from_gives = { λ fault unsolved. unsolved ≡ unsolved_by fault };
+
+    fn from(fault: SolveFault) -> Unsolved {
+        match fault {
+            SolveFault::Unsettled => Unsolved::Unsettled,
+            SolveFault::TooLarge => Unsolved::TooLarge,
+            SolveFault::NoMemory => Unsolved::NoMemory,
+            SolveFault::NoThread => Unsolved::NoThread,
+            SolveFault::StrangerNet | SolveFault::BadWorkers => Unsolved::Stranger,
+        }
     }
 }
 
@@ -94,7 +98,7 @@ where
     laws::tight_closed_pit_is_refused_for_size_only();
     let flow = match solve(rt, alloc, net, effort.workers, effort.steps, gate) {
         Ok(solved) => solved.flow,
-        Err(fault) => return Err(unsolved_by(fault)),
+        Err(fault) => return Err(Unsolved::from(fault)),
     };
     match certified(alloc, net, flow) {
         Ok(solution) => Ok(solution),
