@@ -4,7 +4,7 @@ ghost use Rattle.std.specs.Prelude.{◌≡◌, ◌+◌, ◌-◌, ◌^◌, ◌<�
 ghost use Rattle.certificate_file.specs.ReadBack.{IsPrice};
 ghost use Rattle.mine_inputs.specs.FaultStands.{MineFails};
 ghost use Rattle.mine_inputs.specs.MineInputs.{ForTexts, ForWorths, CanCount, WorthsCanCount, NoneFailed, NoWorthsFailed, OneFailed, OneWorthsFailed};
-ghost use Rattle.mine_inputs.specs.Mines.{mine_texts, priced_texts, price_wanted};
+ghost use Rattle.mine_inputs.specs.Mines.{priced_texts, price_wanted};
 ghost use Rattle.mine_inputs.specs.ReadMines.{AreRead, AreWorthsOf, IsMineRead};
 
 use crate::engine_fault::EngineFault;
@@ -59,19 +59,9 @@ pub fn worths_from<D: CountedRead>(
     ensures kept { ¬ IsErrOf result EngineFault.Device → NoWorthsFailed inputs.old inputs.new D.failed }
 {
     match inputs {
-        WorthInputs::Values { upit } => worths_by_values(alloc, upit),
+        WorthInputs::Values { upit } => Ok(Worths::Values(upit_from(alloc, upit)?)),
         WorthInputs::Prices { settings, blocks } => worths_by_prices(alloc, settings, blocks),
     }
-}
-
-// What blocks are worth by their values.
-fn worths_by_values<D: CountedRead>(alloc: Global, upit: &mut D) -> Result<Worths, EngineFault>
-    requires { D.failed upit.old < 2 ^ 64 - 1 }
-    ensures read { (factor : ℕ) (precedence : List ℕ) → IfSome (D.remaining upit.old) (λ u. MatchResult result (AreWorthsOf (mine_texts u precedence) factor) (MineFails (mine_texts u precedence))) }
-    ensures device { IsErrOf result EngineFault.Device → D.failed upit.new ≡ D.failed upit.old + 1 }
-    ensures kept { ¬ IsErrOf result EngineFault.Device → D.failed upit.new ≡ D.failed upit.old }
-{
-    Ok(Worths::Values(upit_from(alloc, upit)?))
 }
 
 // What blocks are worth by the columns of prices that settings name.
