@@ -8,12 +8,13 @@ use Rattle.closure_net.specs.FaultStands.{WorthsFaultStands}
 use Rattle.closure_net.specs.declared.net.NetFault.{NetFault}
 use Rattle.engines.specs.declared.judgement.Verdict.{Verdict}
 use Rattle.engines.specs.declared.judgement.Verdict.TheVariants.{Done, No}
-use Rattle.engines.specs.declared.engine_fault.EngineFault.{EngineFault}
-use Rattle.engines.specs.declared.engine_fault.EngineFault.TheVariants as engine
+use Rattle.mine_inputs.specs.declared.engine_fault.EngineFault.{EngineFault}
+use Rattle.mine_inputs.specs.declared.engine_fault.EngineFault.TheVariants as engine
 use Rattle.engines.specs.declared.method.Method.TheVariants.{PushRelabel}
-use Rattle.engines.specs.ReadMines.{AreRead, IsGroupNamed}
-use Rattle.engines.specs.EngineFaults.{of_model}
-use Rattle.engines.specs.Mines.{MineTexts, price_wanted}
+use Rattle.mine_inputs.specs.ReadMines.{AreRead}
+use Rattle.engines.specs.Readings.{IsGroupNamed}
+use Rattle.mine_inputs.specs.EngineFaults.{of_model}
+use Rattle.mine_inputs.specs.Mines.{MineTexts, price_wanted}
 use Rattle.engines.specs.Solving.{IsNetBy, Solves}
 use Rattle.engines.proofs.Answered.{keeps_self}
 use Rattle.engines.proofs.Solutions.{certificate_is, unmade}

@@ -17,8 +17,8 @@ use Rattle.certificate_file.specs.declared.header.Price.{Price}
 use Rattle.check_pit.proofs.Tightness.{refused_for_size_only}
 use Rattle.engines.specs.declared.judgement.Verdict.{Verdict}
 use Rattle.engines.specs.declared.judgement.Verdict.TheVariants.{No}
-use Rattle.engines.specs.declared.engine_fault.EngineFault.{EngineFault}
-use Rattle.engines.specs.declared.engine_fault.EngineFault.TheVariants as engine
+use Rattle.mine_inputs.specs.declared.engine_fault.EngineFault.{EngineFault}
+use Rattle.mine_inputs.specs.declared.engine_fault.EngineFault.TheVariants as engine
 use Rattle.engines.specs.Certifying.{IsRefusedFlow}
 use Rattle.engines.specs.NetAnswers.{SendsCertificate, certificate_text, unsettled_line, too_large_line}
 use Rattle.engines.proofs.Answered.{keeps_self}

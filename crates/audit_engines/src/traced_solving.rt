@@ -2,17 +2,18 @@
 
 ghost use Rattle.std.specs.Prelude.{◌≡◌, ◌+◌, ◌-◌, ◌^◌, ◌<◌, IsErrOf};
 ghost use Rattle.certificate_file.specs.ReadBack.{IsPrice};
-ghost use Rattle.engines.specs.ReadMines.{AreRead, IsGroupNamed};
-ghost use Rattle.engines.specs.MineInputs.{ForTexts, CanCount, NoneFailed, OneFailed};
-ghost use Rattle.engines.specs.Mines.{MineTexts, price_wanted};
+ghost use Rattle.mine_inputs.specs.ReadMines.{AreRead};
+ghost use Rattle.engines.specs.Readings.{IsGroupNamed};
+ghost use Rattle.mine_inputs.specs.MineInputs.{ForTexts, CanCount, NoneFailed, OneFailed};
+ghost use Rattle.mine_inputs.specs.Mines.{MineTexts, price_wanted};
 ghost use Rattle.audit_engines.specs.Tracing.{Traces};
 
 use crate::traced_asked::TracedAsked;
 use crate::tracing::trace_net;
 use closure_net::{Net, laws};
-use engines::mine_inputs::{MineToSolve, mine_to_solve};
 use engines::{EngineFault, MineInputs, Outcome, Verdict};
 use fixed_worth::{CountedRead, CountedWrite};
+use mine_inputs::{MineToSolve, mine_to_solve};
 use ordered_group::{Group, OrderedGroup, Scaled, Worth, WorthSize};
 use std::alloc::Global;
 use std::sync::Wait;

@@ -3,17 +3,18 @@ use Rattle.std.proofs.Common.{◌≡◌, ℕ, ℤ, Bool, List, Option, Err, sym,
 use Rattle.prec_file.specs.Rests.{RestsView}
 use Rattle.certificate_file.specs.declared.header.Header.{Header}
 use Rattle.check_pit.specs.StreamView.{LineView}
-use Rattle.engines.specs.declared.engine_fault.EngineFault.{EngineFault}
-use Rattle.engines.specs.declared.engine_fault.EngineFault.TheVariants as engine
-use Rattle.engines.specs.declared.worths.Worths.{Worths}
+use Rattle.mine_inputs.specs.declared.engine_fault.EngineFault.{EngineFault}
+use Rattle.mine_inputs.specs.declared.engine_fault.EngineFault.TheVariants as engine
+use Rattle.mine_inputs.specs.declared.worths.Worths.{Worths}
 use Rattle.engines.specs.Judging.{StandsBehind, factor_named, factor_in}
-use Rattle.engines.specs.Mines.{MineTexts}
+use Rattle.mine_inputs.specs.Mines.{MineTexts}
 use Rattle.engines.specs.Readings.{IsHeader}
-use Rattle.engines.specs.ReadMines.{AreRead}
-use Rattle.engines.specs.Worths.{factor_at, nanos_at, price_at}
+use Rattle.mine_inputs.specs.ReadMines.{AreRead}
+use Rattle.mine_inputs.specs.Worths.{factor_at, nanos_at, price_at}
 use Rattle.engines.proofs.Answered.{JudgedBy}
-use Rattle.engines.proofs.Judged.{header_is, read_as}
-use Rattle.engines.proofs.MineDevices.{always, under}
+use Rattle.mine_inputs.proofs.MinesRead.{read_as}
+use Rattle.engines.proofs.Judged.{header_is}
+use Rattle.mine_inputs.proofs.MineDevices.{always, under}
 use Rattle.engines.proofs.StreamAnswers.{HasHeader}
 use Rattle.design_engines.specs.declared.value_fault.DesignProblem.TheVariants as problem
 use Rattle.design_engines.specs.declared.value_fault.ValueFault.{ValueFault}

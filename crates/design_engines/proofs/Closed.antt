@@ -4,7 +4,7 @@ use Rattle.std.proofs.lemmas.List.Elements.{All-nil, All-cons, All-head, All-tai
 use Rattle.prec_file.specs.Rests.{ArePairsOf}
 use Rattle.closure_net.specs.Mine.{IsPit}
 use Rattle.design_value.specs.OpenPairs.{leads_out, open_pairs}
-use Rattle.engines.specs.Mines.{MineTexts, precedence_of, mine_of}
+use Rattle.mine_inputs.specs.Mines.{MineTexts, precedence_of, mine_of}
 use Rattle.engines.proofs.Listed.{listed_rests}
 use Rattle.prec_file.specs.Records as prec
 

@@ -7,11 +7,11 @@ use Rattle.ordered_group.specs.declared.groups.Group.TheVariants.{Worth, Pair, S
 use Rattle.closure_net.specs.Network.{holds_of}
 use Rattle.closure_net.specs.Mine.{Mine, IsPit, worth_of}
 use Rattle.design_file.specs.Records.{design_of}
-use Rattle.engines.specs.declared.engine_fault.EngineFault.{EngineFault}
-use Rattle.engines.specs.declared.engine_fault.EngineFault.TheVariants as engine
+use Rattle.mine_inputs.specs.declared.engine_fault.EngineFault.{EngineFault}
+use Rattle.mine_inputs.specs.declared.engine_fault.EngineFault.TheVariants as engine
 use Rattle.engines.specs.Checking.{LineFails}
 use Rattle.engines.specs.Judgements.{IsAccepted}
-use Rattle.engines.specs.Mines.{MineTexts, mine_texts, priced_texts, mine_of, WorthsRead}
+use Rattle.mine_inputs.specs.Mines.{MineTexts, mine_texts, priced_texts, mine_of, WorthsRead}
 use Rattle.engines.specs.Readings.{IsProvedPit}
 use Rattle.engines.proofs.Answered.{keeps_self}
 use Rattle.design_engines.specs.declared.value_fault.DesignProblem.TheVariants as problem

@@ -3,17 +3,17 @@ use Rattle.std.proofs.Common.{◌≡◌, ℕ, Bool, List, sym, subst, Option, Re
 use Rattle.prec_file.specs.Rests.{RestsView}
 use Rattle.engines.specs.declared.judgement.Judgement.{Judgement}
 use Rattle.engines.specs.declared.judgement.Verdict.{Verdict}
-use Rattle.engines.specs.declared.engine_fault.EngineFault.{EngineFault}
-use Rattle.engines.specs.declared.engine_fault.EngineFault.TheVariants as engine
-use Rattle.engines.specs.declared.mine_inputs.MineInputs.{MineInputs}
-use Rattle.engines.specs.declared.worths.Worths.{Worths}
-use Rattle.engines.specs.FaultStands.{MineFails}
+use Rattle.mine_inputs.specs.declared.engine_fault.EngineFault.{EngineFault}
+use Rattle.mine_inputs.specs.declared.engine_fault.EngineFault.TheVariants as engine
+use Rattle.mine_inputs.specs.declared.mines.MineInputs.{MineInputs}
+use Rattle.mine_inputs.specs.declared.worths.Worths.{Worths}
+use Rattle.mine_inputs.specs.FaultStands.{MineFails}
 use Rattle.engines.specs.Judging.{factor_in}
-use Rattle.engines.specs.MineInputs.{ForTexts}
-use Rattle.engines.specs.Mines.{MineTexts, DenoteMine}
-use Rattle.engines.specs.ReadMines.{IsMineRead}
+use Rattle.mine_inputs.specs.MineInputs.{ForTexts}
+use Rattle.mine_inputs.specs.Mines.{MineTexts, DenoteMine}
+use Rattle.mine_inputs.specs.ReadMines.{IsMineRead}
 use Rattle.engines.proofs.Answered.{keeps_self, fails}
-use Rattle.engines.proofs.MineDevices.{always, under, for_texts}
+use Rattle.mine_inputs.proofs.MineDevices.{always, under, for_texts}
 use Rattle.design_engines.specs.declared.value_fault.DesignProblem.TheVariants as problem
 use Rattle.design_engines.specs.declared.value_fault.ValueFault.{ValueFault}
 use Rattle.design_engines.specs.declared.value_fault.ValueFault.TheVariants as value

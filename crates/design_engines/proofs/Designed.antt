@@ -8,8 +8,8 @@ use Rattle.ordered_group.proofs.BlockSets.{count_in-same}
 use Rattle.design_file.specs.Records.{design_of}
 use Rattle.design_value.specs.OpenPairs.{leads_out, open_pairs, most_told, AreOpen}
 use Rattle.design_value.specs.Sums.{marked_in, worth_listed, SumLeaves}
-use Rattle.engines.specs.Mines.{MineTexts, worth_by}
-use Rattle.engines.specs.ReadMines.{AreRead}
+use Rattle.mine_inputs.specs.Mines.{MineTexts, worth_by}
+use Rattle.mine_inputs.specs.ReadMines.{AreRead}
 use Rattle.design_engines.specs.DesignTexts.{ReadsDesign}
 use Rattle.design_engines.specs.Designs.{IsValued}
 use Rattle.design_engines.specs.Values.{WorthLeaves}

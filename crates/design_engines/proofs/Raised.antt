@@ -1,7 +1,7 @@
 -- What the devices of an engine counted, where its own fault is handed on or one of another engine in it.
 use Rattle.std.proofs.Common.{◌≡◌, Result, Ok, Err, IsErrOf, IsErrAnd, ap, ◌∙◌}
-use Rattle.engines.specs.declared.engine_fault.EngineFault.{EngineFault}
-use Rattle.engines.specs.declared.engine_fault.EngineFault.TheVariants as engine
+use Rattle.mine_inputs.specs.declared.engine_fault.EngineFault.{EngineFault}
+use Rattle.mine_inputs.specs.declared.engine_fault.EngineFault.TheVariants as engine
 use Rattle.design_engines.specs.declared.value_fault.ValueFault.{ValueFault}
 use Rattle.design_engines.specs.declared.value_fault.ValueFault.TheVariants as value
 

@@ -6,10 +6,11 @@ use Rattle.fixed_worth.specs.Device.{ReceivedPrefix}
 use Rattle.ordered_group.specs.declared.groups.Group.{Group}
 use Rattle.engines.specs.declared.judgement.Judgement.{Judgement}
 use Rattle.engines.specs.declared.judgement.Verdict.{Verdict}
-use Rattle.engines.specs.declared.engine_fault.EngineFault.TheVariants as engine
-use Rattle.engines.specs.FaultStands.{MineFails, Fails}
+use Rattle.mine_inputs.specs.declared.engine_fault.EngineFault.TheVariants as engine
+use Rattle.mine_inputs.specs.FaultStands.{MineFails}
+use Rattle.engines.specs.FaultStands.{Fails}
 use Rattle.engines.specs.Judgements.{IsAccepted, IsJudged}
-use Rattle.engines.specs.Mines.{MineTexts, DenoteMine}
+use Rattle.mine_inputs.specs.Mines.{MineTexts, DenoteMine}
 use Rattle.design_engines.specs.declared.value_fault.DesignProblem.TheVariants as problem
 use Rattle.design_engines.specs.declared.value_fault.ValueFault.{ValueFault}
 use Rattle.design_engines.specs.declared.value_fault.ValueFault.TheVariants as value

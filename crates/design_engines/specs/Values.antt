@@ -5,9 +5,9 @@ use Rattle.fixed_worth.specs.Device.{ReceivedPrefix}
 use Rattle.design_file.specs.Records.{design_of}
 use Rattle.design_value.specs.Sums.{SumLeaves}
 use Rattle.engines.specs.declared.judgement.Verdict.{Verdict}
-use Rattle.engines.specs.declared.engine_fault.EngineFault.TheVariants as engine
-use Rattle.engines.specs.FaultStands.{MineFails}
-use Rattle.engines.specs.Mines.{MineTexts, DenoteMine, worth_by}
+use Rattle.mine_inputs.specs.declared.engine_fault.EngineFault.TheVariants as engine
+use Rattle.mine_inputs.specs.FaultStands.{MineFails}
+use Rattle.mine_inputs.specs.Mines.{MineTexts, DenoteMine, worth_by}
 use Rattle.design_engines.specs.declared.value_fault.DesignProblem.TheVariants as problem
 use Rattle.design_engines.specs.declared.value_fault.ValueFault.{ValueFault}
 use Rattle.design_engines.specs.declared.value_fault.ValueFault.TheVariants as value

@@ -2,8 +2,8 @@
 
 ghost use Rattle.std.specs.Prelude.{◌≡◌, ◌+◌, ◌-◌, ◌^◌, ◌<◌, IfSome, IsErrOf};
 ghost use Rattle.engines.specs.Judging.{factor_in};
-ghost use Rattle.engines.specs.MineInputs.{ForTexts, CanCount, NoneFailed, OneFailed};
-ghost use Rattle.engines.specs.declared.engine_fault.EngineFault.TheVariants as engine;
+ghost use Rattle.mine_inputs.specs.MineInputs.{ForTexts, CanCount, NoneFailed, OneFailed};
+ghost use Rattle.mine_inputs.specs.declared.engine_fault.EngineFault.TheVariants as engine;
 ghost use Rattle.design_engines.specs.declared.value_fault.ValueFault.TheVariants as value;
 ghost use Rattle.design_engines.specs.Compares.{Compares};
 
@@ -11,9 +11,9 @@ use crate::compared_lines::tell_beside;
 use crate::design_input::marks_from;
 use crate::judging_beside::judge_beside;
 use crate::value_fault::ValueFault;
-use engines::mine_inputs::mine_to_check;
 use engines::{MineInputs, Verdict};
 use fixed_worth::{CountedRead, CountedWrite};
+use mine_inputs::mine_to_check;
 use std::alloc::Global;
 use std::thread::Threads;
 

@@ -1,8 +1,8 @@
 //! Reads a design as an input of an engine: gives a mark for each block of the mine, or the first fault of the text.
 
 ghost use Rattle.std.specs.Prelude.{◌≡◌, ◌+◌, ◌-◌, ◌^◌, ◌<◌, ◌≤◌, ◌↔◌, ◌⊎◌, length, IfOk, IfSome, MatchResult, IsErrOf};
-ghost use Rattle.engines.specs.Limits.{IsTooLong, IsWithinLimit};
-ghost use Rattle.engines.specs.declared.engine_fault.EngineFault.TheVariants as engine;
+ghost use Rattle.mine_inputs.specs.Limits.{IsTooLong, IsWithinLimit};
+ghost use Rattle.mine_inputs.specs.declared.engine_fault.EngineFault.TheVariants as engine;
 ghost use Rattle.design_engines.specs.declared.value_fault.DesignProblem.TheVariants as problem;
 ghost use Rattle.design_engines.specs.declared.value_fault.ValueFault.TheVariants as value;
 ghost use Rattle.design_engines.specs.DesignTexts.{ReadsDesign, DesignReadFails};

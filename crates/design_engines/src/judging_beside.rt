@@ -4,10 +4,10 @@ ghost use Rattle.std.specs.Prelude.{◌≡◌, ◌+◌, ◌-◌, ◌^◌, ◌<�
 ghost use Rattle.std.specs.Thread.{IsSync};
 ghost use Rattle.check_pit.specs.CertStreams.{IsReadFor};
 ghost use Rattle.engines.specs.Judging.{IsFresh, IsOpen, StandsBehind, factor_in};
-ghost use Rattle.engines.specs.Mines.{MineTexts};
+ghost use Rattle.mine_inputs.specs.Mines.{MineTexts};
 ghost use Rattle.engines.specs.Readings.{IsHeader};
-ghost use Rattle.engines.specs.ReadMines.{AreRead, IsMineRead};
-ghost use Rattle.engines.specs.declared.engine_fault.EngineFault.TheVariants as engine;
+ghost use Rattle.mine_inputs.specs.ReadMines.{AreRead, IsMineRead};
+ghost use Rattle.mine_inputs.specs.declared.engine_fault.EngineFault.TheVariants as engine;
 ghost use Rattle.design_engines.specs.declared.value_fault.ValueFault.TheVariants as value;
 ghost use Rattle.design_engines.specs.Compares.{IsBeside, BesideFails};
 ghost use Rattle.design_engines.specs.DesignTexts.{ReadsDesign};
@@ -18,10 +18,10 @@ use crate::valued::Valued;
 use crate::valuing_mine::value_of;
 use check_pit::{CertStream, StreamBytes};
 use core::mem::replace_with;
-use engines::judging::{header_for, judge_in};
-use engines::mine_inputs::MineToCheck;
+use engines::certificate_judge::{header_for, judge_in};
 use engines::{CertificateProblem, EngineFault, Judgement};
 use fixed_worth::CountedRead;
+use mine_inputs::MineToCheck;
 use ordered_group::Group;
 use prec_file::Predecessors;
 use std::alloc::Global;
@@ -41,7 +41,7 @@ pub(crate) struct Beside {
 /// or to its first fault. The values or prices and the marks are given back before the check takes memory.
 ///
 /// # Errors
-/// Those of `engines::judging::judge`, and `TooLarge` where a sum of the worths of the design's blocks doesn't fit.
+/// Those of `engines::certificate_judge::judge`, and `TooLarge` where a sum of the worths of the design's blocks doesn't fit.
 pub(crate) fn judge_beside<R: Threads + Sync, C: CountedRead>(
     rt: &R,
     alloc: Global,

@@ -37,7 +37,7 @@ impl From<EngineFault> for ValueFault {
 
 impl From<AllocError> for ValueFault {
     ghost use Rattle.std.specs.Prelude.{◌≡◌};
-    ghost use Rattle.engines.specs.declared.engine_fault.EngineFault.TheVariants as engine;
+    ghost use Rattle.mine_inputs.specs.declared.engine_fault.EngineFault.TheVariants as engine;
     ghost use Rattle.design_engines.specs.declared.value_fault.ValueFault.TheVariants as value;
 
     ghost from_gives = { λ _ e. e ≡ value.Engine engine.Memory };

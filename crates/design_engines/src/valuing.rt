@@ -1,17 +1,17 @@
 //! The engine of `value`: a design and the bytes of a mine in, what the design comes to out.
 
 ghost use Rattle.std.specs.Prelude.{◌≡◌, ◌+◌, ◌-◌, ◌^◌, ◌<◌, IfSome, IsErrOf};
-ghost use Rattle.engines.specs.MineInputs.{ForTexts, CanCount, NoneFailed, OneFailed};
-ghost use Rattle.engines.specs.declared.engine_fault.EngineFault.TheVariants as engine;
+ghost use Rattle.mine_inputs.specs.MineInputs.{ForTexts, CanCount, NoneFailed, OneFailed};
+ghost use Rattle.mine_inputs.specs.declared.engine_fault.EngineFault.TheVariants as engine;
 ghost use Rattle.design_engines.specs.declared.value_fault.ValueFault.TheVariants as value;
 ghost use Rattle.design_engines.specs.Values.{Values};
 
 use crate::design_input::marks_from;
 use crate::value_fault::ValueFault;
 use crate::valuing_mine::value_mine;
-use engines::mine_inputs::mine_to_check;
 use engines::{MineInputs, Verdict};
 use fixed_worth::{CountedRead, CountedWrite};
+use mine_inputs::mine_to_check;
 use shells::Factor;
 use std::alloc::Global;
 use std::thread::Threads;
@@ -26,7 +26,7 @@ use std::thread::Threads;
 /// The inputs are read in the order of the arguments, each to its end, and nothing is written before the answer is known.
 ///
 /// # Errors
-/// Those of `engines::mine_inputs::worths_from`, then `Prec`, then those of the design: `Design` with what is wrong with its
+/// Those of `mine_inputs::worths_from`, then `Prec`, then those of the design: `Design` with what is wrong with its
 /// text, or `TooLarge`. `Memory` where memory is refused, `Device` where a read or a write fails: the writer has then received
 /// a prefix of the answer, and at every other fault nothing.
 ///

@@ -2,9 +2,9 @@
 //! writes what it comes to.
 
 ghost use Rattle.std.specs.Prelude.{◌≡◌, ◌+◌, ◌-◌, ◌^◌, ◌<◌, ◌↔◌, ℕ, List, length, MatchResult, IsErrOf};
-ghost use Rattle.engines.specs.Mines.{MineTexts};
-ghost use Rattle.engines.specs.ReadMines.{AreRead};
-ghost use Rattle.engines.specs.declared.engine_fault.EngineFault.TheVariants as engine;
+ghost use Rattle.mine_inputs.specs.Mines.{MineTexts};
+ghost use Rattle.mine_inputs.specs.ReadMines.{AreRead};
+ghost use Rattle.mine_inputs.specs.declared.engine_fault.EngineFault.TheVariants as engine;
 ghost use Rattle.design_engines.specs.declared.value_fault.ValueFault.TheVariants as value;
 ghost use Rattle.design_engines.specs.Designs.{IsValued};
 ghost use Rattle.design_engines.specs.DesignTexts.{ReadsDesign};

@@ -8,7 +8,7 @@ use Rattle.closure_net.specs.Network.{NetView, FlowView, IsNet}
 use Rattle.closure_net.specs.Mine.{IsNetOf}
 use Rattle.closure_net.proofs.SameLists.{same_at_default}
 use Rattle.certificate_file.specs.Certificate.{lines_of_text, Denotes}
-use Rattle.engines.specs.Mines.{MineTexts, precedence_of, mine_of}
+use Rattle.mine_inputs.specs.Mines.{MineTexts, precedence_of, mine_of}
 use Rattle.engines.proofs.Listed.{listed_pairs}
 
 pub ok_same : {E : Type 0} {A : Type 0} (r : Result A E) (a b : A) → r ≡ Ok a → r ≡ Ok b → a ≡ b

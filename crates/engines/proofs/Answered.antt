@@ -7,23 +7,24 @@ use Rattle.certificate_file.specs.declared.header.Price.{Price}
 use Rattle.engines.specs.declared.judgement.Judgement.{Judgement}
 use Rattle.engines.specs.declared.judgement.Judgement.TheVariants.{Accepted, Refused}
 use Rattle.engines.specs.declared.judgement.Verdict.{Verdict}
-use Rattle.engines.specs.declared.engine_fault.EngineFault.{EngineFault}
-use Rattle.engines.specs.declared.engine_fault.EngineFault.TheVariants as engine
+use Rattle.mine_inputs.specs.declared.engine_fault.EngineFault.{EngineFault}
+use Rattle.mine_inputs.specs.declared.engine_fault.EngineFault.TheVariants as engine
 use Rattle.engines.specs.declared.method.Method.{Method}
-use Rattle.engines.specs.declared.mine_inputs.MineInputs.{MineInputs}
-use Rattle.engines.specs.declared.worths.Worths.{Worths}
+use Rattle.mine_inputs.specs.declared.mines.MineInputs.{MineInputs}
+use Rattle.mine_inputs.specs.declared.worths.Worths.{Worths}
 use Rattle.engines.specs.Checking.{Checks, SoundIsAccepted, WritesAtFault, LineFails}
-use Rattle.engines.specs.FaultStands.{Fails, MineFails}
+use Rattle.mine_inputs.specs.FaultStands.{MineFails}
+use Rattle.engines.specs.FaultStands.{Fails}
 use Rattle.engines.specs.Judgements.{IsJudged}
 use Rattle.engines.specs.Judging.{Judges, factor_in}
-use Rattle.engines.specs.MineInputs.{ForTexts}
-use Rattle.engines.specs.Mines.{MineTexts, price_wanted}
+use Rattle.mine_inputs.specs.MineInputs.{ForTexts}
+use Rattle.mine_inputs.specs.Mines.{MineTexts, price_wanted}
 use Rattle.engines.specs.OutputLines.{judgement_line}
-use Rattle.engines.specs.ReadMines.{AreRead, IsMineRead}
+use Rattle.mine_inputs.specs.ReadMines.{AreRead, IsMineRead}
 use Rattle.engines.specs.Solving.{Solves}
 use Rattle.engines.specs.Verdicts.{verdict_of}
 use Rattle.engines.proofs.Complete.{complete_at}
-use Rattle.engines.proofs.MineDevices.{always, under, for_texts}
+use Rattle.mine_inputs.proofs.MineDevices.{always, under, for_texts}
 
 pub keeps_self : (w : Option (List ℕ)) → Keeps w w
 keeps_self None = tt

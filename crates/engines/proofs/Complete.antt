@@ -2,12 +2,12 @@
 use Rattle.std.proofs.Common.{ℕ, List, Option, Result, Ok, Err, inl, inr}
 use Rattle.engines.specs.declared.judgement.Verdict.{Verdict}
 use Rattle.engines.specs.declared.judgement.Verdict.TheVariants.{Done, No}
-use Rattle.engines.specs.declared.engine_fault.EngineFault.{EngineFault}
-use Rattle.engines.specs.declared.engine_fault.EngineFault.TheVariants as engine
+use Rattle.mine_inputs.specs.declared.engine_fault.EngineFault.{EngineFault}
+use Rattle.mine_inputs.specs.declared.engine_fault.EngineFault.TheVariants as engine
 use Rattle.engines.specs.Checking.{Checks, SoundIsAccepted}
-use Rattle.engines.specs.Mines.{MineTexts}
+use Rattle.mine_inputs.specs.Mines.{MineTexts}
 use Rattle.engines.proofs.SoundLines.{refused_leaves}
-use Rattle.engines.specs.declared.engine_fault.CertificateProblem.TheVariants as problem
+use Rattle.mine_inputs.specs.declared.engine_fault.CertificateProblem.TheVariants as problem
 use Rattle.engines.proofs.Unread.{upit_read, settings_read, blocks_read, prices_read, prec_read, model_read, price_read, header_read, body_read}
 
 pub complete_at : (texts : MineTexts) (c : List ℕ) (old new : Option (List ℕ)) (answer : Result Verdict EngineFault) → Checks texts c old new answer → SoundIsAccepted texts c answer

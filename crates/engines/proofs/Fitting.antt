@@ -15,8 +15,9 @@ use Rattle.closure_net.specs.FaultStands.{BlockOverflows, WorthsOverflow}
 use Rattle.closure_net.specs.declared.net.NetFault.{NetFault}
 use Rattle.closure_net.specs.declared.net.NetFault.TheVariants as net_fault
 use Rattle.closure_net.proofs.SameLists.{same_at_default}
-use Rattle.engines.specs.Mines.{MineTexts, mine_of}
-use Rattle.engines.specs.FaultStands.{AreWorths, ModelFails}
+use Rattle.mine_inputs.specs.Mines.{MineTexts, mine_of}
+use Rattle.mine_inputs.specs.FaultStands.{AreWorths}
+use Rattle.engines.specs.FaultStands.{ModelFails}
 use Rattle.engines.specs.Readings.{block_by}
 
 -- a worth fits whose opposite does, and whose sum with one that isn't negative does where it is positive itself

@@ -8,11 +8,11 @@ use Rattle.certificate_file.specs.Header.{header_of}
 use Rattle.certificate_file.specs.Pieces.{pieces_of}
 use Rattle.check_pit.specs.StreamHeaders.{ReadsHeader, GivesHeader}
 use Rattle.check_pit.specs.StreamView.{LineView}
-use Rattle.engines.specs.declared.engine_fault.EngineFault.{EngineFault}
-use Rattle.engines.specs.Mines.{MineTexts, DenoteMine}
+use Rattle.mine_inputs.specs.declared.engine_fault.EngineFault.{EngineFault}
+use Rattle.mine_inputs.specs.Mines.{MineTexts, DenoteMine}
 use Rattle.engines.specs.FaultStands.{Fails}
 use Rattle.engines.specs.Judging.{StandsBehind}
-use Rattle.engines.specs.EngineFaults.{of_certificate}
+use Rattle.mine_inputs.specs.EngineFaults.{of_certificate}
 
 -- what a device has left of its bytes, where they are known
 pub consumed : (rem : Option (List ℕ)) (old bytes : List ℕ) → Consumes (Some old) rem bytes → (left : List ℕ) × (rem ≡ Some left) × (old ≡ bytes ++ left)

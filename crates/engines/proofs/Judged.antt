@@ -15,18 +15,19 @@ use Rattle.certificate_file.specs.declared.header.Price.{Price}
 use Rattle.certificate_file.specs.declared.header.Header.{Header}
 use Rattle.certificate_file.specs.Pieces.{pieces_of}
 use Rattle.certificate_file.specs.Header.{header_of}
-use Rattle.engines.specs.Limits.{IsWithinLimit}
-use Rattle.engines.specs.Mines.{MineTexts, precedence_of, price_wanted, mine_of, DenoteMine}
-use Rattle.engines.specs.Readings.{IsHeader, Reads}
+use Rattle.mine_inputs.specs.Limits.{IsWithinLimit}
+use Rattle.mine_inputs.specs.Mines.{MineTexts, precedence_of, price_wanted, mine_of, DenoteMine}
+use Rattle.engines.specs.Readings.{IsHeader, Reads, IsGroupNamed}
 use Rattle.engines.specs.Judgements.{IsAccepted}
-use Rattle.engines.specs.FaultStands.{AreWorths, BodyFails, NetFails, Fails}
+use Rattle.mine_inputs.specs.FaultStands.{AreWorths}
+use Rattle.engines.specs.FaultStands.{BodyFails, NetFails, Fails}
 use Rattle.closure_net.specs.FaultStands.{WorthsFaultStands}
 use Rattle.closure_net.specs.declared.net.NetFault.{NetFault}
 use Rattle.closure_net.specs.declared.net.NetFault.TheVariants as net
 use Rattle.certificate_file.specs.declared.cert_fault.CertFault.{CertFault}
 use Rattle.certificate_file.specs.declared.cert_fault.CertFault.TheVariants as cert
-use Rattle.engines.specs.EngineFaults.{of_certificate, of_model}
-use Rattle.engines.specs.ReadMines.{AreRead, IsGroupNamed}
+use Rattle.mine_inputs.specs.EngineFaults.{of_certificate, of_model}
+use Rattle.mine_inputs.specs.ReadMines.{AreRead}
 use Rattle.engines.proofs.Told.{size_told, worth_told}
 use Rattle.engines.proofs.Listed.{listed_rests}
 
@@ -149,10 +150,6 @@ net_known block texts certificate name rests worths net a header is l =
     let M : NetView → Type 0 = λ n. IsNetOf block (mine_of rests.blocks texts) n in
     let size = sym (ap (λ (n : NetView). length n.worths) is ∙ length-map worths (λ v. block v rests.blocks)) in
     known_at block texts certificate name rests.blocks (length worths) net l size a.mine header (subst M (sym is) made)
-
--- what was read of worths, said of a list that is theirs
-pub read_as : (texts : MineTexts) (worths shown : List ℤ) (rests : RestsView) → shown ≡ worths → AreRead texts worths rests → AreRead texts shown rests
-read_as texts worths shown rests e a = subst (λ (ws : List ℤ). AreRead texts ws rests) (sym e) a
 
 pub header_is : (texts : MineTexts) (certificate : List ℕ) (header : Header) (n : ℕ) (group : Group) → header_of (pieces_of certificate) ≡ Ok header → header.blocks ≡ n → header.price ≡ price_wanted texts → header.group ≡ group → IsHeader texts certificate n group
 header_is texts certificate header n group e p q r = e ∙ ap Ok (λ i. record { blocks = p i; price = q i; group = r i })

@@ -1,11 +1,7 @@
 pub mod Counted
-pub mod Failed
 pub mod Told
 pub mod Listed
 pub mod Judged
-pub mod Priced
-pub mod PriceKeys
-pub mod PricedAnswers
 pub mod Nested
 pub mod Answered
 pub mod Alone
@@ -17,8 +13,7 @@ pub mod SlopeAnswers
 pub mod Lone
 pub mod NetAnswers
 pub mod Solutions
-pub mod MineDevices
-pub mod MinesRead
+pub mod HeaderPrices
 pub mod HeaderAnswers
 pub mod Streamed
 pub mod SoundLines

@@ -9,8 +9,8 @@ use Rattle.settings_file.specs.Settings.{settings_of}
 use Rattle.shells.specs.Prices.{PricesView, blocks_of, worth_at}
 use Rattle.shells.specs.Series.{priced}
 use Rattle.shells.proofs.Rising.{best_is_nested}
-use Rattle.engines.specs.PricedTexts.{cell, table_of, PricesRead}
-use Rattle.engines.specs.Mines.{priced_texts, rests_by, mine_of}
+use Rattle.mine_inputs.specs.PricedTexts.{cell, table_of, PricesRead}
+use Rattle.mine_inputs.specs.Mines.{priced_texts, rests_by, mine_of}
 use Rattle.ordered_group.specs.declared.groups.Group.{Group}
 use Rattle.ordered_group.specs.declared.groups.Group.TheVariants.{Worth, Pair, Scaled}
 use Rattle.engines.specs.Readings.{IsProvedPit, TellsSizes}

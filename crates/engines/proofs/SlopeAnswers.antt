@@ -13,15 +13,15 @@ use Rattle.slope.specs.Slopes.{AreSlopes}
 use Rattle.slope.specs.declared.up.Up.{Up}
 use Rattle.slope.specs.declared.selection.Selection.{Selection}
 use Rattle.engines.specs.declared.judgement.Verdict.TheVariants.{Done}
-use Rattle.engines.specs.declared.engine_fault.SlopeProblem.TheVariants as of
-use Rattle.engines.specs.declared.engine_fault.EngineFault.{EngineFault}
-use Rattle.engines.specs.declared.engine_fault.EngineFault.TheVariants as engine
-use Rattle.engines.specs.BlockTexts.{ReadsBlocks, BlocksReadFails}
-use Rattle.engines.specs.PricedTexts.{KeysSaid}
-use Rattle.engines.specs.Inputs.{ReadsSettingsText, IsMissing}
+use Rattle.mine_inputs.specs.declared.engine_fault.SlopeProblem.TheVariants as of
+use Rattle.mine_inputs.specs.declared.engine_fault.EngineFault.{EngineFault}
+use Rattle.mine_inputs.specs.declared.engine_fault.EngineFault.TheVariants as engine
+use Rattle.mine_inputs.specs.BlockTexts.{ReadsBlocks, BlocksReadFails}
+use Rattle.mine_inputs.specs.PricedTexts.{KeysSaid}
+use Rattle.mine_inputs.specs.Inputs.{ReadsSettingsText, IsMissing}
 use Rattle.engines.specs.Slopes.{offset_keys, listed_offsets, OffsetsSource, listed, ListFails, AreSlopesBy, SlopesFail, SlopesAtFault, GivesSlopes, PatternMakingFails, PairsMakingFail}
 use Rattle.engines.proofs.Answered.{keeps_self}
-use Rattle.engines.proofs.PricedAnswers.{anything, key_missing, keys_said}
+use Rattle.mine_inputs.proofs.PricedAnswers.{anything, key_missing, keys_said}
 
 under2 : (o q : Option (List ℕ)) (P R : List ℕ → Type 0) (Q : List ℕ → List ℕ → Type 0) → IfSome o P → IfSome q R → ((s b : List ℕ) → P s → R b → Q s b) → IfSome o (λ s. IfSome q (λ b. Q s b))
 under2 None q P R Q h k f = tt

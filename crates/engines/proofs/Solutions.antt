@@ -13,11 +13,12 @@ use Rattle.certificate_file.specs.Pieces.{pieces_of}
 use Rattle.check_pit.proofs.Duality.{duality}
 use Rattle.engines.specs.declared.judgement.Verdict.{Verdict}
 use Rattle.engines.specs.declared.judgement.Verdict.TheVariants.{Done, No}
-use Rattle.engines.specs.declared.engine_fault.EngineFault.{EngineFault}
-use Rattle.engines.specs.declared.engine_fault.EngineFault.TheVariants as engine
-use Rattle.engines.specs.ReadMines.{AreRead, IsGroupNamed}
-use Rattle.engines.specs.EngineFaults.{of_model}
-use Rattle.engines.specs.Mines.{MineTexts, price_wanted, mine_of, DenoteMine}
+use Rattle.mine_inputs.specs.declared.engine_fault.EngineFault.{EngineFault}
+use Rattle.mine_inputs.specs.declared.engine_fault.EngineFault.TheVariants as engine
+use Rattle.mine_inputs.specs.ReadMines.{AreRead}
+use Rattle.engines.specs.Readings.{IsGroupNamed}
+use Rattle.mine_inputs.specs.EngineFaults.{of_model}
+use Rattle.mine_inputs.specs.Mines.{MineTexts, price_wanted, mine_of, DenoteMine}
 use Rattle.engines.specs.declared.method.Method.{Method}
 use Rattle.engines.specs.Solving.{IsCertificateOf, AnswersNet, SolvesNet, IsCertificate, IsNetBy, AnswersMine, Solves}
 use Rattle.engines.proofs.Answered.{keeps_self}

@@ -27,7 +27,7 @@ use Rattle.certificate_file.proofs.LineOrder.{Has, has_good, Proper, given_by, g
 use Rattle.certificate_file.proofs.NamedHeaders.{header_named}
 use Rattle.certificate_file.proofs.Order.{InOrder, Good, in_order_weaker, stands_in_order}
 use Rattle.certificate_file.proofs.SameLines.{pair_place, tells_rest, tells_sink, tells_source}
-use Rattle.engines.specs.Mines.{MineTexts, mine_of, price_wanted}
+use Rattle.mine_inputs.specs.Mines.{MineTexts, mine_of, price_wanted}
 use Rattle.engines.specs.Readings.{Reads, block_by, counts_by}
 use Rattle.engines.specs.Refusals.{LinesBegin, SomeSumLeaves, TextRefused, flow_for, lines_for}
 use Rattle.engines.specs.Judgements.{IsRefused}

@@ -10,20 +10,21 @@ use Rattle.certificate_file.specs.Header.{header_of}
 use Rattle.certificate_file.specs.Pieces.{pieces_of}
 use Rattle.certificate_file.specs.ReadBack.{IsPrice}
 use Rattle.check_pit.specs.StreamView.{LineView}
-use Rattle.engines.specs.declared.engine_fault.EngineFault.{EngineFault}
-use Rattle.engines.specs.declared.engine_fault.EngineFault.TheVariants as engine
-use Rattle.engines.specs.declared.engine_fault.CertificateProblem.TheVariants as problem
+use Rattle.mine_inputs.specs.declared.engine_fault.EngineFault.{EngineFault}
+use Rattle.mine_inputs.specs.declared.engine_fault.EngineFault.TheVariants as engine
+use Rattle.mine_inputs.specs.declared.engine_fault.CertificateProblem.TheVariants as problem
 use Rattle.engines.specs.declared.judgement.Judgement.{Judgement}
-use Rattle.engines.specs.declared.worths.Worths.{Worths}
+use Rattle.mine_inputs.specs.declared.worths.Worths.{Worths}
 use Rattle.engines.specs.FaultStands.{Fails}
 use Rattle.engines.specs.Judging.{Judges, StandsBehind, factor_in, factor_named}
-use Rattle.engines.specs.Mines.{MineTexts, DenoteMine}
+use Rattle.mine_inputs.specs.Mines.{MineTexts, DenoteMine}
 use Rattle.engines.specs.Readings.{IsHeader}
-use Rattle.engines.specs.ReadMines.{AreRead}
-use Rattle.engines.specs.Worths.{factor_at, nanos_at, price_at}
+use Rattle.mine_inputs.specs.ReadMines.{AreRead}
+use Rattle.mine_inputs.specs.Worths.{factor_at, nanos_at, price_at}
 use Rattle.engines.proofs.Answered.{JudgedBy}
-use Rattle.engines.proofs.Judged.{header_is, read_as}
-use Rattle.engines.proofs.Priced.{header_price}
+use Rattle.mine_inputs.proofs.MinesRead.{read_as}
+use Rattle.engines.proofs.Judged.{header_is}
+use Rattle.engines.proofs.HeaderPrices.{header_price}
 
 -- a header was read of the text, and these lines stand behind it
 abbrev pub HasHeader : {R : Type 0} → (R → Option (List ℕ)) → LineView R → Header → List ℕ → Type 0

@@ -29,15 +29,14 @@ use Rattle.check_pit.specs.StreamChecks as checks
 use Rattle.certificate_file.proofs.NamedHeaders.{header_named}
 use Rattle.certificate_file.proofs.Order.{stands_in_order, ascending, known}
 use Rattle.certificate_file.proofs.Whole.{spelled}
-use Rattle.engines.specs.Limits.{IsWithinLimit, IsTooLong}
-use Rattle.engines.specs.Mines.{MineTexts, DenoteMine, mine_of, price_wanted}
-use Rattle.engines.specs.Readings.{IsHeader}
-use Rattle.engines.specs.ReadMines.{IsGroupNamed}
+use Rattle.mine_inputs.specs.Limits.{IsWithinLimit, IsTooLong}
+use Rattle.mine_inputs.specs.Mines.{MineTexts, DenoteMine, mine_of, price_wanted}
+use Rattle.engines.specs.Readings.{IsHeader, IsGroupNamed}
 use Rattle.engines.specs.Refusals.{LinesBegin, lines_for, flow_for, TextRefused}
 use Rattle.engines.specs.FaultStands.{Fails}
 use Rattle.engines.specs.Judgements.{IsRefused}
 use Rattle.engines.specs.Judging.{Judges, StandsBehind, of_stream}
-use Rattle.engines.specs.EngineFaults.{of_certificate}
+use Rattle.mine_inputs.specs.EngineFaults.{of_certificate}
 use Rattle.engines.proofs.Judged.{HasRead, text_fails}
 use Rattle.engines.proofs.HeaderAnswers.{consumed}
 

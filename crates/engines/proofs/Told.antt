@@ -8,7 +8,7 @@ use Rattle.ordered_group.proofs.Totals.Ranges.{total-same}
 use Rattle.closure_net.specs.Network.{NetView, IsAscending, holds_of}
 use Rattle.closure_net.specs.Closure.{group_worth}
 use Rattle.closure_net.specs.Mine.{IsNetOf, worth_of, count_of}
-use Rattle.engines.specs.Mines.{MineTexts, mine_of}
+use Rattle.mine_inputs.specs.Mines.{MineTexts, mine_of}
 use Rattle.engines.proofs.Counted.{count_in-ascending}
 
 module _ (block : ℤ → ℕ → Amount) (texts : MineTexts) (net : NetView) (of_mine : IsNetOf block (mine_of (length net.worths) texts) net) (pit : List ℕ) (ascending : IsAscending pit) (below : All (λ b. b < length net.worths) pit) (count : ℕ) (c : count ≡ length pit) where

@@ -20,21 +20,22 @@ use Rattle.closure_net.specs.declared.net.NetFault.{NetFault}
 use Rattle.certificate_file.specs.declared.header.Header.{Header}
 use Rattle.certificate_file.specs.Certificate.{fault_of}
 use Rattle.certificate_file.specs.declared.cert_fault.CertFault.{CertFault}
-use Rattle.engines.specs.declared.engine_fault.Problem.{Problem}
-use Rattle.engines.specs.declared.engine_fault.Problem.TheVariants as problem
+use Rattle.mine_inputs.specs.declared.engine_fault.Problem.{Problem}
+use Rattle.mine_inputs.specs.declared.engine_fault.Problem.TheVariants as problem
 use Rattle.blocks_file.specs.declared.blocks_fault.BlocksFault.{BlocksFault}
 use Rattle.settings_file.specs.declared.settings_fault.SettingsFault.{SettingsFault}
 use Rattle.settings_file.specs.declared.settings_fault.SettingsFault.TheVariants as settings_fault
 use Rattle.settings_file.proofs.Known.{no_settings_fault}
 use Rattle.shells.specs.Prices.{AreCharged}
 use Rattle.shells.specs.declared.prices_fault.PricesFault.{PricesFault}
-use Rattle.engines.specs.declared.priced_inputs.ChargeColumns.{ChargeColumns}
-use Rattle.engines.specs.declared.priced_inputs.ChargeColumns.TheVariants.{Plain, Mill}
+use Rattle.mine_inputs.specs.declared.priced_inputs.ChargeColumns.{ChargeColumns}
+use Rattle.mine_inputs.specs.declared.priced_inputs.ChargeColumns.TheVariants.{Plain, Mill}
 use Rattle.shells.specs.declared.prices_fault.PricesFault.TheVariants as prices_fault
-use Rattle.engines.specs.PricedTexts.{price_keys, columns_said, price_columns, cell, costs_at, table_of, ColumnsKnown, PricesRead, SettingsFails, PricesFail}
-use Rattle.engines.specs.Mines.{MineTexts, mine_texts, priced_texts, precedence_of, ValuesRead, WorthsRead, mine_of, DenoteMine}
+use Rattle.mine_inputs.specs.PricedTexts.{price_keys, columns_said, price_columns, cell, costs_at, table_of, ColumnsKnown, PricesRead, SettingsFails, PricesFail}
+use Rattle.mine_inputs.specs.Mines.{MineTexts, mine_texts, priced_texts, precedence_of, ValuesRead, WorthsRead, mine_of, DenoteMine}
 use Rattle.engines.specs.Readings.{block_by, counts_by, IsHeader, Reads}
-use Rattle.engines.specs.FaultStands.{PrecFails, ValuesFail, SettingsFail, BlocksFail, TableFails, ModelFails, HeaderFails, BodyFails, PriceDiffers}
+use Rattle.mine_inputs.specs.FaultStands.{PrecFails, ValuesFail, SettingsFail, BlocksFail, TableFails}
+use Rattle.engines.specs.FaultStands.{ModelFails, HeaderFails, BodyFails, PriceDiffers}
 use Rattle.engines.proofs.Alone.{ok_same, nets_same}
 use Rattle.engines.proofs.Fitting.{no_model_fails}
 

@@ -9,11 +9,11 @@ use Rattle.engines.specs.declared.judgement.Judgement.{Judgement}
 use Rattle.engines.specs.declared.judgement.Judgement.TheVariants.{Accepted, Refused}
 use Rattle.engines.specs.declared.judgement.Verdict.{Verdict}
 use Rattle.engines.specs.declared.judgement.Verdict.TheVariants.{Done, No}
-use Rattle.engines.specs.declared.engine_fault.EngineFault.{EngineFault}
-use Rattle.engines.specs.declared.engine_fault.EngineFault.TheVariants as engine
-use Rattle.engines.specs.declared.engine_fault.CertificateProblem.TheVariants as certificate
-use Rattle.engines.specs.Limits.{IsTooLong}
-use Rattle.engines.specs.Mines.{MineTexts}
+use Rattle.mine_inputs.specs.declared.engine_fault.EngineFault.{EngineFault}
+use Rattle.mine_inputs.specs.declared.engine_fault.EngineFault.TheVariants as engine
+use Rattle.mine_inputs.specs.declared.engine_fault.CertificateProblem.TheVariants as certificate
+use Rattle.mine_inputs.specs.Limits.{IsTooLong}
+use Rattle.mine_inputs.specs.Mines.{MineTexts}
 use Rattle.engines.specs.Readings.{Reads, counts_by}
 use Rattle.engines.specs.Refusals.{SomeSumLeaves}
 use Rattle.engines.specs.Judgements.{IsAccepted, IsRefused, IsJudged}

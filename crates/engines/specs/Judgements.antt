@@ -7,8 +7,8 @@ use Rattle.check_pit.specs.Checks.{ProvesPit}
 use Rattle.check_pit.specs.declared.pit_fault.PitFault.{PitFault}
 use Rattle.engines.specs.declared.judgement.Judgement.{Judgement}
 use Rattle.engines.specs.declared.judgement.Judgement.TheVariants.{Accepted, Refused}
-use Rattle.engines.specs.Limits.{IsWithinLimit}
-use Rattle.engines.specs.Mines.{MineTexts, DenoteMine, mine_of}
+use Rattle.mine_inputs.specs.Limits.{IsWithinLimit}
+use Rattle.mine_inputs.specs.Mines.{MineTexts, DenoteMine, mine_of}
 use Rattle.engines.specs.Readings.{Reads, IsProvedPit, block_by, counts_by, IsHeader}
 use Rattle.engines.specs.Refusals.{TextRefused}
 

@@ -10,14 +10,14 @@ use Rattle.check_pit.specs.StreamView.{LineView}
 use Rattle.check_pit.specs.CertStreams.{CertView}
 use Rattle.engines.specs.declared.judgement.Judgement.{Judgement}
 use Rattle.engines.specs.declared.judgement.Judgement.TheVariants.{Refused}
-use Rattle.engines.specs.declared.engine_fault.EngineFault.{EngineFault}
-use Rattle.engines.specs.declared.engine_fault.EngineFault.TheVariants as engine
-use Rattle.engines.specs.declared.engine_fault.CertificateProblem.TheVariants as problem
-use Rattle.engines.specs.EngineFaults.{of_certificate}
-use Rattle.engines.specs.Mines.{MineTexts}
+use Rattle.mine_inputs.specs.declared.engine_fault.EngineFault.{EngineFault}
+use Rattle.mine_inputs.specs.declared.engine_fault.EngineFault.TheVariants as engine
+use Rattle.mine_inputs.specs.declared.engine_fault.CertificateProblem.TheVariants as problem
+use Rattle.mine_inputs.specs.EngineFaults.{of_certificate}
+use Rattle.mine_inputs.specs.Mines.{MineTexts}
 use Rattle.engines.specs.Judgements.{IsJudged}
 use Rattle.engines.specs.FaultStands.{Fails}
-use Rattle.engines.specs.Worths.{factor_at}
+use Rattle.mine_inputs.specs.Worths.{factor_at}
 
 -- the factor that a certificate names: 0 where it names none
 abbrev pub factor_named : Result Header CertFault → ℕ

@@ -1,17 +1,8 @@
-pub mod Limits
-pub mod EngineFaults
-pub mod BlockTexts
-pub mod PricedTexts
-pub mod Mines
-pub mod Worths
-pub mod MineInputs
 pub mod Readings
-pub mod ReadMines
 pub mod Refusals
 pub mod Judgements
 pub mod FaultStands
 pub mod OutputLines
-pub mod Inputs
 pub mod Checking
 pub mod Statuses
 pub mod Verdicts

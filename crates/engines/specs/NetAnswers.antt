@@ -11,10 +11,10 @@ use Rattle.certificate_file.specs.declared.header.Price.{Price}
 use Rattle.engines.specs.declared.judgement.Judgement.TheVariants.{Refused}
 use Rattle.engines.specs.declared.judgement.Verdict.{Verdict}
 use Rattle.engines.specs.declared.judgement.Verdict.TheVariants.{Done, No}
-use Rattle.engines.specs.declared.engine_fault.EngineFault.{EngineFault}
-use Rattle.engines.specs.declared.engine_fault.EngineFault.TheVariants as engine
-use Rattle.engines.specs.declared.solving.Unsolved.{Unsolved}
-use Rattle.engines.specs.declared.solving.Unsolved.TheVariants.{Unsettled, TooLarge, GaveUp, NoMemory, NoThread, Stranger}
+use Rattle.mine_inputs.specs.declared.engine_fault.EngineFault.{EngineFault}
+use Rattle.mine_inputs.specs.declared.engine_fault.EngineFault.TheVariants as engine
+use Rattle.engines.specs.declared.solvers.Unsolved.{Unsolved}
+use Rattle.engines.specs.declared.solvers.Unsolved.TheVariants.{Unsettled, TooLarge, GaveUp, NoMemory, NoThread, Stranger}
 use Rattle.engines.specs.OutputLines.{judgement_line}
 
 -- the text of a pit and a flow of a net

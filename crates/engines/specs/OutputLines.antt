@@ -1,5 +1,5 @@
 -- The lines that the program prints.
-use Rattle.std.specs.Prelude.{ℕ, List, [], ◌∷◌, ◌++◌, codes, decimal, Option, Some}
+use Rattle.std.specs.Prelude.{ℕ, List, [], ◌∷◌, ◌++◌, codes, decimal}
 use Rattle.fixed_worth.specs.Printed.{printed}
 use Rattle.ordered_group.specs.declared.groups.Group.{Group}
 use Rattle.ordered_group.specs.declared.groups.Group.TheVariants.{Worth, Pair, Scaled}
@@ -7,22 +7,15 @@ use Rattle.closure_net.specs.FaultText.{net_fault_text}
 use Rattle.upit_file.specs.FaultText.{upit_fault_text}
 use Rattle.prec_file.specs.FaultText.{prec_fault_text}
 use Rattle.blocks_file.specs.FaultText.{blocks_fault_text}
-use Rattle.slope.specs.FaultText.{pattern_fault_text, slope_fault_text}
 use Rattle.settings_file.specs.FaultText.{settings_fault_text}
 use Rattle.shells.specs.FaultText.{prices_fault_text}
-use Rattle.certificate_file.specs.FaultText.{fault_text}
 use Rattle.check_pit.specs.FaultText.{pit_fault_text}
 use Rattle.trace_file.specs.FaultText.{fault_text as trace_fault_text}
 use Rattle.engines.specs.declared.judgement.Judgement.{Judgement}
 use Rattle.engines.specs.declared.judgement.Judgement.TheVariants.{Accepted, Refused}
-use Rattle.engines.specs.declared.engine_fault.Problem.{Problem}
-use Rattle.engines.specs.declared.engine_fault.Problem.TheVariants as problem
-use Rattle.engines.specs.declared.engine_fault.CertificateProblem.{CertificateProblem}
-use Rattle.engines.specs.declared.engine_fault.CertificateProblem.TheVariants as certificate
-use Rattle.engines.specs.declared.engine_fault.SlopeProblem.{SlopeProblem}
-use Rattle.engines.specs.declared.engine_fault.SlopeProblem.TheVariants as of
-use Rattle.engines.specs.declared.engine_fault.EngineFault.{EngineFault}
-use Rattle.engines.specs.declared.engine_fault.EngineFault.TheVariants as engine
+use Rattle.mine_inputs.specs.declared.engine_fault.EngineFault.{EngineFault}
+use Rattle.mine_inputs.specs.declared.engine_fault.EngineFault.TheVariants as engine
+use Rattle.mine_inputs.specs.FaultText.{problem_text, certificate_text, slope_text}
 
 -- what stands behind the worth where worth alone was counted
 abbrev pub group_mark : Group → List ℕ
@@ -34,24 +27,6 @@ group_mark Scaled = []
 abbrev pub judgement_line : Judgement → List ℕ
 judgement_line (Accepted group count worth) = codes "ACCEPTED " ++ (decimal count ++ (codes " " ++ (printed 9 worth ++ (group_mark group ++ 10 ∷ []))))
 judgement_line (Refused fault) = codes "REFUSED " ++ (pit_fault_text fault ++ 10 ∷ [])
-
-abbrev pub problem_text : {F : Type 0} → (F → List ℕ) → Problem F → List ℕ
-problem_text text problem.InputTooLong = codes "InputTooLong"
-problem_text text (problem.Fault fault) = text fault
-
--- the same where a fault may have no text that is claimed
-abbrev pub problem_output : {F : Type 0} → (F → Option (List ℕ)) → Problem F → Option (List ℕ)
-problem_output output problem.InputTooLong = Some (codes "InputTooLong")
-problem_output output (problem.Fault fault) = output fault
-
-abbrev pub certificate_text : CertificateProblem → List ℕ
-certificate_text certificate.InputTooLong = codes "InputTooLong"
-certificate_text certificate.WrongPrice = codes "WrongPrice"
-certificate_text (certificate.Fault fault) = fault_text fault
-
-abbrev pub slope_text : SlopeProblem → List ℕ
-slope_text (of.Pattern fault) = pattern_fault_text fault
-slope_text (of.Pairs fault) = slope_fault_text fault
 
 -- the word for what has the fault; what the machine fails at has none
 abbrev pub input_word : EngineFault → List ℕ

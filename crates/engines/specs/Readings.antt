@@ -5,11 +5,12 @@ use Rattle.ordered_group.specs.Block.{worth_block, counted_block, scaled_block}
 use Rattle.ordered_group.specs.declared.groups.Group.{Group}
 use Rattle.ordered_group.specs.declared.groups.Group.TheVariants.{Worth, Pair, Scaled}
 use Rattle.closure_net.specs.Network.{NetView, FlowView, IsNet, IsAscending}
+use Rattle.closure_net.specs.Closure.{IsGreatest}
 use Rattle.closure_net.specs.Mine.{Mine, IsRichest, IsBest, IsNetOf}
 use Rattle.certificate_file.specs.Pieces.{pieces_of}
 use Rattle.certificate_file.specs.Header.{header_of}
 use Rattle.certificate_file.specs.Certificate.{fault_of, lines_of_text, Denotes}
-use Rattle.engines.specs.Mines.{MineTexts, price_wanted, mine_of, DenoteMine}
+use Rattle.mine_inputs.specs.Mines.{MineTexts, price_wanted, mine_of, DenoteMine}
 
 -- what one block counts as, and whether an amount has a count
 abbrev pub block_by : Group → ℤ → ℕ → Amount
@@ -53,3 +54,9 @@ pub record Reads (texts : MineTexts) (certificate : List ℕ) : Type 0 where
   pub denotes : Denotes blocks net.pairs (lines_of_text (counts_by group) blocks certificate) pit flow
   pub ascending : IsAscending pit
   pub known : All (λ b. b < blocks) pit
+
+-- The group with this name counts a block so, and what sums to most by it is proved.
+pub record IsGroupNamed (name : Group) (block : ℤ → ℕ → Amount) (counts : Bool) : Type 0 where
+  pub block_is : block_by name ≡ block
+  pub counts_is : counts_by name ≡ counts
+  pub proves : (mine : Mine) (net : NetView) (e : ℕ → Bool) → IsNetOf block mine net → IsGreatest net e → IsProvedPit name mine e

@@ -12,7 +12,7 @@ use Rattle.check_pit.specs.Closing.{IsFirstOpen}
 use Rattle.check_pit.specs.LineSums.{KeepLimits, flow_of, SomeLineSumOverflows}
 use Rattle.check_pit.specs.Rooms.{LineRefused}
 use Rattle.check_pit.specs.StreamChecks.{first_pits}
-use Rattle.engines.specs.Limits.{IsWithinLimit}
+use Rattle.mine_inputs.specs.Limits.{IsWithinLimit}
 
 -- the lines of the text behind its header, before END
 abbrev pub lines_for : Bool → NetView → List ℕ → List BodyLine

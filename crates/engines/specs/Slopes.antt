@@ -24,13 +24,13 @@ use Rattle.engines.specs.declared.judgement.Verdict.{Verdict}
 use Rattle.engines.specs.declared.judgement.Verdict.TheVariants.{Done, No}
 use Rattle.engines.specs.declared.pattern_choice.PatternChoice.{PatternChoice}
 use Rattle.engines.specs.declared.pattern_choice.PatternChoice.TheVariants.{Five, Nine, Cone}
-use Rattle.engines.specs.declared.engine_fault.Problem.{Problem}
-use Rattle.engines.specs.declared.engine_fault.SlopeProblem.{SlopeProblem}
-use Rattle.engines.specs.declared.engine_fault.SlopeProblem.TheVariants as of
-use Rattle.engines.specs.declared.engine_fault.EngineFault.{EngineFault}
-use Rattle.engines.specs.declared.engine_fault.EngineFault.TheVariants as engine
-use Rattle.engines.specs.BlockTexts.{ReadsBlocks, BlocksFails}
-use Rattle.engines.specs.PricedTexts.{KeysSaid, SettingsFails}
+use Rattle.mine_inputs.specs.declared.engine_fault.Problem.{Problem}
+use Rattle.mine_inputs.specs.declared.engine_fault.SlopeProblem.{SlopeProblem}
+use Rattle.mine_inputs.specs.declared.engine_fault.SlopeProblem.TheVariants as of
+use Rattle.mine_inputs.specs.declared.engine_fault.EngineFault.{EngineFault}
+use Rattle.mine_inputs.specs.declared.engine_fault.EngineFault.TheVariants as engine
+use Rattle.mine_inputs.specs.BlockTexts.{ReadsBlocks, BlocksFails}
+use Rattle.mine_inputs.specs.PricedTexts.{KeysSaid, SettingsFails}
 
 -- ---- which offsets are asked for
 

@@ -4,7 +4,7 @@ ghost use Rattle.std.specs.Prelude.{◌≡◌, IfOk, MatchResult, IsErrOf};
 ghost use Rattle.closure_net.specs.Network.{FlowFits};
 ghost use Rattle.engines.specs.Certifying.{IsSolution, UncertifiedStands};
 
-use crate::judging::{size_of, worth_of};
+use crate::certificate_judge::{size_of, worth_of};
 use check_pit::{PitFault, check};
 use closure_net::{Flow, Net, Pit, pit_of};
 use ordered_group::OrderedGroup;

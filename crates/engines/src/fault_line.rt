@@ -18,15 +18,16 @@ ghost use Rattle.settings_file.specs.Keys.{key_name};
 ghost use Rattle.settings_file.specs.FaultText.{settings_fault_text};
 ghost use Rattle.shells.specs.FaultText.{prices_fault_text};
 ghost use Rattle.trace_file.specs.FaultText.{fault_text};
-ghost use Rattle.engines.specs.OutputLines.{fault_line, fault_words, input_word, problem_words, problem_text, slope_text, certificate_text};
+ghost use Rattle.mine_inputs.specs.FaultText.{problem_text, slope_text, certificate_text};
+ghost use Rattle.engines.specs.OutputLines.{fault_line, fault_words, input_word, problem_words};
 ghost use Rattle.engines.specs.Statuses.{status_of};
 
-use crate::engine_fault::{CertificateProblem, EngineFault, Problem, SlopeProblem};
 use crate::judgement::Verdict;
 use blocks_file::BlocksFault;
 use check_pit::CertFault;
 use closure_net::NetFault;
 use fixed_worth::{CountedWrite, ShortLine, WriteFault, write_text};
+use mine_inputs::{CertificateProblem, EngineFault, Problem, SlopeProblem};
 use prec_file::PrecFault;
 use settings_file::{Key, SettingsFault};
 use shells::PricesFault;

@@ -6,9 +6,9 @@ ghost use Rattle.std.specs.String.{string_bytes};
 ghost use Rattle.engines.specs.OutputLines.{judgement_line, group_mark};
 ghost use Rattle.engines.specs.Checking.{LineFails};
 
-use crate::engine_fault::EngineFault;
 use crate::judgement::Judgement;
 use fixed_worth::{CountedWrite, Nanos, WriteFault, write_text};
+use mine_inputs::EngineFault;
 use ordered_group::Group;
 use std::alloc::{AllocError, Global};
 

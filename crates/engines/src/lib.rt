@@ -7,43 +7,39 @@
 //! line is kept out: the program `pit` opens the files and hands them on.
 #![tactic(auto)]
 
+pub mod certificate_judge;
 pub mod certify;
-mod checking;
+mod checking_engine;
 mod effort;
-mod engine_fault;
 mod fault_line;
-pub mod inputs;
 mod judgement;
 pub mod judgement_line;
-pub mod judging;
 pub mod laws;
 mod listed_slopes;
 mod method;
-pub mod mine_inputs;
 pub mod net_answer;
 mod option_words;
 mod outcome;
 mod pattern_choice;
 mod pattern_words;
-pub mod priced_inputs;
 mod slope_pairs;
 mod slopes;
 mod solve_asked;
-pub mod solving;
+pub mod solvers;
 mod solving_engine;
 mod stored_run;
 mod unwatched;
 mod whole_numbers;
-pub mod worths;
 
-pub use checking::check_engine;
+pub use checking_engine::check_engine;
 pub use effort::Effort;
-pub use engine_fault::{CertificateProblem, EngineFault, Problem, SlopeProblem};
 pub use fault_line::{status, write_fault};
 pub use judgement::{Judgement, Verdict};
 pub use listed_slopes::slopes_from_settings_engine;
 pub use method::{Method, method_named};
-pub use mine_inputs::{MineInputs, WorthInputs};
+pub use mine_inputs::{
+    CertificateProblem, EngineFault, MineInputs, Problem, SlopeProblem, WorthInputs,
+};
 pub use option_words::{factor_named, group_named, steps_named, workers_named};
 pub use outcome::Outcome;
 pub use pattern_choice::PatternChoice;

@@ -2,15 +2,13 @@
 
 ghost use Rattle.std.specs.Prelude.{◌≡◌, ◌+◌, ◌-◌, ◌^◌, ◌<◌, None, MatchResult, IfSome, IsErrOf};
 ghost use Rattle.settings_file.specs.Settings.{first_missing};
-ghost use Rattle.engines.specs.Inputs.{IsMissing};
+ghost use Rattle.mine_inputs.specs.Inputs.{IsMissing};
 ghost use Rattle.engines.specs.Slopes.{offset_keys, listed_offsets, listed, GivesSlopes};
 
-use crate::engine_fault::EngineFault;
-use crate::inputs::blocks_from;
 use crate::judgement::Verdict;
-use crate::priced_inputs::{missing, settings_from};
 use crate::slope_pairs::{pattern_listed, slopes_of, write_slopes};
 use fixed_worth::{CountedRead, CountedWrite};
+use mine_inputs::{EngineFault, blocks_from, missing, settings_from};
 use settings_file::{Key, Settings};
 use slope::{Selection, Up};
 use std::alloc::Global;

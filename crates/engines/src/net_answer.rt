@@ -8,13 +8,13 @@ ghost use Rattle.certificate_file.specs.ReadBack.{IsPrice};
 ghost use Rattle.engines.specs.NetAnswers.{SendsCertificate, SendsNo};
 
 use crate::certify::Solution;
-use crate::engine_fault::EngineFault;
 use crate::judgement::Verdict;
 use crate::outcome::Outcome;
-use crate::solving::Unsolved;
+use crate::solvers::Unsolved;
 use check_pit::{Certificate, Price, write_certificate};
 use closure_net::Net;
 use fixed_worth::{CountedWrite, write_text};
+use mine_inputs::EngineFault;
 use ordered_group::OrderedGroup;
 
 /// Writes what was found for a net: the certificate of a solution, at this price, or a line that says why there is none. Whoever

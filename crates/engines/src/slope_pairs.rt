@@ -9,10 +9,10 @@ ghost use Rattle.slope.specs.Offsets.{AreOffsets};
 ghost use Rattle.slope.specs.Slopes.{AreSlopes};
 ghost use Rattle.engines.specs.Slopes.{IsChoice, IsChosen, ChoiceFails, ListFails, PatternMakingFails, PairsMakingFail};
 
-use crate::engine_fault::EngineFault;
 use crate::pattern_choice::PatternChoice;
 use blocks_file::BlockModel;
 use fixed_worth::CountedWrite;
+use mine_inputs::EngineFault;
 use prec_file::{PrecWriteFault, Predecessors, write_predecessors};
 use slope::{Pattern, Selection, Up, laws, predecessors_of};
 use std::alloc::Global;

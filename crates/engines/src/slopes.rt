@@ -3,12 +3,11 @@
 ghost use Rattle.std.specs.Prelude.{◌≡◌, ◌+◌, ◌-◌, ◌^◌, ◌<◌, IfSome, IsErrOf};
 ghost use Rattle.engines.specs.Slopes.{IsChoice, named, GivesSlopes};
 
-use crate::engine_fault::EngineFault;
-use crate::inputs::blocks_from;
 use crate::judgement::Verdict;
 use crate::pattern_choice::PatternChoice;
 use crate::slope_pairs::{pattern_for, slopes_of, write_slopes};
 use fixed_worth::{CountedRead, CountedWrite};
+use mine_inputs::{EngineFault, blocks_from};
 use slope::{Selection, Up};
 use std::alloc::Global;
 

@@ -1,22 +1,22 @@
 //! The engine of `solve`: the bytes of a mine in, a certificate of its best pit out.
 
 ghost use Rattle.std.specs.Prelude.{◌≡◌, ◌+◌, ◌-◌, ◌^◌, ◌<◌, ◌↔◌, ℕ, List, IsErrOf};
-ghost use Rattle.engines.specs.ReadMines.{AreRead, IsGroupNamed};
+ghost use Rattle.mine_inputs.specs.ReadMines.{AreRead};
+ghost use Rattle.engines.specs.Readings.{IsGroupNamed};
 ghost use Rattle.certificate_file.specs.ReadBack.{IsPrice};
-ghost use Rattle.engines.specs.MineInputs.{ForTexts, CanCount, NoneFailed, OneFailed};
-ghost use Rattle.engines.specs.Mines.{MineTexts, price_wanted};
+ghost use Rattle.mine_inputs.specs.MineInputs.{ForTexts, CanCount, NoneFailed, OneFailed};
+ghost use Rattle.mine_inputs.specs.Mines.{MineTexts, price_wanted};
 ghost use Rattle.engines.specs.Solving.{Solves};
 
 use crate::effort::Effort;
-use crate::engine_fault::EngineFault;
 use crate::judgement::Verdict;
-use crate::mine_inputs::{MineInputs, MineToSolve, mine_to_solve};
 use crate::net_answer::write_answer;
 use crate::outcome::Outcome;
 use crate::solve_asked::SolveAsked;
-use crate::solving::solution_of;
+use crate::solvers::solution_of;
 use closure_net::{Net, laws};
 use fixed_worth::{CountedRead, CountedWrite};
+use mine_inputs::{EngineFault, MineInputs, MineToSolve, mine_to_solve};
 use ordered_group::{Group, OrderedGroup, Scaled, Worth, WorthSize};
 use pseudoflow::Progress;
 use std::alloc::Global;
@@ -39,7 +39,7 @@ use workers::{Gate, Locked, Shared, TurnBoard};
 /// known. Each worker of the machine passes the gate before each of its turns, and pseudoflow reports to it how far it is.
 ///
 /// # Errors
-/// Those of [`worths_from`](crate::mine_inputs::worths_from), then `Prec`, then `Model` where the net's amounts don't
+/// Those of [`worths_from`](mine_inputs::worths_from), then `Prec`, then `Model` where the net's amounts don't
 /// fit. `Memory` where memory is refused, `Thread` where a worker can't be started, `Stranger` where the
 /// board that the workers shared comes back as another's (see `workers::solve`), `Device` where a read or
 /// a write fails: the writer has then received a prefix of the answer, and at every other fault nothing.

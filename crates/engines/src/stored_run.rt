@@ -3,13 +3,12 @@
 
 ghost use Rattle.std.specs.Prelude.{◌≡◌, ◌+◌, ◌-◌, ◌^◌, ◌<◌, IsErrOf};
 ghost use Rattle.engines.specs.Checking.{Checks};
-ghost use Rattle.engines.specs.Mines.{mine_texts};
+ghost use Rattle.mine_inputs.specs.Mines.{mine_texts};
 
-use crate::checking::check_engine;
-use crate::engine_fault::EngineFault;
+use crate::checking_engine::check_engine;
 use crate::judgement::Verdict;
-use crate::mine_inputs::{MineInputs, WorthInputs};
 use fixed_worth::{CountedRead, CountedWrite};
+use mine_inputs::{EngineFault, MineInputs, WorthInputs};
 use std::alloc::Global;
 use std::io;
 use std::io::Read;

@@ -5,7 +5,9 @@ use Rattle.std.specs.Prelude.{MatchResult}
 use Rattle.fixed_worth.specs.Device.{ReceivedPrefix}
 use Rattle.closure_net.specs.Network.{NetView, FlowView, IsNet, holds_of}
 use Rattle.machine_law.specs.Quiet.{IsSolved}
-use Rattle.word_runner.specs.Tells.{IsSolvedBy}
+use Rattle.word_runner.specs.Tells.{AreBadWorkers, IsSolvedBy, SolveFaultStands}
+use Rattle.workers.specs.declared.solving.SolveFault.{SolveFault}
+use Rattle.workers.specs.declared.solving.SolveFault.TheVariants as run
 use Rattle.check_pit.specs.Checks.{IsSound, FaultStands}
 use Rattle.certificate_file.specs.Written.{header_with, text_of}
 use Rattle.check_pit.specs.declared.pit_fault.PitFault.{PitFault}
@@ -13,9 +15,10 @@ use Rattle.certificate_file.specs.declared.header.Price.{Price}
 use Rattle.check_pit.proofs.Tightness.{refused_for_size_only}
 use Rattle.engines.specs.declared.judgement.Verdict.{Verdict}
 use Rattle.engines.specs.declared.judgement.Verdict.TheVariants.{No}
-use Rattle.engines.specs.declared.engine_fault.EngineFault.{EngineFault}
-use Rattle.engines.specs.declared.solving.Unsolved.{Unsolved}
-use Rattle.engines.specs.declared.solving.Unsolved.TheVariants.{Unsettled, TooLarge, GaveUp, NoMemory, NoThread, Stranger}
+use Rattle.mine_inputs.specs.declared.engine_fault.EngineFault.{EngineFault}
+use Rattle.engines.specs.declared.solvers.Unsolved.{Unsolved}
+use Rattle.engines.specs.declared.solvers.Unsolved.TheVariants.{Unsettled, TooLarge, GaveUp, NoMemory, NoThread, Stranger}
+use Rattle.engines.specs.Solving.{unsolved_by}
 use Rattle.engines.specs.NetAnswers.{SendsCertificate, SendsLine, SendsNo, certificate_text, unsettled_line, too_large_line}
 use Rattle.engines.specs.Readings.{counts_by}
 use Rattle.engines.specs.Certifying.{IsRefusedFlow}
@@ -40,6 +43,15 @@ check_overflows law net workers limit flow steps fault is solved refused =
       of_net = of_net;
       stands = subst (λ (f : PitFault). FaultStands net flow refused.pit f) e refused.stands;
     }
+
+-- why a run gives no flow is why it proves no pit: there are one worker or two, and the words are the net's
+pub fault_stands : (net : NetView) (workers limit : ℕ) (fault : SolveFault) → ¬ AreBadWorkers workers → SolveFaultStands net workers fault → LockFreeStands net workers limit (unsolved_by fault)
+fault_stands net workers limit run.BadWorkers few h = absurd (few h)
+fault_stands net workers limit run.Unsettled few h = h.1
+fault_stands net workers limit run.TooLarge few h = inl h.1
+fault_stands net workers limit run.StrangerNet few h = absurd h
+fault_stands net workers limit run.NoMemory few h = tt
+fault_stands net workers limit run.NoThread few h = tt
 
 module _ (price : Price) (net : NetView) (workers limit : ℕ) (old new : Option (List ℕ)) where
   sent : (pit : List ℕ) (flow : FlowView) (r : Result Verdict EngineFault) → IsSound net flow pit → SendsCertificate (counts_by lock_free_group) lock_free_group price net pit flow old new r → SolvesNetWithoutLock price net workers limit old new r

@@ -8,13 +8,13 @@ use Rattle.closure_net.specs.declared.net.NetFault.{NetFault}
 use Rattle.closure_net.specs.declared.net.NetFault.TheVariants as net_fault
 use Rattle.engines.specs.declared.judgement.Verdict.TheVariants.{Done, No}
 use Rattle.engines.specs.declared.judgement.Verdict.{Verdict}
-use Rattle.engines.specs.declared.engine_fault.EngineFault.{EngineFault}
-use Rattle.engines.specs.declared.engine_fault.EngineFault.TheVariants as engine
+use Rattle.mine_inputs.specs.declared.engine_fault.EngineFault.{EngineFault}
+use Rattle.mine_inputs.specs.declared.engine_fault.EngineFault.TheVariants as engine
 use Rattle.engines.specs.declared.method.Method.TheVariants.{PushRelabel}
-use Rattle.engines.specs.FaultStands.{MineFails}
-use Rattle.engines.specs.ReadMines.{AreRead, IsGroupNamed, of_model}
-use Rattle.engines.specs.Readings.{counts_by}
-use Rattle.engines.specs.Mines.{MineTexts, price_wanted}
+use Rattle.mine_inputs.specs.FaultStands.{MineFails}
+use Rattle.mine_inputs.specs.ReadMines.{AreRead, of_model}
+use Rattle.engines.specs.Readings.{IsGroupNamed, counts_by}
+use Rattle.mine_inputs.specs.Mines.{MineTexts, price_wanted}
 use Rattle.engines.specs.Solving.{IsNetBy, SolveFails, Solves}
 use Rattle.engines.proofs.Answered.{keeps_self}
 use Rattle.engines.proofs.Solutions.{certificate_is, unmade}

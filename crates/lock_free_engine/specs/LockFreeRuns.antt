@@ -8,8 +8,8 @@ use Rattle.word_runner.specs.Words.{units}
 use Rattle.word_runner.specs.Tells.{IsSolvedBy, SomeCutRunIsTooLarge}
 use Rattle.check_pit.specs.Checks.{IsOfNet, FaultStands}
 use Rattle.check_pit.specs.declared.pit_fault.PitFault.TheVariants as pit_fault
-use Rattle.engines.specs.declared.solving.Unsolved.{Unsolved}
-use Rattle.engines.specs.declared.solving.Unsolved.TheVariants.{Unsettled, TooLarge, GaveUp, NoMemory, NoThread, Stranger}
+use Rattle.engines.specs.declared.solvers.Unsolved.{Unsolved}
+use Rattle.engines.specs.declared.solvers.Unsolved.TheVariants.{Unsettled, TooLarge, GaveUp, NoMemory, NoThread, Stranger}
 
 -- what the source gives in all is below 2^63 units, and so the net has words
 abbrev pub HasWords : NetView → Type 0

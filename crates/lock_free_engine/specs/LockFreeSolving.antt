@@ -8,9 +8,9 @@ use Rattle.closure_net.specs.Network.{NetView}
 use Rattle.certificate_file.specs.declared.header.Price.{Price}
 use Rattle.engines.specs.declared.judgement.Verdict.{Verdict}
 use Rattle.engines.specs.declared.judgement.Verdict.TheVariants.{Done, No}
-use Rattle.engines.specs.declared.engine_fault.EngineFault.{EngineFault}
-use Rattle.engines.specs.declared.engine_fault.EngineFault.TheVariants as engine
-use Rattle.engines.specs.Mines.{MineTexts, price_wanted}
+use Rattle.mine_inputs.specs.declared.engine_fault.EngineFault.{EngineFault}
+use Rattle.mine_inputs.specs.declared.engine_fault.EngineFault.TheVariants as engine
+use Rattle.mine_inputs.specs.Mines.{MineTexts, price_wanted}
 use Rattle.engines.specs.Readings.{counts_by}
 use Rattle.engines.specs.NetAnswers.{unsettled_line, too_large_line}
 use Rattle.engines.specs.Solving.{IsCertificateOf, IsTextOf, IsCertificate, IsNetBy, SolveFails}

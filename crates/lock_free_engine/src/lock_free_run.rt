@@ -10,13 +10,13 @@ use crate::laws;
 use crate::lock_free_effort::LockFreeEffort;
 use closure_net::Net;
 use engines::certify::{Solution, Uncertified, certified};
-use engines::solving::Unsolved;
+use engines::solvers::Unsolved;
 use ordered_group::Scaled;
 use std::alloc::Global;
 use std::sync::Wait;
 use std::thread::Threads;
 use word_runner::solve_words;
-use workers::{Gate, SolveFault};
+use workers::Gate;
 
 /// The pit that a run of the push-relabel machine without a lock proves: its flow has passed the check of this net.
 ///
@@ -43,13 +43,7 @@ pub fn by_lock_free_run<R: Threads + Wait + Sync, T: Gate>(
     let _worths = net.worths();
     let flow = match solve_words(rt, alloc, net, effort.workers, effort.steps, gate) {
         Ok(solved) => solved.flow,
-        Err(SolveFault::Unsettled) => return Err(Unsolved::Unsettled),
-        Err(SolveFault::TooLarge) => return Err(Unsolved::TooLarge),
-        Err(SolveFault::NoMemory) => return Err(Unsolved::NoMemory),
-        Err(SolveFault::NoThread) => return Err(Unsolved::NoThread),
-        Err(SolveFault::BadWorkers | SolveFault::StrangerNet) => {
-            unreachable!("there are one or two workers, and their words are the net's")
-        }
+        Err(fault) => return Err(Unsolved::from(fault)),
     };
     match certified(alloc, net, flow) {
         Ok(solution) => Ok(solution),

@@ -2,19 +2,19 @@
 
 ghost use Rattle.std.specs.Prelude.{◌≡◌, ◌+◌, ◌-◌, ◌^◌, ◌<◌, ◌↔◌, IsErrOf};
 ghost use Rattle.certificate_file.specs.ReadBack.{IsPrice};
-ghost use Rattle.engines.specs.ReadMines.{AreRead};
-ghost use Rattle.engines.specs.MineInputs.{ForTexts, CanCount, NoneFailed, OneFailed};
-ghost use Rattle.engines.specs.Mines.{MineTexts, price_wanted};
+ghost use Rattle.mine_inputs.specs.ReadMines.{AreRead};
+ghost use Rattle.mine_inputs.specs.MineInputs.{ForTexts, CanCount, NoneFailed, OneFailed};
+ghost use Rattle.mine_inputs.specs.Mines.{MineTexts, price_wanted};
 ghost use Rattle.lock_free_engine.specs.LockFreeSolving.{SolvesWithoutLock};
 
 use crate::lock_free_asked::LockFreeAsked;
 use crate::lock_free_effort::LockFreeEffort;
 use crate::lock_free_run::by_lock_free_run;
 use closure_net::{Net, laws};
-use engines::mine_inputs::{MineToSolve, mine_to_solve};
 use engines::net_answer::write_answer;
 use engines::{EngineFault, MineInputs, Outcome, Verdict};
 use fixed_worth::{CountedRead, CountedWrite};
+use mine_inputs::{MineToSolve, mine_to_solve};
 use ordered_group::Scaled;
 use std::alloc::Global;
 use std::sync::Wait;

@@ -2,7 +2,7 @@
 //! opened.
 
 ghost use Rattle.std.specs.Prelude.{◌≡◌, IfOk};
-ghost use Rattle.engines.specs.MineInputs.{CanCount};
+ghost use Rattle.mine_inputs.specs.MineInputs.{CanCount};
 ghost use Rattle.shell_engines.specs.Devices.{InputsCanCount, failures_in};
 
 use crate::heard::Heard;

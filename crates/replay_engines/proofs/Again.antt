@@ -18,7 +18,7 @@ use Rattle.async_step.specs.declared.refusals.StepRefusal.TheVariants.{NoSuchBlo
 use Rattle.async_step.specs.Answers.{Fits, RefusalStands}
 use Rattle.trace_file.proofs.RoundTrip.{read_is_written}
 use Rattle.boards.specs.Runs.{AreTurnsTo}
-use Rattle.engines.specs.Mines.{MineTexts}
+use Rattle.mine_inputs.specs.Mines.{MineTexts}
 use Rattle.replay_engines.specs.declared.outcome.Outcome.{Outcome}
 use Rattle.replay_engines.specs.declared.outcome.Outcome.TheVariants.{Quiet, Open, Refused}
 use Rattle.replay_engines.specs.Outcomes.{IsFlowJudged, IsOutcome}

@@ -5,15 +5,15 @@ use Rattle.ordered_group.specs.declared.groups.Group.{Group}
 use Rattle.machine_law.specs.declared.events.Event.{Event}
 use Rattle.certificate_file.specs.declared.header.Price.{Price}
 use Rattle.engines.specs.declared.judgement.Verdict.{Verdict}
-use Rattle.engines.specs.declared.engine_fault.EngineFault.{EngineFault}
-use Rattle.engines.specs.declared.engine_fault.EngineFault.TheVariants as engine
-use Rattle.engines.specs.declared.mine_inputs.MineInputs.{MineInputs}
-use Rattle.engines.specs.FaultStands.{MineFails}
-use Rattle.engines.specs.MineInputs.{ForTexts}
-use Rattle.engines.specs.Mines.{MineTexts, price_wanted, DenoteMine}
-use Rattle.engines.specs.ReadMines.{AreRead}
+use Rattle.mine_inputs.specs.declared.engine_fault.EngineFault.{EngineFault}
+use Rattle.mine_inputs.specs.declared.engine_fault.EngineFault.TheVariants as engine
+use Rattle.mine_inputs.specs.declared.mines.MineInputs.{MineInputs}
+use Rattle.mine_inputs.specs.FaultStands.{MineFails}
+use Rattle.mine_inputs.specs.MineInputs.{ForTexts}
+use Rattle.mine_inputs.specs.Mines.{MineTexts, price_wanted, DenoteMine}
+use Rattle.mine_inputs.specs.ReadMines.{AreRead}
 use Rattle.engines.proofs.Answered.{keeps_self}
-use Rattle.engines.proofs.MineDevices.{always, under, for_texts}
+use Rattle.mine_inputs.proofs.MineDevices.{always, under, for_texts}
 use Rattle.replay_engines.specs.TraceTexts.{ReadsTrace, TraceReadFails}
 use Rattle.replay_engines.specs.Replays.{Replays}
 

@@ -7,12 +7,13 @@ use Rattle.closure_net.specs.FaultStands.{WorthsFaultStands}
 use Rattle.closure_net.specs.declared.net.NetFault.{NetFault}
 use Rattle.closure_net.specs.declared.net.NetFault.TheVariants as net_fault
 use Rattle.machine_law.specs.declared.events.Event.{Event}
-use Rattle.engines.specs.declared.engine_fault.EngineFault.{EngineFault}
-use Rattle.engines.specs.declared.engine_fault.EngineFault.TheVariants as engine
+use Rattle.mine_inputs.specs.declared.engine_fault.EngineFault.{EngineFault}
+use Rattle.mine_inputs.specs.declared.engine_fault.EngineFault.TheVariants as engine
 use Rattle.engines.specs.Checking.{LineFails}
-use Rattle.engines.specs.Mines.{MineTexts}
-use Rattle.engines.specs.ReadMines.{AreRead, IsGroupNamed}
-use Rattle.engines.specs.EngineFaults.{of_model}
+use Rattle.mine_inputs.specs.Mines.{MineTexts}
+use Rattle.mine_inputs.specs.ReadMines.{AreRead}
+use Rattle.engines.specs.Readings.{IsGroupNamed}
+use Rattle.mine_inputs.specs.EngineFaults.{of_model}
 use Rattle.engines.proofs.Judged.{worths_fail}
 use Rattle.replay_engines.specs.declared.outcome.Outcome.{Outcome}
 use Rattle.replay_engines.specs.TraceTexts.{ReadsTrace}

@@ -10,8 +10,8 @@ use Rattle.check_pit.specs.Tightness.{RefusedForSizeOnly}
 use Rattle.check_pit.specs.declared.pit_fault.PitFault.{PitFault}
 use Rattle.engines.specs.Certifying.{IsSolution, IsRefusedFlow}
 use Rattle.engines.specs.declared.judgement.Judgement.TheVariants.{Accepted}
-use Rattle.engines.specs.Mines.{MineTexts, mine_of}
-use Rattle.engines.specs.ReadMines.{IsGroupNamed}
+use Rattle.mine_inputs.specs.Mines.{MineTexts, mine_of}
+use Rattle.engines.specs.Readings.{IsGroupNamed}
 use Rattle.engines.specs.Solving.{IsNetBy}
 use Rattle.engines.proofs.Told.{size_told, worth_told}
 use Rattle.replay_engines.specs.Outcomes.{IsFlowJudged, IsFlowRefused}

@@ -8,7 +8,7 @@ use Rattle.machine_law.specs.Quiet.{IsFlowOf}
 use Rattle.trace_file.specs.Faults.{events_of}
 use Rattle.trace_file.specs.ReadBack.{IsReadBack}
 use Rattle.boards.specs.Runs.{AreTurnsTo}
-use Rattle.engines.specs.Mines.{MineTexts}
+use Rattle.mine_inputs.specs.Mines.{MineTexts}
 use Rattle.engines.specs.declared.judgement.Judgement.{Judgement}
 use Rattle.replay_engines.specs.declared.outcome.Outcome.{Outcome}
 use Rattle.replay_engines.specs.declared.outcome.Outcome.TheVariants.{Quiet}

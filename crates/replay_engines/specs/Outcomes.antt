@@ -17,7 +17,7 @@ use Rattle.engines.specs.declared.judgement.Judgement.{Judgement}
 use Rattle.engines.specs.declared.judgement.Judgement.TheVariants as judged
 use Rattle.engines.specs.declared.judgement.Verdict.{Verdict}
 use Rattle.engines.specs.declared.judgement.Verdict.TheVariants.{No}
-use Rattle.engines.specs.Mines.{MineTexts, mine_of}
+use Rattle.mine_inputs.specs.Mines.{MineTexts, mine_of}
 use Rattle.engines.specs.Readings.{IsProvedPit}
 use Rattle.engines.specs.OutputLines.{judgement_line}
 use Rattle.engines.specs.Verdicts.{verdict_of}

@@ -7,10 +7,11 @@ use Rattle.closure_net.specs.Network.{NetView}
 use Rattle.machine_law.specs.declared.events.Event.{Event}
 use Rattle.trace_file.specs.Faults.{events_of}
 use Rattle.engines.specs.declared.judgement.Verdict.{Verdict}
-use Rattle.engines.specs.declared.engine_fault.EngineFault.{EngineFault}
-use Rattle.engines.specs.declared.engine_fault.EngineFault.TheVariants as engine
-use Rattle.engines.specs.FaultStands.{MineFails, ModelFails}
-use Rattle.engines.specs.Mines.{MineTexts, DenoteMine}
+use Rattle.mine_inputs.specs.declared.engine_fault.EngineFault.{EngineFault}
+use Rattle.mine_inputs.specs.declared.engine_fault.EngineFault.TheVariants as engine
+use Rattle.mine_inputs.specs.FaultStands.{MineFails}
+use Rattle.engines.specs.FaultStands.{ModelFails}
+use Rattle.mine_inputs.specs.Mines.{MineTexts, DenoteMine}
 use Rattle.engines.specs.Solving.{IsNetBy}
 use Rattle.replay_engines.specs.declared.outcome.Outcome.{Outcome}
 use Rattle.replay_engines.specs.TraceTexts.{IsTrace, TraceFails}

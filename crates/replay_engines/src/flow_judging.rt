@@ -2,8 +2,8 @@
 
 ghost use Rattle.std.specs.Prelude.{IfOk};
 ghost use Rattle.machine_law.specs.Quiet.{IsSolved};
-ghost use Rattle.engines.specs.Mines.{MineTexts};
-ghost use Rattle.engines.specs.ReadMines.{IsGroupNamed};
+ghost use Rattle.mine_inputs.specs.Mines.{MineTexts};
+ghost use Rattle.engines.specs.Readings.{IsGroupNamed};
 ghost use Rattle.engines.specs.Solving.{IsNetBy};
 ghost use Rattle.replay_engines.specs.Outcomes.{IsFlowJudged};
 

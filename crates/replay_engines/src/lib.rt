@@ -12,8 +12,8 @@ mod flow_judging;
 pub mod laws;
 mod outcome;
 mod replay_asked;
+mod replayed_mine;
 mod replaying;
-mod replaying_mine;
 mod trace_inputs;
 
 pub use replay_asked::ReplayAsked;

@@ -1,15 +1,15 @@
 //! The engine of `replay`: a trace and the bytes of a mine in, what comes of the steps out.
 
 ghost use Rattle.std.specs.Prelude.{◌≡◌, ◌+◌, ◌-◌, ◌^◌, ◌<◌, IfSome, IsErrOf};
-ghost use Rattle.engines.specs.MineInputs.{ForTexts, CanCount, NoneFailed, OneFailed};
+ghost use Rattle.mine_inputs.specs.MineInputs.{ForTexts, CanCount, NoneFailed, OneFailed};
 ghost use Rattle.replay_engines.specs.Replays.{Replays};
 
 use crate::replay_asked::ReplayAsked;
-use crate::replaying_mine::replay_mine;
+use crate::replayed_mine::replay_mine;
 use crate::trace_inputs::events_from;
-use engines::mine_inputs::mine_to_solve;
 use engines::{EngineFault, MineInputs, Verdict};
 use fixed_worth::{CountedRead, CountedWrite};
+use mine_inputs::mine_to_solve;
 use std::alloc::Global;
 use std::thread::Threads;
 
@@ -28,7 +28,7 @@ use std::thread::Threads;
 /// known.
 ///
 /// # Errors
-/// Those of `engines::mine_inputs::worths_from`, then `Prec`, `Trace`, and `Model` where the net's amounts don't fit.
+/// Those of `mine_inputs::worths_from`, then `Prec`, `Trace`, and `Model` where the net's amounts don't fit.
 /// `Memory` where memory is refused, `Device` where a read or a write fails: the writer has then received a prefix of
 /// the answer, and at every other fault nothing.
 ///

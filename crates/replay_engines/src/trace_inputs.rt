@@ -1,13 +1,13 @@
 //! Reads a trace as an input of an engine: gives its steps, or its first fault.
 
 ghost use Rattle.std.specs.Prelude.{◌≡◌, ◌+◌, ◌-◌, ◌^◌, ◌<◌, ◌↔◌, IfSome, MatchResult, IsErrOf};
-ghost use Rattle.engines.specs.Limits.{IsWithinLimit};
+ghost use Rattle.mine_inputs.specs.Limits.{IsWithinLimit};
 ghost use Rattle.replay_engines.specs.TraceTexts.{ReadsTrace, TraceReadFails};
 
 use async_step::Event;
-use engines::inputs::text_from;
 use engines::{EngineFault, Problem};
 use fixed_worth::CountedRead;
+use mine_inputs::text_from;
 use std::alloc::Global;
 use trace_file::read_trace;
 

@@ -1,6 +1,6 @@
 -- From the parts of the engine of reports to its answer, where the readers tell their bytes.
 use Rattle.std.proofs.Common.{ℕ, Bool, List, Option, Err, IfSome}
-use Rattle.engines.specs.declared.engine_fault.EngineFault.{EngineFault}
+use Rattle.mine_inputs.specs.declared.engine_fault.EngineFault.{EngineFault}
 use Rattle.engines.specs.declared.effort.Effort.{Effort}
 use Rattle.shell_engines.specs.Shells.{DenoteSeries, NoNetAt}
 use Rattle.shell_engines.proofs.Answering.{texts_unread}

@@ -10,15 +10,15 @@ use Rattle.settings_file.specs.Settings.{SettingsView, settings_of, names_mill, 
 use Rattle.settings_file.proofs.Known.{settings_are}
 use Rattle.settings_file.proofs.MissingKeys.{none_missing}
 use Rattle.shells.specs.Prices.{PricesView, PricesFaultStands, NoneNegative, blocks_of}
-use Rattle.engines.specs.declared.engine_fault.EngineFault.{EngineFault}
-use Rattle.engines.specs.declared.engine_fault.EngineFault.TheVariants as engine
-use Rattle.engines.specs.declared.engine_fault.Problem.TheVariants as problem
-use Rattle.engines.specs.PricedTexts.{price_keys, columns_said, price_columns, first_columns, table_at, table_of}
-use Rattle.engines.specs.BlockTexts.{ReadsBlocks, BlocksFails, BlocksReadFails}
-use Rattle.engines.specs.Inputs.{ReadsSettingsText, SettingsReadFails, IsMissing, ReadsPrices, ReadsPrec, PrecReadFails, ModelPricesFail}
-use Rattle.engines.proofs.Priced.{first_columns_are, all_read}
-use Rattle.engines.proofs.PriceKeys.{prices_and_others, prices_with_others}
-use Rattle.engines.proofs.PricedAnswers.{key_missing, keys_said, prec_answer}
+use Rattle.mine_inputs.specs.declared.engine_fault.EngineFault.{EngineFault}
+use Rattle.mine_inputs.specs.declared.engine_fault.EngineFault.TheVariants as engine
+use Rattle.mine_inputs.specs.declared.engine_fault.Problem.TheVariants as problem
+use Rattle.mine_inputs.specs.PricedTexts.{price_keys, columns_said, price_columns, first_columns, table_at, table_of}
+use Rattle.mine_inputs.specs.BlockTexts.{ReadsBlocks, BlocksFails, BlocksReadFails}
+use Rattle.mine_inputs.specs.Inputs.{ReadsSettingsText, SettingsReadFails, IsMissing, ReadsPrices, ReadsPrec, PrecReadFails, ModelPricesFail}
+use Rattle.mine_inputs.proofs.Priced.{first_columns_are, all_read}
+use Rattle.mine_inputs.proofs.PriceKeys.{prices_and_others, prices_with_others}
+use Rattle.mine_inputs.proofs.PricedAnswers.{key_missing, keys_said, prec_answer}
 use Rattle.shell_engines.specs.SeriesTexts.{series_keys}
 use Rattle.report_engines.specs.ReportTexts.{report_keys, report_columns, ReportBlocksRead, factor_by, ReportMineFails}
 use Rattle.report_engines.specs.Internal.{columns_by, report_list, IsSaid, SaidFails, PricedModelFails, IsPricedModel, IsReportRead}

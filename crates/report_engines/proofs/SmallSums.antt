@@ -9,9 +9,9 @@ use Rattle.fixed_worth.specs.declared.limits.TheConstants.{MOST_BLOCKS, MOST_FAC
 use Rattle.ordered_group.specs.Sets.{worth_in}
 use Rattle.shells.specs.Prices.{PricesView, blocks_of, number_at, worth_after, worth_at, worths_at}
 use Rattle.shells.specs.Series.{SeriesView}
-use Rattle.engines.specs.declared.priced_inputs.ChargeColumns.{ChargeColumns}
-use Rattle.engines.specs.declared.priced_inputs.ChargeColumns.TheVariants.{Plain, Mill}
-use Rattle.engines.specs.PricedTexts.{place_beside, values_of, first_charges}
+use Rattle.mine_inputs.specs.declared.priced_inputs.ChargeColumns.{ChargeColumns}
+use Rattle.mine_inputs.specs.declared.priced_inputs.ChargeColumns.TheVariants.{Plain, Mill}
+use Rattle.mine_inputs.specs.PricedTexts.{place_beside, values_of, first_charges}
 use Rattle.bench_report.specs.Benches.{reported, blocks_at}
 use Rattle.bench_report.specs.FaultStands.{SameLengths, AllSumsFit, SomeSumOverflows}
 use Rattle.report_engines.specs.Internal.{IsSmall, IsPricedModel}

@@ -17,11 +17,11 @@ use Rattle.bench_report.specs.Benches.{reported, IsBenchTable}
 use Rattle.bench_report.specs.Written.{table_text}
 use Rattle.engines.specs.declared.judgement.Verdict.TheVariants.{No}
 use Rattle.engines.specs.declared.effort.Effort.{Effort}
-use Rattle.engines.specs.declared.engine_fault.EngineFault.{EngineFault}
-use Rattle.engines.specs.declared.priced_inputs.ChargeColumns.{ChargeColumns}
-use Rattle.engines.specs.declared.priced_inputs.ChargeColumns.TheVariants.{Plain, Mill}
-use Rattle.engines.specs.PricedTexts.{columns_said, charge_list, place_beside, cell, table_of}
-use Rattle.engines.specs.EngineFaults.{of_model}
+use Rattle.mine_inputs.specs.declared.engine_fault.EngineFault.{EngineFault}
+use Rattle.mine_inputs.specs.declared.priced_inputs.ChargeColumns.{ChargeColumns}
+use Rattle.mine_inputs.specs.declared.priced_inputs.ChargeColumns.TheVariants.{Plain, Mill}
+use Rattle.mine_inputs.specs.PricedTexts.{columns_said, charge_list, place_beside, cell, table_of}
+use Rattle.mine_inputs.specs.EngineFaults.{of_model}
 use Rattle.shell_engines.specs.declared.shell_rows.ShellRow.{ShellRow}
 use Rattle.shell_engines.specs.declared.no_series.NoSeries.{NoSeries}
 use Rattle.shell_engines.specs.Settling.{IsSettled, NoSeriesStands}

@@ -7,13 +7,13 @@ use Rattle.settings_file.specs.declared.keys.Key.TheVariants.{Tonnes, Factors}
 use Rattle.settings_file.specs.Settings.{SettingsView, settings_of, names_mill}
 use Rattle.shells.specs.Prices.{PricesFaultStands}
 use Rattle.bench_report.specs.Benches.{ReportedBlocks}
-use Rattle.engines.specs.declared.engine_fault.EngineFault.{EngineFault}
-use Rattle.engines.specs.declared.engine_fault.EngineFault.TheVariants as engine
-use Rattle.engines.specs.Limits.{IsWithinLimit}
-use Rattle.engines.specs.BlockTexts.{BlocksFails}
-use Rattle.engines.specs.PricedTexts.{keys_by, price_columns, cell, table_of, KeysSaid, PricesRead, SettingsFails}
-use Rattle.engines.specs.Mines.{priced_texts, worth_by}
-use Rattle.engines.specs.FaultStands.{PrecFails}
+use Rattle.mine_inputs.specs.declared.engine_fault.EngineFault.{EngineFault}
+use Rattle.mine_inputs.specs.declared.engine_fault.EngineFault.TheVariants as engine
+use Rattle.mine_inputs.specs.Limits.{IsWithinLimit}
+use Rattle.mine_inputs.specs.BlockTexts.{BlocksFails}
+use Rattle.mine_inputs.specs.PricedTexts.{keys_by, price_columns, cell, table_of, KeysSaid, PricesRead, SettingsFails}
+use Rattle.mine_inputs.specs.Mines.{priced_texts, worth_by}
+use Rattle.mine_inputs.specs.FaultStands.{PrecFails}
 use Rattle.shell_engines.specs.SeriesTexts.{factors_said}
 
 -- the keys that a report needs

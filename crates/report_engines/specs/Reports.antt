@@ -6,9 +6,9 @@ use Rattle.bench_report.specs.Benches.{IsBenchTable}
 use Rattle.bench_report.specs.Written.{table_text}
 use Rattle.engines.specs.declared.judgement.Verdict.{Verdict}
 use Rattle.engines.specs.declared.judgement.Verdict.TheVariants.{Done, No}
-use Rattle.engines.specs.declared.engine_fault.EngineFault.{EngineFault}
+use Rattle.mine_inputs.specs.declared.engine_fault.EngineFault.{EngineFault}
 use Rattle.engines.specs.declared.effort.Effort.{Effort}
-use Rattle.engines.specs.Mines.{priced_texts, DenoteMine}
+use Rattle.mine_inputs.specs.Mines.{priced_texts, DenoteMine}
 use Rattle.shell_engines.specs.SeriesTexts.{factors_said}
 use Rattle.shell_engines.specs.Answering.{FailsBy, Ends}
 use Rattle.shell_engines.specs.BlockTables.{mine_at_factor, IsTableIfAsked}

@@ -4,12 +4,12 @@ ghost use Rattle.std.specs.Prelude.{IfOk, OnOk};
 ghost use Rattle.shells.specs.Prices.{worths_at};
 ghost use Rattle.shells.specs.Series.{IsSeries};
 ghost use Rattle.bench_report.specs.Benches.{reported, IsBenchTable};
-ghost use Rattle.engines.specs.PricedTexts.{place_beside};
+ghost use Rattle.mine_inputs.specs.PricedTexts.{place_beside};
 ghost use Rattle.report_engines.specs.Internal.{IsPricedModel};
 
 use bench_report::{BenchRow, ReportFault, rows};
 use blocks_file::BlockModel;
-use engines::priced_inputs::{ChargeColumns, place_beside};
+use mine_inputs::{ChargeColumns, place_beside};
 use shells::{Factor, Series};
 use std::alloc::{AllocError, Global};
 use std::thread::Threads;

@@ -5,20 +5,19 @@ ghost use Rattle.std.specs.Prelude.{◌≡◌, ◌≤◌, ◌+◌, ◌-◌, ◌^
 ghost use Rattle.settings_file.specs.Settings.{first_missing};
 ghost use Rattle.settings_file.specs.Values.{AreFactors};
 ghost use Rattle.shells.specs.Prices.{blocks_of};
-ghost use Rattle.engines.specs.Inputs.{IsMissing};
-ghost use Rattle.engines.specs.BlockTexts.{ReadsBlocks};
+ghost use Rattle.mine_inputs.specs.Inputs.{IsMissing};
+ghost use Rattle.mine_inputs.specs.BlockTexts.{ReadsBlocks};
 ghost use Rattle.shell_engines.specs.Devices.{ForSeries, InputsCanCount, input_failures, NoInputFailed};
 ghost use Rattle.report_engines.specs.ReportTexts.{report_keys, factor_by, ReportMineFails};
 ghost use Rattle.report_engines.specs.Internal.{columns_by, report_list, IsSaid, SaidFails, PricedModelFails, IsReportRead, IsSmall, IsPricedModel};
 
 use blocks_file::BlockModel;
 use engines::EngineFault;
-use engines::inputs::rests_from;
-use engines::priced_inputs::{
-    ChargeColumns, PriceColumns, place_beside, price_columns, priced_blocks_from, prices_of,
-    settings_from,
-};
 use fixed_worth::CountedRead;
+use mine_inputs::{
+    ChargeColumns, PriceColumns, place_beside, price_columns, priced_blocks_from, prices_of,
+    rests_from, settings_from,
+};
 use settings_file::{Key, Settings};
 use shell_engines::series_inputs::{SeriesInputs, SeriesMine, factors_of};
 use shells::{Factor, Prices};

@@ -2,11 +2,11 @@
 use Rattle.std.proofs.Common.{◌≡◌, ℕ, List, Option, Result, Ok, Err, inl, inr, IfSome, IfOk, IfErr, sym, subst}
 use Rattle.std.specs.Io.KnownBytes.{Appends}
 use Rattle.closure_net.specs.declared.net.NetFault.{NetFault}
-use Rattle.engines.specs.declared.engine_fault.EngineFault.{EngineFault}
-use Rattle.engines.specs.declared.engine_fault.EngineFault.TheVariants as engine
+use Rattle.mine_inputs.specs.declared.engine_fault.EngineFault.{EngineFault}
+use Rattle.mine_inputs.specs.declared.engine_fault.EngineFault.TheVariants as engine
 use Rattle.engines.specs.declared.judgement.Verdict.{Verdict}
 use Rattle.engines.proofs.Answered.{keeps_self}
-use Rattle.engines.proofs.PricedAnswers.{under3}
+use Rattle.mine_inputs.proofs.PricedAnswers.{under3}
 use Rattle.shell_engines.specs.Answering.{FailsBy, IsCutShort, WritesAtFault, Ends}
 
 -- nothing was written

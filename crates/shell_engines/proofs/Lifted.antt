@@ -14,18 +14,18 @@ use Rattle.shells.specs.Series.{mine_at}
 use Rattle.shells.specs.Nesting.{BestPitsAreNested}
 use Rattle.shells.proofs.OverNets.{net_of_over}
 use Rattle.engines.specs.declared.effort.Effort.{Effort}
-use Rattle.engines.specs.declared.solving.Unsolved.{Unsolved}
-use Rattle.engines.specs.declared.solving.Unsolved.TheVariants.{Unsettled, TooLarge, GaveUp, NoMemory, NoThread, Stranger}
+use Rattle.engines.specs.declared.solvers.Unsolved.{Unsolved}
+use Rattle.engines.specs.declared.solvers.Unsolved.TheVariants.{Unsettled, TooLarge, GaveUp, NoMemory, NoThread, Stranger}
 use Rattle.engines.specs.declared.judgement.Verdict.{Verdict}
 use Rattle.engines.specs.declared.judgement.Verdict.TheVariants.{No}
-use Rattle.engines.specs.declared.engine_fault.EngineFault.{EngineFault}
-use Rattle.engines.specs.declared.engine_fault.EngineFault.TheVariants as engine
-use Rattle.engines.specs.Mines.{priced_texts, rests_by, mine_of, DenoteMine}
-use Rattle.engines.specs.ReadMines.{ArePricesRead, of_model}
+use Rattle.mine_inputs.specs.declared.engine_fault.EngineFault.{EngineFault}
+use Rattle.mine_inputs.specs.declared.engine_fault.EngineFault.TheVariants as engine
+use Rattle.mine_inputs.specs.Mines.{priced_texts, rests_by, mine_of, DenoteMine}
+use Rattle.mine_inputs.specs.ReadMines.{ArePricesRead, of_model}
 use Rattle.engines.specs.FaultStands.{NetFails, ModelFails}
 use Rattle.engines.specs.Solving.{IsNetBy}
 use Rattle.engines.proofs.Listed.{is_listed, where_listed, listed_rests}
-use Rattle.engines.proofs.Priced.{worths_priced}
+use Rattle.mine_inputs.proofs.Priced.{worths_priced}
 use Rattle.shell_engines.specs.declared.shell_rows.ShellRow.{ShellRow}
 use Rattle.shell_engines.specs.ShellTable.{AreRowsOf, table_text, IsLineOf}
 use Rattle.shell_engines.specs.SeriesTexts.{factors_said, IsSeriesRead}

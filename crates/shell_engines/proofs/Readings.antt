@@ -8,16 +8,16 @@ use Rattle.settings_file.specs.declared.settings_fault.SettingsFault.TheVariants
 use Rattle.settings_file.specs.Settings.{SettingsView, settings_of, names_mill, first_missing}
 use Rattle.settings_file.proofs.Known.{settings_are}
 use Rattle.shells.specs.Prices.{PricesView}
-use Rattle.engines.specs.declared.engine_fault.EngineFault.{EngineFault}
-use Rattle.engines.specs.declared.engine_fault.EngineFault.TheVariants as engine
-use Rattle.engines.specs.declared.engine_fault.Problem.{Problem}
-use Rattle.engines.specs.declared.engine_fault.Problem.TheVariants as problem
-use Rattle.engines.specs.PricedTexts.{price_keys, SettingsFails}
-use Rattle.engines.specs.Inputs.{ReadsSettingsText, IsMissing, PricedMineFails}
-use Rattle.engines.specs.ReadMines.{ArePricesRead}
+use Rattle.mine_inputs.specs.declared.engine_fault.EngineFault.{EngineFault}
+use Rattle.mine_inputs.specs.declared.engine_fault.EngineFault.TheVariants as engine
+use Rattle.mine_inputs.specs.declared.engine_fault.Problem.{Problem}
+use Rattle.mine_inputs.specs.declared.engine_fault.Problem.TheVariants as problem
+use Rattle.mine_inputs.specs.PricedTexts.{price_keys, SettingsFails}
+use Rattle.mine_inputs.specs.Inputs.{ReadsSettingsText, IsMissing, PricedMineFails}
+use Rattle.mine_inputs.specs.ReadMines.{ArePricesRead}
 use Rattle.shell_engines.specs.SeriesTexts.{series_keys, KeysKnown, IsSeriesRead, SeriesMineFails}
-use Rattle.engines.proofs.PriceKeys.{prices_and_others}
-use Rattle.engines.proofs.PricedAnswers.{key_missing, keys_said}
+use Rattle.mine_inputs.proofs.PriceKeys.{prices_and_others}
+use Rattle.mine_inputs.proofs.PricedAnswers.{key_missing, keys_said}
 
 -- ---- keys
 

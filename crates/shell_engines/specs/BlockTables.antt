@@ -3,7 +3,7 @@ use Rattle.std.specs.Prelude.{◌≡◌, ℕ, Bool, true, false, List, [], Conta
 use Rattle.std.specs.List.{find}
 use Rattle.closure_net.specs.Mine.{Mine, IsBest}
 use Rattle.bench_report.specs.BlockShells.{block_table_text}
-use Rattle.engines.specs.Mines.{priced_texts, mine_of, DenoteMine}
+use Rattle.mine_inputs.specs.Mines.{priced_texts, mine_of, DenoteMine}
 use Rattle.shell_engines.specs.SeriesTexts.{factors_said}
 
 -- the mine of n blocks that the texts denote at a factor

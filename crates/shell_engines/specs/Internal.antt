@@ -9,15 +9,15 @@ use Rattle.bench_report.specs.BlockShells.{block_table_text}
 use Rattle.closure_net.specs.Network.{NetView, holds_of}
 use Rattle.closure_net.specs.Mine.{Mine, IsNetOf, IsBest}
 use Rattle.shell_engines.specs.declared.best_pits.BestPit.{BestPit}
-use Rattle.engines.specs.declared.engine_fault.EngineFault.{EngineFault}
-use Rattle.engines.specs.declared.engine_fault.EngineFault.TheVariants as engine
-use Rattle.engines.specs.declared.solving.Unsolved.{Unsolved}
-use Rattle.engines.specs.declared.solving.Unsolved.TheVariants.{NoThread, Stranger}
+use Rattle.mine_inputs.specs.declared.engine_fault.EngineFault.{EngineFault}
+use Rattle.mine_inputs.specs.declared.engine_fault.EngineFault.TheVariants as engine
+use Rattle.engines.specs.declared.solvers.Unsolved.{Unsolved}
+use Rattle.engines.specs.declared.solvers.Unsolved.TheVariants.{NoThread, Stranger}
 use Rattle.shell_engines.specs.declared.shell_rows.ShellRow.{ShellRow}
 use Rattle.shell_engines.specs.ShellTable.{IsRowOf, IsLineOf}
 use Rattle.shell_engines.specs.declared.no_series.NoSeries.{NoSeries}
 use Rattle.shell_engines.specs.declared.no_series.NoSeries.TheVariants as none
-use Rattle.engines.specs.EngineFaults.{of_model}
+use Rattle.mine_inputs.specs.EngineFaults.{of_model}
 use Rattle.shell_engines.specs.Settling.{NoSeriesStands}
 
 -- why there is no net at a factor, whatever else there is

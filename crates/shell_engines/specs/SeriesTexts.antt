@@ -5,11 +5,11 @@ use Rattle.settings_file.specs.declared.keys.Key.{Key}
 use Rattle.settings_file.specs.declared.keys.Key.TheVariants.{Factors}
 use Rattle.settings_file.specs.Settings.{SettingsView, settings_of, names_mill, first_missing}
 use Rattle.shells.specs.Prices.{PricesView}
-use Rattle.engines.specs.declared.engine_fault.EngineFault.{EngineFault}
-use Rattle.engines.specs.declared.engine_fault.EngineFault.TheVariants as engine
-use Rattle.engines.specs.PricedTexts.{keys_by, SettingsFails, PricedBlocksFail, PricesFail, PricesRead}
-use Rattle.engines.specs.FaultStands.{PrecFails}
-use Rattle.engines.specs.ReadMines.{ArePricesRead}
+use Rattle.mine_inputs.specs.declared.engine_fault.EngineFault.{EngineFault}
+use Rattle.mine_inputs.specs.declared.engine_fault.EngineFault.TheVariants as engine
+use Rattle.mine_inputs.specs.PricedTexts.{keys_by, SettingsFails, PricedBlocksFail, PricesFail, PricesRead}
+use Rattle.mine_inputs.specs.FaultStands.{PrecFails}
+use Rattle.mine_inputs.specs.ReadMines.{ArePricesRead}
 
 -- the keys that a series of shells needs
 abbrev pub series_keys : SettingsView → List Key

@@ -7,8 +7,8 @@ use Rattle.closure_net.specs.FaultStands.{WorthsFaultStands}
 use Rattle.shells.specs.Prices.{PricesView, worths_at}
 use Rattle.shells.specs.Series.{SeriesView, mine_at, IsOver}
 use Rattle.engines.specs.declared.effort.Effort.{Effort}
-use Rattle.engines.specs.declared.solving.Unsolved as unsolved
-use Rattle.engines.specs.declared.solving.Unsolved.TheVariants.{Unsettled}
+use Rattle.engines.specs.declared.solvers.Unsolved as unsolved
+use Rattle.engines.specs.declared.solvers.Unsolved.TheVariants.{Unsettled}
 use Rattle.engines.specs.Solving.{UnsolvedStands}
 use Rattle.lock_free_engine.specs.LockFreeRuns.{HasWords}
 use Rattle.shell_engines.specs.declared.no_series.NoSeries.{NoSeries}

@@ -3,8 +3,8 @@ use Rattle.std.specs.Prelude.{◌≡◌, ℕ, Bool, All, List, [], ◌∷◌, �
 use Rattle.std.specs.List.{flat_map}
 use Rattle.fixed_worth.specs.Printed.{printed}
 use Rattle.closure_net.specs.Mine.{Mine, worth_of, count_of, IsBest}
-use Rattle.engines.specs.declared.solving.Unsolved.{Unsolved}
-use Rattle.engines.specs.declared.solving.Unsolved.TheVariants.{Unsettled, GaveUp, TooLarge}
+use Rattle.engines.specs.declared.solvers.Unsolved.{Unsolved}
+use Rattle.engines.specs.declared.solvers.Unsolved.TheVariants.{Unsettled, GaveUp, TooLarge}
 use Rattle.shell_engines.specs.declared.shell_rows.ShellRow.{ShellRow}
 
 -- the number of blocks of the best pit of a mine, and its worth in billionths

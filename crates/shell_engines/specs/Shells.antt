@@ -7,11 +7,11 @@ use Rattle.closure_net.specs.declared.net.NetFault.{NetFault}
 use Rattle.closure_net.specs.Mine.{Mine, IsBest, LiesWithin}
 use Rattle.engines.specs.declared.judgement.Verdict.{Verdict}
 use Rattle.engines.specs.declared.judgement.Verdict.TheVariants.{Done, No}
-use Rattle.engines.specs.declared.engine_fault.EngineFault.{EngineFault}
+use Rattle.mine_inputs.specs.declared.engine_fault.EngineFault.{EngineFault}
 use Rattle.engines.specs.declared.effort.Effort.{Effort}
-use Rattle.engines.specs.Mines.{priced_texts, DenoteMine}
+use Rattle.mine_inputs.specs.Mines.{priced_texts, DenoteMine}
 use Rattle.engines.specs.FaultStands.{ModelFails}
-use Rattle.engines.specs.declared.solving.Unsolved.{Unsolved}
+use Rattle.engines.specs.declared.solvers.Unsolved.{Unsolved}
 use Rattle.engines.specs.Solving.{IsNetBy}
 use Rattle.shell_engines.specs.declared.shell_rows.ShellRow.{ShellRow}
 use Rattle.shell_engines.specs.Settling.{NotSolvedStands}

@@ -20,7 +20,7 @@ pub mod series_outputs;
 mod series_progress;
 pub mod settling;
 mod shell_rows;
-mod solving_at;
+mod solver_at;
 
 pub use series_engine::shells_engine;
 pub use series_inputs::SeriesInputs;

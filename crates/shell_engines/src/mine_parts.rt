@@ -14,7 +14,7 @@ ghost use Rattle.shell_engines.specs.Parting.{ArePriced, IsPart, IsNetAmong, IsB
 use crate::best_pits::{BestPit, best_of};
 use crate::lifted_pits::{at_others, at_places, best_with, merged};
 use closure_net::{Net, NetFault, Pit};
-use engines::solving::by_pseudoflow;
+use engines::solvers::by_pseudoflow;
 use ordered_group::Scaled;
 use prec_file::Rests;
 use pseudoflow::Silent;

@@ -2,7 +2,7 @@
 //! memory.
 
 use closure_net::NetFault;
-use engines::solving::Unsolved;
+use engines::solvers::Unsolved;
 use std::alloc::AllocError;
 
 /// Why there is no series.

@@ -15,7 +15,7 @@ use crate::series_outputs::{Answer, SeriesOutputs, send};
 use crate::series_progress::SeriesProgress;
 use crate::settling::settle;
 use crate::shell_rows::table_of;
-use engines::solving::Unsolved;
+use engines::solvers::Unsolved;
 use engines::{Effort, EngineFault, Verdict};
 use fixed_worth::{CountedRead, CountedWrite};
 use ordered_group::Scaled;

@@ -5,14 +5,13 @@ ghost use Rattle.std.specs.Prelude.{◌≡◌, ◌≤◌, ◌+◌, ◌-◌, ◌^
 ghost use Rattle.settings_file.specs.Settings.{first_missing};
 ghost use Rattle.settings_file.specs.Values.{AreFactors};
 ghost use Rattle.shells.specs.Prices.{blocks_of};
-ghost use Rattle.engines.specs.Inputs.{IsMissing};
+ghost use Rattle.mine_inputs.specs.Inputs.{IsMissing};
 ghost use Rattle.shell_engines.specs.Devices.{ForSeries, InputsCanCount, input_failures, NoInputFailed};
 ghost use Rattle.shell_engines.specs.SeriesTexts.{IsSeriesRead, SeriesMineFails};
 
 use engines::EngineFault;
-use engines::inputs::rests_from;
-use engines::priced_inputs::{missing, price_columns, prices_from, settings_from};
 use fixed_worth::{CountedRead, MOST_FACTOR};
+use mine_inputs::{missing, price_columns, prices_from, rests_from, settings_from};
 use prec_file::Rests;
 use settings_file::{Key, Settings};
 use shells::{Factor, Prices};

@@ -1,7 +1,7 @@
 use Rattle.std.proofs.Common.{subst}
 use Rattle.std.proofs.lemmas.Result.{err_from_is_err_and}
 use Rattle.certificate_file.specs.declared.header.Price.{Price}
-use Rattle.engines.proofs.Judged.{read_as}
+use Rattle.mine_inputs.proofs.MinesRead.{read_as}
 use Rattle.engines.proofs.Solutions.{net_by}
 use Rattle.audit_engines.specs.Tracing.{TracesNet}
 use Rattle.audit_engines.proofs.MineAnswers.{traced, unmade_traced}

@@ -1,5 +1,5 @@
 use Rattle.std.proofs.Common.{Bool, List, sym, subst}
-use Rattle.engines.proofs.Judged.{read_as}
+use Rattle.mine_inputs.proofs.MinesRead.{read_as}
 use Rattle.design_engines.specs.DesignTexts.{ReadsDesign}
 use Rattle.design_engines.proofs.judging_beside.judge_priced.Goals as goal
 

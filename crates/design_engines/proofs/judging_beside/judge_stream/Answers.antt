@@ -1,6 +1,6 @@
 use Rattle.std.proofs.Common.{◌∙◌}
-use Rattle.engines.specs.declared.engine_fault.EngineFault.TheVariants as engine
-use Rattle.engines.specs.declared.engine_fault.CertificateProblem.TheVariants as problem
+use Rattle.mine_inputs.specs.declared.engine_fault.EngineFault.TheVariants as engine
+use Rattle.mine_inputs.specs.declared.engine_fault.CertificateProblem.TheVariants as problem
 use Rattle.engines.proofs.StreamAnswers.{found_none, price_unjudged}
 use Rattle.design_engines.proofs.BesideStreams.{unjudged}
 use Rattle.design_engines.proofs.judging_beside.judge_stream.Goals as goal

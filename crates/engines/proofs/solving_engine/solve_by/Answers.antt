@@ -3,7 +3,7 @@ use Rattle.std.proofs.lemmas.Result.{err_from_is_err_and}
 use Rattle.certificate_file.specs.declared.header.Price.{Price}
 use Rattle.engines.specs.Certifying.{IsSolution}
 use Rattle.engines.specs.Solving.{SolvesNet}
-use Rattle.engines.proofs.Judged.{read_as}
+use Rattle.mine_inputs.proofs.MinesRead.{read_as}
 use Rattle.engines.proofs.NetAnswers.{answered}
 use Rattle.engines.proofs.Solutions.{net_by, solved, unmade}
 use Rattle.engines.proofs.solving_engine.solve_by.Goals as goal

@@ -2,8 +2,8 @@ use Rattle.std.proofs.Common.{Err, refl}
 use Rattle.std.proofs.lemmas.Result.{err_from_is_err_and}
 use Rattle.engines.specs.Solving.{Solves}
 use Rattle.engines.proofs.Answered.{unsolved, answered}
-use Rattle.engines.proofs.Failed.{raised, stayed, went}
-use Rattle.engines.proofs.MineDevices.{mine_once, other_once}
+use Rattle.mine_inputs.proofs.Failed.{raised, stayed, went}
+use Rattle.mine_inputs.proofs.MineDevices.{mine_once, other_once}
 use Rattle.engines.proofs.solving_engine.solve_engine.Goals as goal
 
 pub returns-in_err-mine-clause-answer : goal.returns-in_err-mine-clause-answer

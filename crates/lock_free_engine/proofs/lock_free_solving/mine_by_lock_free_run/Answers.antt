@@ -3,9 +3,8 @@ use Rattle.std.proofs.lemmas.Result.{err_from_is_err_and}
 use Rattle.ordered_group.specs.Block.{scaled_block, scaled_worth}
 use Rattle.certificate_file.specs.declared.header.Price.{Price}
 use Rattle.engines.specs.Certifying.{IsSolution}
-use Rattle.engines.specs.Readings.{counts_by}
-use Rattle.engines.specs.ReadMines.{IsGroupNamed}
-use Rattle.engines.proofs.Judged.{read_as}
+use Rattle.engines.specs.Readings.{counts_by, IsGroupNamed}
+use Rattle.mine_inputs.proofs.MinesRead.{read_as}
 use Rattle.engines.proofs.Solutions.{net_by}
 use Rattle.lock_free_engine.specs.LockFreeSolving.{SolvesNetWithoutLock, lock_free_group}
 use Rattle.lock_free_engine.proofs.MineAnswers.{solved_without_lock, unmade_without_lock}

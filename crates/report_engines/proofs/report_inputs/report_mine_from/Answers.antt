@@ -1,5 +1,5 @@
 use Rattle.std.proofs.Common.{sym, subst, IfSome}
-use Rattle.engines.specs.declared.priced_inputs.ChargeColumns.{ChargeColumns}
+use Rattle.mine_inputs.specs.declared.priced_inputs.ChargeColumns.{ChargeColumns}
 use Rattle.report_engines.specs.Internal.{IsPricedModel, IsReportRead}
 use Rattle.std.proofs.lemmas.Result.{err_from_is_err_and}
 use Rattle.report_engines.proofs.Readings.{said_fails, model_unread, prec_unread, all_are_read}

@@ -1,5 +1,5 @@
 use Rattle.std.proofs.lemmas.Result.{err_from_is_err_and}
-use Rattle.engines.proofs.PricedAnswers.{prices_said, prices_unsaid, prices_answer, prec_answer, mine_answer}
+use Rattle.mine_inputs.proofs.PricedAnswers.{prices_said, prices_unsaid, prices_answer, prec_answer, mine_answer}
 use Rattle.shell_engines.proofs.Readings.{prices_known, columns_missing, factors_refused, mine_fails, mine_read}
 use Rattle.shell_engines.proofs.series_inputs.series_mine_from.Goals as goal
 

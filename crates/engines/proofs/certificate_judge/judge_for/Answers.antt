@@ -1,0 +1,39 @@
+use Rattle.std.proofs.Common.{refl, rules, FitsSigned}
+use Rattle.std.specs.Int.{w128}
+use Rattle.std.proofs.lemmas.Int.{to_z-of_z}
+use Rattle.engines.specs.Refusals.{flow_for}
+use Rattle.engines.proofs.Judged.{judged_accepted}
+use Rattle.engines.proofs.Streamed.{IsAsked, stream_answered, stream_read, stream_proves, stream_short}
+use Rattle.engines.proofs.certificate_judge.judge_for.Goals as goal
+
+pub returns-in-Ok-clause-judged : goal.returns-in-Ok-clause-judged
+returns-in-Ok-clause-judged g c = λ texts text mine named header stands of_mine.
+    let name = g.G.OrderedGroup.name in
+    let block = g.G.OrderedGroup.block_parts in
+    let counts = g.G.OrderedGroup.counts in
+    let net = c.args.net in
+    let asked : IsAsked name block counts texts text net = record { mine = mine; named = named; header = header; is_net = c.worths-worths.ensures.net; of_mine = of_mine } in
+    let checked = c.in-Ok.ensures.checked c.requires.open.fault c.requires.open.undone in
+    let before = c.args.stream.now.lines in
+    let later = c.check_graph.new.stream.lines in
+    let pit = c.in-Ok.accepted.pit in
+    let laws = g.met.G.OrderedGroup g.world.𝓛 g.world.𝓜 g.world.𝓡 ((λ s x. x), (λ x. x), (λ x. x), λ x. x) in
+    let fits : FitsSigned w128 c.worth_of_pit-worth.result = search rules in
+    judged_accepted name block counts texts text net pit (flow_for counts net text)
+    (stream_read name block counts texts text net asked g.C.Read.remaining before later stands checked.0 checked.1 pit checked.2.1)
+    (stream_short name block counts texts text net asked g.C.Read.remaining before later stands checked.0 checked.1 pit checked.2.1)
+    g.G.OrderedGroup.set_worth laws.tells_worth c.in-Ok.accepted.net pit checked.2.0 refl
+    (stream_proves name block counts texts text net asked g.C.Read.remaining before later stands checked.0 checked.1 pit checked.2.1)
+    c.worth_of_pit-worth.ensures.greatest
+    c.group.result c.size_of_pit-count.result c.worth_of_pit-worth.result _ c.group.ensures c.size_of_pit-count.ensures.size c.worth_of_pit-worth.ensures.worth (to_z-of_z w128 c.worth_of_pit-worth.result fits)
+
+pub returns-clause-judged : goal.returns-clause-judged
+returns-clause-judged g c = λ texts text mine named header stands of_mine.
+    let name = g.G.OrderedGroup.name in
+    let block = g.G.OrderedGroup.block_parts in
+    let counts = g.G.OrderedGroup.counts in
+    let net = c.args.net in
+    let asked : IsAsked name block counts texts text net = record { mine = mine; named = named; header = header; is_net = c.worths-worths.ensures.net; of_mine = of_mine } in
+    let checked = c.in-Err.ensures.checked c.requires.open.fault c.requires.open.undone in
+    rw (c.judgement_of.ensures)
+    (stream_answered name block counts texts text net asked g.C.Read.remaining c.args.stream.now.lines c.check_graph.new.stream.lines stands checked.0 checked.1 c.in-Err.fault checked.2)

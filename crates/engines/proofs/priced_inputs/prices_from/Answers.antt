@@ -1,6 +1,0 @@
-use Rattle.engines.proofs.Priced.{prices_told}
-use Rattle.engines.proofs.priced_inputs.prices_from.Goals as goal
-
-pub returns-clause-read : goal.returns-clause-read
-returns-clause-read g c =
-    prices_told (g.R.Read.remaining c.args.from.now) c.args.columns c.in_ok-model.model c.prices_of.result c.in_ok-model.ensures.read c.prices_of.ensures.prices

@@ -1,0 +1,6 @@
+pub mod Failed
+pub mod MineDevices
+pub mod Priced
+pub mod PriceKeys
+pub mod PricedAnswers
+pub mod MinesRead

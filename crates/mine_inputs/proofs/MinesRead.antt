@@ -1,0 +1,166 @@
+-- From what is read of the inputs of a mine to the mine of its texts.
+use Rattle.std.proofs.Common.{◌≡◌, ℕ, ◌<◌, ℤ, pos, ◌*ℤ◌, List, length, refl, sym, ap, ◌∙◌, subst, arith, Option, Some, None, IfSome}
+use Rattle.std.proofs.lemmas.List.{length-map, get_or-map}
+use Rattle.std.proofs.lemmas.List.FromFn.{length-map-range_with_len, get_or-map-range_with_len}
+use Rattle.prec_file.specs.Rests.{RestsView, ArePairsOf}
+use Rattle.prec_file.specs.Records as prec
+use Rattle.upit_file.specs.Records as upit
+use Rattle.settings_file.specs.Settings.{SettingsView, first_missing}
+use Rattle.certificate_file.specs.declared.header.Price.{Price}
+use Rattle.shells.specs.Prices.{PricesView, NoneNegative, blocks_of, price_of, worth_at}
+use Rattle.mine_inputs.specs.declared.engine_fault.EngineFault.{EngineFault}
+use Rattle.mine_inputs.specs.declared.engine_fault.EngineFault.TheVariants as engine
+use Rattle.mine_inputs.specs.declared.mines.MineInputs.{MineInputs}
+use Rattle.mine_inputs.specs.declared.priced_inputs.PriceColumns.{PriceColumns}
+use Rattle.mine_inputs.specs.declared.worths.Worths.{Worths}
+use Rattle.mine_inputs.specs.declared.worths.Worths.TheVariants.{Values, Prices}
+use Rattle.mine_inputs.specs.FaultStands.{AreWorths, MineFails, PrecFails}
+use Rattle.mine_inputs.specs.Inputs.{ReadsUpit, UpitReadFails, ReadsSettingsText, SettingsReadFails, IsMissing, ReadsPrices, PricesReadFail, ReadsPrec, PrecReadFails, PricedMineFails}
+use Rattle.mine_inputs.specs.Limits.{IsWithinLimit}
+use Rattle.mine_inputs.specs.MineInputs.{ForWorths, ForTexts}
+use Rattle.mine_inputs.specs.Mines.{MineTexts, mine_texts, priced_texts, precedence_of, price_wanted, WorthsRead}
+use Rattle.mine_inputs.specs.PricedTexts.{price_keys, columns_said, table_by, table_of, PricesRead}
+use Rattle.mine_inputs.specs.ReadMines.{AreRead, AreWorthsOf, IsMineRead}
+use Rattle.mine_inputs.specs.Worths.{billionths_of, blocks_valued, nanos_at, price_at}
+use Rattle.settings_file.proofs.Known.{settings_are}
+use Rattle.mine_inputs.proofs.MineDevices.{always, under, under2, all_texts, for_worths, for_texts}
+use Rattle.mine_inputs.proofs.PricedAnswers.{settings_answer, missing_answer, prices_unsaid, prices_answer, prices_said, priced}
+
+-- ---- values
+
+values_fail : (u p : List ℕ) (e : EngineFault) → UpitReadFails u e → MineFails (mine_texts u p) e
+values_fail u p (engine.Upit q) h = h
+values_fail u p engine.Memory h = h
+values_fail u p engine.Device h = h
+values_fail u p (engine.Prec q) h = absurd h
+values_fail u p (engine.Model q) h = absurd h
+values_fail u p (engine.Certificate q) h = absurd h
+values_fail u p (engine.Trace q) h = absurd h
+values_fail u p (engine.Blocks q) h = absurd h
+values_fail u p (engine.Slope q) h = absurd h
+values_fail u p (engine.Settings q) h = absurd h
+values_fail u p (engine.Prices q) h = absurd h
+values_fail u p engine.Thread h = absurd h
+values_fail u p engine.Stranger h = absurd h
+
+pub values_unread : (o : Option (List ℕ)) (p : List ℕ) (e : EngineFault) → IfSome o (λ u. UpitReadFails u e) → IfSome o (λ u. MineFails (mine_texts u p) e)
+values_unread o p e h = under o (λ u. UpitReadFails u e) (λ u. MineFails (mine_texts u p) e) h (λ u f. values_fail u p e f)
+
+values_known : (u p : List ℕ) (factor : ℕ) (values : upit.UpitView) → ReadsUpit u values → AreWorthsOf (mine_texts u p) factor (Values values)
+values_known u p factor values a =
+    let size = length-map values.values (λ x. pos 1000 *ℤ x) in
+    record {
+      read = a.0;
+      are = record { size = size; each = λ b h. get_or-map (λ x. pos 1000 *ℤ x) values.values b (pos 0) (pos 0) h ∙ ap (λ x. pos 1000 *ℤ x) (a.1.worth b h) };
+      price = refl;
+    }
+
+pub values_read : (o : Option (List ℕ)) (p : List ℕ) (factor : ℕ) (values : upit.UpitView) → IfSome o (λ u. ReadsUpit u values) → IfSome o (λ u. AreWorthsOf (mine_texts u p) factor (Values values))
+values_read o p factor values h = under o (λ u. ReadsUpit u values) (λ u. AreWorthsOf (mine_texts u p) factor (Values values)) h (λ u a. values_known u p factor values a)
+
+-- ---- prices
+
+priced_fails : (s b p : List ℕ) (k : ℕ) (e : EngineFault) → PricedMineFails s b p e → MineFails (priced_texts s b p k) e
+priced_fails s b p k (engine.Settings q) h = h
+priced_fails s b p k (engine.Blocks q) h = h
+priced_fails s b p k (engine.Prices q) h = h
+priced_fails s b p k (engine.Prec q) h = h
+priced_fails s b p k engine.Memory h = h
+priced_fails s b p k engine.Device h = h
+priced_fails s b p k (engine.Upit q) h = absurd h
+priced_fails s b p k (engine.Slope q) h = absurd h
+priced_fails s b p k (engine.Model q) h = absurd h
+priced_fails s b p k (engine.Certificate q) h = absurd h
+priced_fails s b p k (engine.Trace q) h = absurd h
+priced_fails s b p k engine.Thread h = absurd h
+priced_fails s b p k engine.Stranger h = absurd h
+
+module _ (o q : Option (List ℕ)) (p : List ℕ) (k : ℕ) where
+  unread : (e : EngineFault) → IfSome o (λ s. IfSome q (λ b. PricedMineFails s b p e)) → IfSome o (λ s. IfSome q (λ b. MineFails (priced_texts s b p k) e))
+  unread e h = under2 o q (λ s b. PricedMineFails s b p e) (λ s b. MineFails (priced_texts s b p k) e) h (λ s b f. priced_fails s b p k e f)
+
+  pub settings_unread : (e : EngineFault) → IfSome o (λ s. SettingsReadFails s e) → IfSome o (λ s. IfSome q (λ b. MineFails (priced_texts s b p k) e))
+  settings_unread e h = unread e (settings_answer o q (Some p) e h)
+
+  module _ (said : SettingsView) (a : IfSome o (λ s. ReadsSettingsText s said)) where
+    pub key_missing : (e : EngineFault) → IsMissing (price_keys said) said e → IfSome o (λ s. IfSome q (λ b. MineFails (priced_texts s b p k) e))
+    key_missing e m = unread e (missing_answer o q (Some p) said e a m)
+
+    module _ (whole : first_missing (price_keys said) said ≡ None) (columns : PriceColumns) (is : columns ≡ columns_said said) where
+      pub prices_unread : (e : EngineFault) → IfSome q (λ b. PricesReadFail columns b e) → IfSome o (λ s. IfSome q (λ b. MineFails (priced_texts s b p k) e))
+      prices_unread e h = unread e (prices_answer o q (Some p) said e a whole (prices_unsaid q columns said e is h))
+
+      table_known : (s b : List ℕ) (table : PricesView) → NoneNegative table → ReadsSettingsText s said → ReadsPrices (columns_said said) b table → AreWorthsOf (priced_texts s b p k) k (Prices table)
+      table_known s b table positive r t =
+          let known : table ≡ table_of s b = t.is ∙ ap (λ (v : SettingsView). table_by v b) (sym (settings_are s said r.1)) in
+          record {
+            read = priced s b said table (blocks_of table) refl positive whole r t;
+            are = record {
+              size = length-map-range_with_len (worth_at table k) 0 (blocks_of table);
+              each = λ c h. get_or-map-range_with_len (worth_at table k) 0 (blocks_of table) c c (pos 0) h (omega arith) ∙ ap (λ (t : PricesView). worth_at t k c) known;
+            };
+            price = ap (λ (t : PricesView). price_of t.costs k) known;
+          }
+
+      pub prices_read : (table : PricesView) → NoneNegative table → IfSome q (λ b. ReadsPrices columns b table) → IfSome o (λ s. IfSome q (λ b. AreWorthsOf (priced_texts s b p k) k (Prices table)))
+      prices_read table positive h =
+          under o (λ s. ReadsSettingsText s said) (λ s. IfSome q (λ b. AreWorthsOf (priced_texts s b p k) k (Prices table))) a (λ s r.
+          under q (λ b. ReadsPrices (columns_said said) b table) (λ b. AreWorthsOf (priced_texts s b p k) k (Prices table)) (prices_said q columns said table is h) (λ b t. table_known s b table positive r t))
+
+-- ---- either kind, and the precedence
+
+prec_fails : (texts : MineTexts) (n : ℕ) (p : List ℕ) (e : EngineFault) → precedence_of texts ≡ p → WorthsRead texts n → PrecReadFails n p e → MineFails texts e
+prec_fails texts n p (engine.Prec q) same v h = (n, v, subst (λ (x : List ℕ). PrecFails n x q) (sym same) h)
+prec_fails texts n p engine.Memory same v h = h
+prec_fails texts n p engine.Device same v h = h
+prec_fails texts n p (engine.Upit q) same v h = absurd h
+prec_fails texts n p (engine.Model q) same v h = absurd h
+prec_fails texts n p (engine.Certificate q) same v h = absurd h
+prec_fails texts n p (engine.Trace q) same v h = absurd h
+prec_fails texts n p (engine.Blocks q) same v h = absurd h
+prec_fails texts n p (engine.Slope q) same v h = absurd h
+prec_fails texts n p (engine.Settings q) same v h = absurd h
+prec_fails texts n p (engine.Prices q) same v h = absurd h
+prec_fails texts n p engine.Thread same v h = absurd h
+prec_fails texts n p engine.Stranger same v h = absurd h
+
+-- what was read of worths, said of a list that is theirs
+pub read_as : (texts : MineTexts) (worths shown : List ℤ) (rests : RestsView) → shown ≡ worths → AreRead texts worths rests → AreRead texts shown rests
+read_as texts worths shown rests e a = subst (λ (ws : List ℤ). AreRead texts ws rests) (sym e) a
+
+mine_known : (texts : MineTexts) (p : List ℕ) (factor n : ℕ) (worths : Worths) (rests : RestsView) → precedence_of texts ≡ p → n ≡ blocks_valued worths → AreWorthsOf texts factor worths → ReadsPrec n p rests → IsMineRead texts factor worths rests
+mine_known texts p factor n worths rests same e a b =
+    let q : blocks_valued worths ≡ rests.blocks = sym e ∙ sym b.2 in
+    let F : ℕ → Type 0 = λ k. prec.fault_of k p ≡ None in
+    let G : List ℕ → Type 0 = λ x. prec.fault_of rests.blocks x ≡ None in
+    let L : List ℕ → Type 0 = λ x. ArePairsOf (prec.listed x) rests.pairs in
+    let W : ℕ → Type 0 = λ k. AreWorths texts k (nanos_at worths factor) in (
+      record {
+        mine = record { worths_read = subst (WorthsRead texts) q a.read; precedence_within = subst IsWithinLimit (sym same) b.0; precedence_read = subst G (sym same) (subst F (sym b.2) b.1) };
+        worths = subst W q a.are;
+        pairs = subst L (sym same) b.3;
+      },
+      a.price,
+    )
+
+module _ {D : Type 0} (mine : MineInputs D) (remaining : D → Option (List ℕ)) (factor : ℕ) where
+  -- what the blocks are worth wasn't read
+  pub worths_unread : (e : EngineFault) → ((p : List ℕ) → ForWorths mine.worths remaining factor p (λ texts. MineFails texts e)) → ForTexts mine remaining factor (λ texts. MineFails texts e)
+  worths_unread e h = always (remaining mine.prec) (λ p. ForWorths mine.worths remaining factor p (λ texts. MineFails texts e)) h
+
+  pub memory_refused : ForTexts mine remaining factor (λ texts. MineFails texts engine.Memory)
+  memory_refused = all_texts mine remaining factor (λ texts. MineFails texts engine.Memory) (λ texts. tt)
+
+  module _ (worths : Worths) (n : ℕ) (size : n ≡ blocks_valued worths) (known : (p : List ℕ) → ForWorths mine.worths remaining factor p (λ texts. AreWorthsOf texts factor worths)) where
+    pub prec_unread : (e : EngineFault) → IfSome (remaining mine.prec) (λ p. PrecReadFails n p e) → ForTexts mine remaining factor (λ texts. MineFails texts e)
+    prec_unread e h = under (remaining mine.prec) (λ p. PrecReadFails n p e) (λ p. ForWorths mine.worths remaining factor p (λ texts. MineFails texts e)) h (λ p f.
+        for_worths mine.worths remaining factor p (λ texts. AreWorthsOf texts factor worths) (λ texts. MineFails texts e) (known p) (λ texts same a. prec_fails texts n p e same (subst (WorthsRead texts) (sym size) a.read) f))
+
+    pub mine_read : (rests : RestsView) → IfSome (remaining mine.prec) (λ p. ReadsPrec n p rests) → ForTexts mine remaining factor (λ texts. IsMineRead texts factor worths rests)
+    mine_read rests h = under (remaining mine.prec) (λ p. ReadsPrec n p rests) (λ p. ForWorths mine.worths remaining factor p (λ texts. IsMineRead texts factor worths rests)) h (λ p b.
+        for_worths mine.worths remaining factor p (λ texts. AreWorthsOf texts factor worths) (λ texts. IsMineRead texts factor worths rests) (known p) (λ texts same a. mine_known texts p factor n worths rests same size a b))
+
+    -- at a factor
+    pub mine_priced : (rests : RestsView) (nanos : List ℤ) (price : Price) → IfSome (remaining mine.prec) (λ p. ReadsPrec n p rests) → nanos ≡ nanos_at worths factor → price ≡ price_at worths factor → ForTexts mine remaining factor (λ texts. AreRead texts nanos rests × (price ≡ price_wanted texts))
+    mine_priced rests nanos price h e f = for_texts mine remaining factor (λ texts. IsMineRead texts factor worths rests) (λ texts. AreRead texts nanos rests × (price ≡ price_wanted texts)) (mine_read rests h) (λ texts r.
+        (read_as texts (nanos_at worths factor) nanos rests e r.0, f ∙ r.1))

@@ -1,0 +1,62 @@
+-- When the texts of a mine aren't read: the fault stands in them, and none before it does.
+use Rattle.std.specs.Prelude.{◌≡◌, ℕ, ◌<◌, ℤ, pos, ◌⊎◌, List, length, slice_index_or, Some, Ok, Err}
+use Rattle.upit_file.specs.Records as upit
+use Rattle.upit_file.specs.declared.upit_fault.UpitFault.{UpitFault}
+use Rattle.prec_file.specs.Records as prec
+use Rattle.prec_file.specs.declared.prec_fault.PrecFault.{PrecFault}
+use Rattle.blocks_file.specs.declared.blocks_fault.BlocksFault.{BlocksFault}
+use Rattle.settings_file.specs.declared.settings_fault.SettingsFault.{SettingsFault}
+use Rattle.shells.specs.declared.prices_fault.PricesFault.{PricesFault}
+use Rattle.mine_inputs.specs.declared.engine_fault.Problem.{Problem}
+use Rattle.mine_inputs.specs.declared.engine_fault.Problem.TheVariants as problem
+use Rattle.mine_inputs.specs.declared.engine_fault.EngineFault.{EngineFault}
+use Rattle.mine_inputs.specs.declared.engine_fault.EngineFault.TheVariants as engine
+use Rattle.mine_inputs.specs.Limits.{IsTooLong, IsWithinLimit}
+use Rattle.mine_inputs.specs.PricedTexts.{price_keys, SettingsFails, PricedBlocksFail, PricesFail}
+use Rattle.mine_inputs.specs.Mines.{MineTexts, mine_texts, priced_texts, precedence_of, worth_by, WorthsRead}
+
+-- the values are no text of values: too long, or a fault of the header, or one by the number of blocks that it declares
+abbrev pub UpitFails : List ℕ → Problem UpitFault → Type 0
+UpitFails text problem.InputTooLong = IsTooLong text
+UpitFails text (problem.Fault fault) = IsWithinLimit text × ((upit.declared_of text ≡ Err fault) ⊎ ((n : ℕ) × (upit.declared_of text ≡ Ok n) × (upit.fault_of n text ≡ Some fault)))
+
+abbrev pub PrecFails : ℕ → List ℕ → Problem PrecFault → Type 0
+PrecFails n text problem.InputTooLong = IsTooLong text
+PrecFails n text (problem.Fault fault) = IsWithinLimit text × (prec.fault_of n text ≡ Some fault)
+
+-- the worths of the mine's blocks, in a list
+pub record AreWorths (texts : MineTexts) (n : ℕ) (worths : List ℤ) : Type 0 where
+  pub size : length worths ≡ n
+  pub each : (b : ℕ) → b < n → slice_index_or worths b (pos 0) ≡ worth_by texts b
+
+-- a fault of the values, of settings, of blocks or of prices, where the mine is denoted by such texts
+abbrev pub ValuesFail : MineTexts → Problem UpitFault → Type 0
+ValuesFail (mine_texts values precedence) p = UpitFails values p
+ValuesFail (priced_texts settings blocks precedence factor) p = ⊥
+
+abbrev pub SettingsFail : MineTexts → Problem SettingsFault → Type 0
+SettingsFail (mine_texts values precedence) p = ⊥
+SettingsFail (priced_texts settings blocks precedence factor) p = SettingsFails price_keys settings p
+
+abbrev pub BlocksFail : MineTexts → Problem BlocksFault → Type 0
+BlocksFail (mine_texts values precedence) p = ⊥
+BlocksFail (priced_texts settings blocks precedence factor) p = PricedBlocksFail settings blocks p
+
+abbrev pub TableFails : MineTexts → PricesFault → Type 0
+TableFails (mine_texts values precedence) fault = ⊥
+TableFails (priced_texts settings blocks precedence factor) fault = PricesFail settings blocks fault
+
+-- a fault of the precedence, where what the blocks are worth is read
+abbrev pub PrecedenceFails : MineTexts → Problem PrecFault → Type 0
+PrecedenceFails texts p = (n : ℕ) × WorthsRead texts n × PrecFails n (precedence_of texts) p
+
+-- Why the texts of a mine aren't read: the fault stands, and none before it does. Want of memory and a failing device say nothing of them.
+abbrev pub MineFails : MineTexts → EngineFault → Type 0
+MineFails texts (engine.Upit p) = ValuesFail texts p
+MineFails texts (engine.Settings p) = SettingsFail texts p
+MineFails texts (engine.Blocks p) = BlocksFail texts p
+MineFails texts (engine.Prices fault) = TableFails texts fault
+MineFails texts (engine.Prec p) = PrecedenceFails texts p
+MineFails texts engine.Memory = Unit {0}
+MineFails texts engine.Device = Unit {0}
+MineFails texts _ = ⊥

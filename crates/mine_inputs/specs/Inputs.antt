@@ -1,0 +1,91 @@
+-- What reading each input of an engine gives, and when it answers a fault.
+use Rattle.std.specs.Prelude.{◌≡◌, ◌⊎◌, ℕ, List, [], length, Some, None, Ok}
+use Rattle.prec_file.specs.Rests.{RestsView, ArePairsOf}
+use Rattle.prec_file.specs.Records as prec
+use Rattle.upit_file.specs.Records as upit
+use Rattle.mine_inputs.specs.declared.engine_fault.EngineFault.{EngineFault}
+use Rattle.mine_inputs.specs.declared.engine_fault.EngineFault.TheVariants as engine
+use Rattle.blocks_file.specs.Records as blocks
+use Rattle.blocks_file.specs.Denotes.{BlocksView}
+use Rattle.settings_file.specs.Settings.{SettingsView, ReadsSettings, first_missing}
+use Rattle.settings_file.specs.declared.keys.Key.{Key}
+use Rattle.settings_file.specs.declared.settings_fault.SettingsFault.TheVariants as settings_fault
+use Rattle.shells.specs.Prices.{PricesView, PricesFaultStands}
+use Rattle.mine_inputs.specs.declared.engine_fault.Problem.TheVariants as problem
+use Rattle.mine_inputs.specs.declared.priced_inputs.ChargeColumns.{ChargeColumns}
+use Rattle.mine_inputs.specs.declared.priced_inputs.PriceColumns.{PriceColumns}
+use Rattle.mine_inputs.specs.Limits.{IsTooLong, IsWithinLimit}
+use Rattle.mine_inputs.specs.PricedTexts.{price_keys, column_list, first_columns, table_at, PricesRead, SettingsFaultStands, SettingsFails, PricedBlocksFail, PricesFail}
+use Rattle.mine_inputs.specs.BlockTexts.{BlocksFails}
+use Rattle.mine_inputs.specs.Mines.{ValuesRead}
+use Rattle.mine_inputs.specs.FaultStands.{UpitFails, PrecFails}
+
+-- why a text isn't read: for want of memory or by a failing device, or it is too long, which is told by a fault of its own
+abbrev pub TextFails : EngineFault → List ℕ → EngineFault → Type 0
+TextFails too_long text fault = (fault ≡ engine.Memory) ⊎ (fault ≡ engine.Device) ⊎ ((fault ≡ too_long) × IsTooLong text)
+
+-- the values are those of the text, for the blocks that it declares
+abbrev pub ReadsUpit : List ℕ → upit.UpitView → Type 0
+ReadsUpit text values = ValuesRead text (length values.values) × upit.Denotes (length values.values) text values
+
+-- a fault of the values, want of memory or a failing device
+abbrev pub UpitReadFails : List ℕ → EngineFault → Type 0
+UpitReadFails text (engine.Upit p) = UpitFails text p
+UpitReadFails text engine.Memory = Unit {0}
+UpitReadFails text engine.Device = Unit {0}
+UpitReadFails text _ = ⊥
+
+-- the pairs are those of the text
+abbrev pub ReadsPrec : ℕ → List ℕ → RestsView → Type 0
+ReadsPrec n text rests = IsWithinLimit text × (prec.fault_of n text ≡ None) × (rests.blocks ≡ n) × ArePairsOf (prec.listed text) rests.pairs
+
+abbrev pub PrecReadFails : ℕ → List ℕ → EngineFault → Type 0
+PrecReadFails n text (engine.Prec p) = PrecFails n text p
+PrecReadFails n text engine.Memory = Unit {0}
+PrecReadFails n text engine.Device = Unit {0}
+PrecReadFails n text _ = ⊥
+
+-- the settings are those of the text
+abbrev pub ReadsSettingsText : List ℕ → SettingsView → Type 0
+ReadsSettingsText text said = IsWithinLimit text × ReadsSettings text (Ok said)
+
+-- a fault of the text of settings, want of memory or a failing device; that a key is missing is told later
+abbrev pub SettingsReadFails : List ℕ → EngineFault → Type 0
+SettingsReadFails text (engine.Settings problem.InputTooLong) = IsTooLong text
+SettingsReadFails text (engine.Settings (problem.Fault fault)) = IsWithinLimit text × SettingsFaultStands (λ s. []) text fault
+SettingsReadFails text engine.Memory = Unit {0}
+SettingsReadFails text engine.Device = Unit {0}
+SettingsReadFails text _ = ⊥
+
+-- of these keys this is the first at which settings say nothing
+abbrev pub IsMissing : List Key → SettingsView → EngineFault → Type 0
+IsMissing needed said fault = (key : Key) × (fault ≡ engine.Settings (problem.Fault (settings_fault.Missing key))) × (first_missing needed said ≡ Some key)
+
+-- the prices are those of the text of blocks, in these columns
+pub record ReadsPrices (columns : PriceColumns) (text : List ℕ) (table : PricesView) : Type 0 where
+  pub within : IsWithinLimit text
+  pub read : blocks.fault_of (column_list columns) text ≡ None
+  pub is : table ≡ table_at columns text
+
+abbrev pub PricesReadFail : PriceColumns → List ℕ → EngineFault → Type 0
+PricesReadFail columns text (engine.Blocks p) = BlocksFails (column_list columns) text p
+PricesReadFail columns text (engine.Prices fault) = IsWithinLimit text × (blocks.fault_of (column_list columns) text ≡ None) × PricesFaultStands (table_at columns text) fault
+PricesReadFail columns text engine.Memory = Unit {0}
+PricesReadFail columns text engine.Device = Unit {0}
+PricesReadFail columns text _ = ⊥
+
+-- why the first columns of a model are no prices: want of memory, or they are no table
+abbrev pub ModelPricesFail : ChargeColumns → BlocksView → EngineFault → Type 0
+ModelPricesFail charges m (engine.Prices fault) = PricesFaultStands (first_columns charges m) fault
+ModelPricesFail charges m engine.Memory = Unit {0}
+ModelPricesFail charges m _ = ⊥
+
+-- why the texts of a mine of prices aren't read
+abbrev pub PricedMineFails : List ℕ → List ℕ → List ℕ → EngineFault → Type 0
+PricedMineFails settings text precedence (engine.Settings p) = SettingsFails price_keys settings p
+PricedMineFails settings text precedence (engine.Blocks p) = PricedBlocksFail settings text p
+PricedMineFails settings text precedence (engine.Prices fault) = PricesFail settings text fault
+PricedMineFails settings text precedence (engine.Prec p) = (n : ℕ) × PricesRead settings text n × PrecFails n precedence p
+PricedMineFails settings text precedence engine.Memory = Unit {0}
+PricedMineFails settings text precedence engine.Device = Unit {0}
+PricedMineFails settings text precedence _ = ⊥

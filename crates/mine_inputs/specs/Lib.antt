@@ -1,0 +1,11 @@
+pub mod Limits
+pub mod EngineFaults
+pub mod FaultText
+pub mod BlockTexts
+pub mod PricedTexts
+pub mod Mines
+pub mod Worths
+pub mod MineInputs
+pub mod FaultStands
+pub mod ReadMines
+pub mod Inputs

@@ -1,0 +1,61 @@
+-- The inputs of a mine as devices: the texts that they tell, and the failures that they count.
+use Rattle.std.specs.Prelude.{◌≡◌, ℕ, ◌+◌, ◌-◌, ◌^◌, ◌<◌, Bool, false, true, List, Option, IfSome}
+use Rattle.mine_inputs.specs.declared.mines.WorthInputs.{WorthInputs}
+use Rattle.mine_inputs.specs.declared.mines.WorthInputs.TheVariants.{Values, Prices}
+use Rattle.mine_inputs.specs.declared.mines.MineInputs.{MineInputs}
+use Rattle.mine_inputs.specs.Mines.{MineTexts, mine_texts, priced_texts}
+
+-- ---- texts
+
+-- It holds of the texts of the mine with this precedence and at this factor, where the devices of what its blocks are worth tell
+-- their bytes. Of values the factor is none.
+abbrev pub ForWorths : {D : Type 0} → WorthInputs D → (D → Option (List ℕ)) → ℕ → List ℕ → (MineTexts → Type 0) → Type 0
+ForWorths (Values upit) remaining factor precedence P = IfSome (remaining upit) (λ u. P (mine_texts u precedence))
+ForWorths (Prices settings blocks) remaining factor precedence P = IfSome (remaining settings) (λ s. IfSome (remaining blocks) (λ b. P (priced_texts s b precedence factor)))
+
+-- it holds of the texts of the mine at this factor, where all its devices tell their bytes
+abbrev pub ForTexts : {D : Type 0} → MineInputs D → (D → Option (List ℕ)) → ℕ → (MineTexts → Type 0) → Type 0
+ForTexts mine remaining factor P = IfSome (remaining mine.prec) (λ p. ForWorths mine.worths remaining factor p P)
+
+-- ---- failures
+
+-- each device has counted fewer than 2^64 - 1 failures, so that one more can be counted
+abbrev pub WorthsCanCount : {D : Type 0} → WorthInputs D → (D → ℕ) → Type 0
+WorthsCanCount (Values upit) failed = failed upit < 2 ^ 64 - 1
+WorthsCanCount (Prices settings blocks) failed = (failed settings < 2 ^ 64 - 1) × (failed blocks < 2 ^ 64 - 1)
+
+abbrev pub CanCount : {D : Type 0} → MineInputs D → (D → ℕ) → Type 0
+CanCount mine failed = WorthsCanCount mine.worths failed × (failed mine.prec < 2 ^ 64 - 1)
+
+-- the failures that the devices have counted together
+abbrev pub worths_failures : {D : Type 0} → WorthInputs D → (D → ℕ) → ℕ
+worths_failures (Values upit) failed = failed upit
+worths_failures (Prices settings blocks) failed = failed settings + failed blocks
+
+abbrev pub mine_failures : {D : Type 0} → MineInputs D → (D → ℕ) → ℕ
+mine_failures mine failed = worths_failures mine.worths failed + failed mine.prec
+
+-- whether they are devices of prices
+abbrev pub is_priced : {D : Type 0} → WorthInputs D → Bool
+is_priced (Values upit) = false
+is_priced (Prices settings blocks) = true
+
+-- each device counts the failures that it had counted, and so none failed
+abbrev pub NoWorthsFailed : {D : Type 0} → WorthInputs D → WorthInputs D → (D → ℕ) → Type 0
+NoWorthsFailed (Values upit) (Values upit') failed = failed upit' ≡ failed upit
+NoWorthsFailed (Prices settings blocks) (Prices settings' blocks') failed = (failed settings' ≡ failed settings) × (failed blocks' ≡ failed blocks)
+NoWorthsFailed (Values upit) (Prices settings blocks) failed = ⊥
+NoWorthsFailed (Prices settings blocks) (Values upit) failed = ⊥
+
+abbrev pub NoneFailed : {D : Type 0} → MineInputs D → MineInputs D → (D → ℕ) → Type 0
+NoneFailed old new failed = NoWorthsFailed old.worths new.worths failed × (failed new.prec ≡ failed old.prec)
+
+-- they have counted one failure more together
+pub record OneWorthsFailed {D : Type 0} (old new : WorthInputs D) (failed : D → ℕ) : Type 0 where
+  pub kind : is_priced new ≡ is_priced old
+  pub one : worths_failures new failed ≡ worths_failures old failed + 1
+
+-- the devices of a mine and those beside them, which had counted so many, have counted one failure more together
+pub record OneFailed {D : Type 0} (old new : MineInputs D) (failed : D → ℕ) (others others' : ℕ) : Type 0 where
+  pub kind : is_priced new.worths ≡ is_priced old.worths
+  pub one : mine_failures new failed + others' ≡ mine_failures old failed + others + 1

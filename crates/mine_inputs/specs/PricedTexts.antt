@@ -1,0 +1,135 @@
+-- What a text of settings and a text of blocks say together of prices.
+use Rattle.std.specs.Prelude.{◌≡◌, ℕ, ℤ, pos, Bool, true, false, List, [], ◌∷◌, ◌++◌, map, slice_index_or, Option, Some, None, unwrap_or, Err}
+use Rattle.std.specs.List.{range_with_len}
+use Rattle.blocks_file.specs.Records as blocks
+use Rattle.blocks_file.specs.Denotes.{BlocksView}
+use Rattle.blocks_file.specs.declared.blocks_fault.BlocksFault.{BlocksFault}
+use Rattle.settings_file.specs.declared.keys.Key.{Key}
+use Rattle.settings_file.specs.declared.keys.Key.TheVariants.{Revenue, Cost, Processing, Mining}
+use Rattle.settings_file.specs.declared.settings_fault.SettingsFault.{SettingsFault}
+use Rattle.settings_file.specs.declared.settings_fault.SettingsFault.TheVariants as settings_fault
+use Rattle.settings_file.specs.Settings.{SettingsView, ReadsSettings, AreSettings, settings_of, names_mill, first_missing}
+use Rattle.shells.specs.Prices.{CostsView, plain_costs, mill_costs, PricesView, NoneNegative, PricesFaultStands}
+use Rattle.shells.specs.declared.prices_fault.PricesFault.{PricesFault}
+use Rattle.mine_inputs.specs.declared.engine_fault.Problem.{Problem}
+use Rattle.mine_inputs.specs.declared.engine_fault.Problem.TheVariants as problem
+use Rattle.mine_inputs.specs.declared.priced_inputs.ChargeColumns.{ChargeColumns}
+use Rattle.mine_inputs.specs.declared.priced_inputs.ChargeColumns.TheVariants.{Plain, Mill}
+use Rattle.mine_inputs.specs.declared.priced_inputs.PriceColumns.{PriceColumns}
+use Rattle.mine_inputs.specs.Limits.{IsTooLong, IsWithinLimit}
+use Rattle.mine_inputs.specs.BlockTexts.{BlocksFails}
+
+-- The keys that are needed where there is a mill or none, with these others, in the order in which they are missed: costs come
+-- before the others, and a mill's charges behind them.
+abbrev pub keys_by : Bool → List Key → List Key
+keys_by false others = Revenue ∷ Cost ∷ others
+keys_by true others = Revenue ∷ (others ++ (Processing ∷ Mining ∷ []))
+
+-- the keys that a priced model needs: there is a mill where the settings name one of its charges
+abbrev pub price_keys : SettingsView → List Key
+price_keys s = keys_by (names_mill s) []
+
+-- the columns of charges that settings name
+abbrev pub charges_by : Bool → SettingsView → ChargeColumns
+charges_by false s = Plain (unwrap_or s.cost 0)
+charges_by true s = Mill (unwrap_or s.processing 0) (unwrap_or s.mining 0)
+
+-- the columns of prices that settings name
+abbrev pub columns_said : SettingsView → PriceColumns
+columns_said s = record { revenue = unwrap_or s.revenue 0; charges = charges_by (names_mill s) s }
+
+-- the columns that are chosen of the blocks, in this order: revenues, then the charges
+abbrev pub charge_list : ChargeColumns → List ℕ
+charge_list (Plain cost) = cost ∷ []
+charge_list (Mill processing mining) = processing ∷ mining ∷ []
+
+abbrev pub column_list : PriceColumns → List ℕ
+column_list columns = columns.revenue ∷ charge_list columns.charges
+
+-- the same and, where another column is read beside them, that one behind them
+abbrev pub columns_beside : PriceColumns → Option ℕ → List ℕ
+columns_beside columns None = column_list columns
+columns_beside columns (Some other) = column_list columns ++ (other ∷ [])
+
+-- the place of that other column among them
+abbrev pub place_beside : ChargeColumns → ℕ
+place_beside (Plain cost) = 2
+place_beside (Mill processing mining) = 3
+
+abbrev pub price_columns : SettingsView → List ℕ
+price_columns s = column_list (columns_said s)
+
+-- the number of a column in the record of a block, in millionths
+abbrev pub cell : List ℕ → ℕ → ℕ → ℤ
+cell text column b = blocks.value_in (blocks.columns_of (blocks.record_among (blocks.lines_in text) b)) column
+
+-- the numbers of a column, block by block
+abbrev pub cells : List ℕ → ℕ → List ℤ
+cells text column = map (cell text column) (range_with_len 0 (blocks.count_of text))
+
+-- the values of the column of a model that was chosen as the i-th, block by block
+abbrev pub values_of : BlocksView → ℕ → List ℤ
+values_of m i = map (λ b. slice_index_or (slice_index_or m.columns i []) b (pos 0)) (range_with_len 0 m.blocks)
+
+-- the prices that the first of the chosen columns of a model make: its revenues, then its charges
+abbrev pub first_charges : ChargeColumns → BlocksView → CostsView
+first_charges (Plain cost) m = plain_costs (values_of m 1)
+first_charges (Mill processing mining) m = mill_costs (values_of m 1) (values_of m 2)
+
+abbrev pub first_columns : ChargeColumns → BlocksView → PricesView
+first_columns charges m = record { revenue = values_of m 0; costs = first_charges charges m }
+
+-- the revenues and the charges of the blocks of a text, by their columns
+abbrev pub costs_at : ChargeColumns → List ℕ → CostsView
+costs_at (Plain cost) text = plain_costs (cells text cost)
+costs_at (Mill processing mining) text = mill_costs (cells text processing) (cells text mining)
+
+abbrev pub table_at : PriceColumns → List ℕ → PricesView
+table_at columns text = record { revenue = cells text columns.revenue; costs = costs_at columns.charges text }
+
+-- the same by settings
+abbrev pub table_by : SettingsView → List ℕ → PricesView
+table_by s text = table_at (columns_said s) text
+
+-- the same by the text of the settings
+abbrev pub table_of : List ℕ → List ℕ → PricesView
+table_of settings text = table_by (settings_of settings) text
+
+-- The text of settings is read, and says something at each of the keys that such settings need.
+pub record KeysSaid (needed : SettingsView → List Key) (settings : List ℕ) : Type 0 where
+  pub within : IsWithinLimit settings
+  pub read : AreSettings settings
+  pub said : first_missing (needed (settings_of settings)) (settings_of settings) ≡ None
+
+-- the settings name the columns of prices
+abbrev pub ColumnsKnown : List ℕ → Type 0
+ColumnsKnown settings = KeysSaid price_keys settings
+
+-- The settings name the columns of prices, and the text of blocks has them, of n blocks; no revenue is negative.
+pub record PricesRead (settings text : List ℕ) (n : ℕ) : Type 0 where
+  pub columns : ColumnsKnown settings
+  pub within : IsWithinLimit text
+  pub read : blocks.fault_of (price_columns (settings_of settings)) text ≡ None
+  pub count : blocks.count_of text ≡ n
+  pub revenues : NoneNegative (table_of settings text)
+
+-- a fault of settings that need these keys: one of the text, or a key is missing; want of memory isn't one
+abbrev pub SettingsFaultStands : (SettingsView → List Key) → List ℕ → SettingsFault → Type 0
+SettingsFaultStands needed text settings_fault.NoMemory = ⊥
+SettingsFaultStands needed text (settings_fault.Missing key) = AreSettings text × (first_missing (needed (settings_of text)) (settings_of text) ≡ Some key)
+SettingsFaultStands needed text fault = ReadsSettings text (Err fault)
+
+abbrev pub SettingsFails : (SettingsView → List Key) → List ℕ → Problem SettingsFault → Type 0
+SettingsFails needed text problem.InputTooLong = IsTooLong text
+SettingsFails needed text (problem.Fault fault) = IsWithinLimit text × SettingsFaultStands needed text fault
+
+-- a fault of the blocks, of which the settings name the columns
+abbrev pub PricedBlocksFail : List ℕ → List ℕ → Problem BlocksFault → Type 0
+PricedBlocksFail settings text p = ColumnsKnown settings × BlocksFails (price_columns (settings_of settings)) text p
+
+-- the columns are no table of prices
+pub record PricesFail (settings text : List ℕ) (fault : PricesFault) : Type 0 where
+  pub columns : ColumnsKnown settings
+  pub within : IsWithinLimit text
+  pub read : blocks.fault_of (price_columns (settings_of settings)) text ≡ None
+  pub stands : PricesFaultStands (table_of settings text) fault

@@ -1,0 +1,126 @@
+//! Reads one input of a mine to its end, as blocks, values or predecessors, or says which input is at fault and why.
+
+ghost use Rattle.std.specs.Prelude.{◌≡◌, ◌+◌, ◌-◌, ◌^◌, ◌<◌, ◌≤◌, ◌↔◌, ℕ, ◌⊎◌, length, IfOk, IfSome, MatchResult, IsErrOf};
+ghost use Rattle.mine_inputs.specs.Limits.{IsWithinLimit};
+ghost use Rattle.mine_inputs.specs.BlockTexts.{ReadsBlocks, BlocksReadFails};
+ghost use Rattle.mine_inputs.specs.Inputs.{ReadsUpit, ReadsPrec, UpitReadFails, PrecReadFails, TextFails};
+
+use crate::engine_fault::{EngineFault, Problem};
+use blocks_file::{BlockModel, MOST_COLUMNS, read_blocks};
+use fixed_worth::{CountedRead, InputFault, MOST_BLOCKS, MOST_BYTES, read_whole};
+use prec_file::{Predecessors, Rests, read_predecessors};
+use std::alloc::Global;
+use upit_file::{Upit, declared_blocks, read_upit};
+
+/// All bytes of an input.
+///
+/// # Errors
+/// `too_long` for more than 2^32 bytes, `Memory` where memory is refused, `Device` where a read fails.
+pub fn text_from<R: CountedRead>(
+    alloc: Global,
+    from: &mut R,
+    too_long: EngineFault,
+) -> Result<Vec<u8>, EngineFault>
+    requires room { R.failed from.old < 2 ^ 64 - 1 }
+    requires no_device { ¬ (too_long ≡ EngineFault.Device) }
+    ensures read { IfSome (R.remaining from.old) (λ text. MatchResult result (λ v. v.items ≡ text) (TextFails too_long text)) }
+    ensures within { IfOk result (λ v. IsWithinLimit v.items) }
+    ensures device { IsErrOf result EngineFault.Device ↔ (R.failed from.new ≡ R.failed from.old + 1) }
+    ensures kept { ¬ IsErrOf result EngineFault.Device → R.failed from.new ≡ R.failed from.old }
+{
+    match read_whole(alloc, from, MOST_BYTES) {
+        Ok(text) => Ok(text),
+        Err(InputFault::Device) => Err(EngineFault::Device),
+        Err(InputFault::InputTooLong) => Err(too_long),
+        Err(InputFault::NoMemory) => Err(EngineFault::Memory),
+    }
+}
+
+/// The blocks of a text with their places and the chosen columns, at most eight.
+///
+/// # Errors
+/// `Blocks` for more than 2^32 bytes, or for a fault of [`read_blocks`]. `Memory` where memory is refused, `Device`
+/// where a read fails.
+pub fn blocks_from<R: CountedRead>(
+    alloc: Global,
+    from: &mut R,
+    columns: &[u32],
+) -> Result<BlockModel, EngineFault>
+    requires few { length columns.now ≤ MOST_COLUMNS }
+    requires room { R.failed from.old < 2 ^ 64 - 1 }
+    ensures read { IfSome (R.remaining from.old) (λ text. MatchResult result (ReadsBlocks columns.now text) (BlocksReadFails columns.now text)) }
+    ensures columns { IfOk result (λ m. length m.columns ≡ length columns.now) }
+    ensures device { IsErrOf result EngineFault.Device ↔ (R.failed from.new ≡ R.failed from.old + 1) }
+    ensures kept { ¬ IsErrOf result EngineFault.Device → R.failed from.new ≡ R.failed from.old }
+{
+    let text = text_from(alloc, from, EngineFault::Blocks(Problem::InputTooLong))?;
+    match read_blocks(alloc, text.as_slice(), columns) {
+        Ok(model) => Ok(model),
+        Err(fault) => Err(EngineFault::from(fault)),
+    }
+}
+
+/// The values of the blocks, as many as the text declares.
+///
+/// # Errors
+/// `Upit` for more than 2^32 bytes, for a fault of [`declared_blocks`], or else for one of [`read_upit`]. `Memory` where
+/// memory is refused, `Device` where a read fails.
+pub fn upit_from<R: CountedRead>(alloc: Global, from: &mut R) -> Result<Upit, EngineFault>
+    requires { R.failed from.old < 2 ^ 64 - 1 }
+    ensures read { IfSome (R.remaining from.old) (λ text. MatchResult result (ReadsUpit text) (UpitReadFails text)) }
+    ensures device { IsErrOf result EngineFault.Device ↔ (R.failed from.new ≡ R.failed from.old + 1) }
+    ensures kept { ¬ IsErrOf result EngineFault.Device → R.failed from.new ≡ R.failed from.old }
+{
+    let text = text_from(alloc, from, EngineFault::Upit(Problem::InputTooLong))?;
+    upit_of(alloc, text.as_slice())
+}
+
+// The values that a text gives to the blocks that it declares.
+fn upit_of(alloc: Global, text: &[u8]) -> Result<Upit, EngineFault>
+    requires { IsWithinLimit text.now }
+    ensures read { MatchResult result (ReadsUpit text.now) (UpitReadFails text.now) }
+    ensures no_device { ¬ IsErrOf result EngineFault.Device }
+{
+    let blocks = declared_blocks(text)?;
+    Ok(read_upit(alloc, text, blocks)?)
+}
+
+/// What rests on what among n blocks.
+///
+/// # Errors
+/// `Prec` for more than 2^32 bytes, or for a fault of [`read_predecessors`]. `Memory` where memory is refused, `Device` where
+/// a read fails.
+pub fn rests_from<R: CountedRead>(alloc: Global, from: &mut R, n: u32) -> Result<Rests, EngineFault>
+    requires blocks { n ≤ MOST_BLOCKS }
+    requires room { R.failed from.old < 2 ^ 64 - 1 }
+    ensures read { IfSome (R.remaining from.old) (λ text. MatchResult result (ReadsPrec n text) (PrecReadFails n text)) }
+    ensures size { IfOk result (λ rests. rests.blocks ≡ n) }
+    ensures device { IsErrOf result EngineFault.Device ↔ (R.failed from.new ≡ R.failed from.old + 1) }
+    ensures kept { ¬ IsErrOf result EngineFault.Device → R.failed from.new ≡ R.failed from.old }
+{
+    let predecessors = predecessors_from(alloc, from, n)?;
+    Ok(predecessors.into_rests(alloc)?)
+}
+
+/// The predecessors of each of n blocks, without what only those need who look for a flow.
+///
+/// # Errors
+/// Those of [`rests_from`].
+pub fn predecessors_from<R: CountedRead>(
+    alloc: Global,
+    from: &mut R,
+    n: u32,
+) -> Result<Predecessors, EngineFault>
+    requires blocks { n ≤ MOST_BLOCKS }
+    requires room { R.failed from.old < 2 ^ 64 - 1 }
+    ensures read { IfSome (R.remaining from.old) (λ text. MatchResult result (ReadsPrec n text) (PrecReadFails n text)) }
+    ensures size { IfOk result (λ rests. rests.blocks ≡ n) }
+    ensures device { IsErrOf result EngineFault.Device ↔ (R.failed from.new ≡ R.failed from.old + 1) }
+    ensures kept { ¬ IsErrOf result EngineFault.Device → R.failed from.new ≡ R.failed from.old }
+{
+    let text = text_from(alloc, from, EngineFault::Prec(Problem::InputTooLong))?;
+    match read_predecessors(alloc, text, n) {
+        Ok(predecessors) => Ok(predecessors),
+        Err(fault) => Err(EngineFault::from(fault)),
+    }
+}

