@@ -18,7 +18,7 @@ use Rattle.std.proofs.lemmas.Map.Views.{All-found, Contains-keys_from_lookup}
 use Rattle.ordered_group.specs.Sets.{count_in}
 use Rattle.bench_report.specs.declared.bench_row.BenchRow.{BenchRow}
 use Rattle.bench_report.specs.Benches.{ReportedBlocks, blocks_at, by_bench, place_of, IsRow, IsBenchTable}
-use Rattle.bench_report.specs.Internal.{row_below, if_some, IsTallied}
+use Rattle.bench_report.specs.GrowingRows.{row_below, if_some, IsTallied}
 use Rattle.bench_report.proofs.Sums.{some_blocks}
 use Rattle.bench_report.proofs.Tallies.{inside_of}
 

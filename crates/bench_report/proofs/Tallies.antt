@@ -14,7 +14,7 @@ use Rattle.bench_report.specs.declared.report_fault.ReportFault.{ReportFault}
 use Rattle.bench_report.specs.declared.report_fault.ReportFault.TheVariants.{WrongModel, TooLarge, NoMemory}
 use Rattle.bench_report.specs.Benches.{ReportedBlocks, blocks_at, by_bench}
 use Rattle.bench_report.specs.FaultStands.{SumsFit, SomeSumOverflows}
-use Rattle.bench_report.specs.Internal.{row_below, no_blocks, with_block, row_at, if_some, TakesBlock, AddFaultStands, IsTallied, TallyFaultStands}
+use Rattle.bench_report.specs.GrowingRows.{row_below, no_blocks, with_block, row_at, if_some, TakesBlock, AddFaultStands, IsTallied, TallyFaultStands}
 use Rattle.bench_report.proofs.Sums.{plus-none, worth_of_none}
 
 -- ---- the row that is found

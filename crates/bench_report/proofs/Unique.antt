@@ -12,7 +12,7 @@ use Rattle.std.proofs.lemmas.Map.Views.{Contains-from_any, list_any-from_Contain
 use Rattle.ordered_group.specs.Sets.{worth_in, count_in}
 use Rattle.bench_report.specs.declared.bench_row.BenchRow.{BenchRow}
 use Rattle.bench_report.specs.Benches.{ReportedBlocks, blocks_at, is_shell, by_bench, place_of, IsRow, IsBenchTable}
-use Rattle.bench_report.specs.Internal.{row_below}
+use Rattle.bench_report.specs.GrowingRows.{row_below}
 use Rattle.bench_report.proofs.Sums.{some_block}
 use Rattle.bench_report.proofs.Tables.{by_bench_total, same_places}
 

@@ -2,5 +2,5 @@ pub mod Benches
 pub mod BlockShells
 pub mod FaultStands
 pub mod FaultText
-pub mod Internal
+pub mod GrowingRows
 pub mod Written

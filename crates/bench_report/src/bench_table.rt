@@ -6,7 +6,7 @@ ghost use Rattle.std.specs.BTreeMap.{get, values, IsOrdered};
 ghost use Rattle.blocks_file.specs.Denotes.{origin};
 ghost use Rattle.bench_report.specs.Benches.{reported, by_bench, IsBenchTable};
 ghost use Rattle.bench_report.specs.FaultStands.{SameLengths, AllSumsFit, ReportFaultStands};
-ghost use Rattle.bench_report.specs.Internal.{IsTallied, TallyFaultStands};
+ghost use Rattle.bench_report.specs.GrowingRows.{IsTallied, TallyFaultStands};
 
 use crate::bench_row::BenchRow;
 use crate::report_fault::ReportFault;

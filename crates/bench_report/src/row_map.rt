@@ -3,7 +3,7 @@
 ghost use Rattle.std.specs.Prelude.{◌≡◌, ◌^◌, ◌<◌, Some, OnOk, IfErr, MatchResult};
 ghost use Rattle.std.specs.BTreeMap.{Updates, get};
 ghost use Rattle.bench_report.specs.Benches.{by_bench};
-ghost use Rattle.bench_report.specs.Internal.{no_blocks, with_block, row_at, TakesBlock, AddFaultStands};
+ghost use Rattle.bench_report.specs.GrowingRows.{no_blocks, with_block, row_at, TakesBlock, AddFaultStands};
 
 use crate::bench_row::BenchRow;
 use crate::report_fault::ReportFault;

@@ -1,5 +1,5 @@
 -- Counting the records of a text.
-use Rattle.std.proofs.Common.{◌≡◌, ℕ, ◌+◌, ◌<◌, ◌≤◌, Bool, true, false, not, cond, List, [], ◌∷◌, ◌++◌, length, get_or, refl, sym, ap, ◌∙◌, arith, append-nil, append_assoc}
+use Rattle.std.proofs.Common.{◌≡◌, ℕ, ◌+◌, ◌<◌, ◌≤◌, true, false, cond, List, [], ◌∷◌, ◌++◌, length, get_or, refl, sym, ap, ◌∙◌, arith, append-nil, append_assoc}
 use Rattle.std.specs.Prelude.{nat_lt}
 use Rattle.std.proofs.lemmas.List.{get_or_push, get_or_append_left, length-append}
 use Rattle.std.proofs.lemmas.List.Concat.{flat_map-append}
@@ -69,11 +69,3 @@ is_counted all most count extra left next k text g h s ne = record {
       ap (λ (xs : List ℕ). get_or xs most 0) (push_record g.before k text s) ∙ get_or_append_left (record_lines g.before) (k ∷ []) 0 most (omega (arith, more, g.counted)) ∙ g.found more;
   small = omega (arith, g.small, h.number);
 }
-
-pub not_true : (t : Bool) → not t ≡ true → t ≡ false
-not_true true h = sym h
-not_true false h = refl
-
-pub not_false : (t : Bool) → not t ≡ false → t ≡ true
-not_false true h = refl
-not_false false h = sym h

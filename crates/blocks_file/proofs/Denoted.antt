@@ -4,7 +4,7 @@ use Rattle.blocks_file.specs.declared.place.Place.{Place}
 use Rattle.blocks_file.specs.declared.blocks_fault.BlocksFault.{BlocksFault}
 use Rattle.blocks_file.specs.Records.{lines_in, count_of, first_fault, long_fault, many_fault, fault_of}
 use Rattle.blocks_file.specs.Denotes.{BlocksView, Denotes, columns_from}
-use Rattle.blocks_file.specs.Internal.{AreKept}
+use Rattle.blocks_file.specs.RowReading.{AreKept}
 use Rattle.blocks_file.proofs.Slots.{columns_length, column_length, column_at}
 
 denoted : (n : ℕ) (chosen text : List ℕ) (places : List Place) (values : List ℤ) → n ≡ count_of text → AreKept n chosen (lines_in text) places values

@@ -16,11 +16,12 @@ use Rattle.blocks_file.specs.declared.blocks_fault.BlocksFault.{BlocksFault}
 use Rattle.blocks_file.specs.declared.blocks_fault.BlocksFault.TheVariants.{UnknownBlock, Repeated}
 use Rattle.blocks_file.specs.Records.{block_of, place_of, columns_of, value_in, shape_fault, block_fault, record_fault, is_record_of, has_record, record_among, first_fault, long_fault, record_lines}
 use Rattle.blocks_file.specs.Denotes.{origin}
-use Rattle.blocks_file.specs.Internal.{HoldsValues, ArePut, AreKept}
+use Rattle.blocks_file.specs.RowReading.{HoldsValues, ArePut, AreKept}
 use Rattle.fixed_worth.proofs.NextLine.{line, Next, next_is}
 use Rattle.blocks_file.proofs.Counts.{moved, still_long, push_skipped, push_record, longer}
 use Rattle.blocks_file.proofs.Marks.{marked, marked-replicate, marked-set, all_marked}
 use Rattle.blocks_file.proofs.Slots.{blocks_apart}
+use Rattle.fixed_worth.proofs.Bits.{or_true}
 
 -- What has been read, and what is left.
 pub record ReadSoFar (n : ℕ) (chosen : List ℕ) (all : List Line) (seen : List Bool) (places : List Place) (values : List ℤ) (left : Left) : Type 0 where
@@ -54,10 +55,6 @@ begins n chosen all seen places values left e s p v = record {
   all_places = p;
   all_values = v;
 }
-
-or_true : (x : Bool) → (x || true) ≡ true
-or_true true = refl
-or_true false = refl
 
 has-push : (before : List Line) (l : Line) (b : ℕ) → has_record (before ++ l ∷ []) b ≡ (has_record before b || is_record_of b (fields_of l.text))
 has-push before l b = list_any-append (λ x. is_record_of b (fields_of x.text)) before (l ∷ []) ∙ ap (λ t. has_record before b || t) (or-false (is_record_of b (fields_of l.text)))

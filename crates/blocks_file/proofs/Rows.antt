@@ -7,7 +7,7 @@ use Rattle.std.proofs.lemmas.Bool.Decides.{nat_tests}
 use Rattle.std.proofs.lemmas.List.{drop_more}
 use Rattle.std.proofs.lemmas.List.Folds.{list_all_at}
 use Rattle.blocks_file.specs.Records.{value_read, is_bad, are_there}
-use Rattle.blocks_file.specs.Internal.{IsRow, AreTaken, HoldsValues}
+use Rattle.blocks_file.specs.RowReading.{IsRow, AreTaken, HoldsValues}
 
 -- The next field is column k.
 pub field_at : (all : List (List ℕ)) (k : ℕ) (field : List ℕ) (rest : List (List ℕ)) → field ∷ rest ≡ drop k all → k + length (field ∷ rest) ≡ length all → (get_or all k [] ≡ field) × (rest ≡ drop (k + 1) all)

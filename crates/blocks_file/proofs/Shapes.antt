@@ -7,7 +7,7 @@ use Rattle.fixed_worth.specs.Record.{is_remark, is_skipped}
 use Rattle.blocks_file.specs.declared.place.Place.{Place}
 use Rattle.blocks_file.specs.declared.blocks_fault.BlocksFault.TheVariants.{NoColumn}
 use Rattle.blocks_file.specs.Records.{number_of, head_reads, place_at, block_of, place_of, columns_of, shape_fault, is_bad, are_there}
-use Rattle.blocks_file.specs.Internal.{IsRow, HoldsValues}
+use Rattle.blocks_file.specs.RowReading.{IsRow, HoldsValues}
 use Rattle.blocks_file.proofs.Rows.{row_good, row_values}
 
 abbrev pub texts : List Run → List (List ℕ)

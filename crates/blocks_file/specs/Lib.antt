@@ -1,4 +1,4 @@
 pub mod Records
 pub mod Denotes
 pub mod FaultText
-pub mod Internal
+pub mod RowReading

@@ -3,7 +3,7 @@
 
 ghost use Rattle.std.specs.Prelude.{◌≡◌, ℕ, ◌+◌, ◌*◌, ◌<◌, ◌≤◌, Bool, true, false, pos, Some, None, length, replicate, slice_set, slice_index_or, IfOk, MatchResult};
 ghost use Rattle.blocks_file.specs.Records as spec;
-ghost use Rattle.blocks_file.specs.Internal.{ArePut};
+ghost use Rattle.blocks_file.specs.RowReading.{ArePut};
 
 use crate::BlocksFault;
 use crate::limits::MOST_COLUMNS;

@@ -3,7 +3,7 @@
 ghost use Rattle.std.specs.Prelude.{◌≡◌, ◌≤◌, [], Some, None, Err, length, MatchResult};
 ghost use Rattle.blocks_file.specs.Records as spec;
 ghost use Rattle.blocks_file.specs.Denotes.{Denotes};
-ghost use Rattle.blocks_file.specs.Internal.{AreKept};
+ghost use Rattle.blocks_file.specs.RowReading.{AreKept};
 
 use crate::counting::count_records;
 use crate::kept::{Kept, zeros};

@@ -5,7 +5,7 @@ ghost use Rattle.std.specs.Prelude.{◌≡◌, ◌≤◌, false, Some, None, len
 ghost use Rattle.fixed_worth.specs.Text.{fields_of};
 ghost use Rattle.fixed_worth.specs.Record.{is_skipped};
 ghost use Rattle.blocks_file.specs.Records as spec;
-ghost use Rattle.blocks_file.specs.Internal.{HoldsValues};
+ghost use Rattle.blocks_file.specs.RowReading.{HoldsValues};
 
 use crate::BlocksFault;
 use crate::place::{Place, read_coordinate};

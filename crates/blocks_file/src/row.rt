@@ -4,7 +4,7 @@
 ghost use Rattle.std.specs.Prelude.{◌≡◌, ◌==◌, ◌<◌, ◌≤◌, true, None, Some, length, map, MatchResult};
 ghost use Rattle.std.specs.List.{list_any};
 ghost use Rattle.blocks_file.specs.Records as spec;
-ghost use Rattle.blocks_file.specs.Internal.{AreFilled, AreTaken, IsRow};
+ghost use Rattle.blocks_file.specs.RowReading.{AreFilled, AreTaken, IsRow};
 
 use crate::BlocksFault;
 use fixed_worth::{Fields, LINE_BYTES, Micros};

@@ -1,6 +1,5 @@
 -- A text that is put line after line.
-use Rattle.std.proofs.Common.{◌≡◌, ℕ, zero, suc, ◌+◌, ◌<◌, Bool, true, false, cond, List, [], ◌∷◌, ◌++◌, length, map, get_or, drop, Option, Result, Ok, Err, refl, sym, ap, ◌∙◌, subst, append_assoc, append-nil, add-one, drop-cons, arith}
-use Rattle.std.specs.Result.{OnOk, OnErr}
+use Rattle.std.proofs.Common.{◌≡◌, ℕ, zero, suc, ◌+◌, ◌<◌, Bool, true, false, cond, List, [], ◌∷◌, ◌++◌, length, map, get_or, drop, Option, refl, sym, ap, ◌∙◌, subst, append_assoc, append-nil, add-one, drop-cons, arith}
 use Rattle.std.specs.Io.KnownBytes.{Appends}
 use Rattle.fixed_worth.specs.Device.{ReceivedPrefix, SentOrHeld}
 use Rattle.fixed_worth.proofs.Pieces.{all_held, held_more, held_more_prefix, prefix_of_first, held_both, held_sent, held_prefix, prefix_in_first, prefix_in_second}
@@ -116,13 +115,6 @@ pub body_parts : (ls ms : List BodyLine) (end : List ℕ) → body_text ls ++ (b
 body_parts ls ms end = sym (append_assoc (body_text ls) (body_text ms) end) ∙ ap (λ (t : List ℕ). t ++ end) (sym (body_append ls ms))
 
 -- What holds, holds where there is an error.
-pub on_err : {X Y P : Type 0} (r : Result X Y) → P → OnErr r P
-on_err (Ok x) h = tt
-on_err (Err e) h = h
-
-pub on_ok : {X Y P : Type 0} (r : Result X Y) → P → OnOk r P
-on_ok (Ok x) h = h
-on_ok (Err e) h = tt
 
 -- The three parts of a flow.
 abbrev pub sources : List Amount → List ℕ

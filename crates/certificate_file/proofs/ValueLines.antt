@@ -175,7 +175,7 @@ amount_given gives line top i o (x ∷ xs) k (suc j) l e h =
     ∙ amount_given gives line top i o xs (k + 1) j (omega arith) (omega arith) (omega arith)
 
 -- The blocks of the pit.
-joins : (k : LineKind) (b : ℕ) (xs ys : List ℕ) → block_if_pit k b (xs ++ ys) ≡ block_if_pit k b xs ++ ys
+pub joins : (k : LineKind) (b : ℕ) (xs ys : List ℕ) → block_if_pit k b (xs ++ ys) ≡ block_if_pit k b xs ++ ys
 joins Pit b xs ys = refl
 joins Source b xs ys = refl
 joins Rest b xs ys = refl

@@ -1,5 +1,5 @@
 -- The PIT lines with which the lines of a certificate begin.
-use Rattle.std.proofs.Common.{◌≡◌, ℕ, Bool, true, false, not, List, [], ◌∷◌, ◌++◌, Option, Some, None, refl, ap, ◌∙◌, append_assoc, append-nil}
+use Rattle.std.proofs.Common.{◌≡◌, true, false, List, [], ◌∷◌, ◌++◌, Option, Some, refl, ap, ◌∙◌, append_assoc, append-nil}
 use Rattle.certificate_file.specs.declared.body_lines.LineKind.{LineKind}
 use Rattle.certificate_file.specs.declared.body_lines.LineKind.TheVariants.{Pit, Source, Rest, Sink, End}
 use Rattle.certificate_file.specs.declared.body_lines.BodyLine.{BodyLine}
@@ -7,6 +7,7 @@ use Rattle.certificate_file.specs.BodyLines.{may_follow}
 use Rattle.check_pit.specs.StreamChecks.{is_pit, is_behind_pits, first_pits}
 use Rattle.certificate_file.proofs.Order.{InOrder}
 use Rattle.check_pit.proofs.Beginnings.{last_line}
+use Rattle.fixed_worth.proofs.Bits.{not_false}
 
 -- Lines that are all PIT lines.
 abbrev pub AllPits : List BodyLine → Type 0
@@ -35,10 +36,6 @@ kind_is Source h = absurd (let z : false ≡ true = h in cc)
 kind_is Rest h = absurd (let z : false ≡ true = h in cc)
 kind_is Sink h = absurd (let z : false ≡ true = h in cc)
 kind_is End h = absurd (let z : false ≡ true = h in cc)
-
-not_false : (t : Bool) → not t ≡ false → t ≡ true
-not_false true h = refl
-not_false false h = absurd (let z : true ≡ false = h in cc)
 
 -- Where PIT lines are not left for others, the lines so far are PIT lines alone.
 module _ (P : BodyLine → Type 0) (pit_behind : (previous : Option BodyLine) (line : BodyLine) → may_follow previous line ≡ true → line.kind ≡ Pit → is_behind_pits previous ≡ false) where

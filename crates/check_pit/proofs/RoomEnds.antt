@@ -1,5 +1,5 @@
 -- What the sums of a room say of the flow and the pit of the lines, once these are all read.
-use Rattle.std.proofs.Common.{◌≡◌, ℕ, ◌<◌, Bool, List, [], ◌∷◌, ◌++◌, length, sym, ◌∙◌, arith}
+use Rattle.std.proofs.Common.{◌≡◌, ℕ, ◌<◌, Bool, List, ◌∷◌, ◌++◌, length, sym, ◌∙◌, arith}
 use Rattle.std.specs.Prelude.{◌↔◌, IsTrue}
 use Rattle.ordered_group.specs.Amount.{zero_amount}
 use Rattle.ordered_group.specs.Sums.{amount_at}

@@ -10,14 +10,14 @@ use Rattle.ordered_group.proofs.Steps.{fits_same}
 use Rattle.closure_net.specs.Network.{NetView}
 use Rattle.check_pit.specs.declared.pit_fault.PitFault.{PitFault}
 use Rattle.check_pit.specs.declared.pit_fault.PitFault.TheVariants.{WrongSize, NotClosed, Negative, OverCapacity, Unbalanced, NotTight, TooLarge}
-use Rattle.certificate_file.specs.declared.body_lines.LineKind.{LineKind}
-use Rattle.certificate_file.specs.declared.body_lines.LineKind.TheVariants.{Pit, Source, Rest, Sink, End}
+use Rattle.certificate_file.specs.declared.body_lines.LineKind.TheVariants.{Source, Rest, Sink, End}
 use Rattle.certificate_file.specs.declared.body_lines.BodyLine.{BodyLine}
 use Rattle.certificate_file.specs.Certificate.{block_if_pit, pit_of, amount_of}
 use Rattle.check_pit.specs.LineSums.{brings_by, balance_of, source_by, source_sum, worth_of_blocks, residual_behind, SomeLineSumOverflows}
 use Rattle.std.specs.Option.{is_some}
 use Rattle.check_pit.specs.PitLists.{blocks_of}
 use Rattle.check_pit.specs.Rooms.{RoomView, IsRoomFor, AreSumsOf, WithLine, SumOverflowsWith, RefusedWhere, PutsLine, RefusesLine, with_balance, with_left}
+use Rattle.certificate_file.proofs.ValueLines.{joins}
 
 -- ---- the sums over some lines, and over one more
 
@@ -37,16 +37,9 @@ left_more ws ls l =
     let all = total (λ b. positive (amount_at ws b)) (length ws) in
     ap (minus all) (sources_more ls l) ∙ taken_twice all (source_sum ls) (source_by l.kind (amount_of l))
 
-pub block_first : (k : LineKind) (b : ℕ) (xs ys : List ℕ) → block_if_pit k b (xs ++ ys) ≡ block_if_pit k b xs ++ ys
-block_first Pit b xs ys = refl
-block_first Source b xs ys = refl
-block_first Rest b xs ys = refl
-block_first Sink b xs ys = refl
-block_first End b xs ys = refl
-
 pub pit_more : (ls : List BodyLine) (l : BodyLine) → pit_of (ls ++ l ∷ []) ≡ pit_of ls ++ block_if_pit l.kind l.block []
 pit_more [] l = refl
-pit_more (m ∷ ms) l = ap (block_if_pit m.kind m.block) (pit_more ms l) ∙ block_first m.kind m.block (pit_of ms) (block_if_pit l.kind l.block [])
+pit_more (m ∷ ms) l = ap (block_if_pit m.kind m.block) (pit_more ms l) ∙ joins m.kind m.block (pit_of ms) (block_if_pit l.kind l.block [])
 
 pub worth_more : (ws : List Amount) (bs cs : List ℕ) → worth_of_blocks ws (bs ++ cs) ≡ plus (worth_of_blocks ws bs) (worth_of_blocks ws cs)
 worth_more ws [] cs = sym (plus-zero_left (worth_of_blocks ws cs))

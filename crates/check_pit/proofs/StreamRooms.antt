@@ -35,10 +35,12 @@ use Rattle.certificate_file.proofs.Going.{Sound, sound, text_read}
 use Rattle.certificate_file.proofs.Order.{InOrder, Good, stands_in_order, later_pits, ascending, known}
 use Rattle.check_pit.proofs.LineSums.{pair_place}
 use Rattle.check_pit.proofs.LineFlows.{worth_is, sums_tell}
-use Rattle.check_pit.proofs.RoomSums.{block_first, pit_more}
+use Rattle.check_pit.proofs.RoomSums.{pit_more}
 use Rattle.check_pit.proofs.Beginnings.{ends_more}
 use Rattle.check_pit.proofs.FirstPits.{AllPits, first_behind, first_all, all_pits}
 use Rattle.check_pit.proofs.StreamReadings.{Reading, Ended, MetNext, next_of, Fails, line_met, reading_on, reading_ends, lines_begin, ended_stops, ended_whole}
+use Rattle.fixed_worth.proofs.Bits.{not_true}
+use Rattle.certificate_file.proofs.ValueLines.{joins}
 
 -- What the room has of the lines so far.
 pub record Summed (net : NetView) (previous : Option BodyLine) (room : RoomView) (ls : List BodyLine) : Type 0 where
@@ -131,10 +133,6 @@ no_block End b h = refl
 pub same_pit : (ls : List BodyLine) (line : BodyLine) → is_pit line.kind ≡ false → pit_of (ls ++ line ∷ []) ≡ pit_of ls
 same_pit ls line h = pit_more ls line ∙ ap (λ (bs : List ℕ). pit_of ls ++ bs) (no_block line.kind line.block h) ∙ append-nil (pit_of ls)
 
-not_true : (t : Bool) → not t ≡ true → t ≡ false
-not_true true h = absurd (let z : false ≡ true = h in cc)
-not_true false h = refl
-
 one_kept : (net : NetView) (line : BodyLine) → keeps_by line.kind net.worths line → All (λ l. keeps_by l.kind net.worths l) (line ∷ [])
 one_kept net line h zero d i = h
 one_kept net line h (suc k) d i = absurd (omega arith)
@@ -171,7 +169,7 @@ line_refused remaining counts net start now later previous bytes ls line before 
 -- The pit isn't closed: behind a line that is none of its own, no other names a block.
 pit_append : (xs ys : List BodyLine) → pit_of (xs ++ ys) ≡ pit_of xs ++ pit_of ys
 pit_append [] ys = refl
-pit_append (x ∷ xs) ys = ap (block_if_pit x.kind x.block) (pit_append xs ys) ∙ block_first x.kind x.block (pit_of xs) (pit_of ys)
+pit_append (x ∷ xs) ys = ap (block_if_pit x.kind x.block) (pit_append xs ys) ∙ joins x.kind x.block (pit_of xs) (pit_of ys)
 
 no_pits : (bs : List ℕ) → ((i : ℕ) → i < length bs → ⊥) → bs ≡ []
 no_pits [] h = refl

@@ -37,7 +37,7 @@ best_from_fewest mine e pit most fewest = record {
 }
 
 -- two tests that can't differ agree
-agree : (s t : Bool) → ¬ (¬ (s ≡ t)) → s ≡ t
+pub agree : (s t : Bool) → ¬ (¬ (s ≡ t)) → s ≡ t
 agree true true h = refl
 agree true false h = absurd (h (λ e. absurd cc))
 agree false true h = absurd (h (λ e. absurd cc))
@@ -51,10 +51,10 @@ best_is_one mine e c h k b l = agree (e b) (c b) (λ differ.
     let more = k.fewest e h.is_pit (λ s. differ (s b l)) (sym same) in
     omega (arith, fewer, more))
 
-pit_of_later : (mine later : Mine) (e : ℕ → Bool) → RisesTo mine later → IsPit mine e → IsPit later e
+pub pit_of_later : (mine later : Mine) (e : ℕ → Bool) → RisesTo mine later → IsPit mine e → IsPit later e
 pit_of_later mine later e r h b p t = let i : IsTrue (mine.rests b p) = sym (r.rests b p) ∙ t in h b p i
 
-pit_of_earlier : (mine later : Mine) (e : ℕ → Bool) → RisesTo mine later → IsPit later e → IsPit mine e
+pub pit_of_earlier : (mine later : Mine) (e : ℕ → Bool) → RisesTo mine later → IsPit later e → IsPit mine e
 pit_of_earlier mine later e r h b p t = let i : IsTrue (later.rests b p) = r.rests b p ∙ t in h b p i
 
 -- what the best pit has beside a later one is worth something, and later no less: so the later one has it

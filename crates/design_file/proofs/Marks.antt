@@ -8,6 +8,7 @@ use Rattle.fixed_worth.specs.Record.{reads, number_of}
 use Rattle.design_file.specs.declared.design_fault.DesignFault.{DesignFault}
 use Rattle.design_file.specs.declared.design_fault.DesignFault.TheVariants.{Number, UnknownBlock, Repeated}
 use Rattle.design_file.specs.Records.{is_passed, block_word, word_fault, named_fault, record_fault, block_in, blocks_in, has, set_in, marked}
+use Rattle.fixed_worth.proofs.Bits.{or_true, or_false}
 
 -- ---- what is known of blocks below n alone counts
 
@@ -37,14 +38,6 @@ word_known n g line word h =
     grind (arith, nat_tests)
 
 -- ---- marks
-
-or_false : (x : Bool) → (x || false) ≡ x
-or_false true = refl
-or_false false = refl
-
-or_true : (x : Bool) → (x || true) ≡ true
-or_true true = refl
-or_true false = refl
 
 mark_at : (marks : List Bool) (bs : List ℕ) (b k : ℕ) → b < length marks → get_or marks k false ≡ has bs k → (t : Bool) → eqb b k ≡ t → get_or (set marks b true) k false ≡ (has bs k || (t || false))
 mark_at marks bs b k i h true e =

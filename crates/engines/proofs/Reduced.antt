@@ -1,29 +1,12 @@
 -- The reduced pairs of a pattern decide the same pits as every pair.
-use Rattle.std.proofs.Common.{◌≡◌, ◌↔◌, ℕ, ℤ, Bool, IsTrue, List, refl, subst}
+use Rattle.std.proofs.Common.{◌≡◌, ◌↔◌, ℕ, ℤ, Bool, List}
 use Rattle.std.specs.Prelude.{◌==◌, ◌&&◌}
 use Rattle.std.specs.List.{Contains}
-use Rattle.std.proofs.lemmas.Bool.{eqb-true, eq-eqb, and_parts, and_from}
-use Rattle.std.proofs.lemmas.List.Folds.{Any-from_list_any, list_any-from_Any}
-use Rattle.blocks_file.specs.Denotes.{BlocksView}
-use Rattle.prec_file.specs.Rests.{RestsView, has_pair}
-use Rattle.slope.specs.Offsets.{Offset, IsPattern}
-use Rattle.slope.specs.Slopes.{IsSlopePair, AreSlopes}
 use Rattle.slope.specs.Closing.{IsClosedBy}
-use Rattle.slope.specs.declared.selection.Selection.TheVariants.{Every, Reduced}
-use Rattle.slope.specs.declared.up.Up.{Up}
 use Rattle.slope.proofs.Reduction.{closed_by_either}
 use Rattle.closure_net.specs.Mine.{IsPit, IsBest}
 use Rattle.engines.specs.Reduced.{mine_of_pairs, ReducedPairsDecide}
-
-rests_of_pair : (pairs : List (ℕ × ℕ)) (b p : ℕ) → Contains pairs (b, p) → IsTrue (has_pair pairs b p)
-rests_of_pair pairs b p c = list_any-from_Any (λ (q : ℕ × ℕ). (q.0 == b) && (q.1 == p)) pairs (c.0, (b, p), c.1, c.2, and_from (b == b) (p == p) (eq-eqb b b refl) (eq-eqb p p refl))
-
-pair_of_rests : (pairs : List (ℕ × ℕ)) (b p : ℕ) → IsTrue (has_pair pairs b p) → Contains pairs (b, p)
-pair_of_rests pairs b p held =
-    let some = Any-from_list_any (λ (q : ℕ × ℕ). (q.0 == b) && (q.1 == p)) pairs held in
-    let parts = and_parts (some.1.0 == b) (some.1.1 == p) some.4 in
-    let same : some.1 ≡ (b, p) = λ i. (eqb-true some.1.0 b parts.0 i, eqb-true some.1.1 p parts.1 i) in
-    subst (Contains pairs) same (some.0, some.2, some.3)
+use Rattle.prec_file.proofs.PairTests.{rests_of_pair, pair_of_rests}
 
 -- a pit by listed pairs is closed by them
 closed_of_pit : (n : ℕ) (pairs : List (ℕ × ℕ)) (worth : ℕ → ℤ) (d : ℕ → Bool) → IsPit (mine_of_pairs n pairs worth) d → IsClosedBy (Contains pairs) d

@@ -9,18 +9,11 @@ use Rattle.std.proofs.lemmas.Bool.{cases_lt}
 use Rattle.fixed_worth.specs.Text.{is_separator, Run, runs_from}
 use Rattle.fixed_worth.specs.Laws.{IsField, AreInOrder, LiesIn, AreFields}
 use Rattle.fixed_worth.proofs.Cuts.{gap, gap_skipped, gap_stops, first_run}
+use Rattle.fixed_worth.proofs.Bits.{not_true, not_false}
 
 not_not : (t : Bool) → not (not t) ≡ true → t ≡ true
 not_not true e = refl
 not_not false e = cc
-
-not_true : (t : Bool) → not t ≡ true → t ≡ false
-not_true true e = cc
-not_true false e = refl
-
-not_false : (t : Bool) → not t ≡ false → t ≡ true
-not_false true e = refl
-not_false false e = cc
 
 -- the bytes of a gap, and of a run
 gap_byte : (line : List ℕ) (p k : ℕ) → k < gap (drop p line) → is_separator (get_or line (p + k) 0) ≡ true

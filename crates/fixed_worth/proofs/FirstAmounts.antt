@@ -31,7 +31,7 @@ no_mark : (b : ℕ) → is_plain_byte b ≡ true → not (is_mark b) ≡ true
 unfolding is_mark
 no_mark b h = grind (arith, nat_tests)
 
-no_point : (b : ℕ) → is_digit b ≡ true → not (is_point b) ≡ true
+pub no_point : (b : ℕ) → is_digit b ≡ true → not (is_point b) ≡ true
 unfolding is_point
 no_point b h = grind (arith, nat_tests)
 

@@ -16,6 +16,7 @@ use Rattle.fixed_worth.specs.Record.{first_whole, reads, is_remark}
 use Rattle.fixed_worth.specs.Text.{Run, is_separator, runs_from}
 use Rattle.fixed_worth.proofs.Cuts.{first_run, Runs}
 use Rattle.fixed_worth.proofs.Digits.{value_of-append, value_below, power_fits}
+use Rattle.fixed_worth.proofs.Bits.{not_true, not_false}
 
 -- one more digit behind those that are read
 pub one_more : (text : List ℕ) (i : ℕ) → i < length text → value_of (take (i + 1) text) ≡ value_of (take i text) * 10 + (get_or text i 0 - 48)
@@ -30,14 +31,6 @@ digit_more text i h all one = list_all_more is_digit text i 0 h ∙ rw (all, one
 digit_inside : (b : ℕ) → is_digit b ≡ true → is_separator b ≡ false
 unfolding is_separator
 digit_inside b h = grind (arith, nat_tests)
-
-not_true : (t : Bool) → not t ≡ true → t ≡ false
-not_true true e = cc
-not_true false e = refl
-
-not_false : (t : Bool) → not t ≡ false → t ≡ true
-not_false true e = refl
-not_false false e = cc
 
 separator_behind : (w : ℕ) (bs behind : List ℕ) → position_or_len is_separator bs ≡ w → behind ≡ drop w bs → 0 < length behind → is_separator (get_or behind 0 0) ≡ true
 separator_behind w bs behind ends e h =

@@ -18,3 +18,5 @@ pub mod NextLine
 pub mod Parts
 pub mod PrintedDigits
 pub mod Results
+pub mod Bits
+pub mod Sides

@@ -3,19 +3,18 @@ use Rattle.std.proofs.Common.{◌≡◌, ℕ, ◌<◌, Bool, true, false, List, 
 use Rattle.std.proofs.lemmas.Int.{ints}
 use Rattle.ordered_group.specs.Amount.{Amount, zero_amount, plus, minus, AtMost, Below, positive, negative}
 use Rattle.ordered_group.specs.Sums.{total, where_so, amount_at}
-use Rattle.ordered_group.proofs.Order.{AtMost-refl, AtMost-both, AtMost-trans, Below-most, most_or_below, positive-negative, larger-right}
+use Rattle.ordered_group.proofs.Order.{AtMost-refl, AtMost-both, Below-most, most_or_below, positive-negative, larger-right}
 use Rattle.ordered_group.proofs.Totals.{total-same, total-plus, total_mono, total_term, total_nonneg, total_none_each, where_nonneg}
 use Rattle.prec_file.specs.Rests.{IsKnown}
-use Rattle.closure_net.specs.Network.{NetView, FlowView, IsNet}
-use Rattle.closure_net.specs.Closure.{group_worth}
-use Rattle.closure_net.specs.Flows.{residual_at, source_residual, IsFlow, IsTight, IsGreatestFlow}
+use Rattle.closure_net.specs.Network.{NetView, FlowView}
+use Rattle.closure_net.specs.Flows.{residual_at, source_residual, IsFlow, IsTight}
 use Rattle.closure_net.specs.Reached.{Reaches, IsReached}
 use Rattle.closure_net.proofs.Duality.{PairsKnown, greatest_from_tight}
 use Rattle.machine_law.specs.Conservation.{all_given}
-use Rattle.machine_law.specs.Quiet.{IsSolved}
 use Rattle.machine_law.proofs.Numbers.{same, equal}
 use Rattle.machine_law.proofs.Quiet.{quiet_solves}
-use Rattle.word_runner.specs.Tells.{IsCut, cut_to, IsQuietRunOf, IsSolvedBy}
+use Rattle.word_runner.specs.CutNets.{IsCut, cut_to}
+use Rattle.word_runner.specs.Runs.{IsQuietRunOf}
 use Rattle.lock_free_engine.specs.Tightness.{RunsAreTight}
 
 -- ---- a block that takes all that there is

@@ -1,20 +1,16 @@
 -- From a run without a lock to what is written of it.
-use Rattle.std.proofs.Common.{◌≡◌, ℕ, List, length, refl, sym, ap, ◌∙◌, subst, Option, Result, Ok, Err, inl, inr}
-use Rattle.std.specs.Io.KnownBytes.{Appends}
+use Rattle.std.proofs.Common.{◌≡◌, ℕ, List, refl, sym, ◌∙◌, subst, Option, Result, Ok, Err, inl, inr}
 use Rattle.std.specs.Prelude.{MatchResult}
-use Rattle.fixed_worth.specs.Device.{ReceivedPrefix}
 use Rattle.closure_net.specs.Network.{NetView, FlowView, IsNet, holds_of}
-use Rattle.machine_law.specs.Quiet.{IsSolved}
-use Rattle.word_runner.specs.Tells.{AreBadWorkers, IsSolvedBy, SolveFaultStands}
+use Rattle.word_runner.specs.Openings.{AreNeitherOneNorTwo}
+use Rattle.word_runner.specs.Ends.{IsSolvedBy, SolveFaultStands}
 use Rattle.workers.specs.declared.solving.SolveFault.{SolveFault}
 use Rattle.workers.specs.declared.solving.SolveFault.TheVariants as run
 use Rattle.check_pit.specs.Checks.{IsSound, FaultStands}
-use Rattle.certificate_file.specs.Written.{header_with, text_of}
 use Rattle.check_pit.specs.declared.pit_fault.PitFault.{PitFault}
 use Rattle.certificate_file.specs.declared.header.Price.{Price}
 use Rattle.check_pit.proofs.Tightness.{refused_for_size_only}
 use Rattle.engines.specs.declared.judgement.Verdict.{Verdict}
-use Rattle.engines.specs.declared.judgement.Verdict.TheVariants.{No}
 use Rattle.mine_inputs.specs.declared.engine_fault.EngineFault.{EngineFault}
 use Rattle.engines.specs.declared.solvers.Unsolved.{Unsolved}
 use Rattle.engines.specs.declared.solvers.Unsolved.TheVariants.{Unsettled, TooLarge, GaveUp, NoMemory, NoThread, Stranger}
@@ -45,7 +41,7 @@ check_overflows law net workers limit flow steps fault is solved refused =
     }
 
 -- why a run gives no flow is why it proves no pit: there are one worker or two, and the words are the net's
-pub fault_stands : (net : NetView) (workers limit : ℕ) (fault : SolveFault) → ¬ AreBadWorkers workers → SolveFaultStands net workers fault → LockFreeStands net workers limit (unsolved_by fault)
+pub fault_stands : (net : NetView) (workers limit : ℕ) (fault : SolveFault) → ¬ AreNeitherOneNorTwo workers → SolveFaultStands net workers fault → LockFreeStands net workers limit (unsolved_by fault)
 fault_stands net workers limit run.BadWorkers few h = absurd (few h)
 fault_stands net workers limit run.Unsettled few h = h.1
 fault_stands net workers limit run.TooLarge few h = inl h.1

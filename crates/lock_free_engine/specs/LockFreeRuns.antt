@@ -4,8 +4,8 @@ use Rattle.ordered_group.specs.Amount.{AtMost}
 use Rattle.closure_net.specs.Network.{NetView, FlowView, holds_of}
 use Rattle.closure_net.specs.Reached.{IsReached}
 use Rattle.machine_law.specs.Conservation.{all_given}
-use Rattle.word_runner.specs.Words.{units}
-use Rattle.word_runner.specs.Tells.{IsSolvedBy, SomeCutRunIsTooLarge}
+use Rattle.word_runner.specs.Layout.{units}
+use Rattle.word_runner.specs.Ends.{IsSolvedBy, SomeCutRunIsTooLarge}
 use Rattle.check_pit.specs.Checks.{IsOfNet, FaultStands}
 use Rattle.check_pit.specs.declared.pit_fault.PitFault.TheVariants as pit_fault
 use Rattle.engines.specs.declared.solvers.Unsolved.{Unsolved}

@@ -2,7 +2,7 @@
 //! workers is refused.
 
 ghost use Rattle.std.specs.Prelude.{◌≡◌, ◌≤◌, IfSome, IfNone};
-ghost use Rattle.word_runner.specs.Tells.{AreBadWorkers};
+ghost use Rattle.word_runner.specs.Openings.{AreNeitherOneNorTwo};
 
 /// The workers of a run without a lock, and the most turns that they take together.
 #[derive(Clone, Copy)]
@@ -19,7 +19,7 @@ impl LockFreeEffort {
     /// One worker or two, and at most `steps` turns; None for any other number of workers.
     pub fn new(workers: u32, steps: u64) -> Option<LockFreeEffort>
         ensures some { IfSome result (λ e. (e.workers ≡ workers) × (e.steps ≡ steps)) }
-        ensures none { IfNone result (AreBadWorkers workers) }
+        ensures none { IfNone result (AreNeitherOneNorTwo workers) }
     {
         if workers < 1 || workers > 2 {
             return None;

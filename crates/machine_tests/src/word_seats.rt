@@ -2,7 +2,9 @@
 //! seats.
 
 ghost use Rattle.std.specs.Prelude.{◌≡◌, ◌<◌, IfOk, IfSome};
-ghost use Rattle.word_runner.specs.Tells.{IsFirst, AreFirst, IsServing, IsServed, AreSeats};
+ghost use Rattle.word_runner.specs.Seats.{IsServing, IsServed};
+ghost use Rattle.word_runner.specs.Openings.{IsFirst, AreFirst};
+ghost use Rattle.word_runner.specs.Runs.{AreSeats};
 
 use crate::word_runs::{net_of, two_on_dear_waste};
 use closure_net::{Flow, Net, pit_of};

@@ -1,5 +1,5 @@
 -- From what is read of the inputs of a mine to the mine of its texts.
-use Rattle.std.proofs.Common.{◌≡◌, ℕ, ◌<◌, ℤ, pos, ◌*ℤ◌, List, length, refl, sym, ap, ◌∙◌, subst, arith, Option, Some, None, IfSome}
+use Rattle.std.proofs.Common.{◌≡◌, ℕ, ◌<◌, ℤ, pos, ◌*ℤ◌, List, refl, sym, ap, ◌∙◌, subst, arith, Option, Some, None, IfSome}
 use Rattle.std.proofs.lemmas.List.{length-map, get_or-map}
 use Rattle.std.proofs.lemmas.List.FromFn.{length-map-range_with_len, get_or-map-range_with_len}
 use Rattle.prec_file.specs.Rests.{RestsView, ArePairsOf}
@@ -19,9 +19,9 @@ use Rattle.mine_inputs.specs.Inputs.{ReadsUpit, UpitReadFails, ReadsSettingsText
 use Rattle.mine_inputs.specs.Limits.{IsWithinLimit}
 use Rattle.mine_inputs.specs.MineInputs.{ForWorths, ForTexts}
 use Rattle.mine_inputs.specs.Mines.{MineTexts, mine_texts, priced_texts, precedence_of, price_wanted, WorthsRead}
-use Rattle.mine_inputs.specs.PricedTexts.{price_keys, columns_said, table_by, table_of, PricesRead}
+use Rattle.mine_inputs.specs.PricedTexts.{price_keys, columns_said, table_by, table_of}
 use Rattle.mine_inputs.specs.ReadMines.{AreRead, AreWorthsOf, IsMineRead}
-use Rattle.mine_inputs.specs.Worths.{billionths_of, blocks_valued, nanos_at, price_at}
+use Rattle.mine_inputs.specs.Worths.{blocks_valued, nanos_at, price_at}
 use Rattle.settings_file.proofs.Known.{settings_are}
 use Rattle.mine_inputs.proofs.MineDevices.{always, under, under2, all_texts, for_worths, for_texts}
 use Rattle.mine_inputs.proofs.PricedAnswers.{settings_answer, missing_answer, prices_unsaid, prices_answer, prices_said, priced}

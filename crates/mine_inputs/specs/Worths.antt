@@ -1,9 +1,8 @@
 -- What the blocks of a mine are worth, whether its texts give values or prices.
 use Rattle.std.specs.Prelude.{ℕ, ℤ, pos, ◌*ℤ◌, List, length, map}
-use Rattle.upit_file.specs.Records.{UpitView}
 use Rattle.certificate_file.specs.declared.header.Price.{Price}
 use Rattle.certificate_file.specs.declared.header.Price.TheVariants.{Objective, Factor, Mill}
-use Rattle.shells.specs.Prices.{PricesView, blocks_of, price_of, worths_at}
+use Rattle.shells.specs.Prices.{blocks_of, price_of, worths_at}
 use Rattle.mine_inputs.specs.declared.worths.Worths.{Worths}
 use Rattle.mine_inputs.specs.declared.worths.Worths.TheVariants.{Values, Prices}
 

@@ -7,7 +7,7 @@ use Rattle.ordered_group.specs.Sets.{worth_in, count_in}
 use Rattle.ordered_group.specs.Block.{worth_block}
 use Rattle.ordered_group.specs.LawProofs.{worth_told}
 pub use Rattle.ordered_group.specs.ScaledProofs.{count_in-most}
-use Rattle.ordered_group.specs.Laws.{SumsTellWorth, BlocksTellWorth, SumsOrderSets}
+use Rattle.ordered_group.specs.Laws.{SumsTellWorth, BlocksTellWorth}
 use Rattle.ordered_group.proofs.Totals.Sets.{union, intersection, total-one, two_sets}
 
 -- equal sets are worth the same, have as many blocks, and have one sum

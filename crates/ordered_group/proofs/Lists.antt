@@ -1,5 +1,5 @@
 -- Lists of values, and of the amounts that they stand for.
-use Rattle.std.proofs.Common.{◌≡◌, ℕ, ◌<◌, List, [], ◌∷◌, ◌++◌, length, get_or, map, sym, ap, subst, ◌∙◌}
+use Rattle.std.proofs.Common.{◌≡◌, ℕ, ◌<◌, List, ◌∷◌, ◌++◌, length, get_or, map, sym, ap, subst, ◌∙◌}
 use Rattle.std.proofs.lemmas.List.{get_or-map}
 use Rattle.ordered_group.specs.Amount.{Amount, zero_amount, AtMost}
 use Rattle.ordered_group.specs.Sums.{amount_at}

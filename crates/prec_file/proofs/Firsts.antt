@@ -1,12 +1,11 @@
 -- The number of each block's first pair, of pairs in order.
-use Rattle.std.proofs.Common.{◌≡◌, ℕ, ◌+◌, ◌<◌, ◌≤◌, nat_lt, false, inl, inr, List, length, get_or, sym, subst, ◌∙◌, arith}
+use Rattle.std.proofs.Common.{◌≡◌, ℕ, ◌+◌, ◌<◌, ◌≤◌, nat_lt, inl, inr, List, length, get_or, sym, subst, ◌∙◌, arith}
 use Rattle.std.proofs.lemmas.Bool.{cases_eq, cases_lt}
-use Rattle.std.proofs.lemmas.Bool.Decides.{nat_tests}
 use Rattle.prec_file.specs.Rests.{ending_below, from_at, IsRising}
-use Rattle.prec_file.specs.Internal.{IsStarts}
+use Rattle.prec_file.specs.Indexes.{IsStarts}
 use Rattle.prec_file.proofs.Passing.{passing_between}
 use Rattle.prec_file.proofs.Slots.{ending_all}
-use Rattle.prec_file.proofs.Order.{up_from}
+use Rattle.prec_file.proofs.Order.{up_from, lt_false}
 
 -- the first numbers, where those below k are of the blocks that have one
 pub record FirstsSoFar (ps : List (ℕ × ℕ)) (n k : ℕ) (firsts : List ℕ) : Type 0 where
@@ -14,13 +13,10 @@ pub record FirstsSoFar (ps : List (ℕ × ℕ)) (n k : ℕ) (firsts : List ℕ) 
   pub at : (b : ℕ) → b < length firsts → get_or firsts b 0 ≡ ending_below (from_at ps) b (length ps)
   pub passed : (j : ℕ) → j < k → from_at ps j < length firsts
 
-not_below : (e b : ℕ) → b ≤ e → nat_lt e b ≡ false
-not_below e b h = grind (arith, nat_tests)
-
 -- the pairs before k are of blocks below b, and the others aren't
 first_is : (ps : List (ℕ × ℕ)) (b k : ℕ) → k ≤ length ps → ((j : ℕ) → j < k → from_at ps j < b) → ((j : ℕ) → k ≤ j → j < length ps → b ≤ from_at ps j) → ending_below (from_at ps) b (length ps) ≡ k
 first_is ps b k l before behind =
-    passing_between (λ j. nat_lt (from_at ps j) b) k (length ps) l (λ j h i. not_below (from_at ps j) b (behind j h i)) ∙ ending_all (from_at ps) b k before
+    passing_between (λ j. nat_lt (from_at ps j) b) k (length ps) l (λ j h i. lt_false (from_at ps j) b (behind j h i)) ∙ ending_all (from_at ps) b k before
 
 -- no later pair is of a block below
 pub later : (ps : List (ℕ × ℕ)) → IsRising ps → (k : ℕ) → k < length ps → (j : ℕ) → k ≤ j → j < length ps → from_at ps k ≤ from_at ps j

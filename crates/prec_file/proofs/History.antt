@@ -10,7 +10,7 @@ use Rattle.prec_file.specs.declared.prec_fault.PrecFault.{PrecFault}
 use Rattle.prec_file.specs.declared.prec_fault.PrecFault.TheVariants.{Text, Number, UnknownBlock, Repeated, WrongCount, TooMany, NoMemory}
 use Rattle.fixed_worth.specs.Record.{reads, is_skipped}
 use Rattle.prec_file.specs.Records.{block_of, count_of, predecessors_of, pairs_in, shape_fault, history_fault, record_fault}
-use Rattle.prec_file.specs.Internal.{TellsFault}
+use Rattle.prec_file.specs.Indexes.{TellsFault}
 use Rattle.prec_file.proofs.Shapes.{known}
 
 -- A record with no fault of its own has a known block.

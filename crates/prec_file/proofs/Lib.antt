@@ -23,3 +23,4 @@ pub mod WrittenPieces
 pub mod WrittenLines
 pub mod OneListing
 pub mod WrittenRecords
+pub mod PairTests

@@ -6,16 +6,10 @@ use Rattle.std.proofs.lemmas.List.{drop_all, take_all}
 use Rattle.std.proofs.lemmas.List.Folds.{list_any-append}
 use Rattle.fixed_worth.specs.Record.{is_skipped}
 use Rattle.prec_file.specs.Records.{block_of, has}
-use Rattle.prec_file.specs.Internal.{marked}
+use Rattle.prec_file.specs.Indexes.{marked}
+use Rattle.fixed_worth.proofs.Bits.{or_true, or_false}
 
 -- A block is seen where it had a record.
-or_false : (x : Bool) → (x || false) ≡ x
-or_false true = refl
-or_false false = refl
-
-or_true : (x : Bool) → (x || true) ≡ true
-or_true true = refl
-or_true false = refl
 
 mark_at : (seen : List Bool) (bs : List ℕ) (b k : ℕ) → b < length seen → get_or seen k false ≡ has bs k → (t : Bool) → eqb b k ≡ t → get_or (set seen b true) k false ≡ (has bs k || (t || false))
 mark_at seen bs b k i h true e =

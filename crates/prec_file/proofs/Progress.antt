@@ -9,7 +9,7 @@ use Rattle.fixed_worth.specs.declared.limits.TheConstants.{LINE_BYTES}
 use Rattle.prec_file.specs.declared.prec_fault.PrecFault.{PrecFault}
 use Rattle.fixed_worth.specs.Record.{Line, numbered, is_skipped}
 use Rattle.prec_file.specs.Records.{block_of, pairs_in, blocks_in, record_fault, fault_behind, has, blocks_of, pairs_of, first_fault, fault_of, listed}
-use Rattle.prec_file.specs.Internal.{marked}
+use Rattle.prec_file.specs.Indexes.{marked}
 use Rattle.prec_file.proofs.History.{record_same, record_block}
 use Rattle.prec_file.proofs.Marks.{mark}
 

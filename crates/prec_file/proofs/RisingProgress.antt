@@ -8,7 +8,7 @@ use Rattle.prec_file.specs.declared.limits.TheConstants.{MOST_PAIRS}
 use Rattle.prec_file.specs.declared.prec_fault.PrecFault.{PrecFault}
 use Rattle.prec_file.specs.Rests.{RowsView, ArePairsOf}
 use Rattle.prec_file.specs.Records.{block_of, pairs_in, record_fault, fault_of, UnlessMemory}
-use Rattle.prec_file.specs.Internal.{AreNew, IsLineRead, TellsFault, marked}
+use Rattle.prec_file.specs.Indexes.{AreNew, IsLineRead, TellsFault, marked}
 use Rattle.prec_file.proofs.Shapes.{unless_told}
 use Rattle.prec_file.proofs.Progress.{ReadSoFar, step_on, step_wrong}
 

@@ -4,7 +4,7 @@ use Rattle.std.proofs.lemmas.Bool.{cases_lt}
 use Rattle.std.proofs.lemmas.List.{get_or-map, length-map, get_or_default}
 use Rattle.std.proofs.lemmas.List.Elements.{All-map, All-contains, All-weaker}
 use Rattle.prec_file.specs.Rests.{from_at, Before, IsRising, AreApart, IsOfBlock}
-use Rattle.prec_file.specs.Internal.{AreRows, pairs_by}
+use Rattle.prec_file.specs.Indexes.{AreRows, pairs_by}
 use Rattle.prec_file.proofs.Slots.{ending_all}
 use Rattle.prec_file.proofs.RowSteps.{rows_told, rows_length}
 

@@ -8,7 +8,7 @@ use Rattle.prec_file.specs.declared.prec_fault.PrecFault.TheVariants.{Text, Numb
 use Rattle.prec_file.specs.declared.limits.TheConstants.{MOST_PAIRS}
 use Rattle.prec_file.specs.Rests.{RowsView, ArePairsOf, IsRowAdded}
 use Rattle.prec_file.specs.Records.{block_of, predecessors_of, pairs_in, shape_fault, record_fault}
-use Rattle.prec_file.specs.Internal.{IsRecordOf, AreNew, IsLineRead, marked}
+use Rattle.prec_file.specs.Indexes.{IsRecordOf, AreNew, IsLineRead, marked}
 use Rattle.prec_file.proofs.History.{third, pairs_length}
 use Rattle.prec_file.proofs.KnownPairs.{or_parts, none_large}
 

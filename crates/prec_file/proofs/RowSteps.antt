@@ -7,7 +7,7 @@ use Rattle.std.proofs.lemmas.List.Elements.{All-append, All-weaker, All-nil, All
 use Rattle.prec_file.specs.declared.limits.TheConstants.{MOST_PAIRS}
 use Rattle.fixed_worth.specs.declared.limits.TheConstants.{MOST_BLOCKS}
 use Rattle.prec_file.specs.Rests.{passing, ending_below, from_at, Before, IsRising, AreApart, IsKnown, IsOfBlock, IsRests, ArePairsOf}
-use Rattle.prec_file.specs.Internal.{IsStarts, AreRows, AreAbove, pairs_by}
+use Rattle.prec_file.specs.Indexes.{IsStarts, AreRows, AreAbove, pairs_by}
 use Rattle.prec_file.proofs.Passing.{passing_between}
 use Rattle.prec_file.proofs.Slots.{ending_all}
 use Rattle.prec_file.proofs.Rows.{pairs_are}

@@ -5,7 +5,7 @@ use Rattle.std.proofs.lemmas.Bool.Decides.{nat_tests}
 use Rattle.std.proofs.lemmas.List.{take_more}
 use Rattle.std.proofs.Math.Seq.{take-length}
 use Rattle.prec_file.specs.Rests.{passing, from_at, first_of, above_of, IsKnown, IsRising}
-use Rattle.prec_file.specs.Internal.{IsStarts, AreAbove, block_at, rows_from, pairs_by}
+use Rattle.prec_file.specs.Indexes.{IsStarts, AreAbove, block_at, rows_from, pairs_by}
 use Rattle.prec_file.proofs.Passing.{passing_all, passing_between, passing_most, passing_grows}
 use Rattle.prec_file.proofs.Slots.{ending_all, ending_next, ending_none}
 use Rattle.prec_file.proofs.Finding.{above_length, found_pair}

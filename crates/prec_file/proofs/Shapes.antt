@@ -14,7 +14,7 @@ use Rattle.prec_file.specs.declared.prec_fault.PrecFault.TheVariants.{Text, Numb
 use Rattle.fixed_worth.specs.Record.{first_whole, reads, number_of, is_remark, is_skipped}
 use Rattle.fixed_worth.proofs.FirstNumbers.{first_is, no_field, number_no_remark}
 use Rattle.prec_file.specs.Records.{pairs_in, shape_fault, UnlessMemory}
-use Rattle.prec_file.specs.Internal.{TellsFault}
+use Rattle.prec_file.specs.Indexes.{TellsFault}
 
 -- what is known of a fault that was told
 pub unless_told : (e : PrecFault) (o : Option PrecFault) {Q : Type 0} → (o ≡ Some e → Q) → TellsFault e o → UnlessMemory e Q

@@ -4,4 +4,4 @@ pub mod Records
 pub mod FaultText
 pub mod Written
 pub mod ReadBack
-pub mod Internal
+pub mod Indexes

@@ -2,7 +2,7 @@
 
 ghost use Rattle.std.specs.Prelude.{◌≡◌, ℕ, ◌<◌, ◌≤◌, All, IfOk, length, slice_index, vec_capacity};
 ghost use Rattle.prec_file.specs.Rests.{IsKnown, IsRising, from_at};
-ghost use Rattle.prec_file.specs.Internal.{IsStarts};
+ghost use Rattle.prec_file.specs.Indexes.{IsStarts};
 
 use crate::limits::MOST_PAIRS;
 use fixed_worth::MOST_BLOCKS;

@@ -3,7 +3,7 @@
 ghost use Rattle.std.specs.Prelude.{◌≡◌, ◌<◌, ◌≤◌, All, IfOk, MatchOption, length, map, slice_index_or};
 ghost use Rattle.std.specs.List.{Contains};
 ghost use Rattle.prec_file.specs.Rests.{IsRests, AreApart, IsKnown, IsRising, first_of, above_of};
-ghost use Rattle.prec_file.specs.Internal.{AreAbove, pairs_by};
+ghost use Rattle.prec_file.specs.Indexes.{AreAbove, pairs_by};
 
 use crate::Rests;
 use crate::first_pairs::firsts_of;
@@ -31,7 +31,7 @@ pub struct Predecessors {
 
 impl Model for Predecessors {
     ghost use Rattle.prec_file.specs.Rests.{RestsView};
-    ghost use Rattle.prec_file.specs.Internal.{AreAbove, pairs_by};
+    ghost use Rattle.prec_file.specs.Indexes.{AreAbove, pairs_by};
 
     ghost Value = { RestsView };
 

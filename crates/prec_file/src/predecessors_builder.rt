@@ -27,7 +27,7 @@ pub struct PredecessorsBuilder {
 
 impl Model for PredecessorsBuilder {
     ghost use Rattle.prec_file.specs.Rests.{RowsView};
-    ghost use Rattle.prec_file.specs.Internal.{AreRows, pairs_by};
+    ghost use Rattle.prec_file.specs.Indexes.{AreRows, pairs_by};
 
     ghost Value = { RowsView };
 

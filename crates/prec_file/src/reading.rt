@@ -4,7 +4,7 @@ ghost use Rattle.std.specs.Prelude.{◌≡◌, ◌≤◌, ◌++◌, false, lengt
 ghost use Rattle.fixed_worth.specs.Text.{fields_of};
 ghost use Rattle.prec_file.specs.Rests.{ArePairsOf, IsKnown};
 ghost use Rattle.prec_file.specs.Records.{record_fault, pairs_in, fault_of, listed, UnlessMemory};
-ghost use Rattle.prec_file.specs.Internal.{marked, TellsFault};
+ghost use Rattle.prec_file.specs.Indexes.{marked, TellsFault};
 
 use crate::limits::MOST_PAIRS;
 use crate::pair_order::add_pairs;

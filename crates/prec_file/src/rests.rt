@@ -26,7 +26,7 @@ pub struct Rests {
 
 impl Model for Rests {
     ghost use Rattle.prec_file.specs.Rests.{RestsView};
-    ghost use Rattle.prec_file.specs.Internal.{IsIndexed};
+    ghost use Rattle.prec_file.specs.Indexes.{IsIndexed};
 
     ghost Value = { RestsView };
 

@@ -4,7 +4,7 @@ ghost use Rattle.std.specs.Prelude.{◌≡◌, ℕ, ◌≤◌, Bool, true, lengt
 ghost use Rattle.fixed_worth.specs.Text.{fields_of};
 ghost use Rattle.prec_file.specs.Rests.{ArePairsOf};
 ghost use Rattle.prec_file.specs.Records.{record_fault, fault_of, listed, UnlessMemory};
-ghost use Rattle.prec_file.specs.Internal.{AreNew, IsLineRead, TellsFault};
+ghost use Rattle.prec_file.specs.Indexes.{AreNew, IsLineRead, TellsFault};
 
 use crate::limits::MOST_PAIRS;
 use crate::records::{counted, read_record};

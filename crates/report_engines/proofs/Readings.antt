@@ -21,7 +21,7 @@ use Rattle.mine_inputs.proofs.PriceKeys.{prices_and_others, prices_with_others}
 use Rattle.mine_inputs.proofs.PricedAnswers.{key_missing, keys_said, prec_answer}
 use Rattle.shell_engines.specs.SeriesTexts.{series_keys}
 use Rattle.report_engines.specs.ReportTexts.{report_keys, report_columns, ReportBlocksRead, factor_by, ReportMineFails}
-use Rattle.report_engines.specs.Internal.{columns_by, report_list, IsSaid, SaidFails, PricedModelFails, IsPricedModel, IsReportRead}
+use Rattle.report_engines.specs.ReportParts.{columns_by, report_list, IsSaid, SaidFails, PricedModelFails, IsPricedModel, IsReportRead}
 use Rattle.report_engines.specs.declared.report_inputs.ReportColumns.{ReportColumns}
 use Rattle.report_engines.proofs.Columns.{unfaulted, front_of}
 

@@ -14,7 +14,7 @@ use Rattle.mine_inputs.specs.declared.priced_inputs.ChargeColumns.TheVariants.{P
 use Rattle.mine_inputs.specs.PricedTexts.{place_beside, values_of, first_charges}
 use Rattle.bench_report.specs.Benches.{reported, blocks_at}
 use Rattle.bench_report.specs.FaultStands.{SameLengths, AllSumsFit, SomeSumOverflows}
-use Rattle.report_engines.specs.Internal.{IsSmall, IsPricedModel}
+use Rattle.report_engines.specs.ReportParts.{IsSmall, IsPricedModel}
 
 -- the most that an amount of a block can be, either way
 abbrev most : ℕ

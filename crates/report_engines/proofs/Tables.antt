@@ -26,13 +26,13 @@ use Rattle.shell_engines.specs.declared.shell_rows.ShellRow.{ShellRow}
 use Rattle.shell_engines.specs.declared.no_series.NoSeries.{NoSeries}
 use Rattle.shell_engines.specs.Settling.{IsSettled, NoSeriesStands}
 use Rattle.shell_engines.specs.declared.series_outputs.Answer.{Answer}
-use Rattle.shell_engines.specs.Internal.{TellsWhy, IsFaultOf}
+use Rattle.shell_engines.specs.PitsAtFactors.{TellsWhy, IsFaultOf}
 use Rattle.shell_engines.specs.Shells.{DenoteSeries, ShellsFail}
 use Rattle.shell_engines.proofs.Lifted.{nested, denoted, no_series_answer}
 use Rattle.shell_engines.proofs.BlockTables.{first_shell, best_is}
 use Rattle.report_engines.specs.ReportTexts.{ReportBlocksRead, report_factor, report_blocks}
 use Rattle.report_engines.specs.Reports.{IsReport, AnswersReport, ReportFails}
-use Rattle.report_engines.specs.Internal.{IsReportRead}
+use Rattle.report_engines.specs.ReportParts.{IsReportRead}
 use Rattle.report_engines.proofs.SameBlocks.{AreAlike, table_same}
 
 -- the tonnes stand behind the columns of prices

@@ -1,3 +1,3 @@
-pub mod Internal
+pub mod ReportParts
 pub mod ReportTexts
 pub mod Reports

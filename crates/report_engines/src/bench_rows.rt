@@ -5,7 +5,7 @@ ghost use Rattle.shells.specs.Prices.{worths_at};
 ghost use Rattle.shells.specs.Series.{IsSeries};
 ghost use Rattle.bench_report.specs.Benches.{reported, IsBenchTable};
 ghost use Rattle.mine_inputs.specs.PricedTexts.{place_beside};
-ghost use Rattle.report_engines.specs.Internal.{IsPricedModel};
+ghost use Rattle.report_engines.specs.ReportParts.{IsPricedModel};
 
 use bench_report::{BenchRow, ReportFault, rows};
 use blocks_file::BlockModel;

@@ -9,7 +9,7 @@ ghost use Rattle.mine_inputs.specs.Inputs.{IsMissing};
 ghost use Rattle.mine_inputs.specs.BlockTexts.{ReadsBlocks};
 ghost use Rattle.shell_engines.specs.Devices.{ForSeries, InputsCanCount, input_failures, NoInputFailed};
 ghost use Rattle.report_engines.specs.ReportTexts.{report_keys, factor_by, ReportMineFails};
-ghost use Rattle.report_engines.specs.Internal.{columns_by, report_list, IsSaid, SaidFails, PricedModelFails, IsReportRead, IsSmall, IsPricedModel};
+ghost use Rattle.report_engines.specs.ReportParts.{columns_by, report_list, IsSaid, SaidFails, PricedModelFails, IsReportRead, IsSmall, IsPricedModel};
 
 use blocks_file::BlockModel;
 use engines::EngineFault;

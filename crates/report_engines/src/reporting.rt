@@ -4,7 +4,7 @@
 ghost use Rattle.std.specs.Prelude.{ℕ, List, ◌+◌, ◌≡◌, MatchResult, IsErrOf};
 ghost use Rattle.shell_engines.specs.Devices.{ForSeries, InputsCanCount, OutputsCanCount, input_failures, output_failures, NoInputFailed, NoOutputFailed, is_asked, contents_in};
 ghost use Rattle.report_engines.specs.Reports.{AnswersReport, ReportFails, Reports};
-ghost use Rattle.report_engines.specs.Internal.{IsReportRead};
+ghost use Rattle.report_engines.specs.ReportParts.{IsReportRead};
 
 use crate::bench_rows::rows_at;
 use crate::report_inputs::{ReportMine, report_mine_from};

@@ -2,4 +2,4 @@ pub mod Keys
 pub mod Values
 pub mod Settings
 pub mod FaultText
-pub mod Internal
+pub mod GoodTables

@@ -6,7 +6,7 @@ ghost use Rattle.toml.specs.Data.{get_member};
 ghost use Rattle.toml.specs.View.{table_view};
 ghost use Rattle.settings_file.specs.Keys.{key_name, all_known};
 ghost use Rattle.settings_file.specs.Values.{factors_of, offsets_of, AreFactors};
-ghost use Rattle.settings_file.specs.Internal.{IsGoodUpToFactors, IsOfTable};
+ghost use Rattle.settings_file.specs.GoodTables.{IsGoodUpToFactors, IsOfTable};
 ghost use Rattle.settings_file.specs.Settings.{said_at, has_mill, cost_in, settings_in, ReadsSettings};
 
 use crate::arrays::{factors_in, offsets_in};

@@ -1,8 +1,8 @@
 -- The net of some blocks alone, what a pit of them is worth, and what parts give.
-use Rattle.std.proofs.Common.{◌≡◌, ℕ, zero, suc, ◌+ℤ◌, ℤ, pos, ◌<◌, ◌≤◌, ◌&&◌, Bool, true, false, All, List, [], ◌∷◌, ◌++◌, nat_lt, cond, inl, inr, length, map, get_or, refl, sym, subst, ap, ◌∙◌, arith}
+use Rattle.std.proofs.Common.{◌≡◌, ℕ, zero, suc, ◌+ℤ◌, ℤ, pos, ◌<◌, ◌≤◌, ◌&&◌, Bool, true, false, All, List, [], ◌∷◌, ◌++◌, nat_lt, cond, length, map, get_or, refl, sym, subst, ap, ◌∙◌, arith}
 use Rattle.std.proofs.lemmas.List.{length-map, get_or-map}
 use Rattle.ordered_group.specs.Amount.{Amount, zero_amount}
-use Rattle.ordered_group.specs.Sets.{worth_in, count_in}
+use Rattle.ordered_group.specs.Sets.{worth_in}
 use Rattle.closure_net.specs.Network.{NetView, net_view, holds_of, IsAscending}
 use Rattle.closure_net.specs.Mine.{IsBest}
 use Rattle.shells.specs.Prices.{PricesView, blocks_of, worth_at}
@@ -11,15 +11,16 @@ use Rattle.engines.proofs.Counted.{count_in-ascending}
 use Rattle.sub_mines.specs.Parts.{every_block}
 use Rattle.sub_mines.specs.Renumbered.{number_in}
 use Rattle.sub_mines.specs.Kept.{IsPartPairs}
-use Rattle.sub_mines.proofs.Kept.{listed, rests_of_pair, pair_of_rests}
+use Rattle.sub_mines.proofs.Kept.{listed}
 use Rattle.sub_mines.proofs.Renumbering.{worth_listed}
 use Rattle.shell_engines.specs.declared.mine_parts.Part.{Part}
 use Rattle.shell_engines.specs.ShellTable.{IsRowOf}
-use Rattle.shell_engines.specs.Parting.{mine_among, IsNetAmong}
+use Rattle.shell_engines.specs.Parting.{IsNetAmong}
 use Rattle.shell_engines.proofs.Parting.{own_list}
-use Rattle.std.proofs.lemmas.Bool.{ltb-true, cases_Bool}
+use Rattle.std.proofs.lemmas.Bool.{ltb-true}
 use Rattle.std.proofs.lemmas.List.Elements.{All-append}
 use Rattle.shell_engines.proofs.Proving.{all_one}
+use Rattle.prec_file.proofs.PairTests.{rests_of_pair, pair_of_rests}
 
 pub net_among_is : (block : ℤ → ℕ → Amount) (pairs less : List (ℕ × ℕ)) (prices : PricesView) (kept : List ℕ) (k : ℕ) (net : NetView) → net ≡ net_view less (map (λ v. block v (length kept)) (map (worth_at prices k) kept)) → IsPartPairs kept pairs less
     → IsNetAmong block pairs prices kept k net

@@ -9,7 +9,7 @@ use Rattle.shells.specs.Series.{SeriesView, mine_at, IsAbove}
 use Rattle.shell_engines.specs.declared.shell_rows.ShellRow.{ShellRow}
 use Rattle.shell_engines.specs.ShellTable.{IsRowOf}
 use Rattle.shell_engines.specs.Settling.{IsSettled}
-use Rattle.shell_engines.specs.Internal.{IsAdded}
+use Rattle.shell_engines.specs.PitsAtFactors.{IsAdded}
 
 -- a factor of an ascending list is above those before it
 pub above_before : (factors done : List ℕ) (i : ℕ) → IsAscending factors → i < length factors → done ≡ take i factors → IsAbove done (get_or factors i 0)

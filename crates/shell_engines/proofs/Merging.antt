@@ -1,16 +1,13 @@
 -- Lists of blocks that grow by one block, and what is held by them.
 use Rattle.std.proofs.lemmas.Bool.{cases_lt}
-use Rattle.std.proofs.Common.{◌≡◌, ℕ, suc, ◌+◌, ◌<◌, ◌≤◌, All, Bool, true, false, ◌==◌, ◌||◌, cond, ℤ, pos, ◌+ℤ◌, List, [], ◌∷◌, ◌++◌, length, map, take, get_or, inl, inr, refl, sym, subst, ap, ◌∙◌, arith}
+use Rattle.std.proofs.Common.{◌≡◌, ℕ, suc, ◌+◌, ◌<◌, ◌≤◌, All, Bool, true, false, ◌==◌, ◌||◌, cond, ℤ, ◌+ℤ◌, List, [], ◌∷◌, ◌++◌, length, map, take, get_or, inl, inr, refl, sym, subst, ap, ◌∙◌, arith}
 use Rattle.std.proofs.lemmas.List.{take_more, map_more, map_push, get_or_default}
 use Rattle.closure_net.specs.Network.{holds_of}
 use Rattle.prec_file.specs.Rests.{passing}
 use Rattle.ordered_group.specs.Sets.{worth_in}
-use Rattle.sub_mines.specs.Parts.{joined, every_block}
+use Rattle.sub_mines.specs.Parts.{every_block}
 use Rattle.shell_engines.specs.Parting.{ArePut}
-
-or_false : (x : Bool) → (x || false) ≡ x
-or_false true = refl
-or_false false = refl
+use Rattle.fixed_worth.proofs.Bits.{or_false}
 
 or_again : (x y z : Bool) → (x || (y || z)) ≡ ((x || y) || z)
 or_again true y z = refl

@@ -1,23 +1,23 @@
 -- A part is parted by the best pit at one of its factors.
-use Rattle.std.proofs.Common.{◌≡◌, ℕ, ◌+◌, ◌<◌, ◌≤◌, All, Bool, true, false, ◌&&◌, ◌||◌, not, IsTrue, List, [], length, map, get_or, inl, inr, refl, sym, subst, ap, ◌∙◌, arith}
+use Rattle.std.proofs.Common.{◌≡◌, ℕ, ◌+◌, ◌<◌, ◌≤◌, All, Bool, true, false, ◌&&◌, ◌||◌, not, List, [], length, map, get_or, refl, sym, subst, ap, ◌∙◌, arith}
 use Rattle.std.proofs.lemmas.List.{get_or-map, length-map}
-use Rattle.prec_file.specs.Rests.{IsRests, has_pair, passing}
+use Rattle.prec_file.specs.Rests.{has_pair, passing}
 use Rattle.closure_net.specs.Network.{holds_of, IsAscending}
 use Rattle.closure_net.specs.Mine.{IsBest}
-use Rattle.closure_net.proofs.Holding.{holds_at, place_of}
-use Rattle.shells.specs.Prices.{PricesView, blocks_of, worth_at, NoneNegative}
+use Rattle.shells.specs.Prices.{PricesView, blocks_of}
 use Rattle.shells.specs.Series.{mine_at}
 use Rattle.shells.proofs.Rising.{mines_rise}
 use Rattle.shells.proofs.Pushes.{mine_is_own}
-use Rattle.sub_mines.specs.Parts.{IsOwn, joined, beside, no_block, every_block}
-use Rattle.sub_mines.specs.Bounds.{IsFloor, IsCeiling}
+use Rattle.sub_mines.specs.Parts.{IsOwn, joined, beside, every_block}
 use Rattle.sub_mines.specs.Renumbered.{IsListed, IsRenumbered, IsImage, number_in}
-use Rattle.sub_mines.specs.Kept.{IsKept, IsPartPairs}
+use Rattle.sub_mines.specs.Kept.{IsKept}
 use Rattle.sub_mines.proofs.Bounds.{between_by_bounds, best_is_floor, best_is_ceiling, none_is_floor, all_is_ceiling}
-use Rattle.sub_mines.proofs.Kept.{listed, list_image, same_rests, same_tests, pair_of_rests, passing_is_kept}
+use Rattle.sub_mines.proofs.Kept.{listed, list_image, same_rests, same_tests, passing_is_kept}
 use Rattle.sub_mines.proofs.Together.{best_by_small_mine}
 use Rattle.shell_engines.specs.declared.mine_parts.Part.{Part}
 use Rattle.shell_engines.specs.Parting.{ArePriced, LiesIn, IsPart, mine_among, IsBestAmong}
+use Rattle.prec_file.proofs.PairTests.{pair_of_rests}
+use Rattle.sub_mines.proofs.Parts.{not_beside}
 
 -- ---- lists of kept blocks
 
@@ -55,11 +55,6 @@ kept_again set inner t n kept xs h k same within =
 -- a list of places keeps what it holds
 pub own_list : (n : ℕ) (xs : List ℕ) → IsAscending xs → All (λ i. i < n) xs → IsKept (holds_of xs) n xs
 own_list n xs h low = record { ascending = h; below = low; are = λ b l. refl }
-
-not_in : (x y : Bool) → (x && not y) ≡ true → y ≡ false
-not_in true false h = refl
-not_in true true h = absurd cc
-not_in false y h = absurd cc
 
 off_true : (x : Bool) → x ≡ false → x ≡ true → ⊥
 off_true x e t = let bad : true ≡ false = sym t ∙ e in cc
@@ -124,7 +119,7 @@ module _ (pairs : List (ℕ × ℕ)) (prices : PricesView) (factors : List ℕ) 
 
   pub inside_kept : IsKept (beside (joined (holds_of low) (holds_of inside)) (holds_of low)) (blocks_of prices) inside
   inside_kept = kept_again (beside part.high (holds_of low)) (holds_of s) (beside (joined (holds_of low) (holds_of inside)) (holds_of low)) (blocks_of prices) kept s part.are_kept (own_list (length kept) s ascending places)
-      (λ i l. lower_test (holds_of low (number_in kept i)) (holds_of inside (number_in kept i)) (not_in (part.high (number_in kept i)) (holds_of low (number_in kept i)) (at_kept i l)) ∙ image.same i l)
+      (λ i l. lower_test (holds_of low (number_in kept i)) (holds_of inside (number_in kept i)) (not_beside (part.high (number_in kept i)) (holds_of low (number_in kept i)) (at_kept i l)) ∙ image.same i l)
       (λ b l t. lower_within (part.high b) (holds_of low b) (holds_of inside b) t
       (λ held. let x = image.only b l held in ap (beside part.high (holds_of low)) (sym x.2) ∙ at_kept x.0 x.1))
 

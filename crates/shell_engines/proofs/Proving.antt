@@ -10,7 +10,7 @@ use Rattle.shells.proofs.OverNets.{net_of_over}
 use Rattle.shell_engines.specs.declared.best_pits.BestPit.{BestPit}
 use Rattle.shell_engines.specs.ShellTable.{IsRowOf}
 use Rattle.shell_engines.specs.Settling.{IsNetAt}
-use Rattle.shell_engines.specs.Internal.{IsBestOf, IsProved}
+use Rattle.shell_engines.specs.PitsAtFactors.{IsBestOf, IsProved}
 
 pub proved_by : (block : ℤ → ℕ → Amount) (pairs : List (ℕ × ℕ)) (prices : PricesView) (k : ℕ) (net : NetView) (best : BestPit) → IsNetAt block pairs prices k net → IsBestOf block net k best → IsProved pairs prices best
 proved_by block pairs prices k net best at is =

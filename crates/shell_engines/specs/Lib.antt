@@ -1,7 +1,7 @@
 pub mod Answering
 pub mod BlockTables
 pub mod Devices
-pub mod Internal
+pub mod PitsAtFactors
 pub mod Parting
 pub mod SeriesTexts
 pub mod Settling

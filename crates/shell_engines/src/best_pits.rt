@@ -6,7 +6,7 @@ ghost use Rattle.settings_file.specs.Values.{AreFactors};
 ghost use Rattle.closure_net.specs.Network.{NetView};
 ghost use Rattle.engines.specs.Certifying.{IsSolution};
 ghost use Rattle.shell_engines.specs.Settling.{IsNetAt};
-ghost use Rattle.shell_engines.specs.Internal.{NoNetStands, IsBestOf, IsProved};
+ghost use Rattle.shell_engines.specs.PitsAtFactors.{NoNetStands, IsBestOf, IsProved};
 
 use crate::no_series::NoSeries;
 use crate::shell_rows::ShellRow;

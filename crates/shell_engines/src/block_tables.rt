@@ -2,7 +2,7 @@
 
 ghost use Rattle.std.specs.Prelude.{IfOk, OnOk};
 ghost use Rattle.shells.specs.Series.{IsSeries};
-ghost use Rattle.shell_engines.specs.Internal.{HasTableIfAsked};
+ghost use Rattle.shell_engines.specs.PitsAtFactors.{HasTableIfAsked};
 
 use bench_report::block_shells_text;
 use shells::Series;

@@ -4,7 +4,7 @@
 ghost use Rattle.std.specs.Prelude.{◌≡◌, ℕ, ◌<◌, ◌≤◌, ◌++◌, ◌∷◌, [], All, List, length, cond, nat_lt, IfOk, OnOk, IfSome};
 ghost use Rattle.settings_file.specs.Values.{AreFactors};
 ghost use Rattle.shells.specs.Prices.{PricesView, blocks_of};
-ghost use Rattle.shell_engines.specs.Internal.{IsProved};
+ghost use Rattle.shell_engines.specs.PitsAtFactors.{IsProved};
 ghost use Rattle.shell_engines.specs.Parting.{ArePriced, AreHalved, IsLeft, IsLevel};
 
 use crate::best_pits::BestPit;

@@ -11,7 +11,7 @@ ghost use Rattle.shells.specs.Prices.{blocks_of, worth_at};
 ghost use Rattle.shells.specs.Series.{mine_at};
 ghost use Rattle.sub_mines.specs.Parts.{joined, beside, every_block};
 ghost use Rattle.sub_mines.specs.Renumbered.{number_in};
-ghost use Rattle.shell_engines.specs.Internal.{IsProved};
+ghost use Rattle.shell_engines.specs.PitsAtFactors.{IsProved};
 ghost use Rattle.shell_engines.specs.Parting.{ArePut};
 
 use crate::best_pits::BestPit;

@@ -8,7 +8,7 @@ ghost use Rattle.prec_file.specs.Rests.{passing};
 ghost use Rattle.closure_net.specs.Network.{IsAscending};
 ghost use Rattle.shells.specs.Prices.{PricesView, blocks_of, worth_at};
 ghost use Rattle.sub_mines.specs.Parts.{every_block};
-ghost use Rattle.shell_engines.specs.Internal.{IsBestOf};
+ghost use Rattle.shell_engines.specs.PitsAtFactors.{IsBestOf};
 ghost use Rattle.shell_engines.specs.Parting.{ArePriced, IsPart, IsNetAmong, IsBestAmong, AreHalved};
 
 use crate::best_pits::{BestPit, best_of};

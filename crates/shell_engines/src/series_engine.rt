@@ -6,7 +6,7 @@ ghost use Rattle.shell_engines.specs.Devices.{ForSeries, InputsCanCount, Outputs
 ghost use Rattle.shell_engines.specs.ShellTable.{IsLineOf};
 ghost use Rattle.shell_engines.specs.SeriesTexts.{IsSeriesRead};
 ghost use Rattle.shell_engines.specs.Shells.{AnswersShells, ShellsFail, Shells};
-ghost use Rattle.shell_engines.specs.Internal.{IsWant, TellsWhy, IsFaultOf};
+ghost use Rattle.shell_engines.specs.PitsAtFactors.{IsWant, TellsWhy, IsFaultOf};
 
 use crate::block_tables::table_if_asked;
 use crate::no_series::NoSeries;

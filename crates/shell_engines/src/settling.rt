@@ -6,7 +6,7 @@ ghost use Rattle.ordered_group.specs.Block.{scaled_block};
 ghost use Rattle.settings_file.specs.Values.{AreFactors};
 ghost use Rattle.shells.specs.Series.{IsAbove, rests_in};
 ghost use Rattle.shell_engines.specs.Settling.{IsSettled, NoSeriesStands};
-ghost use Rattle.shell_engines.specs.Internal.{IsAdded, IsProved};
+ghost use Rattle.shell_engines.specs.PitsAtFactors.{IsAdded, IsProved};
 
 use crate::best_pits::{BestPit, best_in, best_of, net_at};
 use crate::halving::found_beside;

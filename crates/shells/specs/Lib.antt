@@ -1,5 +1,5 @@
 pub mod FaultText
-pub mod Internal
+pub mod HeldSeries
 pub mod Nesting
 pub mod Prices
 pub mod Series

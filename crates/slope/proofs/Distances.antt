@@ -5,7 +5,7 @@ use Rattle.std.proofs.lemmas.Bool.{cases_lt}
 use Rattle.std.proofs.Math.Nat.{mul_comm, mul-mul-mul_comm, mul-le-mul_left, div-lt_iff_lt-mul}
 use Rattle.slope.specs.Offsets.{Offset}
 use Rattle.slope.specs.Patterns.{IsNear, square}
-use Rattle.slope.specs.Internal.{IsLevel}
+use Rattle.slope.specs.Gathering.{IsLevel}
 
 -- what the test of a distance computes has 64 bits
 pub distance_fits : (r a b : ℕ) → r ≤ 1000 → a ≤ 1000000 → b ≤ 1000000 → r * r * (a * a + b * b) < 2 ^ 64

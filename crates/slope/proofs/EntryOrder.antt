@@ -10,7 +10,7 @@ use Rattle.std.proofs.lemmas.List.Elements.{All-from_recursion}
 use Rattle.blocks_file.specs.Denotes.{BlocksView}
 use Rattle.prec_file.proofs.Sorting.{then_tie}
 use Rattle.slope.specs.Offsets.{Before}
-use Rattle.slope.specs.Internal.{Entry, entry_at, entry_of, AreEntries, AreEntriesOf, AreInOrder, BeforeEntry, IsRepeatAt}
+use Rattle.slope.specs.Gathering.{Entry, entry_at, entry_of, AreEntries, AreEntriesOf, AreInOrder, BeforeEntry, IsRepeatAt}
 use Rattle.slope.proofs.OffsetSorting.{offset_cmp, offset_eq, offset_ties, offset_same, offsets_total, before, before_itself, before_trans}
 
 abbrev pub entry_cmp : Entry → Entry → Ordering

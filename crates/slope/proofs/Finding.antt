@@ -8,7 +8,7 @@ use Rattle.blocks_file.specs.Denotes.{BlocksView}
 use Rattle.slope.specs.Places.{place_of, AreApartBelow}
 use Rattle.slope.specs.Offsets.{Offset, Before, IsRising}
 use Rattle.slope.specs.Slopes.{upward, offset_between}
-use Rattle.slope.specs.Internal.{place_key, IsIndex, IsFinding}
+use Rattle.slope.specs.Gathering.{place_key, IsIndex, IsFinding}
 use Rattle.slope.specs.declared.up.Up.{Up}
 use Rattle.slope.specs.declared.up.Up.TheVariants.{PlusZ, MinusZ}
 use Rattle.slope.proofs.OffsetSorting.{before_itself}

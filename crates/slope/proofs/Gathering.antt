@@ -5,7 +5,7 @@ use Rattle.std.proofs.lemmas.List.{get_or_default}
 use Rattle.std.proofs.lemmas.List.Elements.{Contains-append_left, Contains-push, Contains-push_cases, All-contains_itself, All-weaker}
 use Rattle.std.proofs.lemmas.List.Quantifiers.{all_pairs_push}
 use Rattle.slope.specs.Lists.{AreMoreThan}
-use Rattle.slope.specs.Internal.{Collects}
+use Rattle.slope.specs.Gathering.{Collects}
 
 module _ {X : Type 0} (P Q : X → Type 0) (xs : List X) (c : Collects P xs) where
   -- the same elements, by another property

@@ -4,7 +4,7 @@ use Rattle.std.specs.List.Sorted.{IsBinarySearchResult, IsSearchInRange}
 use Rattle.std.specs.Ordering.{is_eq}
 use Rattle.std.proofs.lemmas.Bool.{cases_lt}
 use Rattle.slope.specs.Offsets.{Offset, Before, IsRising}
-use Rattle.slope.specs.Internal.{IsEndOrBelow, IsStartOrAbove, IsFinding}
+use Rattle.slope.specs.Gathering.{IsEndOrBelow, IsStartOrAbove, IsFinding}
 use Rattle.slope.proofs.OffsetSorting.{offset_cmp, offset_ties, offset_same, before_itself, before_trans}
 use Rattle.slope.proofs.OffsetFinding.{offset_found}
 

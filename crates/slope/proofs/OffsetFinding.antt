@@ -1,5 +1,5 @@
 -- Finding an offset among those of a pattern.
-use Rattle.std.proofs.Common.{◌≡◌, ◌↔◌, Bool, true, false, IsTrue, ℕ, ◌≤◌, ◌<ℤ◌, inl, inr, List, length, get_or, Result, Ok, Err, MatchResult, Contains, sym, refl, ap, ◌∙◌, arith, Ordering}
+use Rattle.std.proofs.Common.{◌≡◌, ◌↔◌, Bool, IsTrue, ℕ, ◌≤◌, ◌<ℤ◌, inl, inr, List, length, get_or, Result, Ok, Err, MatchResult, Contains, sym, refl, ap, ◌∙◌, arith, Ordering}
 use Rattle.std.specs.declared.cmp.Ordering.TheVariants.{Less, Equal, Greater}
 use Rattle.std.specs.Ordering.{MatchOrdering, ordering_then, ordering_reverse, ordering_index, int_cmp, is_eq}
 use Rattle.std.specs.Result.{is_ok}
@@ -9,7 +9,7 @@ use Rattle.std.proofs.lemmas.Int.{ints}
 use Rattle.std.proofs.lemmas.Bool.{cases_lt}
 use Rattle.std.proofs.lemmas.List.Sorted.{IsNonDecreasingBy-from_default}
 use Rattle.slope.specs.Offsets.{Offset, Before, IsRising}
-use Rattle.slope.proofs.OffsetSorting.{offset_cmp, offset_ties, offset_same, offsets_total}
+use Rattle.slope.proofs.OffsetSorting.{offset_cmp, offset_ties, offset_same, offsets_total, clash}
 
 -- the order of two offsets by that of their numbers
 less_from : (x y : Offset) (o p q : Ordering) → MatchOrdering o (x.0 <ℤ y.0) (x.0 ≡ y.0) (y.0 <ℤ x.0) → MatchOrdering p (x.1 <ℤ y.1) (x.1 ≡ y.1) (y.1 <ℤ x.1) → MatchOrdering q (x.2 <ℤ y.2) (x.2 ≡ y.2) (y.2 <ℤ x.2) → Before x y → ordering_then (ordering_then o p) q ≡ Less
@@ -70,10 +70,6 @@ offset_found os t (Err i) within h rising = λ c.
       | inl below ↦ not_less t (ap (λ y. offset_cmp y t) (sym c.2) ∙ point.0 c.0 t (omega arith) below)
       | inr above ↦ not_greater t (ap (λ y. offset_cmp y t) (sym c.2) ∙ point.1 c.0 t (omega (arith, above)) c.1)
     ]
-
-clash : (b : Bool) → b ≡ true → b ≡ false → ⊥
-clash true k e = absurd cc
-clash false k e = absurd cc
 
 -- whether one was found says whether it is among them
 pub found_decides : (os : List Offset) (t : Offset) (r : Result ℕ ℕ) (b : Bool) → IsSearchInRange r (length os) → IsBinarySearchResult (λ y. offset_cmp y t) os r → IsRising os → b ≡ is_ok r → IsTrue b ↔ Contains os t

@@ -43,7 +43,7 @@ offset_same x y h =
     let d = same_number x.2 y.2 p.1 in
     λ i. (a i, b i, d i)
 
-clash : (b : Bool) → b ≡ true → b ≡ false → ⊥
+pub clash : (b : Bool) → b ≡ true → b ≡ false → ⊥
 clash true k e = absurd cc
 clash false k e = absurd cc
 

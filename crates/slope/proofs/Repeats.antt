@@ -6,7 +6,7 @@ use Rattle.blocks_file.specs.Denotes.{BlocksView}
 use Rattle.slope.specs.Offsets.{Offset, Before}
 use Rattle.slope.specs.Places.{place_of}
 use Rattle.slope.specs.Slopes.{IsFirstRepeat}
-use Rattle.slope.specs.Internal.{Entry, entry_at, entry_of, place_key, AreEntriesOf, AreInOrder, IsRepeatAt, HaveNoRepeat, IsEarliestAmong, IsEarliestRepeat, IsEarlierRepeat, IsIndex}
+use Rattle.slope.specs.Gathering.{Entry, entry_at, entry_of, place_key, AreEntriesOf, AreInOrder, IsRepeatAt, HaveNoRepeat, IsEarliestAmong, IsEarliestRepeat, IsEarlierRepeat, IsIndex}
 use Rattle.slope.proofs.OffsetSorting.{before_itself}
 use Rattle.slope.proofs.EntryOrder.{neighbours}
 use Rattle.slope.proofs.Finding.{key_same}

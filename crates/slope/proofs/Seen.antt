@@ -6,7 +6,7 @@ use Rattle.slope.specs.Places.{place_of}
 use Rattle.slope.specs.Slopes.{offset_between}
 use Rattle.slope.specs.declared.sight.Sight.{Sight}
 use Rattle.slope.specs.declared.sight.Sight.TheVariants as sight
-use Rattle.slope.specs.Internal.{SurroundingsView, AreSeen, IsSight, StandsAt, StandsNone, offset_at}
+use Rattle.slope.specs.Gathering.{SurroundingsView, AreSeen, IsSight, StandsAt, StandsNone, offset_at}
 
 pub seen_more : (v : SurroundingsView) (keys : List Offset) (blocks : List ℕ) (seen : List Sight) (i : ℕ) (s : Sight) → AreSeen v keys blocks seen → i < length v.offsets → IsSight v i s → AreSeen v keys blocks (set seen i s)
 seen_more v keys blocks seen i s h l k =

@@ -12,7 +12,7 @@ use Rattle.slope.specs.Offsets.{Offset}
 use Rattle.slope.specs.Places.{place_of}
 use Rattle.slope.specs.Slopes.{upward, offset_between, IsSelected, LeadsOver}
 use Rattle.slope.specs.declared.selection.Selection.TheVariants.{Reduced}
-use Rattle.slope.specs.Internal.{offset_at, rest_after, IsFirstStep, AreFirstSteps, AreStepsOfEach, SurroundingsView, ArePlacesOf, StandsAt, StandsNone, StandsAtSome, StandsAtNone}
+use Rattle.slope.specs.Gathering.{offset_at, rest_after, IsFirstStep, AreFirstSteps, AreStepsOfEach, SurroundingsView, ArePlacesOf, StandsAt, StandsNone, StandsAtSome, StandsAtNone}
 use Rattle.slope.specs.declared.up.Up.{Up}
 use Rattle.slope.specs.declared.up.Up.TheVariants.{PlusZ, MinusZ}
 use Rattle.slope.proofs.PairSteps.{slope_at}

@@ -5,4 +5,4 @@ pub mod Places
 pub mod Slopes
 pub mod Closing
 pub mod FaultText
-pub mod Internal
+pub mod Gathering

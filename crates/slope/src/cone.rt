@@ -3,7 +3,7 @@
 
 ghost use Rattle.std.specs.Prelude.{◌≡◌, ◌≤◌, ◌<◌, ◌+◌, ◌++◌, ◌∷◌, ◌+ℤ◌, ◌-ℤ◌, [], pos, IsTrue, ◌↔◌, MatchResult, length, unsigned_abs};
 ghost use Rattle.slope.specs.Patterns.{IsInCone, IsNear, ConeFaultStands};
-ghost use Rattle.slope.specs.Internal.{Collects, IsLevel, IsBelowLevel, IsBelowRow, RefusalStands};
+ghost use Rattle.slope.specs.Gathering.{Collects, IsLevel, IsBelowLevel, IsBelowRow, RefusalStands};
 
 use crate::PatternFault;
 use crate::pattern::{MOST_CONE_NUMBER, MOST_OFFSETS};

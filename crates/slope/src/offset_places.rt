@@ -4,7 +4,7 @@ ghost use Rattle.std.specs.Prelude.{◌≡◌, ◌≢◌, ◌≤◌, ◌^◌, �
 ghost use Rattle.std.specs.Int.{w32};
 ghost use Rattle.blocks_file.specs.declared.place.Place.{Place as Spot};
 ghost use Rattle.slope.specs.Slopes.{upward, offset_between};
-ghost use Rattle.slope.specs.Internal.{IsPlace};
+ghost use Rattle.slope.specs.Gathering.{IsPlace};
 
 use crate::Up;
 use blocks_file::Place;

@@ -4,7 +4,7 @@ ghost use Rattle.std.specs.Prelude.{◌≡◌, ◌≢◌, ℕ, ◌<◌, ◌≤�
 ghost use Rattle.slope.specs.Places.{place_of};
 ghost use Rattle.slope.specs.Slopes.{offset_between};
 ghost use Rattle.slope.specs.Offsets.{IsRising};
-ghost use Rattle.slope.specs.Internal.{IsEndOrBelow, IsStartOrAbove, IsFinding, IsIndex};
+ghost use Rattle.slope.specs.Gathering.{IsEndOrBelow, IsStartOrAbove, IsFinding, IsIndex};
 
 use crate::Up;
 use crate::offset_places::place_at;

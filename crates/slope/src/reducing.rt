@@ -5,7 +5,7 @@ ghost use Rattle.std.specs.Prelude.{◌≡◌, ◌<◌, ◌+◌, MatchResult, le
 ghost use Rattle.slope.specs.Offsets.{IsPattern};
 ghost use Rattle.slope.specs.Places.{AreApartBelow};
 ghost use Rattle.slope.specs.Slopes.{IsSelected};
-ghost use Rattle.slope.specs.Internal.{ArePlacesOf, AreListedBelow, AreStepsOfEach, Collects, IsIndex, PairFaultStands};
+ghost use Rattle.slope.specs.Gathering.{ArePlacesOf, AreListedBelow, AreStepsOfEach, Collects, IsIndex, PairFaultStands};
 
 use crate::place_index::PlaceIndex;
 use crate::slope_pairs::add;

@@ -2,7 +2,7 @@
 
 ghost use Rattle.std.specs.Prelude.{◌≡◌, ◌<◌, ◌⊎◌, true, false, All, MatchOption, MatchResult, length};
 ghost use Rattle.slope.specs.Places.{place_of};
-ghost use Rattle.slope.specs.Internal.{ArePlacesOf, AreFirstSteps, IsIndex, StandsAt, StandsNone, StandsAtSome, StandsAtNone, offset_at};
+ghost use Rattle.slope.specs.Gathering.{ArePlacesOf, AreFirstSteps, IsIndex, StandsAt, StandsNone, StandsAtSome, StandsAtNone, offset_at};
 
 use crate::guesses::Guesses;
 use crate::place_index::PlaceIndex;
@@ -26,7 +26,7 @@ pub(crate) struct Surroundings<'a> {
 }
 
 impl<'a> Model for Surroundings<'a> {
-    ghost use Rattle.slope.specs.Internal.{SurroundingsView, AreSeen};
+    ghost use Rattle.slope.specs.Gathering.{SurroundingsView, AreSeen};
 
     ghost Value = { SurroundingsView };
 

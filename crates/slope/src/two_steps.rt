@@ -4,7 +4,7 @@
 ghost use Rattle.std.specs.Prelude.{◌≡◌, ◌↔◌, ◌≤◌, ◌-ℤ◌, IfOk, IsTrue, Contains, length};
 ghost use Rattle.slope.specs.declared.pattern.TheConstants.{MOST_OFFSETS};
 ghost use Rattle.slope.specs.Offsets.{IsRising};
-ghost use Rattle.slope.specs.Internal.{AreFirstSteps, AreStepsOfEach, rest_after};
+ghost use Rattle.slope.specs.Gathering.{AreFirstSteps, AreStepsOfEach, rest_after};
 
 use std::alloc::{AllocError, Global};
 

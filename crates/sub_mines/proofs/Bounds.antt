@@ -1,12 +1,12 @@
 -- What bounds the best pit of a mine: a pit known beforehand, and the best pits of mines that are worth less and more.
-use Rattle.std.proofs.Common.{◌≡◌, ℕ, Bool, true, false, ◌&&◌, ◌||◌, IsTrue, sym, refl, ap, ◌∙◌, arith}
+use Rattle.std.proofs.Common.{◌≡◌, ℕ, Bool, true, false, ◌&&◌, ◌||◌, sym, refl, ap, ◌∙◌, arith}
 use Rattle.std.proofs.lemmas.Int.{ints}
 use Rattle.std.proofs.lemmas.Bool.{and_from, or_left}
 use Rattle.ordered_group.specs.Sets.{worth_in, count_in}
 use Rattle.ordered_group.proofs.BlockSets.{worth_in-same, count_in-same, count_in-within, worth_of_two, lead_rises}
 use Rattle.sub_mines.proofs.BlockSets.{count_of_two}
 use Rattle.closure_net.specs.Mine.{Mine, IsPit, worth_of, count_of, AreSame, IsBest, LiesWithin, RisesTo}
-use Rattle.closure_net.proofs.BestPits.{union_is_pit, intersection_is_pit}
+use Rattle.closure_net.proofs.BestPits.{union_is_pit, intersection_is_pit, pit_of_later, pit_of_earlier}
 use Rattle.ordered_group.proofs.Totals.{within_first, within_second}
 use Rattle.sub_mines.specs.Parts.{joined, shared, no_block, every_block, IsAsGood, LiesBetween}
 use Rattle.sub_mines.specs.Bounds.{IsFloor, IsCeiling}
@@ -89,12 +89,6 @@ all_is_ceiling mine = record { is_pit = λ b p r t. refl; within_it = λ d p. as
     whole false = refl
 
 -- ---- the best pits where worths rise
-
-pit_of_later : (mine later : Mine) (e : ℕ → Bool) → RisesTo mine later → IsPit mine e → IsPit later e
-pit_of_later mine later e r h b p t = let i : IsTrue (mine.rests b p) = sym (r.rests b p) ∙ t in h b p i
-
-pit_of_earlier : (mine later : Mine) (e : ℕ → Bool) → RisesTo mine later → IsPit later e → IsPit mine e
-pit_of_earlier mine later e r h b p t = let i : IsTrue (later.rests b p) = r.rests b p ∙ t in h b p i
 
 -- over the same number of blocks
 later_worth : (mine later : Mine) (e : ℕ → Bool) → RisesTo mine later → worth_of later e ≡ worth_in later.worth e mine.blocks

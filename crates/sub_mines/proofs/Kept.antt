@@ -1,10 +1,8 @@
 -- The blocks of a set as a list, their pairs, and lists of them.
-use Rattle.std.proofs.Common.{◌≡◌, ℕ, ◌<◌, All, Bool, true, false, IsTrue, List, length, map, get_or, inl, inr, refl, sym, subst, ap, ◌∙◌, arith}
+use Rattle.std.proofs.Common.{◌≡◌, ℕ, ◌<◌, All, Bool, true, false, List, length, map, get_or, inl, inr, refl, sym, subst, ap, ◌∙◌, arith}
 use Rattle.std.specs.Prelude.{◌==◌, ◌&&◌}
-use Rattle.std.specs.List.{Contains}
-use Rattle.std.proofs.lemmas.Bool.{eqb-true, eq-eqb, and_parts, and_from, cases_order}
+use Rattle.std.proofs.lemmas.Bool.{cases_order}
 use Rattle.std.proofs.lemmas.List.{get_or-map, length-map}
-use Rattle.std.proofs.lemmas.List.Folds.{Any-from_list_any, list_any-from_Any}
 use Rattle.closure_net.specs.Network.{holds_of, IsAscending}
 use Rattle.closure_net.proofs.Holding.{holds_at, place_of}
 use Rattle.prec_file.specs.Rests.{has_pair, passing}
@@ -12,6 +10,7 @@ use Rattle.prec_file.proofs.Passing.{passing_at, passing_here, passing_after}
 use Rattle.closure_net.proofs.Reach.{ascends, passing_known}
 use Rattle.sub_mines.specs.Renumbered.{IsListed, IsImage, number_in}
 use Rattle.sub_mines.specs.Kept.{IsKept, IsPartPairs}
+use Rattle.prec_file.proofs.PairTests.{rests_of_pair, pair_of_rests}
 
 -- ---- the list
 
@@ -22,18 +21,6 @@ listed set n kept h = record {
   rising = λ i j l k. h.ascending i j l k;
   all = λ b l t. place_of kept b (h.are b l ∙ t);
 }
-
--- ---- the pairs (as in shells/proofs/OverNets.antt)
-
-pub rests_of_pair : (pairs : List (ℕ × ℕ)) (b p : ℕ) → Contains pairs (b, p) → IsTrue (has_pair pairs b p)
-rests_of_pair pairs b p c = list_any-from_Any (λ (q : ℕ × ℕ). (q.0 == b) && (q.1 == p)) pairs (c.0, (b, p), c.1, c.2, and_from (b == b) (p == p) (eq-eqb b b refl) (eq-eqb p p refl))
-
-pub pair_of_rests : (pairs : List (ℕ × ℕ)) (b p : ℕ) → IsTrue (has_pair pairs b p) → Contains pairs (b, p)
-pair_of_rests pairs b p held =
-    let some = Any-from_list_any (λ (q : ℕ × ℕ). (q.0 == b) && (q.1 == p)) pairs held in
-    let parts = and_parts (some.1.0 == b) (some.1.1 == p) some.4 in
-    let same : some.1 ≡ (b, p) = λ i. (eqb-true some.1.0 b parts.0 i, eqb-true some.1.1 p parts.1 i) in
-    subst (Contains pairs) same (some.0, some.2, some.3)
 
 pub same_tests : (x y : Bool) → (x ≡ true → y ≡ true) → (y ≡ true → x ≡ true) → x ≡ y
 same_tests true y h k = sym (h refl)

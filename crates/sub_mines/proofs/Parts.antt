@@ -5,7 +5,7 @@ use Rattle.std.proofs.lemmas.Bool.{and_parts, and_from, or_cases, or_left, or_ri
 use Rattle.ordered_group.specs.Sets.{worth_in, count_in}
 use Rattle.ordered_group.proofs.BlockSets.{worth_in-same, count_in-same, count_in-within}
 use Rattle.closure_net.specs.Mine.{Mine, IsPit, worth_of, count_of, AreSame, IsBest, LiesWithin}
-use Rattle.closure_net.proofs.BestPits.{best_from_fewest}
+use Rattle.closure_net.proofs.BestPits.{best_from_fewest, agree}
 use Rattle.sub_mines.specs.Parts.{IsOwn, joined, shared, beside, part, LiesBetween}
 
 -- ---- of best pits
@@ -43,11 +43,6 @@ not_beside true true h = absurd cc
 not_beside false y h = absurd cc
 
 -- two tests that can't differ agree
-pub agree : (s t : Bool) → ¬ (¬ (s ≡ t)) → s ≡ t
-agree true true h = refl
-agree true false h = absurd (h (λ e. absurd cc))
-agree false true h = absurd (h (λ e. absurd cc))
-agree false false h = refl
 
 -- ---- sums, block by block
 

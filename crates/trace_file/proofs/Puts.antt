@@ -1,7 +1,6 @@
 -- The text of a trace, put line by line.
-use Rattle.std.proofs.Common.{◌≡◌, ℕ, ◌+◌, ◌<◌, ◌≤◌, List, [], ◌∷◌, ◌++◌, length, get_or, take, drop, Option, Result, Ok, Err, sym, ap, ◌∙◌, subst, append_assoc, add-one}
+use Rattle.std.proofs.Common.{◌≡◌, ℕ, ◌+◌, ◌<◌, ◌≤◌, List, [], ◌∷◌, ◌++◌, length, get_or, take, drop, Option, sym, ap, ◌∙◌, subst, append_assoc, add-one}
 use Rattle.std.specs.Prelude.{All, map, codes}
-use Rattle.std.specs.Result.{OnOk, OnErr}
 use Rattle.std.proofs.Math.Seq.{take-suc}
 use Rattle.std.proofs.lemmas.List.Elements.{All-push}
 use Rattle.std.proofs.lemmas.List.{map-append, take-append-drop, take_all}
@@ -97,10 +96,3 @@ pub all_held : (a b c : Option (List ℕ)) (p q : List ℕ) (es : List Event) (i
 all_held a b c p q es i h held more = subst (SentOrHeld a c q) (ended es i h) (held_more a b c p q (begun (take i es)) (codes "END\n") held more)
 
 -- What holds, holds where there is an error.
-pub on_err : {X Y P : Type 0} (r : Result X Y) → P → OnErr r P
-on_err (Ok x) h = tt
-on_err (Err e) h = h
-
-pub on_ok : {X Y P : Type 0} (r : Result X Y) → P → OnOk r P
-on_ok (Ok x) h = h
-on_ok (Err e) h = tt

@@ -15,6 +15,7 @@ use Rattle.upit_file.specs.declared.upit_fault.UpitFault.TheVariants.{UnknownBlo
 use Rattle.upit_file.specs.Header.{is_end, fields_in}
 use Rattle.upit_file.specs.Body.{block_of, value_of, shape_fault, block_fault, record_fault, is_record_of, has_record, value_among, first_fault, before_end}
 use Rattle.fixed_worth.proofs.NextLine.{line, short, Next, next_is}
+use Rattle.fixed_worth.proofs.Bits.{or_true}
 
 -- What has been read, and what is left.
 pub record Kept (n : ℕ) (all : List Line) (seen : List Bool) (values : List ℤ) (left : Left) : Type 0 where
@@ -97,10 +98,6 @@ fault_none : (n : ℕ) (had : ℕ → Bool) (k block : ℕ) → block_fault n ha
 fault_none n had k block h true e u f = absurd (let q : Some (UnknownBlock k) ≡ None = sym (rw e refl) ∙ h in cc)
 fault_none n had k block h false e true f = absurd (let q : Some (Repeated k) ≡ None = sym (rw (e, f) refl) ∙ h in cc)
 fault_none n had k block h false e false f = (grind (arith, nat_tests), f)
-
-or_true : (x : Bool) → (x || true) ≡ true
-or_true true = refl
-or_true false = refl
 
 mark_at : (seen : List Bool) (before : List Line) (block b : ℕ) (l : Line) → block < length seen → get_or seen b false ≡ has_record before b → is_record_of b (fields_in l) ≡ eqb block b → (t : Bool) → eqb block b ≡ t → get_or (set seen block true) b false ≡ has_record (before ++ l ∷ []) b
 mark_at seen before block b l i h r true e =

@@ -8,7 +8,7 @@ use Rattle.fixed_worth.specs.Decimal.{first_decimal, decimal_of}
 use Rattle.fixed_worth.proofs.FirstNumbers.{first_is, no_field, number_no_remark}
 use Rattle.fixed_worth.proofs.FirstAmounts.{first_amount_is}
 use Rattle.upit_file.specs.declared.record.Record.TheVariants.{Value}
-use Rattle.upit_file.specs.Internal.{IsRecord}
+use Rattle.upit_file.specs.BodyRecord.{IsRecord}
 
 record_of_two : (line block : ℕ) (value : ℤ) (f g : List ℕ) → reads f ≡ true → number_of f ≡ block → Ok value ≡ decimal_of g → IsRecord line (f ∷ g ∷ []) (Value block value)
 record_of_two line block value f g good is read =

@@ -21,6 +21,7 @@ use Rattle.fixed_worth.proofs.Powers.{rounds_up}
 use Rattle.fixed_worth.proofs.Joined.{all_pass_weaker, Breaks, place_of_break}
 use Rattle.fixed_worth.proofs.PrintedDigits.{trimmed_digits, zeros_digits}
 use Rattle.fixed_worth.proofs.WrittenNumbers.{decimal_digits, value_of-decimal}
+use Rattle.fixed_worth.proofs.FirstAmounts.{no_point}
 
 -- ---- a fraction
 
@@ -142,10 +143,6 @@ digit_no_mark : (b : ℕ) → is_digit b ≡ true → not (is_mark b) ≡ true
 unfolding is_mark
 digit_no_mark b h = grind (arith, nat_tests)
 
-digit_no_point : (b : ℕ) → is_digit b ≡ true → not (is_point b) ≡ true
-unfolding is_point
-digit_no_point b h = grind (arith, nat_tests)
-
 no_place : (p : ℕ → Bool) (w : List ℕ) → list_all (λ b. not (p b)) w ≡ true → position_or_len p w ≡ length w
 no_place p w h = ap (position_or_len p) (sym (append-nil w)) ∙ place_of_break p w [] h tt
 
@@ -194,7 +191,7 @@ parts_are s t d ds g h k =
     let at : position_or_len is_mark (sign_text s ++ ((d ∷ ds) ++ pointed t g)) ≡ length (sign_text s ++ ((d ∷ ds) ++ pointed t g)) = no_place is_mark text (no_marks s t (d ∷ ds) g h k) in
     let all : before_first is_mark text ≡ text = ap (λ n. take n text) at ∙ take-length text in
     let mantissa : mantissa_of text ≡ (d ∷ ds) ++ pointed t g = ap unsigned_of all ∙ unsigned_so s d (ds ++ pointed t g) first in
-    let point : position_or_len is_point ((d ∷ ds) ++ pointed t g) ≡ length (d ∷ ds) = place_of_break is_point (d ∷ ds) (pointed t g) (all_pass_weaker is_digit (λ b. not (is_point b)) digit_no_point (d ∷ ds) h) (breaks_at_point t g) in
+    let point : position_or_len is_point ((d ∷ ds) ++ pointed t g) ≡ length (d ∷ ds) = place_of_break is_point (d ∷ ds) (pointed t g) (all_pass_weaker is_digit (λ b. not (is_point b)) no_point (d ∷ ds) h) (breaks_at_point t g) in
     record {
       mark = (let n = length text in let l : nat_lt (length text) (length text) ≡ false = grind (arith, nat_tests) in ap (λ i. nat_lt i (length text)) at ∙ l);
       exponent = ap (λ i. drop (i + 1) text) at ∙ drop_all (length text + 1) text (omega arith);

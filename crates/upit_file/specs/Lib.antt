@@ -4,4 +4,4 @@ pub mod Records
 pub mod FaultText
 pub mod Writing
 pub mod RoundTrip
-pub mod Internal
+pub mod BodyRecord

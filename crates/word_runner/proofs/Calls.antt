@@ -1,17 +1,19 @@
 -- What the four operations write is what the step writes.
 use Rattle.std.proofs.Common.{◌≡◌, ◌≢◌, ℕ, ◌+◌, ◌-◌, ◌%◌, ◌<◌, ◌^◌, ◌++◌, ◌∷◌, [], get_or, refl, ap, sym, ◌∙◌, subst, arith}
 use mathlib.Core.Option.{none}
-use Rattle.atomic_table.specs.Table.{Me, Allows, step}
+use Rattle.atomic_table.specs.Table.{Allows, step}
 use Rattle.closure_net.specs.Network.{NetView}
 use Rattle.closure_net.specs.declared.port.PortKind.{PortKind}
 use Rattle.closure_net.specs.declared.port.PortKind.TheVariants.{Sink, Forward, Backward, Source}
 use Rattle.machine_law.specs.declared.operations.Operation.{Operation}
 use Rattle.machine_law.specs.declared.operations.Operation.TheVariants.{Idle, Scan, PushDue, TakeDue, GiveDue, RaiseDue}
 use Rattle.word_runner.specs.declared.view.View.{View}
-use Rattle.word_runner.specs.Words.{Ruled, Sat, after, stopped_after, labels_after, event_of, width, word_of, written, push_units, push_written, turned, turned_so, block_of, IsPlaced}
-use Rattle.word_runner.specs.Tells.{IsNextAt, HasTurned, Reads, Adds, Subtracts, Stores}
+use Rattle.word_runner.specs.Layout.{width}
+use Rattle.word_runner.specs.StepWords.{after, written, push_units, push_written}
+use Rattle.word_runner.specs.Views.{Ruled}
+use Rattle.word_runner.specs.Turns.{Sat, stopped_after, labels_after, event_of, turned, turned_so, block_of}
+use Rattle.word_runner.specs.Seats.{IsNextAt, Reads, Adds, Subtracts, Stores}
 use Rattle.word_runner.proofs.Writes.{Fits, push_fits}
-use Rattle.word_runner.proofs.SeatViews.{block_is}
 use Rattle.word_runner.proofs.KeepsRule.{turns}
 
 reads : (o : Operation ℕ) (x : ℕ) → Reads o → x ≡ written o x

@@ -1,5 +1,5 @@
 -- A worth that is cut.
-use Rattle.std.proofs.Common.{inl, inr, ⊎_elim, ◌≡◌, ℕ, pos, ◌-ℤ◌, ◌<ℤ◌, ◌≤ℤ◌, ◌⊎◌, ◌+◌, ◌<◌, ◌^◌, List, [], ◌∷◌, ◌++◌, map, length, get_or, ap, ap₂, sym, ◌∙◌, subst, arith}
+use Rattle.std.proofs.Common.{inl, inr, ◌≡◌, ℕ, pos, ◌-ℤ◌, ◌<ℤ◌, ◌≤ℤ◌, ◌⊎◌, ◌+◌, ◌<◌, ◌^◌, List, [], ◌∷◌, ◌++◌, map, length, get_or, ap, ap₂, sym, ◌∙◌, subst, arith}
 use Rattle.std.proofs.lemmas.Int.{ints}
 use Rattle.std.specs.Prelude.{FitsSigned}
 use Rattle.std.specs.Int.{w128}
@@ -15,8 +15,8 @@ use Rattle.closure_net.specs.declared.net.NetFault.{NetFault}
 use Rattle.closure_net.specs.declared.net.NetFault.TheVariants.{WrongLength, TooLarge, NoMemory}
 use Rattle.ordered_group.proofs.Totals.{total-same}
 use Rattle.machine_law.specs.Conservation.{all_given}
-use Rattle.word_runner.specs.Words.{units}
-use Rattle.word_runner.specs.Tells.{scaled_parts, IsCut, AreCut, AreWithin, AreGains, IsCutNet, cut_to}
+use Rattle.word_runner.specs.Layout.{units}
+use Rattle.word_runner.specs.CutNets.{scaled_parts, IsCut, AreCut, AreWithin, AreGains, IsCutNet, cut_to}
 
 pub pushed_all : (P : ℕ → Amount → Type 0) (xs ys : List Scaled) (x : Scaled) (n : ℕ) → ys ≡ xs ++ x ∷ [] → length xs ≡ n → ((j : ℕ) → j < n → P j (amount_at (map scaled_parts xs) j)) → P n (scaled_parts x) → (j : ℕ) → j < n + 1 → P j (amount_at (map scaled_parts ys) j)
 pushed_all P xs ys x n is size old new j l =

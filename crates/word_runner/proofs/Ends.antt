@@ -1,5 +1,5 @@
 -- How runs by seats end.
-use Rattle.std.proofs.Common.{inl, inr, ◌⊎◌, ◌≡◌, ℕ, ◌+◌, ◌<◌, ◌≤◌, Bool, false, List, [], ◌∷◌, ◌++◌, length, refl, ap, sym, ◌∙◌, subst, arith}
+use Rattle.std.proofs.Common.{inl, inr, ◌⊎◌, ◌≡◌, ℕ, ◌+◌, ◌<◌, ◌≤◌, List, [], ◌∷◌, ◌++◌, length, refl, ap, sym, ◌∙◌, subst, arith}
 use Rattle.std.specs.Prelude.{Result, Ok, Err, MatchResult}
 use Rattle.std.proofs.lemmas.List.{length-append, append-nil}
 use Rattle.ordered_group.specs.Amount.{AtMost}
@@ -11,8 +11,12 @@ use Rattle.workers.specs.declared.solving.SolveFault.{SolveFault}
 use Rattle.workers.specs.declared.solving.SolveFault.TheVariants as solve
 use Rattle.word_runner.specs.declared.settle_fault.SettleFault.{SettleFault}
 use Rattle.word_runner.specs.declared.settle_fault.SettleFault.TheVariants.{Unsettled, NoMemory}
-use Rattle.word_runner.specs.Words.{units}
-use Rattle.word_runner.specs.Tells.{Own, WordsView, IsCutNet, made_by, SomeIsBusy, IsQuietRunOf, IsOpenRunOf, IsQuietEnd, IsSettled, EndFaultStands, SettleFaultStands, AreBadWorkers, RunFaultStands, SolveFaultStands, IsSolvedBy}
+use Rattle.word_runner.specs.Layout.{units}
+use Rattle.word_runner.specs.Seats.{Own, WordsView}
+use Rattle.word_runner.specs.CutNets.{IsCutNet}
+use Rattle.word_runner.specs.Openings.{AreNeitherOneNorTwo}
+use Rattle.word_runner.specs.Runs.{made_by, SomeIsBusy, IsQuietRunOf, IsOpenRunOf, IsSettled, SettleFaultStands}
+use Rattle.word_runner.specs.Ends.{IsQuietEnd, EndFaultStands, RunFaultStands, SolveFaultStands, IsSolvedBy}
 
 -- what follows on either side of a result
 pub on_sides : {A B : Type 0} (P R : A → Type 0) (Q S : B → Type 0) (r : Result A B) → ((a : A) → P a → R a) → ((b : B) → Q b → S b) → MatchResult r P Q → MatchResult r R S
@@ -62,7 +66,7 @@ closed_two w xs s t e r h =
     (λ b. elim b [ inl x ↦ (0, s, refl, x) | inr x ↦ (1, t, refl, x) ]) r h)
 
 -- ---- whole runs
-module _ (net cut : NetView) (workers : ℕ) (good : ¬ (AreBadWorkers workers)) (small : AtMost (all_given net) (units 9223372036854775807)) (is_cut : IsCutNet net cut) where
+module _ (net cut : NetView) (workers : ℕ) (good : ¬ (AreNeitherOneNorTwo workers)) (small : AtMost (all_given net) (units 9223372036854775807)) (is_cut : IsCutNet net cut) where
   pub fault_ends : (f : SolveFault) → RunFaultStands cut f → SolveFaultStands net workers f
   fault_ends solve.BadWorkers h = absurd h
   fault_ends solve.Unsettled h = (good, small)

@@ -1,12 +1,8 @@
 -- An operation that is told to be idle.
-use Rattle.std.proofs.Common.{true≢false, [], ◌∷◌, ◌++◌, ◌⊎◌, ◌≡◌, ◌≢◌, ℕ, ◌+◌, ◌%◌, ◌<◌, ◌≤◌, true, refl, ◌∙◌}
-use Rattle.atomic_table.specs.declared.shared.Seat.{Seat}
-use Rattle.atomic_table.specs.declared.shared.Shared.{Shared}
+use Rattle.std.proofs.Common.{◌∷◌, ◌++◌, ◌⊎◌, ◌≡◌, ◌≢◌, ℕ, ◌+◌, ◌%◌, ◌<◌, ◌≤◌, true, refl, ◌∙◌}
 use Rattle.machine_law.specs.declared.operations.Operation.{Operation}
 use Rattle.machine_law.specs.declared.operations.Operation.TheVariants.{Idle, Scan, PushDue, TakeDue, GiveDue, RaiseDue}
-use Rattle.word_runner.specs.declared.table.Rule.{Rule}
-use Rattle.word_runner.specs.Words.{is_idle}
-use Rattle.word_runner.specs.Tells.{IsSeat, IsTold, HasTurned}
+use Rattle.word_runner.specs.Views.{is_idle}
 
 pub free_is : (o : Operation ℕ) → is_idle o ≡ true → o ≡ Idle
 free_is Idle e = refl

@@ -1,5 +1,5 @@
 -- Positive worths in units, and their sum.
-use Rattle.std.proofs.Common.{inl, inr, ◌⊎◌, ◌≡◌, ℕ, pos, ◌<ℤ◌, ◌≤ℤ◌, ◌+◌, ◌<◌, ◌≤◌, ◌^◌, List, length, get_or, refl, ap, ap₂, sym, ◌∙◌, subst, arith}
+use Rattle.std.proofs.Common.{inl, inr, ◌⊎◌, ◌≡◌, ℕ, pos, ◌<ℤ◌, ◌≤ℤ◌, ◌+◌, ◌<◌, ◌≤◌, ◌^◌, List, length, get_or, ap, ap₂, sym, ◌∙◌, arith}
 use Rattle.std.proofs.lemmas.Int.{ints}
 use Rattle.ordered_group.specs.declared.scaled.Scaled.{Scaled}
 use Rattle.ordered_group.specs.Amount.{Amount, AtMost, plus, positive}
@@ -9,9 +9,9 @@ use Rattle.ordered_group.proofs.Signs.{NonNeg-positive}
 use Rattle.ordered_group.proofs.Totals.{total_next, total_term, total_first}
 use Rattle.closure_net.specs.Network.{NetView}
 use Rattle.machine_law.specs.Conservation.{all_given}
-use Rattle.machine_law.proofs.Numbers.{same, equal}
-use Rattle.word_runner.specs.Words.{units, count}
-use Rattle.word_runner.specs.Tells.{scaled_parts, AreGains}
+use Rattle.machine_law.proofs.Numbers.{same}
+use Rattle.word_runner.specs.Layout.{units, count}
+use Rattle.word_runner.specs.CutNets.{scaled_parts, AreGains}
 
 -- one worth is 2^63 units or more
 pub too_much_at : (net : NetView) (b : ℕ) → b < count net → (x : Scaled) → scaled_parts x ≡ positive (amount_at net.worths b) → (x.units <ℤ pos 0) ⊎ (pos 9223372036854775808 ≤ℤ x.units) → AtMost (units 9223372036854775808) (all_given net)

@@ -1,9 +1,9 @@
 -- A turn keeps the rule: one operation on one word is the step of the machine that is next for the block.
-use Rattle.std.proofs.Common.{inl, inr, ◌⊎◌, ◌≡◌, ◌≢◌, ℕ, ◌+◌, ◌<◌, ◌^◌, Bool, true, false, List, [], ◌∷◌, ◌++◌, All, length, get_or, set, get_or-set_same, refl, ap, sym, ◌∙◌, subst, arith}
+use Rattle.std.proofs.Common.{inl, inr, ◌⊎◌, ◌≡◌, ◌≢◌, ℕ, ◌+◌, ◌<◌, ◌^◌, true, List, [], ◌∷◌, ◌++◌, All, length, get_or, set, get_or-set_same, refl, ap, sym, ◌∙◌, subst, arith}
 use Rattle.std.proofs.lemmas.Bool.{cases_eq, ltb-true}
 use mathlib.Core.Option.{none, some}
 use lib.ListN.{get_elem?}
-use Rattle.atomic_table.specs.Table.{State, Me, step, keeps, stepped, Allows}
+use Rattle.atomic_table.specs.Table.{State, step, keeps, stepped, Allows}
 use Rattle.prec_file.specs.Rests.{IsKnown, from_at}
 use Rattle.closure_net.specs.Network.{NetView}
 use Rattle.machine_law.specs.declared.events.Event.{Event}
@@ -19,13 +19,15 @@ use Rattle.machine_law.specs.States as law
 use Rattle.machine_law.specs.States.{put, opening}
 use Rattle.machine_law.specs.Steps.{Step, Run, advance_by, next_of}
 use Rattle.machine_law.specs.Amounts.{IsOperation}
-use Rattle.machine_law.specs.Conservation.{IsWhole}
 use Rattle.machine_law.proofs.Points.{put-same, put-other}
 use Rattle.machine_law.proofs.Law.{runs_keep_law}
 use Rattle.machine_law.proofs.Runs.{run_more}
 use Rattle.machine_law.proofs.Conserved.{runs_conserve}
 use Rattle.word_runner.specs.declared.view.View.{View}
-use Rattle.word_runner.specs.Words.{units, count, Cells, Ruled, Sees, IsOwn, Sat, flow_at, word_of, written, after, operation_at, labels_after, stopped_after, event_of, turned, turned_so, block_of, IsPlaced, CanTurn, capacity_word, push_units, push_written, overfull, RaisesTooFar, SomeFlowIsTooLarge, SomeLabelIsTooLarge, IsLargeBy}
+use Rattle.word_runner.specs.Layout.{units, count, Cells, flow_at}
+use Rattle.word_runner.specs.StepWords.{word_of, written, after, capacity_word, push_units, push_written}
+use Rattle.word_runner.specs.Views.{Ruled, Sees, IsOwn}
+use Rattle.word_runner.specs.Turns.{Sat, stopped_after, event_of, turned, turned_so, IsPlaced, CanTurn, overfull, RaisesTooFar, SomeFlowIsTooLarge, SomeLabelIsTooLarge, IsLargeBy}
 use Rattle.word_runner.proofs.Units.{units_above}
 use Rattle.word_runner.proofs.Shows.{operation_shown, labels_shown, labels_else}
 use Rattle.word_runner.proofs.Writes.{Fits, fits, placed, cells_shown, flow_shown}

@@ -1,12 +1,12 @@
 -- Amounts that are listed one after the other.
-use Rattle.std.proofs.Common.{inl, inr, ◌≡◌, ℕ, ◌+◌, ◌<◌, List, [], ◌∷◌, ◌++◌, map, length, get_or, refl, ap, sym, ◌∙◌, subst, arith, pos}
+use Rattle.std.proofs.Common.{inl, inr, ◌≡◌, ℕ, ◌+◌, ◌<◌, List, [], ◌∷◌, ◌++◌, map, length, get_or, ap, sym, ◌∙◌, arith}
 use Rattle.std.proofs.lemmas.Bool.{cases_eq}
 use Rattle.std.proofs.lemmas.List.{get_or-append-add, get_or_append_left, length-map}
 use mathlib.Core.List.{map-append}
 use Rattle.ordered_group.specs.Amount.{Amount, zero_amount}
 use Rattle.ordered_group.specs.Sums.{amount_at}
 use Rattle.ordered_group.specs.declared.scaled.Scaled.{Scaled}
-use Rattle.word_runner.specs.Tells.{scaled_parts}
+use Rattle.word_runner.specs.CutNets.{scaled_parts}
 
 pub pushed_each : (f : ℕ → Amount) (xs ys : List Scaled) (x : Scaled) (n : ℕ) → ys ≡ xs ++ x ∷ [] → length xs ≡ n → ((j : ℕ) → j < n → amount_at (map scaled_parts xs) j ≡ f j) → scaled_parts x ≡ f n → (j : ℕ) → j < n + 1 → amount_at (map scaled_parts ys) j ≡ f j
 pushed_each f xs ys x n is size old new j l =

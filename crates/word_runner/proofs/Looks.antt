@@ -10,7 +10,9 @@ use Rattle.closure_net.specs.Network.{NetView}
 use Rattle.machine_law.specs.Conservation.{all_given}
 use Rattle.machine_law.proofs.Conserved.{runs_conserve}
 use Rattle.word_runner.specs.declared.view.View.{View}
-use Rattle.word_runner.specs.Words.{Ruled, Sees, IsOwn, IsMadeBy, Sat, looked_up}
+use Rattle.word_runner.specs.Views.{Ruled, Sees, IsOwn, IsMadeBy}
+use Rattle.word_runner.specs.Turns.{Sat}
+use Rattle.word_runner.specs.Halves.{looked_up}
 use Rattle.word_runner.proofs.SeatViews.{seats_set}
 use Rattle.word_runner.proofs.Units.{fits_in}
 

@@ -1,10 +1,10 @@
 -- One or two seats in a list.
-use Rattle.std.proofs.Common.{inl, inr, ◌⊎◌, ◌≡◌, ◌≢◌, ℕ, zero, suc, ◌+◌, ◌<◌, ◌≤◌, List, [], ◌∷◌, ◌++◌, length, ap, sym, ◌∙◌, subst, arith}
-use Rattle.std.proofs.lemmas.List.{length-append, append-nil}
+use Rattle.std.proofs.Common.{◌⊎◌, ◌≡◌, ◌≢◌, ℕ, zero, suc, ◌+◌, ◌<◌, ◌≤◌, List, [], ◌∷◌, ◌++◌, length, ap, sym, ◌∙◌, subst}
 use lib.ListN.{get_elem?}
-use Rattle.machine_law.specs.declared.operations.Operation.TheVariants.{Idle}
 use mathlib.Core.Option.{some, some-injective, some-ne-none}
-use Rattle.word_runner.specs.Tells.{Own, WordsView, IsFirst, AreFirst, IsServed, IsWorker, AreSeats}
+use Rattle.word_runner.specs.Seats.{Own, WordsView, IsServed, IsWorker}
+use Rattle.word_runner.specs.Openings.{IsFirst, AreFirst}
+use Rattle.word_runner.specs.Runs.{AreSeats}
 
 pub served_one : (w : WordsView) (xs : List Own) (s : Own) → xs ≡ s ∷ [] → AreSeats w xs → IsServed w.shared 0 1 s
 served_one w xs s e a =

@@ -1,6 +1,5 @@
 -- The views of the seats, where one of them changes.
-use Rattle.std.proofs.Common.{inl, inr, ◌⊎◌, ⊎_elim, ◌≡◌, ◌≢◌, ◌↔◌, ℕ, ◌+◌, ◌-◌, ◌<◌, ◌==◌, Bool, true, false, cond, List, [], ◌∷◌, ◌++◌, set, sym, refl, ap, ◌∙◌, subst, arith}
-use Rattle.std.specs.List.{filter}
+use Rattle.std.proofs.Common.{inl, inr, ◌⊎◌, ◌≡◌, ◌≢◌, ◌↔◌, ℕ, ◌+◌, ◌-◌, ◌<◌, ◌==◌, Bool, true, false, cond, List, [], ◌∷◌, ◌++◌, set, sym, refl, ap, ◌∙◌, subst, arith}
 use Rattle.std.proofs.lemmas.Bool.{eq-eqb, ne_eqb}
 use Rattle.std.proofs.lemmas.List.Elements.{filter-append}
 use mathlib.Core.Option.{some}
@@ -11,7 +10,10 @@ use Rattle.machine_law.specs.declared.events.Event.{Event}
 use Rattle.machine_law.specs.declared.operations.Operation.{Operation}
 use Rattle.machine_law.specs.declared.operations.Operation.TheVariants.{Idle, Scan, PushDue, TakeDue, GiveDue, RaiseDue}
 use Rattle.word_runner.specs.declared.view.View.{View}
-use Rattle.word_runner.specs.Words.{count, IsOwn, of_block, IsMade, IsMadeBy, operation_at, is_idle, block_of, word_of, CanTurn}
+use Rattle.word_runner.specs.Layout.{count}
+use Rattle.word_runner.specs.StepWords.{word_of}
+use Rattle.word_runner.specs.Views.{IsOwn, of_block, IsMade, IsMadeBy, operation_at, is_idle}
+use Rattle.word_runner.specs.Turns.{block_of, CanTurn}
 
 pub seats_set : (P : ℕ → View → Type 0) (vs : List View) (me : ℕ) (w : View) → P me w → ((j : ℕ) (v : View) → j ≢ me → get_elem? vs j ≡ some v → P j v)
     → (j : ℕ) (v : View) → get_elem? (set vs me w) j ≡ some v → P j v

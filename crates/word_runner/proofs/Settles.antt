@@ -1,5 +1,5 @@
 -- Where the arrivals sum to what is given in all, the words have a greatest flow.
-use Rattle.std.proofs.Common.{◌≡◌, ℕ, pos, ◌-ℤ◌, ◌≤ℤ◌, ◌+◌, ◌%◌, ◌<◌, List, [], ◌∷◌, zero, suc, get_or, length, refl, ap, ap₂, sym, ◌∙◌, subst, arith}
+use Rattle.std.proofs.Common.{◌≡◌, ℕ, pos, ◌-ℤ◌, ◌≤ℤ◌, ◌+◌, ◌%◌, ◌<◌, List, [], ◌∷◌, zero, suc, get_or, refl, ap, ap₂, sym, ◌∙◌, subst, arith}
 use Rattle.std.proofs.lemmas.Int.{ints}
 use mathlib.Core.Option.{some, some-injective, some-ne-none}
 use lib.ListN.{get_elem?}
@@ -20,8 +20,12 @@ use Rattle.machine_law.proofs.Numbers.{same, equal}
 use Rattle.machine_law.proofs.Conserved.{runs_conserve}
 use Rattle.machine_law.proofs.Quiet.{quiet_solves}
 use Rattle.word_runner.specs.declared.view.View.{View}
-use Rattle.word_runner.specs.Words.{units, count, room_at, Ruled}
-use Rattle.word_runner.specs.Tells.{scaled_parts, IsFlowOfWords, AreRooms, IsWorker, IsRunOf, IsQuietEnd, IsOpenRunOf}
+use Rattle.word_runner.specs.Layout.{units, count, room_at}
+use Rattle.word_runner.specs.Views.{Ruled}
+use Rattle.word_runner.specs.Seats.{IsFlowOfWords, IsWorker}
+use Rattle.word_runner.specs.CutNets.{scaled_parts, AreRooms}
+use Rattle.word_runner.specs.Runs.{IsRunOf, IsOpenRunOf}
+use Rattle.word_runner.specs.Ends.{IsQuietEnd}
 
 turned_round : (n s r : Amount) → minus n s ≡ r → s ≡ minus n r
 turned_round n s r e = let h = same e in equal (record { w = omega (arith, ints, h); c = omega (arith, ints, h) })

@@ -1,11 +1,11 @@
 -- The step of the machine that is next for a block, as its word shows it: what the block's operation and the labels become.
-use Rattle.std.proofs.Common.{◌≡◌, ◌≢◌, ℕ, zero, ◌+◌, ◌<◌, Bool, true, false, cond, nat_lt, Option, Some, None, List, All, length, get_or, set, refl, ap, sym, ◌∙◌, subst, arith, get_or-set_other, get_or-set_same}
+use Rattle.std.proofs.Common.{◌≡◌, ◌≢◌, ℕ, ◌+◌, ◌<◌, Bool, true, false, cond, nat_lt, Option, Some, None, List, All, length, get_or, set, refl, ap, sym, ◌∙◌, subst, arith, get_or-set_other, get_or-set_same}
 use Rattle.std.proofs.Common.{inl, inr}
 use Rattle.std.proofs.lemmas.Bool.{cases_eq}
 use Rattle.std.specs.Prelude.{slice_get}
 use Rattle.std.specs.Option.{option_map}
 use Rattle.ordered_group.specs.Amount.{Amount, zero_amount}
-use Rattle.prec_file.specs.Rests.{IsKnown, from_at, to_at}
+use Rattle.prec_file.specs.Rests.{IsKnown}
 use Rattle.closure_net.specs.Network.{NetView}
 use Rattle.closure_net.specs.Ports.{ports}
 use Rattle.closure_net.specs.declared.port.Port.{Port}
@@ -17,13 +17,15 @@ use Rattle.machine_law.specs.declared.operations.Operation.TheVariants.{Idle, Sc
 use Rattle.machine_law.specs.Operations.{best_as, operation_as}
 use Rattle.machine_law.specs.States as law
 use Rattle.machine_law.specs.States.{put}
-use Rattle.machine_law.specs.Residual.{IsEnd, IsPortOf, end_label, label_beyond}
-use Rattle.machine_law.specs.Reads.{is_positive, begun, passed, seen, chosen}
+use Rattle.machine_law.specs.Residual.{IsEnd, label_beyond}
+use Rattle.machine_law.specs.Reads.{begun, passed, seen, chosen}
 use Rattle.machine_law.specs.Steps.{looked, looked_by, weighed, push_amount, pushed_by, given_by, advance_by}
 use Rattle.machine_law.proofs.Points.{put-same, put-other}
 use Rattle.machine_law.proofs.Naturality.{passed-as, chosen-as}
 use Rattle.machine_law.proofs.PortLists.{port_with, port-at}
-use Rattle.word_runner.specs.Words.{units, count, Cells, label_at, look_word, look_word_at, label_word_at, word_of, begun_at, seen_at, looked_at, looked_if, weighed_if, after, push_units, labels_after}
+use Rattle.word_runner.specs.Layout.{units, count, Cells}
+use Rattle.word_runner.specs.StepWords.{look_word, look_word_at, label_word_at, word_of, begun_at, seen_at, looked_at, looked_if, weighed_if, after, push_units}
+use Rattle.word_runner.specs.Turns.{labels_after}
 use Rattle.word_runner.proofs.Units.{positive_units, least_units}
 
 -- ---- reads over units

@@ -1,12 +1,16 @@
 -- What a seat's own numbers are after a turn.
-use Rattle.std.proofs.Common.{inl, ◌⊎◌, ◌≡◌, ℕ, zero, [], replicate, true≢false, ◌+◌, ◌<◌, Bool, true, false, List, length, get_or, set, refl, ap, sym, ◌∙◌, subst, arith, length-set}
+use Rattle.std.proofs.Common.{inl, ◌⊎◌, ◌≡◌, ℕ, zero, [], replicate, true≢false, ◌+◌, ◌<◌, Bool, true, false, List, length, get_or, refl, ap, sym, ◌∙◌, subst, length-set}
 use Rattle.atomic_table.specs.declared.shared.Seat.{Seat}
 use Rattle.closure_net.specs.Network.{NetView}
 use Rattle.machine_law.specs.declared.operations.Operation.{Operation}
 use Rattle.machine_law.specs.declared.operations.Operation.TheVariants.{Idle, Scan, PushDue, TakeDue, GiveDue, RaiseDue}
 use Rattle.word_runner.specs.declared.view.View.{View}
-use Rattle.word_runner.specs.Words.{count, after, labels_after, stopped_after, width, first_view, Sat, turned, IsPlaced, RaisesTooFar, SomeFlowIsTooLarge, SomeLabelIsTooLarge}
-use Rattle.word_runner.specs.Tells.{Own, WordsView, IsFirst, HasTurned, IsSame, IsTold}
+use Rattle.word_runner.specs.Layout.{count, width}
+use Rattle.word_runner.specs.StepWords.{after}
+use Rattle.word_runner.specs.Views.{first_view}
+use Rattle.word_runner.specs.Turns.{labels_after, stopped_after, Sat, IsPlaced, RaisesTooFar, SomeFlowIsTooLarge, SomeLabelIsTooLarge}
+use Rattle.word_runner.specs.Seats.{Own, WordsView, HasTurned, IsSame, IsTold}
+use Rattle.word_runner.specs.Openings.{IsFirst}
 use Rattle.std.proofs.lemmas.List.{length-replicate}
 
 length_after : (labels : List ℕ) (b : ℕ) (o : Operation ℕ) → length (labels_after labels b o) ≡ length labels

@@ -1,12 +1,13 @@
 -- Amounts of units, and numbers.
-use Rattle.std.proofs.Common.{◌-ℤ◌, ◌+ℤ◌, ◌≡◌, ℕ, pos, ◌+◌, ◌-◌, ◌≤◌, ◌<◌, inl, inr, Bool, true, false, nat_lt, if◌then◌else◌, refl, ap, sym, ◌∙◌, subst, arith}
+use Rattle.std.proofs.Common.{◌-ℤ◌, ◌+ℤ◌, ◌≡◌, ℕ, ◌+◌, ◌-◌, ◌≤◌, ◌<◌, inl, inr, Bool, true, false, nat_lt, if◌then◌else◌, refl, ◌∙◌, arith}
 use Rattle.std.proofs.lemmas.Int.{ints}
-use Rattle.std.proofs.lemmas.Bool.{ltb-true, ltb-false, lt-ltb, cases_lt}
-use Rattle.ordered_group.specs.Amount.{Amount, zero_amount, plus, minus, AtMost, Below, least}
+use Rattle.std.proofs.lemmas.Bool.{ltb-true, ltb-false}
+use Rattle.ordered_group.specs.Amount.{Amount, plus, minus, AtMost, least}
 use Rattle.ordered_group.proofs.Order.{AtMost-trans, least_is}
 use Rattle.machine_law.specs.Reads.{is_positive}
-use Rattle.machine_law.proofs.Numbers.{Same, same, equal, positive-yes, positive-no}
-use Rattle.word_runner.specs.Words.{units, smaller}
+use Rattle.machine_law.proofs.Numbers.{same, equal, positive-yes, positive-no}
+use Rattle.word_runner.specs.Layout.{units}
+use Rattle.word_runner.specs.StepWords.{smaller}
 
 -- what an amount of units says of numbers
 pub units_most : (d x : ℕ) (e : Amount) → e ≡ units x → AtMost (units d) e → d ≤ x

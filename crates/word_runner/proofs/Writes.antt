@@ -1,13 +1,13 @@
 -- The step that is next for a block, as its word shows it: that the word doesn't wrap, and what the words show after.
-use Rattle.std.proofs.Common.{inl, inr, ◌⊎◌, ◌≡◌, ◌≢◌, ℕ, zero, ◌+◌, ◌-◌, ◌<◌, ◌≤◌, ◌^◌, ◌==◌, Bool, true, false, cond, nat_lt, Option, Some, None, List, All, length, get_or, set, refl, ap, sym, ◌∙◌, subst, arith, get_or-set_other, get_or-set_same}
+use Rattle.std.proofs.Common.{inl, inr, ◌⊎◌, ◌≡◌, ◌≢◌, ℕ, ◌+◌, ◌-◌, ◌<◌, ◌≤◌, ◌^◌, ◌==◌, Bool, false, Option, Some, None, List, All, length, get_or, set, refl, ap, sym, ◌∙◌, subst, arith, get_or-set_other, get_or-set_same}
 use Rattle.std.specs.Prelude.{slice_get}
 use Rattle.std.specs.Option.{option_map}
 use Rattle.std.proofs.lemmas.Bool.{cases_eq, ltb-false}
 use lib.Seq.{set-get_or}
-use Rattle.ordered_group.specs.Amount.{Amount, zero_amount, plus, minus, negative, AtMost}
+use Rattle.ordered_group.specs.Amount.{Amount, plus, minus, negative, AtMost}
 use Rattle.ordered_group.specs.Sums.{amount_at}
 use Rattle.ordered_group.proofs.Order.{AtMost-trans}
-use Rattle.prec_file.specs.Rests.{IsKnown, from_at, to_at}
+use Rattle.prec_file.specs.Rests.{IsKnown, from_at}
 use Rattle.closure_net.specs.Network.{NetView}
 use Rattle.closure_net.specs.Ports.{ports}
 use Rattle.closure_net.specs.declared.port.Port.{Port}
@@ -19,14 +19,15 @@ use Rattle.machine_law.specs.declared.operations.Operation.TheVariants.{Idle, Sc
 use Rattle.machine_law.specs.Operations.{best_as, operation_as}
 use Rattle.machine_law.specs.States as law
 use Rattle.machine_law.specs.States.{put}
-use Rattle.machine_law.specs.Residual.{IsEnd, IsPortOf}
+use Rattle.machine_law.specs.Residual.{IsEnd}
 use Rattle.machine_law.specs.Amounts.{IsOperation, IsBestIfAny, IsWithinBy}
-use Rattle.machine_law.specs.Steps.{looked, weighed, push_amount, pushed_by, given_by, advance_by}
+use Rattle.machine_law.specs.Steps.{looked, weighed, pushed_by, given_by, advance_by}
 use Rattle.machine_law.specs.Reads.{begun}
 use Rattle.machine_law.specs.Conservation.{all_given, IsWhole}
 use Rattle.machine_law.proofs.Points.{put-same}
-use Rattle.machine_law.proofs.PortLists.{port_with}
-use Rattle.word_runner.specs.Words.{units, count, width, Cells, excess_at, label_at, flow_at, capacity_word, landing_word, word_of, written, smaller, push_units, push_written, overfull, stopped_after, IsBestPlaced, IsPlaced}
+use Rattle.word_runner.specs.Layout.{units, count, Cells, excess_at, flow_at}
+use Rattle.word_runner.specs.StepWords.{capacity_word, landing_word, word_of, written, push_units, push_written}
+use Rattle.word_runner.specs.Turns.{overfull, stopped_after, IsBestPlaced, IsPlaced}
 use Rattle.word_runner.proofs.Units.{units_most, units_minus, units_plus, less_room, fits_in, smaller_right}
 use Rattle.word_runner.proofs.Cells.{cells_op, cells_excess, cells_flow, cells_label, cells_source, cells_room, cells_at_source, cells_at_sink}
 use Rattle.word_runner.proofs.Shows.{push_of_units, other_within}

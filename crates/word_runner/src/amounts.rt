@@ -2,8 +2,9 @@
 //! positive worths sum to too much.
 
 ghost use Rattle.std.specs.Prelude.{◌≡◌, ◌<◌, ◌≤◌, ◌⊎◌, ◌<ℤ◌, ◌≤ℤ◌, ◌^◌, length, MatchOption, MatchResult, IfOk, pos};
-ghost use Rattle.word_runner.specs.Words.{units};
-ghost use Rattle.word_runner.specs.Tells.{AreGains, AreLosses, AreWithin, OpeningFaultStands};
+ghost use Rattle.word_runner.specs.Layout.{units};
+ghost use Rattle.word_runner.specs.CutNets.{AreGains, AreLosses, AreWithin};
+ghost use Rattle.word_runner.specs.Openings.{OpeningFaultStands};
 
 use crate::words_fault::WordsFault;
 use closure_net::Net;

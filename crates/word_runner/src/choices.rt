@@ -4,7 +4,8 @@ ghost use Rattle.std.specs.Prelude.{◌≡◌, ◌<◌, length};
 ghost use Rattle.closure_net.specs.Ports.{ports};
 ghost use Rattle.machine_law.specs.Residual.{label_beyond};
 ghost use Rattle.machine_law.specs.Reads.{passed as passed_by, chosen as chosen_by};
-ghost use Rattle.word_runner.specs.Words.{begun_at, seen_at, looked_at, smaller as smaller_of, push_units as units_of_push, after as after_step, IsPlaced};
+ghost use Rattle.word_runner.specs.StepWords.{begun_at, seen_at, looked_at, smaller as smaller_of, push_units as units_of_push, after as after_step};
+ghost use Rattle.word_runner.specs.Turns.{IsPlaced};
 
 use closure_net::{Net, Port, PortKind};
 use machine_law::{Best, Operation, better, ended};

@@ -2,8 +2,9 @@
 
 ghost use Rattle.std.specs.Prelude.{pos, ◌≡◌, ◌+◌, ◌-ℤ◌, ◌≤ℤ◌, ◌≤◌, map, IfOk};
 ghost use Rattle.std.specs.Mem.Slots.{slots_items, slots_len, IsFull};
-ghost use Rattle.word_runner.specs.Words.{width, room_at};
-ghost use Rattle.word_runner.specs.Tells.{scaled_parts, AreUnits, AreRooms, AreSinks, IsFlowOfWords};
+ghost use Rattle.word_runner.specs.Layout.{width, room_at};
+ghost use Rattle.word_runner.specs.Seats.{IsFlowOfWords};
+ghost use Rattle.word_runner.specs.CutNets.{scaled_parts, AreUnits, AreRooms, AreSinks};
 
 use atomic_table::Closed;
 use closure_net::{Carried, Flow, Net};

@@ -3,7 +3,9 @@
 
 ghost use Rattle.std.specs.Prelude.{◌≡◌, ◌<◌, ◌+◌, length};
 ghost use Rattle.machine_law.specs.Residual.{IsEnd};
-ghost use Rattle.word_runner.specs.Words.{width, excess_at, label_at, source_at, room_at, flow_at, capacity_word, landing_word, look_word, word_of, IsPlaced};
+ghost use Rattle.word_runner.specs.Layout.{width, excess_at, label_at, source_at, room_at, flow_at};
+ghost use Rattle.word_runner.specs.StepWords.{capacity_word, landing_word, look_word, word_of};
+ghost use Rattle.word_runner.specs.Turns.{IsPlaced};
 
 use closure_net::{Net, Port, PortKind};
 use machine_law::Operation;

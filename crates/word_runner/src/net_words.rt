@@ -1,7 +1,7 @@
 //! The state of a push-relabel run over a net, in words that one or two workers share without a lock.
 
 ghost use Rattle.std.specs.Prelude.{◌≡◌, ◌≤◌, ◌^◌, length};
-ghost use Rattle.word_runner.specs.Tells.{WordsView, IsWords};
+ghost use Rattle.word_runner.specs.Seats.{WordsView, IsWords};
 
 use crate::table::WordTable;
 use closure_net::Net;
@@ -20,7 +20,7 @@ pub struct Words {
 }
 
 impl Model for Words {
-    ghost use Rattle.word_runner.specs.Tells.{WordsView, IsWords};
+    ghost use Rattle.word_runner.specs.Seats.{WordsView, IsWords};
 
     ghost Value = { WordsView };
 

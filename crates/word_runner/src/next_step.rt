@@ -4,7 +4,9 @@
 ghost use Rattle.std.specs.Prelude.{◌≡◌, ◌<◌, IsTrue, length, ◌↔◌};
 ghost use Rattle.machine_law.specs.Operations.{operation_as};
 ghost use Rattle.machine_law.specs.Steps.{next_of};
-ghost use Rattle.word_runner.specs.Words.{units, IsPlaced, is_idle as is_free, stopped_after, RaisesTooFar};
+ghost use Rattle.word_runner.specs.Layout.{units};
+ghost use Rattle.word_runner.specs.Views.{is_idle as is_free};
+ghost use Rattle.word_runner.specs.Turns.{IsPlaced, stopped_after, RaisesTooFar};
 
 use closure_net::{Net, PortKind};
 use machine_law::{Kind, Operation};

@@ -3,8 +3,9 @@
 
 ghost use Rattle.std.specs.Prelude.{◌≡◌, ◌<◌, ◌≤◌, ◌^◌, length, IfOk, MatchResult, IsErrOf, ◌↔◌};
 ghost use Rattle.machine_law.specs.declared.operations.Operation.TheVariants.{Idle};
-ghost use Rattle.word_runner.specs.Words.{start_words};
-ghost use Rattle.word_runner.specs.Tells.{AreBadWorkers, AreGains, IsFirst, AreFirst, IsBegun, IsOpened, OpeningFaultStands, WordsFaultStands};
+ghost use Rattle.word_runner.specs.Views.{start_words};
+ghost use Rattle.word_runner.specs.CutNets.{AreGains};
+ghost use Rattle.word_runner.specs.Openings.{AreNeitherOneNorTwo, IsFirst, AreFirst, IsBegun, IsOpened, OpeningFaultStands, WordsFaultStands};
 
 use crate::amounts::{gains, losses};
 use crate::cutting::cut_net;

@@ -2,7 +2,8 @@
 //! or why there is no flow.
 
 ghost use Rattle.std.specs.Prelude.{◌≡◌, ◌+◌, ◌<◌, ◌^◌, ◌++◌, false, MatchResult};
-ghost use Rattle.word_runner.specs.Tells.{solve_fault, settle_fault, IsServed, IsQuietEnd, RunFaultStands, IsSolvedBy, SolveFaultStands};
+ghost use Rattle.word_runner.specs.Seats.{IsServed};
+ghost use Rattle.word_runner.specs.Ends.{solve_fault, settle_fault, IsQuietEnd, RunFaultStands, IsSolvedBy, SolveFaultStands};
 
 use crate::net_words::Words;
 use crate::opening::{split, words_of};

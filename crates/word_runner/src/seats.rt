@@ -3,8 +3,9 @@
 
 ghost use Rattle.std.specs.Prelude.{◌≡◌, ◌<◌, ◌+◌, ◌⊎◌, ◌^◌, true, false, not, length};
 ghost use Rattle.machine_law.specs.declared.operations.Operation.TheVariants.{Idle};
-ghost use Rattle.word_runner.specs.Words.{IsOwn, IsPlaced, is_idle as is_free, labels_after, RaisesTooFar};
-ghost use Rattle.word_runner.specs.Tells.{IsSeat, IsNextAt, HasTurned, HasLoaded, HasArrived, IsSame, IsTold, IsTurn};
+ghost use Rattle.word_runner.specs.Views.{IsOwn, is_idle as is_free};
+ghost use Rattle.word_runner.specs.Turns.{IsPlaced, labels_after, RaisesTooFar};
+ghost use Rattle.word_runner.specs.Seats.{IsSeat, IsNextAt, HasTurned, HasLoaded, HasArrived, IsSame, IsTold, IsTurn};
 
 use crate::choices::{after, push_units};
 use crate::layout::next_word;
@@ -31,7 +32,7 @@ pub struct WordSeat {
 }
 
 impl Model for WordSeat {
-    ghost use Rattle.word_runner.specs.Tells.{Own, IsTold};
+    ghost use Rattle.word_runner.specs.Seats.{Own, IsTold};
 
     ghost Value = { Own };
 

@@ -4,7 +4,9 @@
 ghost use Rattle.std.specs.Prelude.{◌≡◌, ◌+◌, ◌≤◌, ◌⊎◌, slice_index, ◌++◌, IsTrue, ◌↔◌, MatchOption, MatchResult};
 ghost use Rattle.std.specs.Mem.Slots.{slots_items, slots_len, IsFull};
 ghost use Rattle.machine_law.specs.declared.operations.Operation.TheVariants.{Idle};
-ghost use Rattle.word_runner.specs.Tells.{IsSeat, IsWorker, IsServed, AreSeats, IsQuietEnd, IsSettled, CloseFaultStands, EndFaultStands, SettleFaultStands};
+ghost use Rattle.word_runner.specs.Seats.{IsSeat, IsWorker, IsServed};
+ghost use Rattle.word_runner.specs.Runs.{AreSeats, IsSettled, SettleFaultStands};
+ghost use Rattle.word_runner.specs.Ends.{IsQuietEnd, CloseFaultStands, EndFaultStands};
 
 use crate::flows::flow_of;
 use crate::net_words::Words;

@@ -2,7 +2,7 @@
 //! block.
 
 ghost use Rattle.std.specs.Prelude.{◌<◌};
-ghost use Rattle.word_runner.specs.Tells.{IsSeat, IsNextAt, HasTurned, IsSame, Reads, Adds, Subtracts, Stores};
+ghost use Rattle.word_runner.specs.Seats.{IsSeat, IsNextAt, HasTurned, IsSame, Reads, Adds, Subtracts, Stores};
 
 use crate::plays::Turned;
 use crate::table::{SharedWords, TableSeat};

@@ -11,7 +11,7 @@ use std::alloc::Global;
 pub struct Rule;
 
 impl TableRule<(), View, Net<Scaled>> for Rule {
-    ghost use Rattle.word_runner.specs.Words.{Ruled, first_view};
+    ghost use Rattle.word_runner.specs.Views.{Ruled, first_view};
 
     ghost holds = { λ net. Ruled net };
 

@@ -2,7 +2,8 @@
 //! back, or nothing where a thread couldn't start.
 
 ghost use Rattle.std.specs.Prelude.{◌≡◌, IfSome};
-ghost use Rattle.word_runner.specs.Tells.{IsFirst, HasServed};
+ghost use Rattle.word_runner.specs.Openings.{IsFirst};
+ghost use Rattle.word_runner.specs.Runs.{HasServed};
 
 use crate::net_words::Words;
 use crate::seats::WordSeat;

@@ -2,9 +2,10 @@ use Rattle.std.proofs.Common.{sym, ◌∙◌}
 use Rattle.fixed_worth.specs.declared.limits.TheConstants.{MOST_BLOCKS}
 use Rattle.blocks_file.specs.Records.{lines_in}
 use Rattle.fixed_worth.proofs.NextLine.{Next}
-use Rattle.blocks_file.proofs.Counts.{passes, is_extra, is_counted, not_true, not_false}
+use Rattle.blocks_file.proofs.Counts.{passes, is_extra, is_counted}
 use Rattle.blocks_file.proofs.counting.count_records.Goals.{then-count, else-count}
 use Rattle.blocks_file.proofs.counting.count_records.Goals as goal
+use Rattle.fixed_worth.proofs.Bits.{not_true, not_false}
 
 pub loop-line-preserved-then-is_record : goal.loop-line-preserved-then-is_record
 loop-line-preserved-then-is_record c =

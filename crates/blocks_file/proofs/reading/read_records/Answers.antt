@@ -2,7 +2,7 @@ use Rattle.std.proofs.Common.{◌≡◌, ℕ, ℤ, pos, ◌*◌, List, length, r
 use Rattle.std.proofs.lemmas.List.{length-replicate}
 use Rattle.fixed_worth.specs.Text.{fields_of}
 use Rattle.blocks_file.specs.Records.{lines_in, columns_of}
-use Rattle.blocks_file.specs.Internal.{HoldsValues, ArePut}
+use Rattle.blocks_file.specs.RowReading.{HoldsValues, ArePut}
 use Rattle.fixed_worth.proofs.NextLine.{Next}
 use Rattle.blocks_file.proofs.LineAfterLine.{begins, passes, keeps, read_all}
 use Rattle.fixed_worth.proofs.Results.{ok_before}

@@ -1,6 +1,6 @@
 use Rattle.std.proofs.Common.{◌≡◌, ◌+◌, ◌≤◌, length, map, drop}
 use Rattle.fixed_worth.specs.declared.limits.TheConstants.{LINE_BYTES}
-use Rattle.blocks_file.specs.Internal.{IsRow}
+use Rattle.blocks_file.specs.RowReading.{IsRow}
 use Rattle.blocks_file.proofs.row.read_row.Given as goal
 
 abbrev pub invariant-loop-field : goal.invariant-loop-field

@@ -1,7 +1,8 @@
 use Rattle.std.proofs.Common.{map}
 use Rattle.std.proofs.lemmas.Result.{on_ok_weaker, on_err_weaker}
-use Rattle.certificate_file.proofs.Puts.{on_err, flow_first_failed, flow_second_failed, flow_third_failed, flow_held}
+use Rattle.certificate_file.proofs.Puts.{flow_first_failed, flow_second_failed, flow_third_failed, flow_held}
 use Rattle.certificate_file.proofs.writing.put_flow.Goals as goal
+use Rattle.fixed_worth.proofs.Sides.{on_err}
 
 pub returns-in_err-put_blocks-clause-prefix : goal.returns-in_err-put_blocks-clause-prefix
 returns-in_err-put_blocks-clause-prefix g c =

@@ -2,9 +2,10 @@ use Rattle.std.proofs.Common.{below_more, ◌+◌, ◌<◌, length, drop, sym, s
 use Rattle.ordered_group.specs.Sums.{amount_at}
 use Rattle.certificate_file.specs.ReadBack.{Writable}
 use Rattle.certificate_file.specs.Written.{pair_at, amount_lines, body_text}
-use Rattle.certificate_file.proofs.Puts.{put_begins, on_err, line_put, line_failed, line_skipped}
+use Rattle.certificate_file.proofs.Puts.{put_begins, line_put, line_failed, line_skipped}
 use Rattle.certificate_file.proofs.writing.put_pairs.Goals as goal
 use Rattle.certificate_file.proofs.writing.put_pairs.Goals.{then-not-is_zero+in_ok-put_line, else-not-is_zero}
+use Rattle.fixed_worth.proofs.Sides.{on_err}
 
 pub loop-k-init : goal.loop-k-init
 loop-k-init g c = record {

@@ -6,9 +6,10 @@ use Rattle.ordered_group.specs.declared.groups.Group.{Group}
 use Rattle.certificate_file.specs.declared.header.Price.{Price}
 use Rattle.certificate_file.specs.Written.{lines_text, header_words, header_with, body_text, value_lines, end_text, text_of}
 use Rattle.certificate_file.specs.ReadBack.{IsReadBack}
-use Rattle.certificate_file.proofs.Puts.{on_err, on_ok, both_sent, last_failed}
+use Rattle.certificate_file.proofs.Puts.{both_sent, last_failed}
 use Rattle.certificate_file.proofs.Whole.{read_back}
 use Rattle.certificate_file.proofs.writing.write_certificate.Goals as goal
+use Rattle.fixed_worth.proofs.Sides.{on_err, on_ok}
 
 -- What is put first is the header.
 first_is : (page bytes made : List ℕ) (n : ℕ) (price : Price) (given name : Group) → page ≡ [] → bytes ≡ made → made ≡ lines_text (header_words (header_with n price given)) → given ≡ name → page ++ bytes ≡ lines_text (header_words (header_with n price name))

@@ -1,9 +1,9 @@
-use Rattle.std.proofs.Common.{arith, inl, inr, subst, sym}
+use Rattle.std.proofs.Common.{arith, inr, subst, sym}
 use Rattle.engines.specs.declared.certify.Uncertified.{Uncertified}
 use Rattle.engines.specs.Certifying.{UncertifiedStands}
 use Rattle.engines.specs.declared.solvers.Unsolved.{Unsolved}
 use Rattle.lock_free_engine.specs.LockFreeRuns.{LockFreeStands}
-use Rattle.word_runner.specs.Tells.{AreBadWorkers}
+use Rattle.word_runner.specs.Openings.{AreNeitherOneNorTwo}
 use Rattle.lock_free_engine.proofs.LockFreeAnswers.{check_overflows, fault_stands}
 use Rattle.lock_free_engine.proofs.lock_free_run.by_lock_free_run.Goals as goal
 
@@ -14,6 +14,6 @@ returns-in-Err-Refused g c =
 
 pub returns-in-Err : goal.returns-in-Err
 returns-in-Err g c =
-    let few : ¬ AreBadWorkers c.args.effort.workers = λ bad. absurd (omega (arith, bad, c.args.effort.some, c.args.effort.few)) in
+    let few : ¬ AreNeitherOneNorTwo c.args.effort.workers = λ bad. absurd (omega (arith, bad, c.args.effort.some, c.args.effort.few)) in
     subst (λ (u : Unsolved). LockFreeStands c.args.net.now c.args.effort.workers c.args.effort.steps u) (sym c.from.ensures)
     (fault_stands c.args.net.now c.args.effort.workers c.args.effort.steps c.in-Err.fault few c.in-Err.ensures)

@@ -1,4 +1,4 @@
-use Rattle.word_runner.specs.Tells.{IsServing}
+use Rattle.word_runner.specs.Seats.{IsServing}
 use Rattle.machine_tests.proofs.word_seats.turned_in_turns.Given as goal
 
 abbrev pub invariant-loop-turn : goal.invariant-loop-turn

@@ -3,8 +3,9 @@ use Rattle.std.proofs.lemmas.Result.{on_err_weaker}
 use Rattle.fixed_worth.specs.Device.{SentOrHeld, ReceivedPrefix}
 use Rattle.fixed_worth.proofs.Pieces.{held_more, held_more_prefix, held_prefix, prefix_of_part}
 use Rattle.prec_file.specs.Written.{line_of, lines_below}
-use Rattle.prec_file.proofs.WrittenPieces.{on_err, lines_more, lines_front}
+use Rattle.prec_file.proofs.WrittenPieces.{lines_more, lines_front}
 use Rattle.prec_file.proofs.writing.write_lines.Goals as goal
+use Rattle.fixed_worth.proofs.Sides.{on_err}
 
 pub loop-block-preserved : goal.loop-block-preserved
 loop-block-preserved g c = (

@@ -1,6 +1,5 @@
-use Rattle.std.proofs.Common.{ℕ, ◌<◌, get_or, subst, sym, ap, ◌∙◌, arith}
+use Rattle.std.proofs.Common.{◌<◌, ◌∙◌, arith}
 use Rattle.closure_net.proofs.Spreads.{below_known}
-use Rattle.pseudoflow.proofs.Above.{from_known}
 use Rattle.pseudoflow.proofs.first_labels.find_below.Goals as goal
 
 pub pair-b-requires : goal.pair-b-requires

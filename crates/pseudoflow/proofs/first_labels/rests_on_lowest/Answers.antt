@@ -1,4 +1,4 @@
-use Rattle.std.proofs.Common.{ℕ, ◌<◌, All, sym, subst, arith}
+use Rattle.std.proofs.Common.{ℕ, ◌<◌, All, sym, subst}
 use Rattle.pseudoflow.proofs.Above.{above_all}
 use Rattle.pseudoflow.proofs.first_labels.rests_on_lowest.Goals as goal
 

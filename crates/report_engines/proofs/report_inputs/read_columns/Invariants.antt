@@ -1,5 +1,5 @@
 use Rattle.std.proofs.Common.{ℕ, ◌≤◌}
-use Rattle.report_engines.specs.Internal.{IsSmall}
+use Rattle.report_engines.specs.ReportParts.{IsSmall}
 use Rattle.report_engines.proofs.report_inputs.read_columns.Given as goal
 
 abbrev pub invariant-loop-i : goal.invariant-loop-i

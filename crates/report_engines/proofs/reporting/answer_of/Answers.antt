@@ -3,7 +3,7 @@ use Rattle.std.proofs.lemmas.Result.{err_from_is_err_and}
 use Rattle.shells.specs.Prices.{PricesView}
 use Rattle.bench_report.specs.Written.{table_text}
 use Rattle.shell_engines.proofs.BlockTables.{has_table}
-use Rattle.report_engines.specs.Internal.{IsPricedModel}
+use Rattle.report_engines.specs.ReportParts.{IsPricedModel}
 use Rattle.report_engines.proofs.Tables.{is_report, no_report_answer}
 use Rattle.report_engines.proofs.reporting.answer_of.Goals as goal
 

@@ -1,5 +1,5 @@
 use Rattle.std.proofs.Common.{All}
-use Rattle.shell_engines.specs.Internal.{IsProved}
+use Rattle.shell_engines.specs.PitsAtFactors.{IsProved}
 use Rattle.shell_engines.specs.Parting.{IsLeft}
 use Rattle.shell_engines.proofs.halving.found_beside.Given as goal
 

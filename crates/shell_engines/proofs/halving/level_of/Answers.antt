@@ -4,7 +4,7 @@ use Rattle.std.proofs.lemmas.List.Elements.{All-append}
 use Rattle.shell_engines.specs.declared.best_pits.BestPit.{BestPit}
 use Rattle.shell_engines.specs.declared.mine_parts.Part.{Part}
 use Rattle.shell_engines.specs.declared.halving.Level.{Level}
-use Rattle.shell_engines.specs.Internal.{IsProved}
+use Rattle.shell_engines.specs.PitsAtFactors.{IsProved}
 use Rattle.shell_engines.specs.Parting.{IsLeft, IsLevel}
 use Rattle.shell_engines.proofs.Proving.{all_before, all_last}
 use Rattle.shell_engines.proofs.halving.level_of.Goals as goal

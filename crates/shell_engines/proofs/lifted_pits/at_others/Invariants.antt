@@ -1,4 +1,4 @@
-use Rattle.std.proofs.Common.{◌≡◌, length, map}
+use Rattle.std.proofs.Common.{◌≡◌, map}
 use Rattle.prec_file.specs.Rests.{passing}
 use Rattle.closure_net.specs.Network.{holds_of}
 use Rattle.sub_mines.specs.Parts.{beside, every_block}

@@ -1,4 +1,4 @@
-use Rattle.std.proofs.Common.{◌≡◌, ◌∙◌, ℕ, List, length, get_or, Option, IfSome, sym, ap, subst, arith}
+use Rattle.std.proofs.Common.{◌≡◌, ◌∙◌, ℕ, List, length, get_or, Option, IfSome, ap, subst, arith}
 use Rattle.std.proofs.lemmas.List.{get_or_default}
 use Rattle.ordered_group.specs.Block.{scaled_block}
 use Rattle.closure_net.specs.Network.{NetView}
@@ -6,7 +6,7 @@ use Rattle.shells.specs.Prices.{blocks_of}
 use Rattle.engines.proofs.Counted.{ascending_short}
 use Rattle.shell_engines.specs.declared.best_pits.BestPit.{BestPit}
 use Rattle.shell_engines.specs.declared.mine_parts.Halved.{Halved}
-use Rattle.shell_engines.specs.Internal.{IsBestOf}
+use Rattle.shell_engines.specs.PitsAtFactors.{IsBestOf}
 use Rattle.shell_engines.specs.Parting.{IsNetAmong, IsBestAmong, AreHalved, mine_among}
 use Rattle.shell_engines.proofs.mine_parts.solved_part.Goals as goal
 

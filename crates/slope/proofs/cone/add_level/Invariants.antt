@@ -1,6 +1,6 @@
 use Rattle.std.proofs.Common.{◌≤◌, pos, ◌-ℤ◌, length}
 use Rattle.slope.specs.declared.pattern.TheConstants.{MOST_OFFSETS}
-use Rattle.slope.specs.Internal.{Collects, IsBelowRow}
+use Rattle.slope.specs.Gathering.{Collects, IsBelowRow}
 use Rattle.slope.proofs.cone.add_level.Given as goal
 
 abbrev pub invariant-loop-step : goal.invariant-loop-step

@@ -4,10 +4,10 @@ use Rattle.std.proofs.lemmas.Bool.{iff_false}
 use Rattle.std.proofs.lemmas.Result.{err_from_is_err_and}
 use Rattle.slope.specs.declared.pattern.TheConstants.{MOST_OFFSETS}
 use Rattle.slope.specs.Offsets.{Offset}
-use Rattle.slope.specs.Internal.{Collects, IsBelowPoint}
+use Rattle.slope.specs.Gathering.{Collects, IsBelowPoint}
 use Rattle.slope.proofs.ConeSteps.{row_begun, row_ended, point_taken, point_passed, refused}
 use Rattle.slope.proofs.cone.add_row.Goals as goal
-use Rattle.slope.proofs.cone.add_row.Goals.{then-is_near+in_ok-add, else-is_near, Joined-is_near}
+use Rattle.slope.proofs.cone.add_row.Goals.{then-is_near+in_ok-add, else-is_near}
 
 pub loop-step-init : goal.loop-step-init
 loop-step-init c =

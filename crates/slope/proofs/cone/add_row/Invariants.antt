@@ -1,6 +1,6 @@
 use Rattle.std.proofs.Common.{◌≤◌, pos, ◌-ℤ◌, length}
 use Rattle.slope.specs.declared.pattern.TheConstants.{MOST_OFFSETS}
-use Rattle.slope.specs.Internal.{Collects, IsBelowPoint}
+use Rattle.slope.specs.Gathering.{Collects, IsBelowPoint}
 use Rattle.slope.proofs.cone.add_row.Given as goal
 
 abbrev pub invariant-loop-step : goal.invariant-loop-step

@@ -1,6 +1,6 @@
 use Rattle.std.proofs.Common.{◌≤◌, pos, length}
 use Rattle.slope.specs.declared.pattern.TheConstants.{MOST_OFFSETS}
-use Rattle.slope.specs.Internal.{Collects, IsBelowLevel}
+use Rattle.slope.specs.Gathering.{Collects, IsBelowLevel}
 use Rattle.slope.proofs.cone.cone_offsets.Given as goal
 
 abbrev pub invariant-loop-number : goal.invariant-loop-number

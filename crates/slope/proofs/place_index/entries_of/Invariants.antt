@@ -1,4 +1,4 @@
-use Rattle.slope.specs.Internal.{AreEntries}
+use Rattle.slope.specs.Gathering.{AreEntries}
 use Rattle.slope.proofs.place_index.entries_of.Given as goal
 
 abbrev pub invariant-loop-block : goal.invariant-loop-block

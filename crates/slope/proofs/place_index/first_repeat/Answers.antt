@@ -1,5 +1,5 @@
 use Rattle.std.proofs.Common.{◌+◌, ◌-◌, ℕ, Option, arith, sym, subst, ◌∙◌}
-use Rattle.slope.specs.Internal.{entry_at}
+use Rattle.slope.specs.Gathering.{entry_at}
 use Rattle.slope.proofs.OffsetSorting.{offset_same, offset_differs}
 use Rattle.slope.proofs.Repeats.{SoFar, repeat_passed, repeat_taken, all_told}
 use Rattle.slope.proofs.place_index.first_repeat.Goals as goal

@@ -1,5 +1,5 @@
 use Rattle.std.proofs.Common.{◌≡◌, List, map, subst}
-use Rattle.slope.specs.Internal.{Entry, HaveNoRepeat, IsEarliestRepeat}
+use Rattle.slope.specs.Gathering.{Entry, HaveNoRepeat, IsEarliestRepeat}
 use Rattle.slope.proofs.Repeats.{first_repeat_is, index_is}
 use Rattle.slope.proofs.place_index.index_of.Goals as goal
 

@@ -1,5 +1,5 @@
 use Rattle.slope.specs.declared.selection.Selection.TheVariants.{Reduced}
-use Rattle.slope.specs.Internal.{ArePlacesOf, AreListedBelow}
+use Rattle.slope.specs.Gathering.{ArePlacesOf, AreListedBelow}
 use Rattle.slope.proofs.reducing.reduced_pairs.Given as goal
 
 abbrev pub invariant-loop-block : goal.invariant-loop-block

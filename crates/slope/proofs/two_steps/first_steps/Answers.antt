@@ -1,6 +1,6 @@
 use Rattle.std.proofs.Common.{◌+◌, ℕ, List, subst, sym}
 use Rattle.std.specs.Global.{Vec}
-use Rattle.slope.specs.Internal.{AreStepsOfEach}
+use Rattle.slope.specs.Gathering.{AreStepsOfEach}
 use Rattle.slope.proofs.TwoSteps.{each_more}
 use Rattle.slope.proofs.two_steps.first_steps.Goals as goal
 

@@ -1,4 +1,4 @@
-use Rattle.slope.specs.Internal.{AreStepsOfEach}
+use Rattle.slope.specs.Gathering.{AreStepsOfEach}
 use Rattle.slope.proofs.two_steps.first_steps.Given as goal
 
 abbrev pub invariant-loop-whole : goal.invariant-loop-whole

@@ -1,4 +1,4 @@
-use Rattle.slope.specs.Internal.{AreFirstSteps}
+use Rattle.slope.specs.Gathering.{AreFirstSteps}
 use Rattle.slope.proofs.two_steps.steps_to.Given as goal
 
 abbrev pub invariant-loop-a : goal.invariant-loop-a

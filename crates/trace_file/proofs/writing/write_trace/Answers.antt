@@ -5,8 +5,9 @@ use Rattle.std.proofs.lemmas.Result.{on_ok_weaker, on_err_weaker}
 use Rattle.fixed_worth.proofs.Pieces.{held_sent, held_prefix}
 use Rattle.trace_file.specs.Written.{trace_text}
 use Rattle.trace_file.proofs.RoundTrip.{Fits, written_is_read}
-use Rattle.trace_file.proofs.Puts.{on_err, on_ok, head_failed, line_failed, put_more, fit_next, end_failed, all_held}
+use Rattle.trace_file.proofs.Puts.{head_failed, line_failed, put_more, fit_next, end_failed, all_held}
 use Rattle.trace_file.proofs.writing.write_trace.Goals as goal
+use Rattle.fixed_worth.proofs.Sides.{on_err, on_ok}
 
 pub returns-in_err-put-clause-prefix : goal.returns-in_err-put-clause-prefix
 returns-in_err-put-clause-prefix g c =

@@ -1,7 +1,7 @@
 use Rattle.std.proofs.Common.{Some, List, map, sym, ap, ◌∙◌, subst}
 use Rattle.fixed_worth.specs.Text.{Run}
 use Rattle.upit_file.specs.declared.record.Record.TheVariants.{Value}
-use Rattle.upit_file.specs.Internal.{IsRecord}
+use Rattle.upit_file.specs.BodyRecord.{IsRecord}
 use Rattle.upit_file.proofs.NumbersAlone.{is_value}
 use Rattle.upit_file.proofs.record.numbers_alone.Goals as goal
 

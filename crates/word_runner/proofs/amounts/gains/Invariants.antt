@@ -2,7 +2,7 @@ use Rattle.std.proofs.Common.{◌≡◌, ◌<◌, ◌≤◌, ◌-◌, ◌^◌, �
 use Rattle.std.specs.Prelude.{slice_index}
 use Rattle.ordered_group.specs.Amount.{positive}
 use Rattle.ordered_group.specs.Sums.{amount_at, total}
-use Rattle.word_runner.specs.Words.{units}
+use Rattle.word_runner.specs.Layout.{units}
 use Rattle.word_runner.proofs.amounts.gains.Given as goal
 
 abbrev pub invariant-loop-b : goal.invariant-loop-b

@@ -1,8 +1,7 @@
-use Rattle.std.proofs.Common.{rules, ◌≡◌, ◌∙◌, List, map, ap, sym, subst}
+use Rattle.std.proofs.Common.{rules, ◌≡◌, ◌∙◌, map, ap, sym, subst}
 use Rattle.closure_net.specs.Network.{NetView, net_view}
 use Rattle.machine_law.specs.Conservation.{all_given}
-use Rattle.word_runner.specs.Words.{units}
-use Rattle.word_runner.specs.Tells.{scaled_parts, AreCut, AreWithin, IsCutNet, cut_to}
+use Rattle.word_runner.specs.CutNets.{scaled_parts, AreCut, AreWithin, cut_to}
 use Rattle.word_runner.proofs.Cuts.{cuts_from, cut_gives, cut_within, cut_builds}
 use Rattle.word_runner.proofs.cutting.cut_net.Goals as goal
 

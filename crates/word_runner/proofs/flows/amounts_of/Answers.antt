@@ -1,8 +1,8 @@
-use Rattle.std.proofs.Common.{rules, ◌≡◌, ◌<◌, ◌+◌, ◌∙◌, ◌++◌, ◌∷◌, [], ℕ, List, length, pos, ap, sym, subst, arith}
+use Rattle.std.proofs.Common.{rules, ◌≡◌, ◌<◌, ◌+◌, ◌∙◌, ◌++◌, ◌∷◌, [], pos, ap, sym}
 use Rattle.std.specs.Prelude.{slice_index}
 use Rattle.std.specs.Mem.Slots.{slots_items}
 use Rattle.ordered_group.specs.declared.scaled.Scaled.{Scaled}
-use Rattle.word_runner.specs.Words.{units}
+use Rattle.word_runner.specs.Layout.{units}
 use Rattle.word_runner.proofs.Lists.{pushed_each}
 use Rattle.word_runner.proofs.Settles.{at_get}
 use Rattle.word_runner.proofs.flows.amounts_of.Goals as goal

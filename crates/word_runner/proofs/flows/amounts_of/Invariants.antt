@@ -2,8 +2,8 @@ use Rattle.std.proofs.Common.{◌≡◌, ◌<◌, ◌≤◌, ◌+◌, ◌-◌, �
 use Rattle.std.specs.Prelude.{slice_index}
 use Rattle.std.specs.Mem.Slots.{slots_items}
 use Rattle.ordered_group.specs.Sums.{amount_at}
-use Rattle.word_runner.specs.Words.{units}
-use Rattle.word_runner.specs.Tells.{scaled_parts}
+use Rattle.word_runner.specs.Layout.{units}
+use Rattle.word_runner.specs.CutNets.{scaled_parts}
 use Rattle.word_runner.proofs.flows.amounts_of.Given as goal
 
 abbrev pub invariant-loop-k : goal.invariant-loop-k

@@ -1,9 +1,9 @@
-use Rattle.std.proofs.Common.{rules, ◌≡◌, ◌<◌, ◌+◌, ◌++◌, ◌∷◌, [], ℕ, sym, arith}
+use Rattle.std.proofs.Common.{rules, ◌≡◌, ◌<◌, ◌+◌, ◌++◌, ◌∷◌, []}
 use Rattle.std.specs.Prelude.{slice_index}
 use Rattle.std.specs.Mem.Slots.{slots_items}
 use Rattle.ordered_group.specs.Amount.{minus, negative}
 use Rattle.ordered_group.specs.Sums.{amount_at}
-use Rattle.word_runner.specs.Words.{units, count, room_at}
+use Rattle.word_runner.specs.Layout.{units, count, room_at}
 use Rattle.word_runner.proofs.Lists.{pushed_each}
 use Rattle.word_runner.proofs.Settles.{room_within, given_is}
 use Rattle.word_runner.proofs.flows.sinks_of.Goals as goal

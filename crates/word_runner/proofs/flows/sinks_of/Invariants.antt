@@ -3,8 +3,8 @@ use Rattle.std.specs.Prelude.{slice_index}
 use Rattle.std.specs.Mem.Slots.{slots_items}
 use Rattle.ordered_group.specs.Amount.{minus, negative}
 use Rattle.ordered_group.specs.Sums.{amount_at}
-use Rattle.word_runner.specs.Words.{units, room_at}
-use Rattle.word_runner.specs.Tells.{scaled_parts}
+use Rattle.word_runner.specs.Layout.{units, room_at}
+use Rattle.word_runner.specs.CutNets.{scaled_parts}
 use Rattle.word_runner.proofs.flows.sinks_of.Given as goal
 
 abbrev pub invariant-loop-b : goal.invariant-loop-b

@@ -1,6 +1,6 @@
-use Rattle.std.proofs.Common.{rules, ◌≡◌, ◌<◌, ◌+◌, ◌∙◌, ℕ, ap, sym, subst, arith}
-use Rattle.word_runner.specs.Words.{width, IsSole}
-use Rattle.word_runner.specs.Tells.{Own, WordsView}
+use Rattle.std.proofs.Common.{◌≡◌, ◌<◌, ◌+◌, ◌∙◌, ap, sym, arith}
+use Rattle.word_runner.specs.Halves.{IsSole}
+use Rattle.word_runner.specs.Seats.{Own, WordsView}
 use Rattle.word_runner.proofs.Begins.{splits}
 use Rattle.word_runner.proofs.opening.split.Goals as goal
 

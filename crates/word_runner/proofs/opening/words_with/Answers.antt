@@ -1,9 +1,9 @@
 use Rattle.std.proofs.Common.{rules, refl, replicate, ◌≡◌, ◌<◌, ◌+◌, ◌∙◌, ◌^◌, ℕ, List, [], length, ap, ap₂, sym, subst, arith}
 use Rattle.atomic_table.specs.Table.{opening}
 use Rattle.ordered_group.specs.Amount.{Amount, AtMost}
-use Rattle.machine_law.specs.Conservation.{all_given}
-use Rattle.word_runner.specs.Words.{units, count, width, start_words, first_view, IsStart, Ruled}
-use Rattle.word_runner.specs.Tells.{AreGains}
+use Rattle.word_runner.specs.Layout.{units, count, width}
+use Rattle.word_runner.specs.Views.{start_words, first_view, Ruled}
+use Rattle.word_runner.specs.CutNets.{AreGains}
 use Rattle.word_runner.proofs.Begins.{begins, widths}
 use Rattle.word_runner.proofs.Cuts.{cut_gains}
 use Rattle.word_runner.proofs.Units.{units_above}

@@ -1,6 +1,6 @@
-use Rattle.std.proofs.Common.{rules, ◌≡◌, ◌<◌, ◌+◌, ◌≤◌, ◌∙◌, ◌++◌, ℕ, false, length, ap, subst, sym, arith}
+use Rattle.std.proofs.Common.{rules, ◌≡◌, ◌<◌, ◌+◌, ◌≤◌, ◌∙◌, ◌++◌, sym, arith}
 use Rattle.std.proofs.lemmas.List.{length-append}
-use Rattle.word_runner.specs.Tells.{AreBadWorkers}
+use Rattle.word_runner.specs.Openings.{AreNeitherOneNorTwo}
 use Rattle.word_runner.proofs.Ends.{on_sides, fault_ends, solved_ends}
 use Rattle.word_runner.proofs.runs.solve_words.Goals as goal
 
@@ -9,7 +9,7 @@ returns-then-workers-eq1 g c =
     let net = c.args.net.now in
     let begun = c.in-Ok.ensures in
     let w = c.in-Ok.begun.0 in
-    let good : ¬ (AreBadWorkers c.args.workers) = search rules in
+    let good : ¬ (AreNeitherOneNorTwo c.args.workers) = search rules in
     let ran = c.serve-ran.ensures in
     on_sides _ _ _ _ c.solved_by_one.result
     (λ solved h. solved_ends net w.cut c.args.workers good begun.small begun.cut c.args.steps c.serve-ran.result.seat.place.me.0.made solved.flow solved.steps c.worths-net.ensures.net h.0 (ran.made h.2 ∙ sym h.1) (let e = h.1 in let k = ran.within in omega (arith, e, k)))
@@ -21,7 +21,7 @@ returns-in-Some g c =
     let net = c.args.net.now in
     let begun = c.in-Ok.ensures in
     let w = c.in-Ok.begun.0 in
-    let good : ¬ (AreBadWorkers c.args.workers) = search rules in
+    let good : ¬ (AreNeitherOneNorTwo c.args.workers) = search rules in
     let left = c.in-Some.ensures.0 in
     let right = c.in-Some.ensures.1 in
     let a = c.in-Some.left.seat.place.me.0.made in

@@ -1,4 +1,4 @@
-use Rattle.word_runner.specs.Tells.{IsRound}
+use Rattle.word_runner.specs.Runs.{IsRound}
 use Rattle.word_runner.proofs.serving.serve.Given as goal
 
 abbrev pub invariant-loop-turn : goal.invariant-loop-turn

@@ -1,10 +1,8 @@
-use Rattle.std.proofs.Common.{rules, ◌≡◌, ◌<◌, ◌+◌, ◌∙◌, ℕ, List, true, false, get_or, length, ap, sym, subst, arith}
-use Rattle.std.specs.Mem.Slots.{slots_items}
-use Rattle.atomic_table.specs.Table.{Final, Seen}
+use Rattle.std.proofs.Common.{rules, ◌≡◌, ◌<◌, ◌+◌, ◌∙◌, ap, subst}
 use Rattle.closure_net.specs.Network.{NetView}
-use Rattle.word_runner.specs.declared.view.View.{View}
-use Rattle.word_runner.specs.Words.{Ruled}
-use Rattle.word_runner.specs.Tells.{WordsView, IsFlowOfWords, AreRooms, IsQuietEnd, IsOpenRunOf}
+use Rattle.word_runner.specs.Seats.{WordsView}
+use Rattle.word_runner.specs.Runs.{IsOpenRunOf}
+use Rattle.word_runner.specs.Ends.{IsQuietEnd}
 use Rattle.word_runner.proofs.Settles.{rooms_closed, ends_closed, open_closed}
 use Rattle.word_runner.proofs.settling.close.Goals as goal
 

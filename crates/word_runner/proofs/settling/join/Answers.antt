@@ -1,7 +1,7 @@
-use Rattle.std.proofs.Common.{rules, ◌≡◌, ◌<◌, ◌+◌, ◌∙◌, ℕ, true, ap, sym, subst, arith}
-use Rattle.machine_law.specs.declared.operations.Operation.TheVariants.{Idle}
-use Rattle.word_runner.specs.Words.{width, IsHalf, is_idle}
-use Rattle.word_runner.specs.Tells.{Own, WordsView}
+use Rattle.std.proofs.Common.{rules, ◌≡◌, ◌<◌, ◌+◌, ◌∙◌, true, ap, sym, arith}
+use Rattle.word_runner.specs.Views.{is_idle}
+use Rattle.word_runner.specs.Halves.{IsHalf}
+use Rattle.word_runner.specs.Seats.{Own, WordsView}
 use Rattle.word_runner.proofs.FreeSeats.{free_is}
 use Rattle.word_runner.proofs.Begins.{joins}
 use Rattle.word_runner.proofs.settling.join.Goals as goal

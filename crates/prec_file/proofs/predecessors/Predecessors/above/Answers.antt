@@ -1,7 +1,7 @@
 use Rattle.std.proofs.Common.{◌≡◌, ℕ, ◌+◌, ◌<◌, length, arith, ap, ◌∙◌, slice_range}
 use Rattle.std.proofs.lemmas.List.{length-map}
 use Rattle.prec_file.specs.Rests.{from_at, above_of}
-use Rattle.prec_file.specs.Internal.{pairs_by}
+use Rattle.prec_file.specs.Indexes.{pairs_by}
 use Rattle.prec_file.proofs.Order.{starts_rise, above_is, at_zero}
 use Rattle.prec_file.proofs.predecessors.Predecessors.above.Goals as goal
 

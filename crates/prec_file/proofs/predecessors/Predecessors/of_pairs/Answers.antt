@@ -1,4 +1,4 @@
-use Rattle.prec_file.specs.Internal.{AreAbove}
+use Rattle.prec_file.specs.Indexes.{AreAbove}
 use Rattle.prec_file.proofs.Rows.{above_are, above_told}
 use Rattle.prec_file.proofs.predecessors.Predecessors.of_pairs.Goals as goal
 use Rattle.prec_file.proofs.predecessors.Predecessors.of_pairs.Goals.{In_ok-predecessors}

@@ -1,5 +1,5 @@
 use Rattle.std.proofs.Common.{◌++◌, ◌∷◌, [], ap, ◌∙◌}
-use Rattle.prec_file.specs.Internal.{pairs_by}
+use Rattle.prec_file.specs.Indexes.{pairs_by}
 use Rattle.prec_file.proofs.RowSteps.{none_pushed}
 use Rattle.prec_file.proofs.predecessors_builder.PredecessorsBuilder.new.Goals as goal
 

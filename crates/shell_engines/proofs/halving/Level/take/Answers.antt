@@ -1,9 +1,9 @@
-use Rattle.std.proofs.Common.{◌≡◌, ◌<◌, ℕ, List, [], ◌∷◌, ◌++◌, All, Option, IfSome, sym, subst}
+use Rattle.std.proofs.Common.{◌≡◌, ◌<◌, [], ◌∷◌, ◌++◌, All, Option, IfSome, sym, subst}
 use Rattle.std.proofs.lemmas.List.Elements.{All-append}
 use Rattle.shell_engines.specs.declared.best_pits.BestPit.{BestPit}
 use Rattle.shell_engines.specs.declared.mine_parts.Part.{Part}
 use Rattle.shell_engines.specs.declared.halving.Level.{Level}
-use Rattle.shell_engines.specs.Internal.{IsProved}
+use Rattle.shell_engines.specs.PitsAtFactors.{IsProved}
 use Rattle.shell_engines.specs.Parting.{IsLeft}
 use Rattle.shell_engines.proofs.Proving.{all_one}
 use Rattle.shell_engines.proofs.Among.{all_kept}

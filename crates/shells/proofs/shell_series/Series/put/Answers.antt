@@ -3,7 +3,7 @@ use Rattle.std.specs.Prelude.{vec_capacity}
 use Rattle.std.proofs.Math.Seq.{take-append_seam}
 use Rattle.closure_net.specs.Network.{holds_of}
 use Rattle.shells.specs.Series.{SeriesView, mine_at, IsAbove, IsPushed}
-use Rattle.shells.specs.Internal.{IsHeld}
+use Rattle.shells.specs.HeldSeries.{IsHeld}
 use Rattle.closure_net.specs.Mine.{IsBest}
 use Rattle.shells.proofs.Pushes.{push_keeps}
 use Rattle.shells.proofs.shell_series.Series.put.Goals as goal

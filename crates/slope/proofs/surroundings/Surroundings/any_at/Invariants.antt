@@ -1,5 +1,5 @@
 use Rattle.std.proofs.Common.{◌≡◌, take}
-use Rattle.slope.specs.Internal.{StandsAtNone}
+use Rattle.slope.specs.Gathering.{StandsAtNone}
 use Rattle.slope.proofs.surroundings.Surroundings.any_at.Given as goal
 
 abbrev pub invariant-loop-step : goal.invariant-loop-step

@@ -1,5 +1,5 @@
 use Rattle.std.proofs.Common.{◌<◌, length, refl, ap, arith}
-use Rattle.slope.specs.Internal.{SurroundingsView}
+use Rattle.slope.specs.Gathering.{SurroundingsView}
 use Rattle.slope.proofs.Seen.{seen_more, found_stands, sight_is}
 use Rattle.slope.proofs.surroundings.Surroundings.at.Goals as goal
 

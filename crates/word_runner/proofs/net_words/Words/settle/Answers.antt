@@ -1,5 +1,5 @@
-use Rattle.std.proofs.Common.{rules, ◌≡◌, ◌<◌, ◌∙◌, List, [], ◌∷◌, length, ap, subst, sym, arith}
-use Rattle.word_runner.specs.Tells.{Own, WordsView}
+use Rattle.std.proofs.Common.{rules, ◌≡◌, ◌<◌, ◌∙◌, ◌∷◌, length, ap, arith}
+use Rattle.word_runner.specs.Seats.{WordsView}
 use Rattle.word_runner.proofs.SeatLists.{served_one, served_two}
 use Rattle.word_runner.proofs.Ends.{last_one, last_two, closed_one, closed_two}
 use Rattle.word_runner.proofs.net_words.Words.settle.Goals as goal

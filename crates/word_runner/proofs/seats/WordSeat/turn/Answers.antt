@@ -1,8 +1,9 @@
-use Rattle.std.proofs.Common.{rules, ◌≡◌, ◌<◌, ◌∙◌, ℕ, List, length, get_or, refl, ap, sym, subst, arith}
+use Rattle.std.proofs.Common.{◌≡◌, ◌<◌, ◌∙◌, ℕ, get_or, ap, sym, arith}
 use Rattle.std.proofs.lemmas.List.{get_or_read}
 use Rattle.closure_net.specs.Network.{NetView}
-use Rattle.word_runner.specs.Words.{count, after}
-use Rattle.word_runner.specs.Tells.{Own, WordsView, IsTold}
+use Rattle.word_runner.specs.Layout.{count}
+use Rattle.word_runner.specs.StepWords.{after}
+use Rattle.word_runner.specs.Seats.{Own, WordsView}
 use Rattle.word_runner.proofs.Told.{told_next}
 use Rattle.word_runner.proofs.seats.WordSeat.turn.Goals as goal
 

@@ -1,0 +1,107 @@
+-- The word that a step is at, what it becomes, and the operation after the step.
+use Rattle.std.specs.Prelude.{ℕ, ◌+◌, ◌-◌, if◌then◌else◌, nat_lt, length, slice_get, Option, Some, None}
+use Rattle.closure_net.specs.Network.{NetView}
+use Rattle.closure_net.specs.Ports.{ports}
+use Rattle.closure_net.specs.declared.port.Port.{Port}
+use Rattle.closure_net.specs.declared.port.PortKind.{PortKind}
+use Rattle.closure_net.specs.declared.port.PortKind.TheVariants.{Sink, Forward, Backward, Source}
+use Rattle.machine_law.specs.declared.operations.Best.{Best}
+use Rattle.machine_law.specs.declared.operations.Operation.{Operation}
+use Rattle.machine_law.specs.declared.operations.Operation.TheVariants.{Idle, Scan, PushDue, TakeDue, GiveDue, RaiseDue}
+use Rattle.machine_law.specs.Residual.{label_beyond}
+use Rattle.machine_law.specs.Reads.{passed, chosen}
+use Rattle.word_runner.specs.Layout.{excess_at, label_at, source_at, room_at, flow_at}
+
+abbrev pub capacity_word : NetView → ℕ → PortKind → ℕ → ℕ
+capacity_word net b Sink slot = room_at net b
+capacity_word net b Forward slot = flow_at net slot
+capacity_word net b Backward slot = flow_at net slot
+capacity_word net b Source slot = source_at net b
+
+-- where the capacity of the port isn't read
+abbrev pub look_word : NetView → ℕ → PortKind → ℕ → ℕ → ℕ
+look_word net b Sink other slot = room_at net b
+look_word net b Forward other slot = label_at net other
+look_word net b Backward other slot = flow_at net slot
+look_word net b Source other slot = source_at net b
+
+abbrev pub look_word_at : NetView → ℕ → Option Port → ℕ
+look_word_at net b None = 0
+look_word_at net b (Some port) = look_word net b port.kind port.other port.slot
+
+-- at the sink and the source, whose labels are constant, the block's own label
+abbrev pub label_word_at : NetView → Option Port → ℕ
+label_word_at net None = 0
+label_word_at net (Some port) = label_at net port.other
+
+abbrev pub landing_word : NetView → PortKind → ℕ → ℕ
+landing_word net Sink other = 1
+landing_word net Forward other = excess_at net other
+landing_word net Backward other = excess_at net other
+landing_word net Source other = 0
+
+-- the word of the step that is next for b, which has this operation
+abbrev pub word_of : NetView → ℕ → Operation ℕ → ℕ
+word_of net b Idle = excess_at net b
+word_of net b (Scan have place None best) = look_word_at net b (slice_get (ports net b) place)
+word_of net b (Scan have place (Some read) best) = label_word_at net (slice_get (ports net b) place)
+word_of net b (PushDue have best) = capacity_word net b best.port.kind best.port.slot
+word_of net b (TakeDue d port) = excess_at net b
+word_of net b (GiveDue d port) = landing_word net port.kind port.other
+word_of net b (RaiseDue have best) = label_at net b
+
+-- ---- what the word becomes
+abbrev pub smaller : ℕ → ℕ → ℕ
+smaller have capacity = if nat_lt capacity have then capacity else have
+
+-- the units of a push over a port of this kind
+abbrev pub push_units : ℕ → PortKind → ℕ → ℕ
+push_units have Sink read = smaller have read
+push_units have Forward read = have
+push_units have Backward read = smaller have read
+push_units have Source read = smaller have read
+
+abbrev pub push_written : PortKind → ℕ → ℕ → ℕ
+push_written Sink d x = x - d
+push_written Forward d x = x + d
+push_written Backward d x = x - d
+push_written Source d x = x - d
+
+abbrev pub written : Operation ℕ → ℕ → ℕ
+written Idle x = x
+written (Scan have place read best) x = x
+written (PushDue have best) x = push_written best.port.kind (push_units have best.port.kind best.capacity) x
+written (TakeDue d port) x = x - d
+written (GiveDue d port) x = x + d
+written (RaiseDue have best) x = best.label + 1
+
+-- ---- what the operation becomes, where the word was x
+abbrev pub begun_at : ℕ → Operation ℕ
+begun_at x = if nat_lt 0 x then Scan x 0 None None else Idle
+
+abbrev pub seen_at : ℕ → ℕ → ℕ → ℕ → Option (Best ℕ) → ℕ → Operation ℕ
+seen_at ports label have place best x = if nat_lt 0 x then Scan have place (Some x) best else passed ports label have place best
+
+abbrev pub looked_at : NetView → ℕ → ℕ → ℕ → ℕ → Option (Best ℕ) → Port → PortKind → ℕ → Operation ℕ
+looked_at net b label have place best port Sink x = seen_at (length (ports net b)) label have place best x
+looked_at net b label have place best port Forward x = chosen (length (ports net b)) label have place best 0 port (label_beyond net Forward x)
+looked_at net b label have place best port Backward x = seen_at (length (ports net b)) label have place best x
+looked_at net b label have place best port Source x = seen_at (length (ports net b)) label have place best x
+
+abbrev pub looked_if : NetView → ℕ → ℕ → ℕ → ℕ → Option (Best ℕ) → Option Port → ℕ → Operation ℕ
+looked_if net b label have place best None x = Idle
+looked_if net b label have place best (Some port) x = looked_at net b label have place best port port.kind x
+
+abbrev pub weighed_if : NetView → ℕ → ℕ → ℕ → ℕ → Option (Best ℕ) → ℕ → Option Port → ℕ → Operation ℕ
+weighed_if net b label have place best read None x = Idle
+weighed_if net b label have place best read (Some port) x = chosen (length (ports net b)) label have place best read port (label_beyond net port.kind x)
+
+-- b has this label
+abbrev pub after : NetView → ℕ → ℕ → Operation ℕ → ℕ → Operation ℕ
+after net b label Idle x = begun_at x
+after net b label (Scan have place None best) x = looked_if net b label have place best (slice_get (ports net b) place) x
+after net b label (Scan have place (Some read) best) x = weighed_if net b label have place best read (slice_get (ports net b) place) x
+after net b label (PushDue have best) x = TakeDue (push_units have best.port.kind best.capacity) best.port
+after net b label (TakeDue d port) x = GiveDue d port
+after net b label (GiveDue d port) x = Idle
+after net b label (RaiseDue have best) x = Idle
