@@ -6,6 +6,7 @@ goes on, so it serves a tree in which nothing is changed.
 """
 import os
 import re
+import select
 import shutil
 import signal
 import subprocess
@@ -51,12 +52,31 @@ class Gate:
         self.screen = proving.Screen(len(crates))
         # in a group of its own, so that all its processes are ended together
         self.process = subprocess.Popen(["rt", "ci", *words], cwd=COPY, stdin=subprocess.DEVNULL, stdout=subprocess.PIPE, stderr=subprocess.STDOUT,
-                                        text=True, errors="replace", start_new_session=True, preexec_fn=proving.as_a_child)
+                                        start_new_session=True, preexec_fn=proving.as_a_child)
+
+    def lines(self):
+        """The lines that the kit prints, and None for each second in which it prints none."""
+        held, out = b"", self.process.stdout.fileno()
+        while True:
+            if not select.select([out], [], [], 1)[0]:
+                yield None
+                continue
+            data = os.read(out, 1 << 16)
+            *whole, held = (held + data).split(b"\n")
+            yield from (line.decode(errors="replace") + "\n" for line in whole)
+            if not data:
+                return
+
+    def seconds(self):
+        return time.monotonic() - self.began
 
     def follow(self):
         """Shows each crate as it ends, and says whether all are proved."""
         said = []
-        for line in self.process.stdout:
+        for line in self.lines():
+            if line is None:
+                self.screen.live("proving: %d of %d crates have ended, %d s" % (self.screen.ended, self.screen.count, self.seconds()))
+                continue
             self.log.write(line)
             self.log.flush()
             said = [] if line.startswith("== ") else said + [line]
@@ -65,7 +85,7 @@ class Gate:
                 self.screen.failed(self.crates[ended[1]], "".join(said), self.log.name)
                 return False
             if ended:
-                self.screen.crate(self.crates[ended[1]], "".join(said), "after %5d s" % (time.monotonic() - self.began))
+                self.screen.crate(self.crates[ended[1]], "".join(said), "after %5d s" % self.seconds())
         if self.process.wait():
             self.screen.line("the kit's gate failed; the end of %s:\n\n%s" % (self.log.name, "".join(said[-40:])))
         return self.process.returncode == 0
@@ -78,6 +98,8 @@ class Gate:
             with suppress(subprocess.TimeoutExpired):
                 self.process.wait(PATIENCE)
         self.process.stdout.close()
+        with suppress(OSError):  # the terminal may be gone
+            self.screen.clear()
 
 
 def prove(crates, log, words):

@@ -198,9 +198,8 @@ class Screen:
             sys.stdout.write("\r\033[K")
             self.shown = 0
 
-    def live(self, running):
-        if self.is_live and running:
-            text = "proving " + ", ".join("%s %d s" % (it.crate.name, it.seconds()) for it in running)
+    def live(self, text):
+        if self.is_live:
             sys.stdout.write("\r\033[K" + text[: shutil.get_terminal_size().columns - 1])
             sys.stdout.flush()
             self.shown = 1
@@ -298,7 +297,7 @@ class Run:
             self.begin_some()
             if not self.take_ended():
                 return False
-            self.screen.live(self.running)
+            self.screen.live("proving " + ", ".join("%s %d s" % (it.crate.name, it.seconds()) for it in self.running))
             time.sleep(0.2)
         return True
 
