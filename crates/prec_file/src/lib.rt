@@ -2,8 +2,8 @@
 //!
 //! A pair (b, p) says that block b rests on block p, so that b can be dug only after p. `Rests` holds such pairs,
 //! each once and in order, and answers both ways at once: what a block rests on, and which pairs rest on a block.
-//! `Predecessors` holds them to answer the first alone, with about a third of the memory. `read_prec` and `read_listed`
-//! read them from a precedence file, and `write_prec` writes them to one.
+//! `Predecessors` holds them to answer the first alone, with about a third of the memory. `read_prec` and
+//! `read_predecessors` read them from a precedence file, and `write_prec` writes them to one.
 //!
 //! It stands on `fixed_worth` for lines, fields, whole numbers and devices.
 //!
@@ -14,7 +14,8 @@
 //! - What is written is read back as the same pairs.
 //!
 //! Both types are built in the time of a sort, or in linear time where the pairs are listed in order. A
-//! `PredecessorsBuilder` takes the pairs block by block, and never holds more than it keeps.
+//! `PredecessorsBuilder` takes the pairs block by block, and never holds more than it keeps; so are texts read whose
+//! records go by their blocks.
 #![tactic(auto)]
 
 mod first_pairs;
