@@ -9,7 +9,7 @@ use Rattle.settings_file.specs.Keys.{all_known}
 use Rattle.settings_file.specs.Values.{whole_within}
 use Rattle.settings_file.specs.Settings.{said_at, cost_in}
 
--- Every name of the table is a key, and no column is bad.
+-- Every name of the table is a key, and the columns of revenue, cost and tonnes are not bad, as far as they are named.
 pub record IsGoodUpToFactors (ms : Members) : Type 0 where
   pub keys : all_known ms ≡ true
   pub revenue : IsOk (said_at Revenue (whole_within 65535) ms)
