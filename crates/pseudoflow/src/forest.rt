@@ -27,14 +27,15 @@ impl Direction {
     }
 }
 
-// What the search keeps of a block, side by side, since it looks at most of it at once: what it has left, the links of its
-// tree, and where two searches at it stand.
+// What the search keeps of a block: what it has left, the links of its tree, and where two searches at it stand. What a push
+// looks at stands together, first, and then what a walk looks at, since a record seldom begins where a line of the memory does.
 #[derive(Clone, Copy)]
 struct Node<A: Amount> {
     // a deficit where it is negative
     excess: A,
     // what the arc of the block and its parent carries
     flow: A,
+    direction: Direction,
     parent: Link,
     // the children of a block form a list, linked both ways so that any of them is taken out at once
     first_child: Link,
@@ -48,7 +49,6 @@ struct Node<A: Amount> {
     current_arc: u32,
     // the root behind it in the bucket of its label
     next_root: Link,
-    direction: Direction,
 }
 
 // A block that is a tree of its own.
@@ -56,6 +56,7 @@ fn alone<A: Amount>(excess: A, first_arc: u32, end_of_arcs: u32) -> Node<A> {
     Node {
         excess,
         flow: A::zero(),
+        direction: Direction::Up,
         parent: NO_LINK,
         first_child: NO_LINK,
         next_sibling: NO_LINK,
@@ -65,7 +66,6 @@ fn alone<A: Amount>(excess: A, first_arc: u32, end_of_arcs: u32) -> Node<A> {
         end_of_arcs,
         current_arc: first_arc,
         next_root: NO_LINK,
-        direction: Direction::Up,
     }
 }
 
