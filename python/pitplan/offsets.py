@@ -288,12 +288,14 @@ class Outline:
         At an angle a from where it is nearest, an edge that comes d out for each metre of height rises by
         -d sin a / (d^2 + cos^2 a) for each degree of bearing. That is `lean` at one angle or at none.
         """
-        for bearing, (p, q) in zip(self.nearest(), self._edges):
+        ends = self._starts[1:] + self._starts[:1]
+        for bearing, start, end, (p, q) in zip(self.nearest(), self._starts, ends, self._edges):
             out = _cross(q, p) / math.dist(p, q)
             whole = lean * (out * out + 1)
             sine = -2 * whole / (out + math.sqrt(out * out + 4 * lean * whole))
-            if abs(sine) < 1:
-                yield bearing + math.degrees(math.asin(sine))
+            at = bearing + math.degrees(math.asin(sine)) if abs(sine) < 1 else math.nan
+            if (at - start) % 360 <= (end - start) % 360:               # else it is beyond the edge
+                yield at
 
 
 def _chain(points: Sequence[tuple[int, int]]) -> list[tuple[int, int]]:
@@ -329,10 +331,13 @@ def _by_degree(asked: Wall) -> list[float]:
     return [asked.slope(bearing) for bearing in range(360)]
 
 
-def _steep(asked: Wall, outline: Outline, is_safe: bool) -> list[float]:
+def _steep(asked: Wall, outline: Outline, is_safe: bool) -> Iterator[float]:
     """The bearings at which a wall may be steepest beside what is asked; with `is_safe` all of them."""
-    bearings = [*outline.nearest(), *(bearing for bearing, _ in asked.slopes)]
-    return bearings + [bearing for lean in asked.leans if is_safe and lean for bearing in outline.steepest_beside(lean)]
+    yield from outline.nearest()
+    yield from (bearing for bearing, _ in asked.slopes)
+    for lean in asked.leans if is_safe else ():
+        if lean:
+            yield from outline.steepest_beside(lean)
 
 
 def _extremes(asked: Wall, outline: Outline, is_safe: bool, flat: float = math.inf, steep: float = math.inf) -> tuple[float, float]:
