@@ -101,11 +101,11 @@ def steeper(found, slope, bearings):
 @pytest.mark.parametrize("levels", [1, 3, 5, None])
 def test_the_steepest_of_a_safe_wall_is_that_of_all_bearings(levels):
     """Where the slope changes with the bearing, also between one degree and the next."""
-    found = search.search(search.wall((25, 25, 15), [(0, 45), (90, 45), (180, 38), (270, 45)]), safe=True, levels=levels)
-    off = steeper(found, "0:45,90:45,180:38,270:45", [b / 64 for b in range(360 * 64)])
+    found = search.search(search.wall((20, 20, 10), BY_BEARING), safe=True, levels=levels)
+    off = steeper(found, "30:38,150:46,270:42", [b / 64 for b in range(360 * 64)])
     assert max(off) <= found.error.steepest + 1e-9 <= max(off) + 1e-6 and found.error.steepest <= 1e-9
     at = found.steepest_at()
-    assert steeper(found, "0:45,90:45,180:38,270:45", [at]) == pytest.approx([max(off)], abs=1e-5)
+    assert steeper(found, "30:38,150:46,270:42", [at]) == pytest.approx([max(off)], abs=1e-5)
 
 
 def test_a_safe_wall_that_no_offsets_make_is_refused(monkeypatch):
