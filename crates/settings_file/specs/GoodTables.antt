@@ -9,7 +9,7 @@ use Rattle.settings_file.specs.Keys.{all_known}
 use Rattle.settings_file.specs.Values.{whole_within}
 use Rattle.settings_file.specs.Settings.{said_at, cost_in}
 
--- Every name of the table is a key, and no column is bad.
+-- Every name of the table is a key, and none of what is read before the factors is bad: the columns of revenues, of costs and of tonnes.
 pub record IsGoodUpToFactors (ms : Members) : Type 0 where
   pub keys : all_known ms ≡ true
   pub revenue : IsOk (said_at Revenue (whole_within 65535) ms)
