@@ -17,8 +17,8 @@ SCRIPTS = {"postinst": "#!/bin/sh\nset -e\nif [ \"$1\" = configure ]; then\n    
            "prerm": "#!/bin/sh\nset -e\npy3clean -p pitplan\n"}
 DESCRIPTION = """from a table of blocks to proved pits, tables, pictures and a page
  pitplan takes a planner's table of blocks, prices, costs and slope angles, and
- gives back shells, pushbacks, CAD files, risk and one HTML page. pit check has
- accepted each best pit that it shows. The program pit is in this package: it
+ gives back shells, pushbacks, CAD files, risk and one HTML page. Each best pit
+ that it shows is one that pit states. The program pit is in this package: it
  finds ultimate pits with certificates, and is proved function by function.
 """
 

@@ -120,7 +120,7 @@ def print_table(found: Shells, table: pd.DataFrame) -> None:
     if found.certified == len(found):
         say("each pit has a certificate, which pit check has accepted")
     else:
-        say(f"each pit is as pit shells states it, which is proved to check each with a flow; certificates: {command('shells', found.study.named)} --certificates")
+        say(f"each pit is as pit shells states it, which is proved to state none but the best; certificates: {command('shells', found.study.named)} --certificates")
 
 
 def warn_of_edges(found: Shells) -> None:

@@ -67,10 +67,11 @@ def not_held(name: str, pattern: Pattern, levels: int | None) -> str:
     from .offsets import MEAN, WORST, Outline
     outline = Outline(pattern.wall, pattern.offsets)
     bearing = max(range(360), key=lambda b: abs(outline.slope(b) - pattern.wall.slope(b)))
-    asked, built = pattern.wall.slope(bearing), outline.slope(bearing)
+    most, steepest = (f"at bearing {b:.0f}: {pattern.wall.slope(b):.1f} degrees are asked for there, {outline.slope(b):.1f} are built" for b in (bearing, pattern.steepest_at()))
+    is_steep = pattern.error.steepest > WORST and outline.slope(bearing) < pattern.wall.slope(bearing)
     blocks = " x ".join(f"{side:g}" for side in pattern.wall.size)
     told = (f"{name}: {MEAN:g} degrees on average and {WORST:g} at the worst bearing can't be held with blocks of {blocks}" + (f" and levels = {levels}" if levels else "")
-            + f"; the offsets that err least are taken, and err most at bearing {bearing}: {asked:.1f} degrees are asked for there, {built:.1f} are built")
+            + f"; the offsets that err least are taken, and err most {most}" + (f"; they are too steep by most {steepest}" if is_steep else ""))
     hint = "more levels in [slopes], or none told" if levels else "angles that change less from bearing to bearing, or lower blocks"
     return f"{told}\n  try: {hint}"
 

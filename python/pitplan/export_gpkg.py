@@ -28,7 +28,7 @@ def write(shells: Shells, path: str | os.PathLike[str], pits: Sequence[int] | No
     ``benches`` has a feature for each pit and bench: ``factor`` (a share of the price), ``toe``, ``crest`` (elevations of the
     bench's faces), ``blocks``, ``area`` (square units of the coordinates), ``volume`` (area times height), ``rock_t``
     and ``ore_t`` (in place, ore at factor 1). ``rims`` has the outline of each pit as seen from above: ``factor``,
-    ``blocks``, ``area``, ``worth`` (text, as `pit check` accepted it).
+    ``blocks``, ``area``, ``worth`` (text, as `pit` states it).
 
     Parameters
     ----------

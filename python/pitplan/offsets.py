@@ -9,6 +9,9 @@ err by no more than is allowed.
 A cone whose slope changes with the bearing may have dents, where one bearing is steeper than those beside it. The wall
 that is built has none: there it is flatter than asked, and the error says by how much.
 
+With `safe` the wall is at no bearing steeper than asked, or there is no answer. A cone that is stretched far enough is
+safe at each number of levels, so what can be in the way is the number of offsets alone.
+
 Standard library alone: `examples/offsets.py` is a command line over this file.
 """
 from __future__ import annotations
@@ -27,17 +30,39 @@ Fits = Callable[[Sequence[Offset]], bool]
 PAIRS = 1 << 27                 # the most pairs of a block and a predecessor that `pit` takes
 OFFSETS = 4096                  # the most offsets
 MEAN, WORST, SIGNED = 0.5, 1.0, 0.25    # degrees that a wall may err by: on average, anywhere, on average with its sign
-TOO_STEEP = 1000                # how much a degree too steep weighs where no wall may be steeper
+TOO_STEEP = 1000                # what a wall that is too steep weighs, and each degree of it, where none may be: more than all that is flatter
 SIDE = 0.25                     # the least share that the lesser of the errors to both sides has of the greater
 FLATTEST, STEEPEST = 5.0, 89.0  # degrees that may be asked for
 SLACK = 1e-9                    # relative: numbers so near to each other are one number, spelled in two ways
 TRIES = (10, 400), (24, 300)    # the search looks so many levels up that a wall comes 10 blocks out, at 400 stretches; then further
 MOST_LEVELS = 200
-NARROWEST, WIDEST = 0.9, 1.6    # the least and the greatest stretch
+NARROWEST, WIDEST = 0.9, 1.6    # the least and the greatest stretch, but where a safe wall needs more
+NEAR = 3                        # where a wall comes this many blocks out, a cone of that stretch has a block on each side of it
 
 
 class SlopeError(ValueError):
     """A slope, size or limit that can't be meant; the text says which and what to give instead."""
+
+
+class TooSteep(SlopeError):
+    """No offsets that fit make a wall that is nowhere steeper than asked.
+
+    Attributes
+    ----------
+    nearest
+        The pattern that errs least.
+    advice
+        What to give instead; the error's text ends in it.
+    """
+
+    advice = "lower or wider blocks, or steeper slopes: each needs fewer offsets"
+
+    def __init__(self, nearest: Pattern) -> None:
+        bearing, asked = nearest.steepest_at(), nearest.wall
+        self.nearest = nearest
+        self.what = ("a wall that is nowhere steeper than asked can't be built in blocks of %s with the offsets that pit takes: the nearest is %.1f degrees "
+                     "at bearing %.0f, where %.1f are asked for" % (" x ".join("%g" % side for side in asked.size), nearest.built(bearing), bearing, asked.slope(bearing)))
+        super().__init__("%s; take %s" % (self.what, self.advice))
 
 
 @dataclass(frozen=True)
@@ -69,6 +94,12 @@ class Wall:
         if gap == 0:
             return low[1]
         return low[1] + (high[1] - low[1]) * ((bearing - low[0]) % 360) / gap
+
+    @functools.cached_property
+    def leans(self) -> set[float]:
+        """By how many degrees the slope rises for each degree of bearing, between one bearing that is given and the next."""
+        after = self.slopes[1:] + self.slopes[:1]
+        return {(two - one) / ((other - bearing) % 360 or 360) for (bearing, one), (other, two) in zip(self.slopes, after)}
 
     def turned(self, x: float, y: float) -> tuple[float, float]:
         """Metres east and north of metres along the model's axes."""
@@ -144,6 +175,11 @@ class Error:
         """The greatest error without its sign."""
         return max(self.steepest, -self.flattest)
 
+    @property
+    def is_too_steep(self) -> bool:
+        """Whether a wall is steeper than asked somewhere."""
+        return self.steepest > SLACK
+
     def badness(self, is_safe: bool = False) -> float:
         """At most 1 where all is held; otherwise the greatest share of what is allowed."""
         if is_safe:
@@ -153,7 +189,7 @@ class Error:
 
     def bound(self, is_safe: bool) -> float:
         """What `badness` is at least, by the extremes alone."""
-        return self.worst / WORST + (TOO_STEEP * self.steepest if is_safe and self.steepest > SLACK else 0)
+        return self.worst / WORST + (TOO_STEEP * (1 + self.steepest) if is_safe and self.is_too_steep else 0)
 
     def __str__(self) -> str:
         """In words, with two decimals."""
@@ -189,6 +225,12 @@ class Pattern:
     def built(self, bearing: float) -> float:
         """Degrees of the deep wall at a bearing."""
         return Outline(self.wall, self.offsets).slope(bearing)
+
+    def steepest_at(self) -> float:
+        """The bearing at which the wall is steepest beside what was asked; the least of several."""
+        outline = Outline(self.wall, self.offsets)
+        bearings: list[float] = sorted(bearing % 360.0 for bearing in [*map(float, range(360)), *_steep(self.wall, outline, True)])
+        return max(bearings, key=lambda bearing: round(outline.slope(bearing) - self.wall.slope(bearing), 6))
 
     def __str__(self) -> str:
         return "%d offsets, the highest %d up: a deep wall is %s" % (len(self.offsets), self.levels, self.error)
@@ -240,6 +282,21 @@ class Outline:
         """The bearings at which an edge is nearest: there the wall is steepest."""
         return [math.degrees(math.atan2(p[1] - q[1], q[0] - p[0])) for p, q in self._edges]
 
+    def steepest_beside(self, lean: float) -> Iterator[float]:
+        """The bearings at which an edge is steepest beside a slope that rises by `lean` degrees for each degree of bearing.
+
+        At an angle a from where it is nearest, an edge that comes d out for each metre of height rises by
+        -d sin a / (d^2 + cos^2 a) for each degree of bearing. That is `lean` at one angle or at none.
+        """
+        ends = self._starts[1:] + self._starts[:1]
+        for bearing, start, end, (p, q) in zip(self.nearest(), self._starts, ends, self._edges):
+            out = _cross(q, p) / math.dist(p, q)
+            whole = lean * (out * out + 1)
+            sine = -2 * whole / (out + math.sqrt(out * out + 4 * lean * whole))
+            at = bearing + math.degrees(math.asin(sine)) if abs(sine) < 1 else math.nan
+            if (at - start) % 360 <= (end - start) % 360:               # else it is beyond the edge
+                yield at
+
 
 def _chain(points: Sequence[tuple[int, int]]) -> list[tuple[int, int]]:
     """Half of the corners of a convex hull, of points in ascending or descending order (Andrew 1979)."""
@@ -258,14 +315,14 @@ def _cross(p: tuple[float, float], q: tuple[float, float]) -> float:
     return p[0] * q[1] - p[1] * q[0]
 
 
-def error_of(asked: Wall, outline: Outline) -> Error:
+def error_of(asked: Wall, outline: Outline, is_safe: bool = False) -> Error:
     """By how much a wall errs.
 
     The means are those of 360 bearings. The extremes are looked for at these, at the outline's bends, and where the
-    slope that is asked for bends.
+    slope that is asked for bends; with `is_safe` also between these, so that `steepest` is the greatest error of all.
     """
     off = [outline.slope(bearing) - slope for bearing, slope in enumerate(_by_degree(asked))]
-    steepest, flattest = _extremes(asked, outline)
+    steepest, flattest = _extremes(asked, outline, is_safe)
     return Error(sum(abs(each) for each in off) / 360, sum(off) / 360, max(steepest, *off), min(flattest, *off))
 
 
@@ -274,7 +331,16 @@ def _by_degree(asked: Wall) -> list[float]:
     return [asked.slope(bearing) for bearing in range(360)]
 
 
-def _extremes(asked: Wall, outline: Outline, flat: float = math.inf, steep: float = math.inf) -> tuple[float, float]:
+def _steep(asked: Wall, outline: Outline, is_safe: bool) -> Iterator[float]:
+    """The bearings at which a wall may be steepest beside what is asked; with `is_safe` all of them."""
+    yield from outline.nearest()
+    yield from (bearing for bearing, _ in asked.slopes)
+    for lean in asked.leans if is_safe else ():
+        if lean:
+            yield from outline.steepest_beside(lean)
+
+
+def _extremes(asked: Wall, outline: Outline, is_safe: bool, flat: float = math.inf, steep: float = math.inf) -> tuple[float, float]:
     """The greatest and the least error; the looking ends at the first that is flatter or steeper by more than these."""
     flattest = math.inf
     for bearing, slope in outline.corner_slopes():
@@ -282,7 +348,7 @@ def _extremes(asked: Wall, outline: Outline, flat: float = math.inf, steep: floa
         if flattest < -flat:
             return -math.inf, flattest
     steepest = -math.inf
-    for bearing in [*outline.nearest(), *(bearing for bearing, _ in asked.slopes)]:
+    for bearing in _steep(asked, outline, is_safe):
         off = outline.slope(bearing) - asked.slope(bearing)
         steepest, flattest = max(steepest, off), min(flattest, off)
         if off > steep or off < -flat:
@@ -297,15 +363,15 @@ class _Cones:
     and compared in one operation.
     """
 
-    def __init__(self, asked: Wall, levels: int) -> None:
+    def __init__(self, asked: Wall, levels: int, widest: float = WIDEST) -> None:
         flattest = min(slope for _, slope in asked.slopes)
-        reach = WIDEST * levels * asked.size[2] / math.tan(math.radians(flattest))
+        reach = widest * levels * asked.size[2] / math.tan(math.radians(flattest))
         across, along = int(reach / asked.size[0]) + 1, int(reach / asked.size[1]) + 1
-        self.levels, self.across, self.wide = levels, across, 2 * across + 1
+        self.levels, self.widest, self.across, self.wide = levels, widest, across, 2 * across + 1
         self.origin = 1 << (along * self.wide + across)
         self.along = along
         found = sorted((asked.stretch(i, j), i, j) for i in range(-across, across + 1) for j in range(-along, along + 1))
-        self.found = [f for f in found if f[0] <= WIDEST * levels * (1 + SLACK)]
+        self.found = [f for f in found if f[0] <= widest * levels * (1 + SLACK)]
         self.far = [far for far, _, _ in self.found]
         self.sets, self.counts = {0: 0}, [0]            # sets of the nearest columns by their count, and these counts ascending
 
@@ -328,7 +394,7 @@ class _Cones:
         """Stretches at which a cone has one block more, ascending; where there are too many, those of the lower levels."""
         cuts: list[float] = [1.0]
         for k in range(1, self.levels + 1):
-            more = [far / k for far in self.far if narrowest <= far / k <= WIDEST]
+            more = [far / k for far in self.far if narrowest <= far / k <= self.widest]
             cuts = sorted(cuts + more)
             cuts = [cut for cut, before in zip(cuts, [-1.0] + cuts) if cut > before * (1 + SLACK)]
             if len(cuts) >= most:
@@ -370,7 +436,7 @@ def search(asked: Wall, *, safe: bool = False, levels: int | None = None, fits: 
     asked
         The wall.
     safe
-        Whether it may be steeper than asked nowhere. Otherwise it errs to both sides, or not at all.
+        Whether it may be steeper than asked nowhere, at whatever bearing. Otherwise it errs to both sides, or not at all.
     levels
         How many levels up the offsets may lead; where None, as many as it takes, up to 200.
     fits
@@ -381,10 +447,13 @@ def search(asked: Wall, *, safe: bool = False, levels: int | None = None, fits: 
     Pattern
         Of those that err by no more than 0.5 degrees on average and 1.0 at the worst bearing, and unless `safe` by
         0.25 with their sign on average, one with the fewest offsets; where there is none, the one that errs least, and
-        `is_held` is False.
+        `is_held` is False. With `safe` no answer is steeper than asked, held or not: where `levels` are few it is flatter.
 
     Raises
     ------
+    TooSteep
+        Where no wall may be steeper than asked, and each that is tried is: even one level of a safe one has more offsets
+        than fit.
     SlopeError
         Where not even the straight column of blocks fits, or `levels` isn't from 1 to 200.
     """
@@ -407,7 +476,25 @@ def search(asked: Wall, *, safe: bool = False, levels: int | None = None, fits: 
         tried.append(found)
         if found.is_held:
             break
-    return min(tried, key=lambda pattern: _rank(pattern, safe))
+    best = min(tried, key=lambda pattern: _rank(pattern, safe))
+    if safe and best.error.is_too_steep:
+        flatter = _flatter(asked, min(before, math.ceil(NEAR / out)), fits)
+        if flatter is None:
+            raise TooSteep(best)
+        return flatter
+    return best
+
+
+def _flatter(asked: Wall, levels: int, fits: Fits) -> Pattern | None:
+    """The best safe pattern of cones that are stretched more than others need; None where one level has too many offsets before that."""
+    narrow = WIDEST
+    while (first := next(_Cones(asked, 1, narrow).needed(narrow), None)) and fits(first):
+        cones = _Cones(asked, levels, 2 * narrow)
+        found = _best(cones, asked, True, fits, [*cones.cuts(narrow, TRIES[0][1]), cones.widest])
+        if found and not found.error.is_too_steep:
+            return found
+        narrow = cones.widest
+    return None
 
 
 def _best(cones: _Cones, asked: Wall, safe: bool, fits: Fits, stretches: Sequence[float]) -> Pattern | None:
@@ -425,11 +512,11 @@ def _best(cones: _Cones, asked: Wall, safe: bool, fits: Fits, stretches: Sequenc
             corners, count = outline.at or list(offsets), len(offsets)
             if outline.corners not in seen:             # None: the extremes alone are worse than the best
                 flat = least * WORST
-                steepest, flattest = _extremes(asked, outline, flat, max(SLACK, least / TOO_STEEP) if safe else flat)
+                steepest, flattest = _extremes(asked, outline, safe, flat, max(SLACK, least / TOO_STEEP - 1) if safe else flat)
                 if -flattest > flat:                    # further levels make the wall flatter still
                     break
                 bound = Error(0, 0, steepest, flattest).bound(safe)
-                seen[outline.corners] = error_of(asked, outline) if bound <= least else None
+                seen[outline.corners] = error_of(asked, outline, safe) if bound <= least else None
             error = seen[outline.corners]
             if error is None:
                 continue

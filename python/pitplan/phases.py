@@ -24,7 +24,7 @@ class Phases:
     Parameters
     ----------
     shells : Shells
-        Of the chosen factors alone. Each pushback is the difference of two pits that `pit check` accepted, so after each the
+        Of the chosen factors alone. Each pushback is the difference of two best pits as `pit` states them, so after each the
         mine is a proved pit.
     mining_width : float, optional
         The least width that machines need, in the unit of the coordinates.

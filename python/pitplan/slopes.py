@@ -6,7 +6,7 @@ is run over the whole model, and each block's line is taken from the run of its 
 from __future__ import annotations
 
 import functools
-from collections.abc import Callable, Mapping, Sequence
+from collections.abc import Callable, Iterator, Mapping, Sequence
 from contextlib import ExitStack
 from dataclasses import dataclass, field
 from pathlib import Path
@@ -44,7 +44,8 @@ class Slopes:
     regions : mapping, optional
         Angles of their own for regions, by what stands in that column. All other blocks have `angles`.
     safe : bool
-        Whether no wall may be steeper than asked; it is flatter on average then.
+        Whether no wall may be steeper than asked, at any bearing; it is flatter on average then, and with few `levels`
+        much flatter. Where no offsets make such a wall `patterns` raises, and so nothing is built.
     levels : int, optional
         How many levels up the offsets may lead; as many as it takes, unless told.
 
@@ -88,8 +89,7 @@ class Slopes:
 
     def wall(self, region: str, size: tuple[float, float, float], rotation: float) -> search.Wall:
         """What is asked for in a region."""
-        angles = self.angles if region == DEFAULT else (self.regions or {})[region]
-        where = "angles" if region == DEFAULT else f"regions, {region}"
+        angles, where = self.angles if region == DEFAULT else (self.regions or {})[region], angles_key(region)
         if not _are_angles(angles):
             raise PlanError(f"[slopes] {where}: {angles!r} are no angles", try_this="45, or by bearing [[0, 38], [90, 45], [180, 50], [270, 45]]")
         try:
@@ -98,12 +98,24 @@ class Slopes:
             raise PlanError(f"[slopes] {where}: {error}") from None
 
     def patterns(self, grid: Grid) -> dict[str, Pattern]:
-        """The offsets of each region and the wall that they make, "default" first; searched once for a size and rotation."""
-        key = (grid.size, grid.rotation, self.levels)
+        """The offsets of each region and the wall that they make, "default" first; searched once for a size and rotation.
+
+        Raises
+        ------
+        PlanError
+            Where with `safe` a region's wall would be steeper than asked.
+        """
+        key = (grid.size, grid.rotation, self.safe, self.levels)
         if key not in self._found:
             walls = {name: self.wall(name, grid.size, grid.rotation) for name in self.names}
-            self._found[key] = {name: searched(wall, self.safe, self.levels) for name, wall in walls.items()}
+            self._found[key] = {name: self._searched(name, wall) for name, wall in walls.items()}
         return self._found[key]
+
+    def _searched(self, region: str, wall: search.Wall) -> Pattern:
+        try:
+            return searched(wall, self.safe, self.levels)
+        except search.TooSteep as error:
+            raise PlanError(f"[slopes] {angles_key(region)}, safe = true: {error.what}", try_this=error.advice) from None
 
     def offsets_by_region(self, grid: Grid) -> dict[str, list[Offset]]:
         """The offsets (dx, dy, dz) of each region, "default" first."""
@@ -145,6 +157,11 @@ class Slopes:
         index = {name: i for i, name in enumerate(self.names) if i}
         of_code = np.array([*(index.get(text, 0) for text in texts), 0], np.int64)       # the last is that of an empty cell, whose code is -1
         return cast(Ints, of_code[codes])
+
+
+def angles_key(region: str) -> str:
+    """The key of [slopes] that has a region's angles."""
+    return "angles" if region == DEFAULT else f"regions, {region}"
 
 
 @functools.lru_cache(maxsize=64)
@@ -204,13 +221,21 @@ def check_limits(slopes: Slopes, model: Model) -> None:
         count = _over(model, pattern)
         if not count:
             continue
-        fewer = [searched(pattern.wall, slopes.safe, levels) for levels in range(pattern.levels - 1, 0, -1)]
-        fitting = [(levels, tried) for levels, tried in zip(range(pattern.levels - 1, 0, -1), fewer) if not _over(model, tried)]
+        fitting = [(levels, tried) for levels, tried in _with_fewer_levels(pattern, slopes.safe) if not _over(model, tried)]
         told = f"[slopes] {name}: {len(pattern.offsets)} offsets make {count:,} pairs over {len(model):,} blocks, and pit takes {search.PAIRS:,}"
         if not fitting:
             raise PlanError(told, try_this="larger blocks: even one level up is too much")
         levels, tried = min(fitting, key=lambda found: (found[1].error.badness(slopes.safe), -found[0]))
         raise PlanError(told, try_this=f"levels = {levels} in [slopes]: {tried}; or larger blocks")
+
+
+def _with_fewer_levels(pattern: Pattern, safe: bool) -> Iterator[tuple[int, Pattern]]:
+    """What each lesser number of levels makes of the same wall, the greatest first."""
+    for levels in range(pattern.levels - 1, 0, -1):
+        try:
+            yield levels, searched(pattern.wall, safe, levels)
+        except search.TooSteep:
+            continue
 
 
 def _over(model: Model, pattern: Pattern) -> int:

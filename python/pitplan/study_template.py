@@ -1,4 +1,4 @@
-"""The study.toml that `pitplan init` writes: every key with a comment."""
+"""The study.toml that `pitplan init` writes, with comments at its keys."""
 from string import Template
 
 TEMPLATE = Template("""\
@@ -22,7 +22,7 @@ currency = "$$"
 # for a tonne of rock: a number, a column, a formula as "2.2 + 0.02 * (1500 - $z) / 10"$by_rock
 mining = 2.50
 processing = 9.00                # for a tonne of the mill's feed, likewise
-# mill = [$mill]                 # the rocks that the mill takes; all unless told
+# mill = [$mill]                 # the rocks that the mill takes; all but air unless told
 dilution = 0.0                   # tonnes of waste that come to the mill with each tonne of ore
 mining_recovery = 1.0            # the share of the ore that reaches the mill
 rounding = 1                     # amounts of a block in whole units of currency

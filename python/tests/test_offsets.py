@@ -72,6 +72,61 @@ def test_a_wall_that_is_held_errs_by_no_more_than_is_allowed(size, slope, safe):
     assert walls.needed(found.offsets) and set(walls.needed(found.offsets)) == set(found.offsets)
 
 
+@pytest.mark.parametrize("size, slope, levels, offsets, corner, edge", [
+    ((20, 20, 10), 44, 1, 5, 1 / 2, 2 ** 0.5 / 2), ((20, 20, 10), 44, 2, 5, 1 / 2, 2 ** 0.5 / 2), ((25, 25, 10), 38, 1, 5, 10 / 25, 2 ** 0.5 * 10 / 25),
+    ((20, 20, 10), 52, 2, 9, 2 ** 0.5 / 2, 1), ((10, 10, 10), 60, 1, 5, 1, 2 ** 0.5), ((50, 50, 5), 89, None, 5, 20, 2 ** 0.5 * 20)])
+def test_few_levels_make_a_safe_wall_flatter_and_never_steeper(size, slope, levels, offsets, corner, edge):
+    """A block out along an axis and so many levels up makes a corner of that tangent, and between two of them the wall is steeper by sqrt 2."""
+    found = search.search(search.wall(size, slope), safe=True, levels=levels)
+    built = [slope_of(found.wall, found.offsets, bearing) for bearing in range(360)]
+    assert max(built) <= slope and not found.is_held and len(found.offsets) == offsets
+    assert (min(built), max(built)) == pytest.approx([math.degrees(math.atan(tangent)) for tangent in (corner, edge)])
+
+
+@settings(max_examples=20)
+@example((20, 10, 12.5), [(0, 35), (45, 50), (90, 35), (180, 45)], 2)
+@given(SIZES, st.one_of(st.integers(20, 70), st.lists(st.tuples(st.sampled_from([0, 45, 90, 160, 300]), st.integers(30, 60)), min_size=2, max_size=4, unique_by=lambda pair: pair[0])), st.integers(1, 4))
+def test_no_safe_wall_is_steeper_than_asked(size, angles, levels):
+    found = search.search(search.wall(size, angles), safe=True, levels=levels)
+    slope = str(angles) if isinstance(angles, int) else ",".join("%d:%d" % pair for pair in angles)
+    assert found.levels <= levels and max(steeper(found, slope, range(360))) <= 1e-9
+
+
+def steeper(found, slope, bearings):
+    """By how many degrees a wall is steeper than asked at bearings, by the hull of tests/walls.py."""
+    outline = walls.hull([(i * found.wall.size[0] / k, j * found.wall.size[1] / k) for i, j, k in found.offsets])
+    return [math.degrees(math.atan2(found.wall.size[2], walls.distance(outline, bearing))) - walls.asked(slope, bearing) for bearing in bearings]
+
+
+@pytest.mark.parametrize("levels", [1, 3, 5, None])
+def test_the_steepest_of_a_safe_wall_is_that_of_all_bearings(levels):
+    """Where the slope changes with the bearing, also between one degree and the next."""
+    found = search.search(search.wall((20, 20, 10), BY_BEARING), safe=True, levels=levels)
+    off = steeper(found, "30:38,150:46,270:42", [b / 64 for b in range(360 * 64)])
+    assert max(off) <= found.error.steepest + 1e-9 <= max(off) + 1e-6 and found.error.steepest <= 1e-9
+    at = found.steepest_at()
+    assert steeper(found, "30:38,150:46,270:42", [at]) == pytest.approx([max(off)], abs=1e-5)
+
+
+def test_a_safe_wall_that_no_offsets_make_is_refused(monkeypatch):
+    with pytest.raises(search.TooSteep, match="in blocks of 2 x 2 x 15 .* at bearing [0-9]+, where 5.0 are asked for; take lower or wider blocks"):
+        search.search(search.wall((2, 2, 15), 5), safe=True)                     # 85 blocks out at the first level: 23,000 offsets
+    assert search.search(search.wall((2, 2, 15), 5)).error.is_too_steep
+    asked = search.wall((20, 20, 10), 44)
+    with pytest.raises(search.TooSteep, match="the nearest is 90.0 degrees at bearing 0, where 44.0 are asked for"):
+        search.search(asked, safe=True, fits=lambda offsets: len(offsets) <= 4)
+    assert search.search(asked, safe=True, fits=lambda offsets: len(offsets) <= 5).offsets == search.search(asked, safe=True, levels=1).offsets
+    monkeypatch.setattr(search, "OFFSETS", 4)
+    with pytest.raises(search.TooSteep):
+        search.search(asked, safe=True)
+
+
+def test_any_safe_wall_goes_before_any_that_is_too_steep():
+    steep, flat = search.Error(0.01, 0, 1e-6, -0.01), search.Error(80, -80, -70, -84)
+    assert flat.badness(True) < steep.badness(True) < search.Error(0.01, 0, 2, -0.01).badness(True)
+    assert not search.Error(0.2, -0.2, 0.0, -0.9).is_too_steep and search.Error(0.2, -0.2, 0.0, -0.9).badness(True) <= 1
+
+
 def test_usual_walls_are_held():
     for size, slope in (((10, 10, 10), 45), ((20, 20, 10), 45), ((25, 25, 15), 45), ((10, 10, 10), 38), ((25, 25, 15), 52),
                         ((20, 20, 15), [(0, 45), (90, 45), (180, 38), (270, 45)]), ((20, 20, 10), BY_BEARING)):
@@ -160,6 +215,10 @@ def test_the_script_writes_the_offsets_of_the_search():
     assert ran.returncode == 0 and walls.offsets_in(ran.stdout) == list(found.offsets) and ran.stderr.strip() == str(found)
     safe = script("10", "10", "10", "45", "--safe")
     assert "at most 0.00 steeper" in safe.stderr and "warning" not in safe.stderr
+    few = script("20", "20", "10", "44", "--safe", "--levels", "1")
+    assert set(walls.offsets_in(few.stdout)) == set(walls.named("five")) and "at most 0.00 steeper and 17.43 flatter" in few.stderr and few.stderr.startswith("warning")
+    none = script("20", "20", "10", "44", "--safe", "--blocks", str(2 ** 25))
+    assert none.returncode == 2 and not none.stdout and "the nearest is 90.0 degrees at bearing 0, where 44.0 are asked for" in none.stderr
     large = script("10", "10", "10", "45", "--blocks", "10000000")
     assert large.returncode == 0 and "can't be held with the 13 offsets that 10,000,000 blocks leave room for" in large.stderr
 
@@ -199,7 +258,7 @@ def test_nothing_better_is_passed_over(angles, safe):
     every = []
     for stretch in stretches:
         for offsets in cones.needed(stretch):
-            error = search.error_of(asked, search.Outline(asked, offsets))
+            error = search.error_of(asked, search.Outline(asked, offsets), safe)
             every.append(search._rank(search.Pattern(asked, tuple(offsets), offsets[-1][2], error, error.badness(safe) <= 1 + search.SLACK), safe))
     assert search._rank(found, safe) == pytest.approx(min(every), rel=1e-9)
 

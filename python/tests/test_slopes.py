@@ -13,6 +13,7 @@ from pitplan import offsets as search, slopes as module
 from pitplan.errors import PlanError
 from pitplan.program import Pit
 from test_commands import pitplan
+from test_offsets import walls
 from test_optimum import places_of, rows_of
 
 ANGLES = st.one_of(st.integers(35, 55), st.lists(st.tuples(st.sampled_from([0, 90, 160, 300]), st.integers(42, 46)), min_size=1, max_size=3, unique_by=lambda pair: pair[0]))
@@ -122,6 +123,28 @@ def test_built_is_what_the_offsets_make():
     assert safe.error.max() <= 1e-9 and safe.error.min() < 0
 
 
+def test_a_safe_wall_is_built_flatter_or_not_at_all(tmp_path):
+    few = written_study(tmp_path / "few", text=STUDY_TOML.replace("angles = 45", "angles = 44\nsafe = true\nlevels = 1"))
+    ran = pitplan("build", few)
+    offsets = re.findall(r"\[(-?\d), (-?\d), 1\]", (few / "model/slope-0.toml").read_text())
+    assert ran.returncode == 0 and sorted(offsets) == sorted((str(i), str(j)) for i in (-1, 0, 1) for j in (-1, 0, 1)), ran.stderr
+    flattest = math.degrees(math.atan(15 / math.hypot(20, 20)))          # the five would have walls of atan(15 * sqrt 2 / 20) = 46.7 degrees
+    assert f"44.0 degrees are asked for there, {flattest:.1f} are built" in ran.stderr and "too steep" not in ran.stderr and "try: more levels" in ran.stderr
+
+
+@pytest.mark.parametrize("angles, where", [("angles = 5", "angles"), ('angles = 45\nby = "SECTOR"\nregions = { EAST = 5 }', "regions, EAST")])
+def test_a_build_refuses_a_safe_wall_that_would_be_too_steep(tmp_path, angles, where):
+    text = STUDY_TOML.replace("angles = 45", angles + "\nsafe = true").replace("size = [20, 20, 15]", "size = [2, 2, 15]")
+    frame = table(3, 3, 2, 1)
+    frame[["XC", "YC"]] /= 10
+    study = written_study(tmp_path / "s", frame, text=text)
+    for word in ("build", "slopes"):
+        ran = pitplan(word, study)
+        assert ran.returncode == 3 and "Traceback" not in ran.stderr and not (study / "model").exists(), ran.stderr
+        assert f"[slopes] {where}, safe = true: a wall that is nowhere steeper than asked can't be built in blocks of 2 x 2 x 15" in ran.stderr
+        assert re.search(r"the nearest is [\d.]+ degrees at bearing \d+, where 5\.0 are asked for\n  try: lower or wider blocks", ran.stderr)
+
+
 def test_the_command_shows_and_draws(tmp_path):
     text = STUDY_TOML.replace("angles = 45", 'angles = 45\nby = "SECTOR"\nregions = { EAST = [[0, 38], [180, 46]] }')
     study = written_study(tmp_path / "s", text=text)
@@ -141,6 +164,8 @@ def test_the_command_shows_and_draws(tmp_path):
     assert "default: 0.5 degrees on average and 1 at the worst bearing can't be held with blocks of 20 x 20 x 15 and levels = 1;" in said["few"] and "try: more levels" in said["few"]
     bearing, asked, built = map(float, re.search(r"err most at bearing (\d+): ([\d.]+) degrees are asked for there, ([\d.]+) are built", said["dent"]).groups())
     assert bearing == 45 and asked == 55 and built < 50 and "try: angles that change less" in said["dent"]             # between two flat walls
+    bearing, asked, built = map(float, re.search(r"too steep by most at bearing (\d+): ([\d.]+) degrees are asked for there, ([\d.]+) are built", said["dent"]).groups())
+    assert built - asked > 1 and asked == pytest.approx(walls.asked("0:35,45:55,90:35,180:45,270:55", bearing), abs=0.5)      # the bearing is told in whole degrees
     wrong = written_study(tmp_path / "u", text=STUDY_TOML.replace("angles = 45", "angles = 450"))
     ran = pitplan("slopes", wrong)
     assert ran.returncode == 3 and "from 5 to 89 degrees" in ran.stderr and "Traceback" not in ran.stderr
