@@ -16,6 +16,7 @@ from pathlib import Path
 
 from . import __version__
 from .errors import PlanError
+from .machine import free_memory, processors
 from .program import Pit
 
 # What is imported, and Debian's package of it.
@@ -105,11 +106,10 @@ def packages() -> Iterator[Finding]:
 
 
 def machine() -> Iterator[Finding]:
-    """Processors, memory and room on the disk."""
+    """Processors and memory, as far as a container lets them be used, and room on the disk."""
     free = shutil.disk_usage(".").free
-    told = dict(line.split(":") for line in Path("/proc/meminfo").read_text().splitlines() if ":" in line)
-    memory = int(told["MemAvailable"].split()[0]) * 1024
-    yield Finding("ok", f"{len(os.sched_getaffinity(0))} processors, {memory / 1e9:.1f} GB of memory free, {free / 1e9:.0f} GB on this disk")
+    memory = free_memory()
+    yield Finding("ok", f"{processors()} processors, {memory / 1e9:.1f} GB of memory free, {free / 1e9:.0f} GB on this disk")
     if memory < 1e9:
         yield Finding("look", "a mine of 1,000,000 blocks takes about 1 GB for a pit", "fewer --workers")
     if free < 1e9:

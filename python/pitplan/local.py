@@ -18,9 +18,10 @@ from pathlib import Path
 from queue import Empty, SimpleQueue
 
 from .errors import Disagreement, MachineError, NotAccepted, PlanError
+from .machine import free_memory, processors
 from .study import Study
 from .task import Task, memory_of_task
-from .workers import SHARE, free_memory
+from .workers import SHARE
 
 TRIES = 3
 PATIENCE = 20                                # seconds that a process gets to take away what it has half done
@@ -31,7 +32,7 @@ Heard = Callable[[Task, int, int], None]     # a task that is done, how many are
 def processes_for(study: Study, wanted: int | None = None) -> int:
     """How many tasks run at a time: as asked or as there are processors, and no more than free memory has room for."""
     room = int(SHARE * free_memory() / memory_of_task(study))
-    return max(1, min(wanted or len(os.sched_getaffinity(0)), room))
+    return max(1, min(wanted or processors(), room))
 
 
 def run_local(study: Study, tasks: Iterable[Task], workers: int | None = None, heard: Heard | None = None) -> int:

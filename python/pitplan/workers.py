@@ -1,14 +1,13 @@
 """Several pits at a time on this machine: a thread for each, that waits for its `pit`."""
 from __future__ import annotations
 
-import os
 from collections.abc import Callable, Sequence
 from concurrent.futures import FIRST_COMPLETED, Future, ThreadPoolExecutor, wait
 from dataclasses import dataclass
-from pathlib import Path
 from typing import TYPE_CHECKING
 
 from .errors import MachineError
+from .machine import free_memory, processors
 from .program import MOST_FACTORS
 
 if TYPE_CHECKING:
@@ -40,23 +39,10 @@ def memory_of(blocks: int, pairs: int) -> int:
     return blocks * (PER_BLOCK + OWN) + pairs * PER_PAIR
 
 
-def free_memory() -> int:
-    """Bytes of memory that are free on this machine, or in the container that this runs in."""
-    free = next((int(line.split()[1]) * 1024 for line in open("/proc/meminfo") if line.startswith("MemAvailable")), 1 << 30)
-    for most, used in (("/sys/fs/cgroup/memory.max", "/sys/fs/cgroup/memory.current"),
-                       ("/sys/fs/cgroup/memory/memory.limit_in_bytes", "/sys/fs/cgroup/memory/memory.usage_in_bytes")):
-        try:
-            limit, now = Path(most).read_text().strip(), Path(used).read_text().strip()
-            free = min(free, int(limit) - int(now)) if limit.isdigit() else free
-        except OSError:
-            pass
-    return max(free, 0)
-
-
 def workers_for(study: Study, wanted: int | None = None) -> int:
     """How many pits are found at a time: as asked or as there are processors, and no more than free memory has room for."""
     room = int(SHARE * free_memory() / guess_of(study).memory)
-    return max(1, min(wanted or len(os.sched_getaffinity(0)), room))
+    return max(1, min(wanted or processors(), room))
 
 
 def run_all(study: Study, factors: Sequence[int], workers: int | None = None, told: Told | None = None) -> None:

@@ -12,7 +12,7 @@ import pytest
 
 import pitplan as pp
 from mines import SIZE, costs, shells_of, study_of, table, written_study
-from pitplan import program as programs, store, workers
+from pitplan import machine, program as programs, store, workers
 from pitplan.program import Accepted, Pit, PitLines
 from processes import TOP, command, gone, waited_for
 
@@ -232,6 +232,18 @@ def test_a_full_disk_is_told_and_the_run_goes_on(tmp_path, small_disks):
     small_disks.widen(place)
     small_disks.done(pitplan, "shells", folder, "--workers", 1)
     assert small_disks.done("ls", "-A", place / "base").split() == ["f00600", "f01000", "f01200"]
+
+
+@pytest.mark.parametrize("files, wanted", [({}, 8), ({"cpu.max": "max 100000\n"}, 8), ({"cpu.max": "250000 100000\n"}, 2), ({"cpu.max": "50000 100000\n"}, 1),
+                                           ({"cpu/cpu.cfs_quota_us": "300000\n", "cpu/cpu.cfs_period_us": "100000\n"}, 3),
+                                           ({"cpu/cpu.cfs_quota_us": "-1\n", "cpu/cpu.cfs_period_us": "100000\n"}, 8)])
+def test_processors_are_those_of_the_container(tmp_path, monkeypatch, files, wanted):
+    for name, text in files.items():
+        (tmp_path / name).parent.mkdir(exist_ok=True)
+        (tmp_path / name).write_text(text)
+    monkeypatch.setattr(machine, "Path", lambda file: tmp_path / file.removeprefix("/sys/fs/cgroup/"))
+    monkeypatch.setattr(os, "sched_getaffinity", lambda process: set(range(8)))
+    assert machine.processors() == wanted
 
 
 def test_workers_go_by_free_memory(tmp_path, monkeypatch):
