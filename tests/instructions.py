@@ -20,7 +20,7 @@ import refused_calls
 from surroundings import chain
 
 # Millions of instructions of each run, written down on 2026-11-26 with the kit's logic dac8208d650f15bf.
-MILLIONS = {"slopes": 330.2, "solve": 99.1, "check": 57.1, "shells": 219.2, "replay": 92.5}
+MILLIONS = {"slopes": 179.6, "solve": 93.1, "check": 51.7, "shells": 177.1, "replay": 91.6}
 BLOCKS = 20_000                 # the upper eight benches of the mine of tests/day
 PAGE = 8192                     # the bytes that are sent at once, at least
 SETTINGS = "revenue = 0\ncost = 1\ntonnes = 2\nfactors = [600, 800, 1000, 1200]\n"
