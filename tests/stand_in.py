@@ -172,10 +172,11 @@ class Tree:
         self.write("crates/%s/src/%s.rt" % (name, "main" if name == "pit" else "lib"), text)
 
     def starts(self, *words):
-        """Starts a script of the tree in a group of processes of its own, which hears a hangup: under nohup it would not."""
+        """Starts a script of the tree in a group of processes of its own, which hears ctrl-C and a hangup: in the background of a
+        script, or under nohup, it would not."""
         return subprocess.Popen([str(self.top / words[0]), *words[1:]], cwd=self.top, env=self.around, stdin=subprocess.DEVNULL,
                                 stdout=subprocess.PIPE, stderr=subprocess.STDOUT, text=True, start_new_session=True,
-                                preexec_fn=lambda: signal.signal(signal.SIGHUP, signal.SIG_DFL))
+                                preexec_fn=lambda: [signal.signal(it, signal.SIG_DFL) for it in (signal.SIGINT, signal.SIGHUP)])
 
     def ran(self, *words):
         """Runs a script of the tree, and gives its exit status and what it printed."""
