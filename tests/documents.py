@@ -36,7 +36,7 @@ OTHERS = {
     1_060: "blocks of newman, in bench/README", 3_865: "its pairs", 9_400: "blocks of zuck", 130_697: "its pairs",
     50_000: "blocks of a chain, in RESULTS", 75: "turns, in RESULTS", 10**10: "steps, in RESULTS", 10**11: "steps, an example",
     500: "steps, an example", 1250.75: "an example of a decimal", 65: "per cent", 80: "per cent", 100: "per cent",
-    30: "minutes of a first build, timed", 45: "minutes of a first build, timed"}
+    67: "minutes of a first build on two cores, timed"}
 
 NAMED = re.compile(r".*`([\w-]+\.\w+)`:$")
 Session = namedtuple("Session", "line command shown")
