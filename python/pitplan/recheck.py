@@ -243,9 +243,9 @@ def series(said: Any) -> list[int]:
     """The factors of [shells], in thousandths."""
     if isinstance(said, dict):
         low, high, step = (float(said[key]) for key in SERIES)
-        count = int((high - low) / step + 1e-9)
-        if not 0 <= count <= 10 * THOUSAND:
+        if not step > 0 or not 0 <= (high - low) / step <= 10 * THOUSAND:
             raise Bad(f"factors = {said} is no series")
+        count = int((high - low) / step + 1e-9)
         said = [low + i * step for i in range(count + 1)]
     return [round(float(share) * THOUSAND) for share in said]
 

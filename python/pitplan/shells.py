@@ -45,9 +45,12 @@ def factors(low: float, high: float, step: float) -> list[int]:
     >>> factors(0.9, 1.1, 0.05)
     [900, 950, 1000, 1050, 1100]
     """
-    if not step > 0 or high < low:
+    if not (0 < step < float("inf") and -float("inf") < low <= high):
         raise PlanError(f"factors from {low:g} to {high:g} by {step:g}: there are none", try_this="from = 0.30, to = 1.20, step = 0.05")
-    count = int((high - low) / step + 1e-9)
+    if step * THOUSAND < 1 - 1e-6:
+        raise PlanError(f"factors from {low:g} to {high:g} by {step:g}: factors are whole thousandths, so that a step is at least 0.001", try_this="step = 0.05")
+    # so many that one of them is above the largest, if `high` is far above it
+    count = int(min((high - low) / step, LARGEST_FACTOR + 1) + 1e-9)
     return [thousandths(round(low + i * step, 9)) for i in range(count + 1)]
 
 

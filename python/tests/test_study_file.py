@@ -1,8 +1,12 @@
 """study.toml: what it may say, and what is said where it says something else."""
+import math
+
 import pytest
 
 import pitplan as pp
 from mines import STUDY_TOML, written_study
+from pitplan import recheck
+from pitplan.errors import PlanError
 from pitplan.shells import factors, series_of, thousandths
 from pitplan.study_file import read_study_file
 
@@ -47,6 +51,24 @@ def test_what_a_study_says(tmp_path):
     assert again.factors == [300, 600, 900, 1200]
     assert again.digest == told.digest       # the factors are no part of a built model
     assert read_study_file(written_study(tmp_path / "s", text=STUDY_TOML.replace("mining = 2.0", "mining = 2.1"))).digest != told.digest
+
+
+@pytest.mark.parametrize("low, high, step, what", [
+    (0.3, 1.2, 1e-320, "at least 0.001"), (0.3, 1.2, 1e-9, "at least 0.001"), (0.3, 1.2, 0.0, "there are none"), (0.3, 1.2, math.nan, "there are none"),
+    (math.nan, 1.2, 0.05, "there are none"), (0.3, math.nan, 0.05, "there are none"), (-math.inf, 1.2, 0.05, "there are none"),
+    (0.3, math.inf, 0.05, "from 0 to 10"), (0.3, 1e308, 0.001, "from 0 to 10"), (0.3, 1.2, math.inf, "there are none"), (0.3, 1.2, 0.001, None)])
+def test_a_series_of_factors_ends_or_is_refused(low, high, step, what):
+    if what is None:
+        assert factors(low, high, step)[0] == 300
+    else:
+        with pytest.raises(PlanError, match=what):
+            factors(low, high, step)
+
+
+@pytest.mark.parametrize("step", [0.0, -0.1, 1e-320, math.nan])
+def test_recheck_refuses_such_a_series_too(step):
+    with pytest.raises(recheck.Bad, match="is no series"):
+        recheck.series({"from": 0.3, "to": 1.2, "step": step})
 
 
 def test_factors():
