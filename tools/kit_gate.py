@@ -1,7 +1,7 @@
 """Proves the program's crates by the kit's gate, in a copy of what they are made from.
 
 What it passes the kit keeps beside itself, for every tree on this machine: neither the tests nor the next build prove it
-again. It takes half the processor seconds that `proving` takes, and leaves no work from which a check of one function
+again. It takes fewer processor seconds than `proving`, and leaves no work from which a check of one function
 goes on, so it serves a tree in which nothing is changed.
 """
 import os
