@@ -26,6 +26,7 @@ RUNS = [
     ("`pit slopes`: reading, looking up and writing", ["slopes.py"]),
     ("Whole runs of `pit solve`, by pseudoflow", ["solve_peers.py"]),
     ("Mines of 3 to 15 million blocks, solved with no further options", ["large.py", "--rounds", "1"]),
+    ("Growth: one deposit in blocks of seven sizes", ["growth.py"]),
     ("The push-relabel machine", ["solve.py"]),
     ("Traces of runs", ["traces.py"]),
     ("Runs without a lock", ["lock_free.py"]),

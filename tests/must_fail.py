@@ -9,7 +9,8 @@ the lines that the kit's edits have, and one that names the function, which the 
     new: TEXT IN ITS PLACE
 
 The function, and what it calls in its crate, is checked from nothing over the libraries as they were proved. An edit
-that is proved there is tried on the whole crate: it is refused only if the prover refuses that.
+that is proved there is tried on the whole crate: it is refused only if the prover refuses that. Edits of several functions
+of a crate are tried by one check first (edit_groups.py), and by themselves where that leaves no goal of theirs open.
 """
 import re
 import shutil
@@ -20,6 +21,8 @@ from concurrent.futures import ThreadPoolExecutor, as_completed
 from contextlib import contextmanager
 from pathlib import Path
 
+import edit_groups
+import functions
 import machine
 import tree
 
@@ -34,7 +37,7 @@ OF_TEXT = re.compile(r"(?:\./)?(\S+?):\d+:\d+: error: (?:(`[^`]*`): )?(.*)")
 UNREADABLE = re.compile(r"is not in scope|has no field|is no name|operand is missing|expected the end|cannot continue")
 
 
-class BadEdit(Exception):
+class BadEdit(ValueError):
     """The edit can't be tried, for this reason."""
 
 
@@ -51,8 +54,9 @@ class Edit:
             raise BadEdit("no line `# function: PATH` names the function that it breaks")
         return named
 
-    def texts(self):
-        path, old, texts = None, None, {}
+    def changes(self):
+        """What it changes: each file with a text that it has once, and the one in its place."""
+        path, old, found = None, None, []
         for word, said in re.findall(r"^(file|old|new):(?: |$)(.*)$", self.text, re.M):
             if word == "file":
                 path = said.strip()
@@ -61,10 +65,23 @@ class Edit:
             elif not path or not old or path.split("/")[0] not in PARTS:
                 raise BadEdit("a `new:` line stands before a `file:` line of src, specs or proofs, or before its `old:` line")
             else:
-                texts[path] = replaced(texts.get(path), self.crate.folder / path, old, said)
+                found.append((path, old, said))
                 old = None
-        if not texts:
+        if not found:
             raise BadEdit("it has no `old:` and `new:` pair")
+        return found
+
+    def function_changed(self, path, old):
+        """The function of that file in which this text of it stands, or None."""
+        file = self.crate.folder / path
+        text = file.read_text(encoding="utf-8") if file.is_file() else ""
+        return functions.function_at(text, text.find(old) + len(old), functions.module_of(file)) if old in text else None
+
+    def texts(self, before=()):
+        """The texts of files as it leaves them, over those that edits before it left."""
+        texts = dict(before)
+        for path, old, new in self.changes():
+            texts[path] = replaced(texts.get(path), self.crate.folder / path, old, new)
         return texts
 
 
@@ -101,15 +118,15 @@ def library(crate):
     return crate.folder / "out" / "rlib" / (crate.name + ".rlib")
 
 
-def checked(edit, texts, functions):
-    """What a check of the crate with these texts in place of its own says: its status and its lines. Without functions of all of it."""
+def checked(edit, texts, named):
+    """What a check of the crate with these texts in place of its own says: its status and its lines. Where no functions are named, of all of it."""
     with tempfile.TemporaryDirectory(prefix="pit-edit-") as room:
         for part in PARTS:
             if (edit.crate.folder / part).is_dir():
                 shutil.copytree(edit.crate.folder / part, Path(room) / part)
         for path, text in texts.items():
             (Path(room) / path).write_text(text, encoding="utf-8")
-        only = [word for name in functions for word in ("--only", name)]
+        only = [word for name in named for word in ("--only", name)]
         ran = subprocess.run([*words_for(edit.crate), *only], cwd=room, stdin=subprocess.DEVNULL, stdout=subprocess.PIPE,
                              stderr=subprocess.STDOUT, text=True, errors="replace")
     return ran.returncode, ran.stdout.rstrip("\n").split("\n")
@@ -148,14 +165,43 @@ def goal_refused(texts, lines):
 
 def tried(edit):
     """What a check says of the crate with the edit: its status, its lines, and a remark where all of it had to be checked."""
-    texts, functions = edit.texts(), edit.functions()
-    lacking = [other.name for other in edit.crate.below.values() if not library(other).is_dir()]
+    texts, named = edit.texts(), edit.functions()
+    ask_for_libraries(edit.crate)
+    status, lines = checked(edit, texts, named)
+    if not named or status != 0:
+        return texts, status, lines, ""
+    return texts, *checked(edit, texts, []), " by the whole crate, and not by %s: name another function" % ", ".join(named)
+
+
+def ask_for_libraries(crate):
+    lacking = [other.name for other in crate.below.values() if not library(other).is_dir()]
     if lacking:
         raise BadEdit("the library %s isn't built" % lacking[0])
-    status, lines = checked(edit, texts, functions)
-    if not functions or status != 0:
-        return texts, status, lines, ""
-    return texts, *checked(edit, texts, []), " by the whole crate, and not by %s: name another function" % ", ".join(functions)
+
+
+def told_by_one_check(group):
+    """What one check of all functions of a group of edits says: the edited texts, and its messages; none where it shows nothing of each."""
+    texts = {}
+    try:
+        for edit in group:
+            texts = edit.texts(texts)
+        ask_for_libraries(group[0].crate)
+    except BadEdit:
+        return texts, []
+    status, lines = checked(group[0], texts, [name for edit in group for name in edit.functions()])
+    told = messages(lines)
+    if status != 1 or not lines[-1].startswith("only=") or any(is_unread(line, texts) for line in told):
+        return texts, []
+    return texts, told
+
+
+def verdicts(group, verdict_of):
+    """Whether each edit of a group is refused, and what to say of it: by one check of all, and by its own where that leaves no goal of it open."""
+    texts, told = told_by_one_check(group) if len(group) > 1 else ({}, [])
+    goals = list(filter(OPEN.match, told))
+    for edit in group:
+        goal = edit_groups.goal_of(edit, texts, goals) if goals else None
+        yield (True, "%s: refused: %s" % (edit.label, goal[:160])) if goal else verdict_of(edit)
 
 
 def verdict(edit):
@@ -179,11 +225,13 @@ def processes():
 def try_each(edits, verdict_of=verdict):
     """Tries these edits over the libraries that were built, and gives how many were refused and how many not."""
     refused = 0
+    groups = edit_groups.groups_of(sorted(edits, key=lambda it: -it.crate.lines()))
+    print("%d edits, by %d check%s, and by one of its own where that shows nothing" % (len(edits), len(groups), "s" if len(groups) != 1 else ""), flush=True)
     with ThreadPoolExecutor(processes()) as pool:
-        for done in as_completed([pool.submit(verdict_of, edit) for edit in sorted(edits, key=lambda it: -it.crate.lines())]):
-            is_refused, said = done.result()
-            print(said, flush=True)
-            refused += is_refused
+        for done in as_completed([pool.submit(lambda group: list(verdicts(group, verdict_of)), group) for group in groups]):
+            for is_refused, said in done.result():
+                print(said, flush=True)
+                refused += is_refused
     return refused, len(edits) - refused
 
 

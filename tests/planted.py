@@ -10,9 +10,6 @@ import must_fail
 import tree
 
 ENTRY = re.compile(r"^edit: (\S+)\n(.*?)(?=^edit: |\Z)", re.M | re.S)
-FUNCTION = re.compile(r"^( *)(?:pub(?:\([^)]*\))? )?(?:ghost )?(?:const )?fn (\w+)", re.M)
-# the trait of an `impl`, if it is for one, and the type: a check names its functions by both, as `KindDisplay::fmt`
-IMPL = re.compile(r"^impl\b(?:<[^{]*?>)? *(?:(?:\w+::)*(\w+)(?:<[^{]*?>)? for )?&?(?:\w+::)*(\w+)", re.M)
 NOBODY = "has no function `"
 
 
@@ -22,22 +19,9 @@ class Planted(must_fail.Edit):
     def functions(self):
         if "# function: " in self.text:
             return super().functions()
-        changed = re.search(r"^file: (src/\S+)\nold: ?(.*)$", self.text, re.M)
-        file = changed and self.crate.folder / changed[1]
-        found = function_around(file, changed[2]) if changed and file.is_file() else None
-        return [found] if found else []
-
-
-def function_around(file, line):
-    """The function in which this line of the file stands, as a check names it, or None."""
-    text = file.read_text(encoding="utf-8")
-    before = text[: text.find(line) + len(line)]
-    heads = list(FUNCTION.finditer(before))
-    if not heads or "\n}\n" in before[heads[-1].end():]:
-        return None
-    of = list(IMPL.finditer(before[: heads[-1].start()])) if heads[-1][1] else []
-    around = of[-1][2] + (of[-1][1] or "") if of else None if file.stem in ("lib", "main") else file.stem
-    return "%s::%s" % (around, heads[-1][2]) if around else heads[-1][2]
+        changes = [change for change in self.changes() if change[0].startswith("src/")]
+        found = self.function_changed(*changes[0][:2]) if changes else None
+        return [found.path] if found else []
 
 
 def planted_in(crate):

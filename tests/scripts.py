@@ -24,6 +24,23 @@ pub fn next(n: u64) -> u64
     n + 1
 }
 
+/// The number after the next.
+pub fn second(n: u64) -> u64
+    requires { n + 2 < 2 ^ 64 }
+    ensures { result ≡ n + 2 }
+{
+    let m = next(n);
+    next(m)
+}
+
+/// The number before n.
+pub fn before(n: u64) -> u64
+    requires { 0 < n }
+    ensures { result + 1 ≡ n }
+{
+    n - 1
+}
+
 /// A number of no matter what size.
 pub fn some_number() -> u64 {
     7
@@ -31,6 +48,8 @@ pub fn some_number() -> u64 {
 """
 REFUSED = "file: src/lib.rt\nold:     n + 1\nnew:     n\n"
 ACCEPTED = "file: src/lib.rt\nold:     7\nnew:     8\n"
+OF_SECOND = "# function: second\nfile: src/lib.rt\nold:     next(m)\nnew:     m + 1\n"
+OF_BEFORE = "# function: before\nfile: src/lib.rt\nold:     n - 1\nnew:     n\n"
 STALE = "file: src/lib.rt\nold:     9\nnew:     8\n"
 NEXT, SOME = "# function: next\n", "# function: some_number\n"
 MAIN = """//! A program for the tests of the scripts.
@@ -102,6 +121,16 @@ def edits_are_tried_by_their_function(tree):
               "unnamed: cannot be tried", "stale: cannot be tried", "unreadable: cannot be tried", "nowhere: cannot be tried"]
     shutil.rmtree(tree / "crates/small/edits")
     return status == 1 and all("small/" + it in said for it in wanted) and said.endswith("2 passed, 5 failed\n"), said
+
+
+def edits_of_several_functions_are_tried_by_one_check(tree):
+    """Each by the goals of its own function: what is harmless isn't refused for what it calls."""
+    for name, text in {"of_next": NEXT + REFUSED, "harmless": OF_SECOND, "of_before": OF_BEFORE}.items():
+        write(tree, "small/edits/%s.edit" % name, text)
+    status, said = ran(tree, "tests/run", "--edits", "small")
+    wanted = ["3 edits, by 1 check", "small/of_next: refused: note: src/lib.rt:7", "small/of_before: refused: note: src/lib.rt:2", "small/harmless: ACCEPTED"]
+    shutil.rmtree(tree / "crates/small/edits")
+    return status == 1 and all(it in said for it in wanted) and said.endswith("2 passed, 1 failed\n"), said
 
 
 def a_build_says_what_it_proved(tree):
@@ -269,7 +298,7 @@ def installs_where_the_caller_stands(top, folder):
 
 
 # the build comes first: the copies in which edits are tried begin with what it made
-CASES = [a_build_says_what_it_proved, edits_are_tried_by_their_function, refused_edits_pass, an_accepted_edit_fails, named_edits_are_tried_alone,
+CASES = [a_build_says_what_it_proved, edits_are_tried_by_their_function, edits_of_several_functions_are_tried_by_one_check, refused_edits_pass, an_accepted_edit_fails, named_edits_are_tried_alone,
          a_failed_proof_fails_the_example, wrong_pages_are_told]
 
 

@@ -1,9 +1,10 @@
 // Makes a synthetic block model: PREFIX.blocks, PREFIX.upit and PREFIX.prec, and PREFIX.toml, the settings of the priced model.
 //
-//     generator PREFIX BLOCKS NX NY NZ PATTERN SEED GRADE cone|box
+//     generator PREFIX BLOCKS NX NY NZ PATTERN SEED GRADE cone|box|deposit
 //
-// BLOCKS of the NX by NY by NZ cells are kept: below an uneven surface (box), or within an inverted cone (cone). Some ore bodies
-// lie in waste; GRADE scales what they hold. A block's revenue less its cost is its value, so the priced model at factor 1000 is
+// BLOCKS of the NX by NY by NZ cells are kept: below an uneven surface (box, deposit), or within an inverted cone (cone). Some ore
+// bodies lie in waste, more of them in larger mines, but for a deposit, which is the same however small its blocks are; GRADE scales
+// what they hold. A block's revenue less its cost is its value, so the priced model at factor 1000 is
 // the one of the .upit file. The same words give the same bytes on every machine: only + - * / and sqrt are
 // used, which are exact to the last bit everywhere (with -ffp-contract=off, as the Makefile has it).
 #include <algorithm>
@@ -134,6 +135,7 @@ struct Mine {
     Grid grid;
     uint64_t seed;
     double scale;
+    double deeper;                 // what a tonne costs more for each level of depth
     std::vector<uint32_t> number;  // the block of a cell, or NONE
     std::vector<Cell> place;       // the cell of a block
     std::vector<int> surface;      // the highest kept cell of a column
@@ -152,14 +154,15 @@ struct Mine {
     Amounts amounts(Cell c, double tonnes, double grade) const {
         int depth = surface[(size_t)c.y * grid.nx + c.x] - c.z;
         double ore = std::max(0.0, tonnes * (grade * 22 - 9.5));
-        int64_t value = llround((ore - tonnes * (1.3 + 0.02 * depth)) * 100);
+        int64_t value = llround((ore - tonnes * (1.3 + deeper * depth)) * 100);
         int64_t revenue = ore > 0 ? llround(tonnes * grade * 22 * 100) : 0;
         return {revenue, revenue - value};
     }
 };
 
-static Mine made(Grid grid, size_t count, bool cone, uint64_t seed, double scale) {
-    Mine mine{grid, seed, scale, std::vector<uint32_t>(grid.cells(), Mine::NONE), {}, {}, {}};
+static Mine made(Grid grid, size_t count, const std::string &kind, uint64_t seed, double scale) {
+    bool cone = kind == "cone", deposit = kind == "deposit";
+    Mine mine{grid, seed, scale, deposit ? 0.8 / grid.nz : 0.02, std::vector<uint32_t>(grid.cells(), Mine::NONE), {}, {}, {}};
     mine.surface.assign((size_t)grid.nx * grid.ny, 0);
     std::vector<char> kept = kept_cells(grid, count, cone, seed);
     for (size_t i = 0; i < kept.size(); i++) {
@@ -169,7 +172,7 @@ static Mine made(Grid grid, size_t count, bool cone, uint64_t seed, double scale
         mine.place.push_back(c);
         mine.surface[(size_t)c.y * grid.nx + c.x] = c.z;
     }
-    int bodies = 3 + (int)(sqrt(sqrt((double)count)) / 4);
+    int bodies = deposit ? 6 : 3 + (int)(sqrt(sqrt((double)count)) / 4);
     for (int k = 0; k < bodies; k++) mine.bodies.push_back(ore_body(grid, seed * 8 + 5 + ((uint64_t)k << 20)));
     return mine;
 }
@@ -246,8 +249,8 @@ static bool is_one_of(const char *word, std::vector<std::string> words) {
 
 int main(int count, char **words) {
     if (count != 10 || !is_one_of(words[6], {"five", "nine", "knight", "cone2", "cone29"})
-        || !is_one_of(words[9], {"cone", "box"})) {
-        fputs("generator PREFIX BLOCKS NX NY NZ five|nine|knight|cone2|cone29 SEED GRADE cone|box\n", stderr);
+        || !is_one_of(words[9], {"cone", "box", "deposit"})) {
+        fputs("generator PREFIX BLOCKS NX NY NZ five|nine|knight|cone2|cone29 SEED GRADE cone|box|deposit\n", stderr);
         return 2;
     }
     std::string prefix = words[1];
@@ -257,7 +260,7 @@ int main(int count, char **words) {
         fputs("so many blocks don't fit into the grid\n", stderr);
         return 2;
     }
-    Mine mine = made(grid, n, !strcmp(words[9], "cone"), strtoull(words[7], nullptr, 10), atof(words[8]));
+    Mine mine = made(grid, n, words[9], strtoull(words[7], nullptr, 10), atof(words[8]));
     double positive = write_values(mine, prefix);
     write_settings(prefix);
     size_t pairs = write_pairs(mine, offsets_of(words[6]), prefix);

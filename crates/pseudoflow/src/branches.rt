@@ -14,17 +14,18 @@ use std::alloc::Global;
 pub(crate) struct Branch {
     /// The block of the net.
     pub(crate) block: Link,
-    /// The place of its parent in the list, before its own. A root has none.
+    /// The place of its parent in its tree, before its own. A root, which begins a tree, has none.
     pub(crate) parent: Link,
     /// How the arc of the block and its parent points.
     pub(crate) direction: Direction,
 }
 
-// Lists a block, and notes its place.
+// Lists a block, and notes its place in its tree, which begins at a place of the list.
 fn list_block<A: Amount>(
     forest: &Forest<A>,
     blocks: &[Link],
     b: u32,
+    begin: usize,
     places: &mut [Link],
     branches: &mut Vec<Branch>,
 ) -> Result<(), PseudoflowFault>
@@ -33,7 +34,8 @@ fn list_block<A: Amount>(
     requires places { length places.old ≡ forest.now }
     ensures { length places.new ≡ length places.old }
 {
-    let place = u32::try_from(branches.len()).map_err(|_| PseudoflowFault::Broken)?;
+    let behind = branches.len().saturating_sub(begin);
+    let place = u32::try_from(behind).map_err(|_| PseudoflowFault::Broken)?;
     let parent = match forest.parent(b) {
         Some(parent) => places[parent as usize],
         None => NO_LINK,
@@ -62,10 +64,11 @@ fn list_tree<A: Amount>(
     requires places { length places.old ≡ forest.now }
     ensures { length places.new ≡ length places.old }
 {
+    let begin = branches.len();
     let mut next = Some(root);
     while let Some(b) = next {
         budget.spend(1)?;
-        list_block(forest, blocks, b, places, branches)?;
+        list_block(forest, blocks, b, begin, places, branches)?;
         next = forest.next_in_preorder(b, budget)?;
     }
     Ok(())

@@ -120,46 +120,47 @@ fn block_of<G: OrderedGroup>(net: &Net<G>, branch: Branch) -> Result<u32, Pseudo
     found.ok_or(PseudoflowFault::Broken)
 }
 
-// For each branch the sum of the worths of its block and of all that hang under it: what its arc carries up.
-fn sums_of<G: OrderedGroup>(
-    alloc: Global,
+// For each branch of a tree the sum of the worths of its block and of all that hang under it: what its arc carries up.
+fn put_sums<G: OrderedGroup>(
     net: &Net<G>,
-    branches: &[Branch],
-) -> Result<Vec<G>, PseudoflowFault>
-    ensures { IfOk result (λ v. length v.items ≡ length branches.now) }
+    tree: &[Branch],
+    sums: &mut Vec<G>,
+) -> Result<(), PseudoflowFault>
+    ensures { IfOk result (λ _. length sums.new.items ≡ length tree.now) }
 {
-    let mut sums = Vec::with_capacity(alloc, branches.len())?;
-    for branch in branches {
+    sums.clear();
+    for branch in tree {
         let b = block_of(net, *branch)?;
-        sums.push_reserved(net.worth(b));
+        sums.push(net.worth(b))
+            .map_err(|_| PseudoflowFault::NoMemory)?;
     }
-    for k in (0..branches.len()).rev() {
-        if let Some(parent) = branches[k].parent.block(branches.len()) {
+    for k in (0..tree.len()).rev() {
+        if let Some(parent) = tree[k].parent.block(tree.len()) {
             sums[parent as usize] = sum(sums[parent as usize], sums[k])?;
         }
     }
-    Ok(sums)
+    Ok(())
 }
 
 // Takes as much of what is left of the parent's imbalance off the arc of a branch as that brings, and sets what the arc
 // carries then: how much was taken off, which is the imbalance of the branch now.
 fn cancel_at_arc<G: OrderedGroup>(
     draft: &mut Draft<'_, G>,
-    branches: &[Branch],
+    tree: &[Branch],
     amounts: &mut [G],
     k: usize,
     parent: u32,
     is_strong: bool,
 ) -> Result<G, PseudoflowFault>
-    requires place { k < length branches.now }
-    requires parent { parent < length branches.now }
-    requires amounts { length amounts.old ≡ length branches.now }
+    requires place { k < length tree.now }
+    requires parent { parent < length tree.now }
+    requires amounts { length amounts.old ≡ length tree.now }
     ensures draft { draft.new ≡ draft.old }
     ensures amounts { length amounts.new ≡ length amounts.old }
 {
-    let branch = branches[k];
+    let branch = tree[k];
     let b = block_of(draft.net, branch)?;
-    let above = block_of(draft.net, branches[parent as usize])?;
+    let above = block_of(draft.net, tree[parent as usize])?;
     let flow = match branch.direction {
         Direction::Up => amounts[k],
         Direction::Down => difference(G::zero(), amounts[k])?,
@@ -176,37 +177,48 @@ fn cancel_at_arc<G: OrderedGroup>(
     Ok(taken)
 }
 
-// Takes the imbalance of each root off the arcs that bring it, branch by branch. The amounts are the sums of the branches;
-// of those that were passed they are what is left of the imbalance.
-fn cancel_all<G: OrderedGroup>(
+// Takes the imbalance of the root of a tree off the arcs that bring it, branch by branch. The amounts are the sums of the
+// branches; of those that were passed they are what is left of the imbalance.
+fn cancel_in_tree<G: OrderedGroup>(
     draft: &mut Draft<'_, G>,
-    branches: &[Branch],
+    tree: &[Branch],
     amounts: &mut [G],
 ) -> Result<(), PseudoflowFault>
-    requires { length amounts.old ≡ length branches.now }
+    requires { length amounts.old ≡ length tree.now }
     ensures { draft.new ≡ draft.old }
 {
     let mut is_strong = false;
-    for k in 0..branches.len() {
-        let imbalance = match branches[k].parent.block(branches.len()) {
-            Some(parent) => cancel_at_arc(draft, branches, amounts, k, parent, is_strong)?,
+    for k in 0..tree.len() {
+        let imbalance = match tree[k].parent.block(tree.len()) {
+            Some(parent) => cancel_at_arc(draft, tree, amounts, k, parent, is_strong)?,
             None => {
                 is_strong = amounts[k].is_positive();
                 let deficit = difference(G::zero(), amounts[k])?;
                 if is_strong { amounts[k] } else { deficit }
             }
         };
-        let b = block_of(draft.net, branches[k])?;
+        let b = block_of(draft.net, tree[k])?;
         amounts[k] = draft.cancel_at_end(b, is_strong, imbalance)?;
     }
     Ok(())
+}
+
+// Whether the branch at a place is the last of its tree.
+fn ends_tree(branches: &[Branch], place: usize) -> bool
+    requires { place < length branches.now }
+{
+    match branches.get(place + 1) {
+        Some(next) => next.parent.block(branches.len()).is_none(),
+        None => true,
+    }
 }
 
 /// The flow of a forest in which no tree is strong but those from which no pair leads to another.
 ///
 /// All arcs of the source and the sink are saturated at first, and what an arc of the forest carries up is what the blocks
 /// under it are worth. What a strong root has left goes back to the source by the arcs that brought it, and what a weak root
-/// lacks is taken off what goes to the sink. Between the other blocks of the net nothing flows.
+/// lacks is taken off what goes to the sink. Between the other blocks of the net nothing flows. Beside the flow it takes
+/// memory for the largest tree alone.
 pub(crate) fn flow_of_forest<G: OrderedGroup>(
     alloc: Global,
     net: &Net<G>,
@@ -214,8 +226,16 @@ pub(crate) fn flow_of_forest<G: OrderedGroup>(
 ) -> Result<Flow<G>, PseudoflowFault>
     ensures { IfOk result (λ flow. FlowFits net.now flow) }
 {
-    let mut sums = sums_of(alloc, net, branches)?;
     let mut draft = Draft::new(alloc, net)?;
-    cancel_all(&mut draft, branches, sums.as_mut_slice())?;
+    let mut sums = Vec::new(alloc);
+    let mut root = 0;
+    for place in 0..branches.len() {
+        if ends_tree(branches, place) && root <= place {
+            let tree = &branches[root..place + 1];
+            put_sums(net, tree, &mut sums)?;
+            cancel_in_tree(&mut draft, tree, sums.as_mut_slice())?;
+            root = place + 1;
+        }
+    }
     Ok(draft.finish())
 }

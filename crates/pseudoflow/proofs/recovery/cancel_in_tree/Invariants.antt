@@ -1,5 +1,5 @@
 use Rattle.std.proofs.Common.{◌≡◌, length}
-use Rattle.pseudoflow.proofs.recovery.cancel_all.Given as goal
+use Rattle.pseudoflow.proofs.recovery.cancel_in_tree.Given as goal
 
 abbrev pub invariant-loop-k : goal.invariant-loop-k
 invariant-loop-k g l = record {
