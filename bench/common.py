@@ -30,13 +30,13 @@ GENERATED = {
     "b10m": "10000000 420 420 66 five 12 1.5 box",
     "b15m": "15000000 500 500 70 nine 13 1.0 box",
     # one deposit, in blocks of seven sizes
-    "d10k": "10000 30 30 16 five 21 1.5 deposit",
-    "d30k": "30000 43 43 23 five 21 1.5 deposit",
-    "d100k": "100000 64 64 34 five 21 1.5 deposit",
-    "d300k": "300000 93 93 50 five 21 1.5 deposit",
-    "d1m": "1000000 139 139 74 five 21 1.5 deposit",
-    "d3m": "3000000 200 200 107 five 21 1.5 deposit",
-    "d10m": "10000000 299 299 160 five 21 1.5 deposit",
+    "d10k": "10000 30 30 16 five 21 2.2 deposit",
+    "d30k": "30000 43 43 23 five 21 2.2 deposit",
+    "d100k": "100000 64 64 34 five 21 2.2 deposit",
+    "d300k": "300000 93 93 50 five 21 2.2 deposit",
+    "d1m": "1000000 139 139 74 five 21 2.2 deposit",
+    "d3m": "3000000 200 200 107 five 21 2.2 deposit",
+    "d10m": "10000000 299 299 160 five 21 2.2 deposit",
 }
 
 Model = namedtuple("Model", "name prec upit blocks settings")
