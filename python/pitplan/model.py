@@ -12,7 +12,7 @@ import pandas as pd
 
 from . import gaps, subblocks
 from .column_names import PLACES, SIZES, which_columns
-from .csv_text import PLAIN, Dialect, dialect_of, head_of, names_of, number_column, read_frame
+from .csv_text import Dialect, dialect_of, head_of, names_of, number_column, numbers_among, read_frame
 from .errors import PlanError, meant
 from .grid import Floats, Grid
 
@@ -216,7 +216,7 @@ def estimated(frame: pd.DataFrame, names: Mapping[str, str], absent: Sequence[st
     if not absent:
         return
     kept = {names[key] for key in (*PLACES, *SIZES, "id", "rock") if key in names}
-    marks = [float(mark) for mark in absent if PLAIN.fullmatch(mark)]
+    marks = numbers_among(absent)
     for name in frame.columns:
         if name in kept:
             continue

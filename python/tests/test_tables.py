@@ -139,7 +139,9 @@ def test_a_mark_may_have_a_decimal_comma_as_its_table_has(tmp_path):
     f.loc[3, "CU"] = -9.5
     f.to_csv(tmp_path / "t.csv", index=False, sep=";", decimal=",")
     for mark in ("-9,5", "-9.5"):
-        assert costs().priced(pp.read_table(tmp_path / "t.csv", size=SIZE, absent=[mark])).grade["copper"][3] == 0
+        model = pp.read_table(tmp_path / "t.csv", size=SIZE, absent=[mark])
+        assert costs().priced(model).grade["copper"][3] == 0
+        assert model.blocks.CU[3] == 0 and costs(mining="2 + CU").priced(model).mining[3] == round(2 * f.TONNES[3])       # formulas count it as 0 too
 
 
 def test_several_grades_below_0_are_no_mark(tmp_path):
