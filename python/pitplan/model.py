@@ -76,6 +76,13 @@ class Model:
         return cube
 
     @property
+    def is_rock(self) -> npt.NDArray[np.bool_]:
+        """Whether a block weighs anything, of shape (len(self),): the others are air, of which nothing is dug. Where none weighs
+        anything, all are rock."""
+        found: npt.NDArray[np.bool_] = self.blocks["tonnes"].to_numpy(float) > 0
+        return found if found.any() else ~found
+
+    @property
     def table_row(self) -> Ints:
         """The row of each block as a spreadsheet counts it, of shape (len(self),); 0 for blocks that were added."""
         row = self.blocks["row"].to_numpy(np.int64)
