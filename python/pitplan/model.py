@@ -195,6 +195,7 @@ def read_with(path: Path, keys: TableKeys) -> Model:
     notes += whole.notes
     grid, index = on_grid(whole.places, size, keys, names, whole.frame.index, table)
     blocks = columns_of(whole.frame, names, grid, index, table)
+    notes += light(blocks)
     row_block = np.full(rows, -1, np.int32)
     row_block[frame.index.to_numpy()] = whole.parent
     model = Model(blocks, grid, path.name.removesuffix(".gz").removesuffix(".csv"), notes, names, row_block, keys.z == "depth", path, keys.absent)
@@ -317,6 +318,15 @@ def twins(flat: Ints, rows: pd.Index, column: str, table: str) -> None:
         first, second = sorted((int(rows[order[same[0]]]), int(rows[order[same[0] + 1]])))
         raise PlanError(f"is at the place of row {first + 2}: two blocks at one place" + (f" ({len(same):,} such)" if len(same) > 1 else ""),
                         table=table, row=second, column=column, try_this="take one of the rows out; or regularise = true in [model], with the columns dx, dy and dz, if these are sub-blocks")
+
+
+def light(blocks: pd.DataFrame) -> list[str]:
+    """A note of the rows that weigh nothing: nothing is paid for digging them."""
+    rocks = blocks["rock"][blocks["tonnes"] == 0].value_counts()
+    if not len(rocks):
+        return []
+    named = ", ".join(f"{rock} {count:,}" for rock, count in rocks.head(3).items()) + (", .." if len(rocks) > 3 else "")
+    return [f"{int(rocks.sum()):,} rows weigh nothing, and count as air: {named}"]
 
 
 def columns_of(frame: pd.DataFrame, names: Mapping[str, str], grid: Grid, index: tuple[Ints, Ints, Ints], table: str) -> pd.DataFrame:
