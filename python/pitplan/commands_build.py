@@ -73,6 +73,8 @@ def build(folder: Path = STUDY) -> None:
         told.slopes.heard = of_region(status)
         study = Study.create(told.path.parent, model, told.economics, told.slopes, keys=told.digest)
         study.named = folder
+    for note in study.model.notes[len(model.notes):]:
+        say("  " + note)
     print_tonnage(study)
     print_patterns(told.slopes, study.model.grid)
     set_aside(study, key_of(told.slopes, study.model.grid))

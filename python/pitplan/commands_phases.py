@@ -7,7 +7,7 @@ from typing import TYPE_CHECKING, Any, Optional
 import typer
 from rich.markup import escape
 
-from .console import STUDY, app, err, out, results, say, warn
+from .console import STUDY, app, err, print_columns, results, say, warn
 
 if TYPE_CHECKING:
     import pandas as pd
@@ -39,23 +39,18 @@ def phases(factors: str = typer.Argument(..., help="Factors of the pits that end
 
 def show(found: Phases, table: pd.DataFrame) -> None:
     """The pushbacks on the screen, and all of them together."""
-    from rich.box import SIMPLE_HEAD
-    from rich.table import Table
     manifest = found.shells.study.manifest
-    shown = Table(title=f"pushbacks, worths in million {escape(manifest['currency'])} at the full price", title_justify="left", box=SIMPLE_HEAD)
     metals = manifest["metals"]
-    for name in ("pushback", "factor", "from m", "to m", "ore Mt", "waste Mt", "strip", *(f"{name} {unit['grade_unit']}" for name, unit in metals.items()),
-                 *(f"{name} {unit['price_unit']}" for name, unit in metals.items()), "worth", "thinnest m", "at bench"):
-        shown.add_column(escape(name), justify="right")
-    for row in table.to_dict("records"):
-        shown.add_row(str(row["pushback"]), f"{row['factor']:g}", f"{row['top']:,.10g}", f"{row['bottom']:,.10g}", *amounts(row, metals), f"{row['width']:,.10g}", f"{row['width_bench']:,.10g}")
+    names = ("pushback", "factor", "from m", "to m", "ore Mt", "waste Mt", "strip", *(f"{name} {unit['grade_unit']}" for name, unit in metals.items()),
+             *(f"{name} {unit['price_unit']}" for name, unit in metals.items()), "worth", "thinnest m", "at bench")
+    lines = [[str(row["pushback"]), f"{row['factor']:g}", f"{row['top']:,.10g}", f"{row['bottom']:,.10g}", *amounts(row, metals), f"{row['width']:,.10g}", f"{row['width_bench']:,.10g}"]
+             for row in table.to_dict("records")]
     ore, waste = float(table.ore_t.sum()), float(table.waste_t.sum())
     total = {"ore_t": ore, "waste_t": waste, "strip": waste / ore if ore else float("nan"), "worth": float(table.worth.sum())}
     for name in metals:
         total |= {f"grade_{name}": float((table[f"grade_{name}"].fillna(0) * table.ore_t).sum()) / ore if ore else float("nan"), f"metal_{name}": float(table[f"metal_{name}"].sum())}
-    shown.add_section()
-    shown.add_row("all", "", f"{table.top.max():,.10g}", f"{table.bottom.min():,.10g}", *amounts(total, metals), "", "")
-    out.print(shown)
+    lines.append(["all", "", f"{table.top.max():,.10g}", f"{table.bottom.min():,.10g}", *amounts(total, metals), "", ""])
+    print_columns(f"pushbacks, worths in million {manifest['currency']} at the full price", names, lines, has_total=True)
 
 
 def amounts(row: dict[str, Any], metals: dict[str, Any]) -> list[str]:

@@ -69,8 +69,8 @@ def warn_of_room(wanted: int | None, count: int) -> None:
         warn(f"{count} of {wanted} workers: free memory has no room for more")
 
 
-def print_columns(title: str, names: Sequence[str], rows: Sequence[Sequence[str]], words: int = 0) -> None:
-    """Prints a table of texts; the first `words` columns stand left. Where the screen is narrow the headings go over several
+def print_columns(title: str, names: Sequence[str], rows: Sequence[Sequence[str]], words: int = 0, has_total: bool = False) -> None:
+    """Prints a table of texts; the first `words` columns stand left, and a total below a gap. Where the screen is narrow the headings go over several
     lines and the gaps shrink, and no figure is cut off."""
     from rich.box import SIMPLE_HEAD
     from rich.table import Table
@@ -79,8 +79,8 @@ def print_columns(title: str, names: Sequence[str], rows: Sequence[Sequence[str]
     shown = Table(title=escape(title), title_justify="left", box=SIMPLE_HEAD, padding=(0, 0) if is_narrow else (0, 1), show_edge=not is_narrow)
     for i, (name, width) in enumerate(zip(names, widths)):
         shown.add_column(escape(name), justify="left" if i < words else "right", min_width=width)
-    for row in rows:
-        shown.add_row(*map(escape, row))
+    for left, row in zip(reversed(range(len(rows))), rows):
+        shown.add_row(*map(escape, row), end_section=has_total and left == 1)
     out.print(shown, crop=False)
 
 

@@ -306,8 +306,7 @@ def number_column(values: pd.Series, table: object, absent: Collection[str] = ()
     if values.dtype.kind not in "iuf":
         values = numbers_of(values, table, absent)
     found: npt.NDArray[np.float64] = values.to_numpy(dtype=float, copy=True)
-    spelt = [COMMA_DECIMAL.sub(r"\1.\2", mark.strip()) for mark in absent]      # a mark as it stands in a table with decimal commas
-    marks = [float(mark) for mark in spelt if PLAIN.fullmatch(mark)]
+    marks = numbers_among(absent)
     if marks:
         found[np.isin(found, marks)] = 0.0
     if "" in absent:
@@ -319,6 +318,16 @@ def number_column(values: pd.Series, table: object, absent: Collection[str] = ()
         raise PlanError(f"{cells(int(bad.sum()))} {what}", table=table, row=int(values.index[row]), column=values.name,
                         try_this='absent = [""] in [model], if an empty cell stands for "not estimated"' if what == "empty" else None)
     return found
+
+
+def numbers_among(absent: Collection[str]) -> list[float]:
+    """The cells that stand for "not estimated" and are numbers, with a point or a comma in decimals.
+
+    >>> numbers_among(["-99,5", "-99", "-", ""])
+    [-99.5, -99.0]
+    """
+    spelt = [COMMA_DECIMAL.sub(r"\1.\2", mark.strip()) for mark in absent]
+    return [float(mark) for mark in spelt if PLAIN.fullmatch(mark)]
 
 
 def cells(n: int) -> str:

@@ -87,7 +87,7 @@ class Economics:
     currency : str
         For tables and pictures.
     forbid : sequence of str
-        Formulas: blocks for which one of them holds may not be dug.
+        Formulas: blocks for which one of them holds may not be dug. Blocks without tonnes are air, which none of them keeps.
     """
 
     metals: Sequence[Metal]
@@ -157,13 +157,15 @@ class Economics:
         return found
 
     def forbidden(self, model: Model) -> Bools:
-        """Which blocks may not be dug: those for which a formula of `forbid` holds."""
+        """Which blocks may not be dug: those for which a formula of `forbid` holds. Air is never dug: air above a corridor would else
+        keep the rock beside the corridor, whose slopes lead through that air, from being dug too."""
         found: Bools = np.zeros(len(model), bool)
         for formula in self.forbid:
             holds = worked_out(str(formula), model.blocks, "[economics] forbid")
             if holds.dtype != bool:
                 raise PlanError(f"[economics] forbid = {formula!r} says neither yes nor no", try_this='as "XC > 12000"')
             found |= holds
+        found &= model.blocks.tonnes.to_numpy(float) > 0
         return found
 
 

@@ -57,7 +57,7 @@ def table_of(shells: Shells, columns: Sequence[str] | None = None, is_whole: boo
     columns : sequence of str, optional
         Of the table, written behind the others; none unless told.
     is_whole : bool
-        Whether all blocks are listed, or those of the largest pit alone.
+        Whether all blocks are listed, or the rock of the largest pit alone.
 
     Returns
     -------
@@ -68,7 +68,7 @@ def table_of(shells: Shells, columns: Sequence[str] | None = None, is_whole: boo
     """
     from .export_vtu import columns_of, free
     study, count = shells.study, len(shells.factors)
-    kept = np.arange(len(study.model)) if is_whole else np.flatnonzero(shells.shell < count)
+    kept = np.arange(len(study.model)) if is_whole else np.flatnonzero(shells.dug < count)
     b = study.model.blocks.iloc[kept]
     x, y, z = (np.round(values[kept], 6) for values in study.model.xyz())
     shares = np.array([*(factor / THOUSAND for factor in shells.factors), np.nan])

@@ -63,7 +63,7 @@ def write(shells: Shells, path: str | os.PathLike[str], pits: Sequence[int] | No
     doc = new("R2010")
     doc.units = METRES
     doc.appids.new(APP)
-    cube = outlines.cube_of(shells.study.model, shells.shell, len(shells.factors))
+    cube = outlines.cube_of(shells.study.model, shells.dug, len(shells.factors))
     count = 0
     for i in range(len(shells.factors)) if pits is None else pits:
         for edge in ("TOE", "CREST"):

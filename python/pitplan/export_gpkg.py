@@ -84,7 +84,7 @@ def features(shells: Shells, chosen: Sequence[int]) -> tuple[list[dict[str, Any]
     """The features of the two layers."""
     model, priced = shells.study.model, shells.study.priced
     grid, count = model.grid, len(shells.factors)
-    cube = outlines.cube_of(model, shells.shell, count)
+    cube = outlines.cube_of(model, shells.dug, count)
     tonnes = model.blocks.tonnes.to_numpy(float)
     cell = model.blocks.iz.to_numpy().astype(np.int64) * (count + 1) + shells.shell
     rock, ore = (np.bincount(cell, weight, grid.shape[2] * (count + 1)).reshape(-1, count + 1).cumsum(axis=1) for weight in (tonnes, tonnes * priced.milled(THOUSAND)))

@@ -40,7 +40,7 @@ def write(shells: Shells, path: str | os.PathLike[str], columns: Sequence[str] |
     columns : sequence of str, optional
         Of the table; all columns of numbers and the rock unless told.
     is_whole : bool
-        Whether all blocks are written, or those of the largest pit alone.
+        Whether all blocks are written, or the rock of the largest pit alone.
 
     Returns
     -------
@@ -69,7 +69,7 @@ def mesh_of(shells: Shells, columns: Sequence[str] | None = None, is_whole: bool
     """The blocks as a `meshio.Mesh`, as PyVista and others take it, and what numbers stand for; see `write`."""
     import meshio
     model, count = shells.study.model, len(shells.factors)
-    kept = np.arange(len(model)) if is_whole else np.flatnonzero(shells.shell < count)
+    kept = np.arange(len(model)) if is_whole else np.flatnonzero(shells.dug < count)
     points, cells = hexahedra(model, kept)
     shares = np.array([*(factor / THOUSAND for factor in shells.factors), np.nan])
     data: dict[str, npt.NDArray[Any]] = {"shell": shares[shells.shell[kept]], "worth": shells.study.priced.worth(THOUSAND)[kept], "block": kept.astype(np.int32)}

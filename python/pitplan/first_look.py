@@ -5,6 +5,7 @@ import math
 import re
 from collections.abc import Mapping
 from dataclasses import dataclass, field
+from keyword import iskeyword
 from pathlib import Path
 
 import numpy as np
@@ -264,7 +265,7 @@ def written(look: Look, table: str) -> str:
     return TEMPLATE.substitute(
         table=quoted(table), columns=", ".join(f"{name} = {quoted(column)}" for name, column in look.names.items()), size=size,
         size_told="" if look.size else "; it couldn't be told: fill it in", rotation=f"{look.rotation:g}", absent=", ".join(map(quoted, look.absent)),
-        encoding="" if look.dialect.encoding == UTF_8 else f"\nencoding = {quoted(look.dialect.encoding)}", regularise="true" if look.has_sub_blocks else "false", x=look.names["x"], z=look.names["z"], by_rock=f"; by rock: {{ {by_rock} }}" if by_rock else "",
+        encoding="" if look.dialect.encoding == UTF_8 else f"\nencoding = {quoted(look.dialect.encoding)}", regularise="true" if look.has_sub_blocks else "false", x=in_formula(look.names["x"]), z=in_formula(look.names["z"]), by_rock=f"; by rock: {{ {by_rock} }}" if by_rock else "",
         mill=", ".join(map(quoted, look.rocks[:2])), metals=metals(look),
         by=quoted(look.region or "SECTOR"), regions=", ".join(f"{key(name)} = 45" for name in look.regions) or "NORTH = 38, SOUTH = [[0, 44], [180, 50]]")
 
@@ -281,6 +282,13 @@ def metals(look: Look) -> str:
         column = look.grades[0] if look.grades else "GRADE"
         lines.append(f'    {{ name = "metal", grade = {quoted(column)}, grade_unit = "%", price = 8500, price_unit = "t", recovery = 0.85, payable = 0.96, selling = 0 }},')
     return "\n".join(lines)
+
+
+def in_formula(name: str) -> str:
+    """A column as a formula within the text names it: column('RL m') where its name is no plain word."""
+    if name.isidentifier() and not iskeyword(name):
+        return name
+    return f"column({name!r})".replace('"', '\\"')
 
 
 def key(word: str) -> str:

@@ -42,9 +42,8 @@ def surfaces(study: Study, pits: Iterable[tuple[str, Bools]]) -> Levels:
     PlanError
         Where a pit has a block and not all above it, since one height can't show that.
     """
-    index, tonnes = study.model.index, study.model.blocks["tonnes"].to_numpy()
-    solid = tonnes > 0 if (tonnes > 0).any() else np.ones(len(tonnes), bool)            # rows of air above the ground are no ground
-    rock, high = placed(solid, index), index.shape[2]
+    index = study.model.index
+    rock, high = placed(study.model.is_rock, index), index.shape[2]                     # rows of air above the ground are no ground
     ground = np.where(rock.any(axis=2), high - rock[:, :, ::-1].argmax(axis=2), 0)
     below = np.arange(high) < ground[:, :, None]
     out = [ground]

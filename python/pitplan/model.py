@@ -12,7 +12,7 @@ import pandas as pd
 
 from . import gaps, subblocks
 from .column_names import PLACES, SIZES, which_columns
-from .csv_text import PLAIN, Dialect, dialect_of, head_of, names_of, number_column, read_frame
+from .csv_text import Dialect, dialect_of, head_of, names_of, number_column, numbers_among, read_frame
 from .errors import PlanError, meant
 from .grid import Floats, Grid
 
@@ -74,6 +74,13 @@ class Model:
         cube = np.full(self.grid.shape, -1, dtype=np.int32)
         cube[self.blocks.ix, self.blocks.iy, self.blocks.iz] = np.arange(len(self.blocks), dtype=np.int32)
         return cube
+
+    @property
+    def is_rock(self) -> npt.NDArray[np.bool_]:
+        """Whether a block weighs anything, of shape (len(self),): the others are air, of which nothing is dug. Where none weighs
+        anything, all are rock."""
+        found: npt.NDArray[np.bool_] = self.blocks["tonnes"].to_numpy(float) > 0
+        return found if found.any() else ~found
 
     @property
     def table_row(self) -> Ints:
@@ -188,6 +195,7 @@ def read_with(path: Path, keys: TableKeys) -> Model:
     notes += whole.notes
     grid, index = on_grid(whole.places, size, keys, names, whole.frame.index, table)
     blocks = columns_of(whole.frame, names, grid, index, table)
+    notes += light(blocks)
     row_block = np.full(rows, -1, np.int32)
     row_block[frame.index.to_numpy()] = whole.parent
     model = Model(blocks, grid, path.name.removesuffix(".gz").removesuffix(".csv"), notes, names, row_block, keys.z == "depth", path, keys.absent)
@@ -216,7 +224,7 @@ def estimated(frame: pd.DataFrame, names: Mapping[str, str], absent: Sequence[st
     if not absent:
         return
     kept = {names[key] for key in (*PLACES, *SIZES, "id", "rock") if key in names}
-    marks = [float(mark) for mark in absent if PLAIN.fullmatch(mark)]
+    marks = numbers_among(absent)
     for name in frame.columns:
         if name in kept:
             continue
@@ -310,6 +318,15 @@ def twins(flat: Ints, rows: pd.Index, column: str, table: str) -> None:
         first, second = sorted((int(rows[order[same[0]]]), int(rows[order[same[0] + 1]])))
         raise PlanError(f"is at the place of row {first + 2}: two blocks at one place" + (f" ({len(same):,} such)" if len(same) > 1 else ""),
                         table=table, row=second, column=column, try_this="take one of the rows out; or regularise = true in [model], with the columns dx, dy and dz, if these are sub-blocks")
+
+
+def light(blocks: pd.DataFrame) -> list[str]:
+    """A note of the rows that weigh nothing: nothing is paid for digging them."""
+    rocks = blocks["rock"][blocks["tonnes"] == 0].value_counts()
+    if not len(rocks):
+        return []
+    named = ", ".join(f"{rock} {count:,}" for rock, count in rocks.head(3).items()) + (", .." if len(rocks) > 3 else "")
+    return [f"{int(rocks.sum()):,} rows weigh nothing, and count as air: {named}"]
 
 
 def columns_of(frame: pd.DataFrame, names: Mapping[str, str], grid: Grid, index: tuple[Ints, Ints, Ints], table: str) -> pd.DataFrame:

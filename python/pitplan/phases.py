@@ -32,7 +32,7 @@ class Phases:
     Attributes
     ----------
     pushback : int16 array of shape (blocks,)
-        The pushback that has a block, counted from 1; 0 where none has it.
+        The pushback that digs a block, counted from 1; 0 where none does, and of air.
 
     Raises
     ------
@@ -46,7 +46,7 @@ class Phases:
             raise PlanError(f"the mining width is {mining_width:g}, and has to be above 0")
         self.shells, self.mining_width = shells, mining_width
         count = len(shells.factors)
-        self.pushback: npt.NDArray[np.int16] = np.where(shells.shell < count, shells.shell + 1, 0).astype(np.int16)
+        self.pushback: npt.NDArray[np.int16] = np.where(shells.dug < count, shells.dug + 1, 0).astype(np.int16)
         there = np.bincount(self.pushback, minlength=count + 1)[1:]
         if (there == 0).any():
             i = int(np.argmin(there))
@@ -80,12 +80,15 @@ class Phases:
         rows = []
         for i, down in np.argwhere(cells.blocks > 0).tolist():
             level = grid.shape[2] - 1 - down
+            here = cube[:, :, level] == i + 1
+            if not here.any():
+                continue                     # air alone
             toe, centre, crest = grid.world(0, 0, [level - 0.5, level, level + 0.5])[2].tolist()
-            found = cells.at(i, down)
+            found = cells.at(i, down) | {"blocks": int(here.sum())}
             rock = {name: found.pop(name) for name in ("blocks", "rock_t", "ore_t", "waste_t")}
             mill = {"strip": rock["waste_t"] / rock["ore_t"] if rock["ore_t"] else np.nan, "feed_t": rock["ore_t"] * shells.study.priced.feed}
             row = {"pushback": i + 1, "factor": shells.factors[i] / THOUSAND, "bench": centre, "toe": toe, "crest": crest}
-            rows.append(row | rock | mill | found | self.room(cube[:, :, level] == i + 1, tonnes[:, :, level]))
+            rows.append(row | rock | mill | found | self.room(here, tonnes[:, :, level]))
         return pd.DataFrame(rows)
 
     def room(self, plane: npt.NDArray[np.bool_], tonnes: npt.NDArray[np.float64]) -> dict[str, Any]:

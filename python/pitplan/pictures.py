@@ -135,7 +135,7 @@ def paint_words(column: "pd.Series[str]", label: str) -> Paint:
 def middle_of(shells: Shells, style: Style = Style()) -> tuple[float, int]:
     """Where to look where nothing is asked for: the toe of the bench halfway down the outlined pit, and its row with most blocks."""
     model = shells.study.model
-    inside = shells.holds(pit_index(shells, style.pit))
+    inside = shells.dug <= pit_index(shells, style.pit)
     blocks = model.blocks[inside] if inside.any() else model.blocks
     level = int(np.median(blocks["iz"].unique()))
     return model.grid.origin[2] + (level - 0.5) * model.grid.size[2], fullest_row(np.bincount(blocks["iy"], minlength=model.grid.shape[1]))

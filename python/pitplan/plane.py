@@ -18,7 +18,7 @@ class Plane:
     Attributes
     ----------
     number : int array of shape (rows, columns)
-        The block at each cell, -1 where there is none. Rows go north or up, columns east or along the section.
+        The block of rock at each cell, -1 where there is none. Rows go north or up, columns east or along the section.
     across, up : float arrays of shape (rows + 1, columns + 1)
         The corners of the cells in the user's coordinates; `across` is a distance along the section in a turned model.
     labels : (str, str)
@@ -33,6 +33,12 @@ class Plane:
     labels: tuple[str, str]
     title: str
     note: str = ""
+
+
+def of_rock(model: Model) -> NDArray[np.int32]:
+    """As `Model.index`, without the blocks of air."""
+    index = model.index
+    return np.where(np.append(model.is_rock, False)[index], index, np.int32(-1))
 
 
 def bench_at(model: Model, elevation: float) -> int:
@@ -73,7 +79,7 @@ def bench(model: Model, level: int) -> Plane:
     u, v = np.meshgrid(np.arange(g.shape[0] + 1) - 0.5, np.arange(g.shape[1] + 1) - 0.5)
     east, north, _ = g.world(u, v, 0)
     toe = g.origin[2] + (level - 0.5) * g.size[2]
-    return Plane(model.index[:, :, level].T, np.asarray(east), np.asarray(north), ("Easting (m)", "Northing (m)"),
+    return Plane(of_rock(model)[:, :, level].T, np.asarray(east), np.asarray(north), ("Easting (m)", "Northing (m)"),
                  f"bench {toe:,.10g} (toe) to {toe + g.size[2]:,.10g} m (crest)")
 
 
@@ -90,7 +96,7 @@ def section(model: Model, axis: str, index: int) -> Plane:
     start = g.size[along] / 2 if turned else g.origin[along]      # a turned section is measured from its own end
     u, v = np.meshgrid(start + (np.arange(g.shape[along] + 1) - 0.5) * g.size[along],
                        g.origin[2] + (np.arange(g.shape[2] + 1) - 0.5) * g.size[2])
-    cut = model.index[index] if axis == "x" else model.index[:, index]
+    cut = of_rock(model)[index] if axis == "x" else of_rock(model)[:, index]
     # to the right lies the axis along the section, so one looks a quarter turn to the left of it
     right = (90.0, 0.0)[along] + g.rotation
     looking = (right - 90) % 360

@@ -408,7 +408,8 @@ class Economics:
         return float(given)
 
     def is_fenced(self, row: int) -> bool:
-        return any(Formula(text, lambda name: self.cell(row, name)).value() for text in self.told.get("forbid", ()))
+        """Whether a formula of forbid keeps the block of a row; it keeps no air, which has no tonnes."""
+        return self.tonnes(row) > 0 and any(Formula(text, lambda name: self.cell(row, name)).value() for text in self.told.get("forbid", ()))
 
     def of_row(self, row: int) -> Worked:
         """What the block of a row comes to."""

@@ -132,6 +132,11 @@ class Shells:
         """
         return self if self.certified == len(self) else self.study.shells(self.factors, workers, told, certificates=True)
 
+    @cached_property
+    def dug(self) -> npt.NDArray[np.int16]:
+        """As `shell`, of rock alone: blocks of air have ``len(factors)``. What is drawn and measured is rock."""
+        return np.where(self.study.model.is_rock, self.shell, np.int16(len(self.factors)))
+
     def holds(self, i: int) -> Bools:
         """Whether a block is in pit i, of shape (blocks,)."""
         if not 0 <= i < len(self.factors):

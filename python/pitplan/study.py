@@ -160,7 +160,8 @@ class Study:
 
     @classmethod
     def create(cls, folder: str | Path, model: Model, economics: Economics, slopes: Slopes, program: Pit | None = None, keys: str = "") -> Study:
-        """Makes the files that `pit` reads. A model that stands there already is replaced once the new one is whole.
+        """Makes the files that `pit` reads. A model that stands there already is replaced once the new one is whole. Where the
+        ground is steeper than the slopes, blocks of air are added, as `steep_ground.with_air` says.
 
         Parameters
         ----------
@@ -178,7 +179,9 @@ class Study:
             Where the model, the economics or the slopes are wrong. The study that was there stays as it was.
         """
         from .slopes import count_pairs, write_prec
+        from .steep_ground import with_air
         folder, pit = Path(folder), program or Pit()
+        model = with_air(model, slopes)
         priced = economics.priced(model)
         region = slopes.region_of(model)
         folder.mkdir(parents=True, exist_ok=True)

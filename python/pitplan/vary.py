@@ -145,8 +145,18 @@ def turned(angles: Any, by: float) -> Any:
 
 
 def price_factor(factor: int, change: Change) -> int:
-    """The factor in thousandths at which the study itself has the changed price."""
-    return thousandths(round(factor * (1 + change.by / 100)) / THOUSAND)
+    """The factor in thousandths at which the study itself has the changed price.
+
+    Raises
+    ------
+    PlanError
+        Where it is none of whole thousandths: another price than that which was asked for would be shown.
+    """
+    exact = factor * (1 + change.by / 100)
+    if abs(exact - round(exact)) > 1e-6:
+        raise PlanError(f"{change} of factor {factor / THOUSAND:g} is factor {exact / THOUSAND:.9g}, and factors are whole thousandths",
+                        try_this=f"{change.what}={100 * (round(exact) / factor - 1):+.9g}" if factor else None)
+    return thousandths(round(exact) / THOUSAND)
 
 
 def place(study: Study, name: str) -> Path:
@@ -211,7 +221,7 @@ def table(study: Study) -> pd.DataFrame:
         of = task(asked, change)
         one, factor = study if of.name == BASE else scenario(study, of.name), of.factors[0]
         one.verify()
-        mask, verdict = one.mask(factor), one.verdict(factor)
+        mask, verdict = one.mask(factor)[:len(tonnes)], one.verdict(factor)      # blocks behind those are air, which other slopes lead through
         assert verdict is not None               # its mask has just been read
         rows.append({"what": change.what if change else BASE, "by": change.by if change else 0.0, "unit": UNITS[change.what].strip() if change else "",
                      "factor": factor / THOUSAND, "blocks": verdict["count"], "rock_t": float(tonnes[mask].sum()), "worth": float(verdict["worth"])})

@@ -29,6 +29,20 @@ def costs(**more):
     return pp.Economics(**{**dict(metals=(COPPER,), mining=2.0, processing={"OXI": 7.5, "SUL": 9.0}), **more})
 
 
+CUBE = (10, 10, 10)
+WASTE = costs(metals=(pp.Metal("copper", "CU", price=8500, recovery=0.85),), mining=2.0, processing=9.0, mill=["SUL"])
+
+
+def below(cliff, seed=1, shape=(16, 7, 12), low=3):
+    """Low ground with ore in it, and beside it a cliff of so many blocks; with its rows of air, which have no tonnes."""
+    r = np.random.default_rng(seed)
+    i, j, k = (v.ravel() for v in np.meshgrid(*map(np.arange, shape), indexing="ij"))
+    is_rock = k < np.where(i >= 9, low + cliff, low)
+    ore = is_rock & (i < 7) & (k < low - 1) & (r.random(len(i)) < 0.5)
+    return pd.DataFrame({"IJK": [f"b{n:04d}" for n in range(len(i))], "XC": 10.0 * i, "YC": 10.0 * j, "ZC": 5.0 + 10 * k, "TONNES": np.where(is_rock, 2500.0, 0.0),
+                         "CU": np.where(ore, np.round(r.uniform(1, 4, len(i)), 2), 0.0), "ROCK": np.where(is_rock, "SUL", "AIRE"), "SECTOR": np.where(j < 4, "LEFT", "RIGHT")})
+
+
 def study_of(folder, frame, slopes=None, economics=None, **keys):
     """The study of a table, built in `folder`."""
     path = Path(folder) / "t.csv"

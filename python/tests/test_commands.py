@@ -3,6 +3,7 @@ import os
 import re
 import shlex
 import subprocess
+import tomllib
 
 import numpy as np
 import pandas as pd
@@ -10,6 +11,7 @@ import pytest
 
 from mines import STUDY_TOML, table, written_study
 from pitplan import first_look
+from pitplan.formula import worked_out
 from pitplan.study_file import read_study_file
 from processes import TOP
 from served import PITPLAN, linked, pitplan
@@ -257,6 +259,17 @@ def test_a_table_as_excel_saves_it_in_peru(tmp_path):
     told = read_study_file(tmp_path / "t")
     assert told.keys.encoding == "cp1252" and list(told.keys.absent) == ["N/D"] and [m.grade for m in told.economics.metals][0] == "LEY_ZN"
     assert set(told.read_model().blocks.rock) >= {"Óxido"}
+
+
+@pytest.mark.parametrize("name", ["ZC", "Cota (m)", "Elevação m", "RL'0", "class"])
+def test_the_formulas_that_init_shows_name_the_table_s_own_columns(tmp_path, name):
+    f = table(5, 4, 3, 1).rename(columns={"ZC": name, "XC": "x " + name})
+    f.to_csv(tmp_path / "t.csv", index=False)
+    text = first_look.written(first_look.look_at(tmp_path / "t.csv", {"z": name, "x": "x " + name}), "t.csv")
+    shown = [re.search(pattern, text)[1] for pattern in (r'a formula as ("2\.2 .*? / 10")', r'may not be dug, as \[(".*? > 12000")\]')]
+    told = tomllib.loads("formulas = [" + ", ".join(shown) + "]")["formulas"]
+    height, beyond = (worked_out(formula, f, "shown") for formula in told)
+    assert np.allclose(height, 2.2 + 0.02 * (1500 - f[name]) / 10) and (beyond == (f["x " + name] > 12000)).all()
 
 
 def test_a_byte_that_is_no_text_is_told_with_its_row(tmp_path):

@@ -45,7 +45,7 @@ def as_design(study, held):
 @pytest.fixture(scope="module", params=[0.0, 25.0])
 def study(request, tmp_path_factory):
     frame = table(9, 8, 5, 5, rotation=request.param)
-    made = study_of(tmp_path_factory.mktemp("m"), frame, pp.Slopes(45, by="SECTOR", regions={"EAST": 35}), rotation=request.param)
+    made = study_of(tmp_path_factory.mktemp("m"), frame, pp.Slopes(45, by="SECTOR", regions={"EAST": 38}), rotation=request.param)
     made.shells([600, 1000, 1200])
     return made
 
@@ -91,7 +91,7 @@ def test_a_design_that_breaks_slopes(study, seed):
     ids = study.model.blocks["id"]
     sector = study.model.blocks.set_index("id").SECTOR
     for wall in found.walls[found.walls.built.notna()].itertuples():      # of the region of its foot
-        assert abs(wall.built - {"EAST": 35, "WEST": 45}[sector[wall.id]]) <= 1
+        assert abs(wall.built - {"EAST": 38, "WEST": 45}[sector[wall.id]]) <= 1
     assert list(zip(found.pairs.id, found.pairs.needs)) == [(ids[b], ids[p]) for b, p in broken] and found.walls.pairs.sum() == len(broken)
     whole, todo = set(), list(np.flatnonzero(held))                     # a plain search upwards
     above = {}

@@ -98,6 +98,14 @@ def test_the_mill_takes_some_rocks(frame, model):
     assert priced.revenue[frame.ROCK == "SUL"].sum() > 0
 
 
+def test_forbid_keeps_no_air(frame):
+    """Nothing is dug of a row without tonnes: what leads through the air above a corridor may be dug."""
+    light = frame.assign(TONNES=frame.TONNES.where(frame.ZC < 140, 0.0))
+    priced = costs(forbid=["XC > 5030"]).priced(model_of(light))
+    assert (priced.forbidden == (frame.XC > 5030) & (frame.ZC < 140)).all() and priced.forbidden.any()
+    assert (priced.mining[frame.ZC >= 140] == 0).all()
+
+
 def test_what_may_not_be_dug_is_what_forbid_says_and_no_price(frame, model):
     first = frame.IJK.iloc[0]
     dear = costs(mining=f"where(IJK == '{first}', 1e6, 2)").priced(model)

@@ -9,7 +9,7 @@ from hypothesis import example, given, strategies as st
 from hypothesis.extra.numpy import arrays
 
 import pitplan as pp
-from mines import costs, study_of, table, written_study
+from mines import STUDY_TOML, costs, study_of, table, written_study
 from pitplan.phases import Phases
 from pitplan.widths import STEPS, rungs, thinnest, widths
 from test_commands import pitplan
@@ -196,3 +196,16 @@ def test_the_command(tmp_path):
     for words, said in ((("1.0,0.6",), "ascending"), (("0.6,0.7",), "the nearest that have are 0.6, 1"), (("0.6;1",), "no factor")):
         wrong = pitplan("phases", *words, study)
         assert wrong.returncode == 3 and said in wrong.stderr, wrong.stderr
+
+
+def test_no_figure_of_the_table_is_cut_off(tmp_path):
+    """Of three metals, of which there is much: a table that is wider than what a screen of 160 letters takes with gaps."""
+    more = "".join(f'{{ name = "{name}", grade = "CU", grade_unit = "kg/t", price = 0.01, price_unit = "g", recovery = 0.85 }}, ' for name in ("antimony", "tellurium", "ytterbium"))
+    text = STUDY_TOML.replace("metals = [ ", "metals = [ " + more)
+    study = written_study(tmp_path / "s", text=text)
+    assert pitplan("build", study).returncode == 0 and pitplan("shells", study).returncode == 0
+    ran = pitplan("phases", "0.6,1.2", study)
+    every = pd.read_csv(study / "out/phases.csv")
+    assert ran.returncode == 0 and "…" not in ran.stdout
+    for name in ("antimony", "tellurium", "ytterbium"):
+        assert all(f"{amount:,.0f}" in ran.stdout for amount in [*every[f"metal_{name}"], every[f"metal_{name}"].sum()])

@@ -42,7 +42,7 @@ def models(draw):
     size = tuple(draw(st.sampled_from([5.0, 10.0, 12.5])) for _ in range(3))
     frame = table(*shape, draw(st.integers(0, 99)), size=size)
     step = [np.rint((frame[c] - o) / s).astype(int) for c, o, s in (("XC", 5000, size[0]), ("YC", 9000, size[1]), ("ZC", 100, size[2]))]
-    blocks = frame.assign(ix=step[0], iy=step[1], iz=step[2], row=range(len(frame)))
+    blocks = frame.assign(ix=step[0], iy=step[1], iz=step[2], row=range(len(frame)), tonnes=frame.TONNES)
     return Model(blocks, Grid((5000.0, 9000.0, 100.0), size, shape, draw(st.sampled_from([0.0, 30.0, -72.5, 190.0]))), "mine")
 
 

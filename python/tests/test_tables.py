@@ -139,7 +139,17 @@ def test_a_mark_may_have_a_decimal_comma_as_its_table_has(tmp_path):
     f.loc[3, "CU"] = -9.5
     f.to_csv(tmp_path / "t.csv", index=False, sep=";", decimal=",")
     for mark in ("-9,5", "-9.5"):
-        assert costs().priced(pp.read_table(tmp_path / "t.csv", size=SIZE, absent=[mark])).grade["copper"][3] == 0
+        model = pp.read_table(tmp_path / "t.csv", size=SIZE, absent=[mark])
+        assert costs().priced(model).grade["copper"][3] == 0
+        assert model.blocks.CU[3] == 0 and costs(mining="2 + CU").priced(model).mining[3] == round(2 * f.TONNES[3])       # formulas count it as 0 too
+
+
+def test_rows_that_weigh_nothing_are_told(tmp_path):
+    """Air, or rock whose tonnes aren't estimated: digging it would cost nothing."""
+    f = table(4, 4, 3, 2)
+    assert not any("weigh nothing" in note for note in read(tmp_path, f).notes)
+    f.loc[[3, 5, 7], "TONNES"], f.loc[[3, 5], "ROCK"], f.loc[7, "ROCK"] = -99, "SUL", "OXI"
+    assert "3 rows weigh nothing, and count as air: SUL 2, OXI 1" in read(tmp_path, f, absent=["-99"]).notes
 
 
 def test_several_grades_below_0_are_no_mark(tmp_path):

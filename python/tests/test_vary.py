@@ -52,6 +52,17 @@ def test_a_price_is_a_factor(tmp_path):
     assert not list((study.folder / "vary").glob("price*"))
 
 
+def test_a_price_between_two_factors_is_refused():
+    """It would be rounded to a price that nobody asked for."""
+    assert vary.price_factor(1000, Change("price", 0.1)) == 1001 and vary.price_factor(850, Change("price", -10)) == 765
+    with pytest.raises(pp.PlanError, match=r"price \+0.04% of factor 1 is factor 1.0004, and factors are whole thousandths"):
+        vary.price_factor(1000, Change("price", 0.04))
+    with pytest.raises(pp.PlanError) as error:
+        vary.price_factor(850, Change("price", 5))           # 892.5
+    (near,) = changes_of([str(error.value.try_this)])
+    assert vary.price_factor(850, near) == 892
+
+
 def test_more_slope_never_costs(tmp_path):
     found = ran(tmp_path, ["slope=-10,10", "price=-5"])[1]
     assert found.loc[("slope", -10.0)].worth <= found.loc[("base", 0.0)].worth <= found.loc[("slope", 10.0)].worth
