@@ -139,8 +139,11 @@ class TableKeys:
         for key, known in (("z", ("elevation", "depth")), ("missing", ("refuse", "air", "rock"))):
             if getattr(self, key) not in known:
                 raise PlanError(f"{key} = {getattr(self, key)!r} in [model] is none of {', '.join(known)}")
-        if self.widen < 0:
-            raise PlanError(f"widen = {self.widen} in [model] is less than none")
+        for key, count in (("widen", self.widen), ("skip", self.skip or 0)):
+            if count < 0:
+                raise PlanError(f"{key} = {count} in [model] is less than none")
+        if self.decimal not in (None, ".", ","):
+            raise PlanError(f"decimal = {self.decimal!r} in [model] is neither a point nor a comma", try_this='decimal = ","')
 
     def dialect(self, path: Path) -> Dialect:
         found = dialect_of(path, self.encoding or "utf-8-sig")
@@ -180,9 +183,12 @@ def read_with(path: Path, keys: TableKeys) -> Model:
     names = which_columns(header, keys.columns, table)
     frame = read_frame(path, dialect, [names[key] for key in ("id", "rock") if key in names])
     notes = ["columns: " + ", ".join(f"{key} = {name}" for key, name in names.items())]
+    if dialect.skip:
+        notes.append(f"{dialect.skip} lines below the header hold no blocks")
     rows = int(frame.index[-1]) + 1
-    places = subblocks.Places(*(number_column(frame[names[key]], table) for key in PLACES))
+    places = subblocks.Places(*(number_column(frame[names[key]], table, hint="fill its place in, or take the row out") for key in PLACES))
     size = size_of(frame, names, keys, table, notes)
+    notes += unweighed(frame, names, keys.absent)
     estimated(frame, names, keys.absent)
     whole = subblocks.whole_blocks(frame, names, places, size, subblocks.Wanted(keys.regularise, keys.rotation, table))
     notes += whole.notes
@@ -209,6 +215,17 @@ def size_of(frame: pd.DataFrame, names: Mapping[str, str], keys: TableKeys, tabl
         raise PlanError(f"a block of {x:g} x {y:g} x {z:g}?", table=table, try_this="size = [20, 20, 10] in [model]")
     notes.append(f"size {x:g} x {y:g} x {z:g} from the columns {', '.join(names[key] for key in SIZES)}")
     return x, y, z
+
+
+def unweighed(frame: pd.DataFrame, names: Mapping[str, str], absent: Sequence[str]) -> list[str]:
+    """Says of how many rows neither tonnes nor density are known, by `absent`: blocks that weigh nothing cost nothing to dig."""
+    name = names.get("tonnes") or names.get("density")
+    if not absent or not name:
+        return []
+    text = frame[name].astype(str).str.strip().mask(frame[name].isna(), "")
+    marks = [float(mark) for mark in absent if PLAIN.fullmatch(mark)]
+    count = int((text.isin([mark.strip() for mark in absent]) | pd.to_numeric(text, errors="coerce").isin(marks)).sum())
+    return [f"look: {count:,} {'row has' if count == 1 else 'rows have'} no {name}, by absent: such a block weighs nothing, and digging it costs nothing"] if count else []
 
 
 def estimated(frame: pd.DataFrame, names: Mapping[str, str], absent: Sequence[str]) -> None:
@@ -312,6 +329,13 @@ def twins(flat: Ints, rows: pd.Index, column: str, table: str) -> None:
                         table=table, row=second, column=column, try_this="take one of the rows out; or regularise = true in [model], with the columns dx, dy and dz, if these are sub-blocks")
 
 
+def without_blanks(words: pd.Series) -> npt.NDArray[Any]:
+    """Words without the blanks around them, which packages fill cells up with."""
+    code, kinds = pd.factorize(words)
+    found: npt.NDArray[Any] = np.array([*(str(kind).strip() for kind in kinds), ""], object)[code]       # the last is that of an empty cell, whose code is -1
+    return found
+
+
 def columns_of(frame: pd.DataFrame, names: Mapping[str, str], grid: Grid, index: tuple[Ints, Ints, Ints], table: str) -> pd.DataFrame:
     """The table with this package's own columns beside the planner's."""
     own: dict[str, Any] = {"id": frame[names["id"]].to_numpy() if "id" in names else (frame.index.to_numpy() + 2).astype(str)}
@@ -329,7 +353,7 @@ def columns_of(frame: pd.DataFrame, names: Mapping[str, str], grid: Grid, index:
         raise PlanError(f"{cell:g} is less than nothing", table=table, row=int(frame.index[row]), column=weighed,
                         try_this=f'absent = ["{cell:g}"] in [model], if that stands for "not estimated"')
     own["tonnes"] = tonnes
-    own["rock"] = frame[names["rock"]].to_numpy() if "rock" in names else np.full(len(frame), "rock", object)
+    own["rock"] = without_blanks(frame[names["rock"]]) if "rock" in names else np.full(len(frame), "rock", object)
     own["row"] = frame.index.to_numpy().astype(np.int32)
     rest = {str(name): frame[name].to_numpy() for name in frame.columns if name not in OURS}
     return pd.DataFrame({**own, **rest}, copy=False)        # a copy into common blocks would take as long as all checks
