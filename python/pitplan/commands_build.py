@@ -36,6 +36,8 @@ def init(table: Path = typer.Argument(..., help="A table of blocks: CSV or CSV.g
     path = folder / "study.toml"
     if path.exists() and not is_forced:
         raise PlanError(f"{path} is there already", try_this="--force writes over it, --study names another folder")
+    if folder.exists() and not folder.is_dir():
+        raise PlanError(f"{folder} is a file, and a study is a folder", try_this="--study names another folder")
     folder.mkdir(parents=True, exist_ok=True)
     path.write_text(written(look, near(table, folder)))
     say(f"{table}: {look.rows:,} rows")

@@ -62,6 +62,12 @@ def test_the_usual_names_of_columns_are_known(tmp_path, package):
         assert (plain.blocks[column] == found.blocks[column]).all()
 
 
+@pytest.mark.parametrize("change", [lambda text: text.split("\n", 1)[1], lambda text: "My mine\n" + text, lambda text: text.replace(",", "|")])
+def test_a_first_line_that_is_no_header_is_told(tmp_path, change):
+    said = refusal(tmp_path, None, text=change(table(4, 3, 3, 1).to_csv(index=False)).encode())
+    assert "the first line isn't the header line" in said and "NAME" not in said
+
+
 def test_names_of_ones_own(tmp_path):
     f = table(4, 3, 3, 1).rename(columns={"XC": "Ostwert", "TONNES": "Masse", "IJK": "Nr"})
     assert "no column is known as x" in refusal(tmp_path, f)
