@@ -20,7 +20,7 @@ import tempfile
 import time
 from collections.abc import Callable, Iterator, Sequence
 from concurrent.futures import ThreadPoolExecutor
-from contextlib import contextmanager
+from contextlib import contextmanager, suppress
 from functools import cached_property
 from pathlib import Path
 from typing import TYPE_CHECKING, Any, TypedDict
@@ -46,6 +46,7 @@ Bools = npt.NDArray[np.bool_]
 Told = Callable[[int, str, float], None]     # a factor, what is done for it, and how far that is, from 0 to 1
 COLUMNS = ("revenue", "processing", "mining", "tonnes")
 READ = ("mine.blocks", "mine.prec", "settings.toml")
+TIMES = 10                                   # that a folder is tried to be put where other processes put theirs
 FULL = (errno.ENOSPC, errno.EDQUOT)          # a disk has no room, or its user's share of it
 
 
@@ -442,11 +443,7 @@ def made_whole(place: Path) -> Iterator[Path]:
     work.chmod(place.parent.stat().st_mode & 0o777)       # mkdtemp makes it for one's own eyes
     try:
         yield work
-        older = work.with_name(work.name + ".old")
-        if place.exists():
-            os.rename(place, older)
-        os.rename(work, place)
-        shutil.rmtree(older, ignore_errors=True)
+        put(work, place)
     except OSError as error:
         shutil.rmtree(work, ignore_errors=True)
         hint = ROOM if error.errno in FULL else None
@@ -454,6 +451,25 @@ def made_whole(place: Path) -> Iterator[Path]:
     except BaseException:
         shutil.rmtree(work, ignore_errors=True)
         raise
+
+
+def put(work: Path, place: Path) -> None:
+    """Renames a folder to `place`, in place of what is there. Where another process puts its own there at the same moment, one of the two
+    comes to stand there; whatever goes wrong, something does."""
+    older = work.with_name(work.name + ".old")
+    for left in reversed(range(TIMES)):
+        try:
+            with suppress(FileNotFoundError):
+                os.rename(place, older)
+            os.rename(work, place)
+            break
+        except BaseException as error:
+            if older.exists() and not place.exists() and work.exists():
+                os.rename(older, place)
+            if not left or not isinstance(error, OSError) or error.errno not in (errno.ENOTEMPTY, errno.EEXIST):
+                raise
+        finally:
+            shutil.rmtree(older, ignore_errors=True)
 
 
 def host() -> str:

@@ -5,6 +5,7 @@ import re
 import os
 import shutil
 import signal
+from contextlib import nullcontext
 
 import numpy as np
 import pandas as pd
@@ -14,6 +15,7 @@ import pitplan as pp
 from mines import SIZE, costs, shells_of, study_of, table, written_study
 from pitplan import machine, program as programs, store, workers
 from pitplan.program import Accepted, Pit, PitLines
+from pitplan.study import made_whole
 from processes import TOP, command, gone, waited_for
 
 
@@ -155,6 +157,26 @@ def test_a_build_that_fails_leaves_the_study_as_it_was(tmp_path):
     (tmp_path / "empty").mkdir()
     with pytest.raises(pp.PlanError, match="never built"):
         pp.Study(tmp_path / "empty")
+
+
+@pytest.mark.parametrize("is_stopped", [False, True])
+def test_a_folder_is_put_in_its_place_beside_another_process_or_a_ctrl_c(tmp_path, monkeypatch, is_stopped):
+    """Another process puts its own there, or ctrl-C comes, when the folder before is out of the way."""
+    place, rename, met = tmp_path / "model", os.rename, []
+
+    def late(source, target):
+        if target == place and not met:
+            met.append(target)
+            if is_stopped:
+                raise KeyboardInterrupt
+            (place / "theirs").mkdir(parents=True)
+        rename(source, target)
+    place.mkdir()
+    (place / "before").touch()
+    monkeypatch.setattr(os, "rename", late)
+    with pytest.raises(KeyboardInterrupt) if is_stopped else nullcontext(), made_whole(place) as work:
+        (work / "ours").touch()
+    assert met and [path.name for path in place.iterdir()] == ["before" if is_stopped else "ours"] and list(tmp_path.iterdir()) == [place]
 
 
 def test_a_series_goes_on_where_it_was(tmp_path, monkeypatch):
