@@ -24,8 +24,9 @@ COLUMN, WORDS, METAL, GRADE = "column ", "words ", "metal ", "grade "
 
 
 def words_as_bytes(words: Any) -> Array:
-    """Words as one array of UTF-8 bytes, a line each: a fixed width for all would take the longest one's for each."""
-    return np.frombuffer("\n".join(str(word).replace("\n", " ") for word in words).encode(), np.uint8)
+    """Words as one array of UTF-8 bytes, a line each: a fixed width for all would take the longest one's for each. An empty cell is
+    a line without words."""
+    return np.frombuffer("\n".join("" if word != word else str(word).replace("\n", " ") for word in words).encode(), np.uint8)
 
 
 def bytes_as_words(data: Array, count: int) -> Array:

@@ -318,6 +318,16 @@ def test_a_model_comes_back_from_its_file(tmp_path):
     pd.testing.assert_frame_equal(again.blocks, model.blocks)
 
 
+def test_an_empty_cell_among_words_comes_back_as_one(tmp_path):
+    """What-ifs, designs and risk read the model from its file: where the lease has no name, a block may be dug there too."""
+    frame = table(6, 5, 4, 3)
+    frame["LEASE"] = np.where(frame.XC < 5040, "", "OTHERS")
+    frame.to_csv(tmp_path / "t.csv", index=False)
+    economics = costs(forbid=["LEASE != ''"])
+    study = pp.Study.create(tmp_path / "s", pp.read_table(tmp_path / "t.csv", size=SIZE), economics, pp.Slopes(45))
+    assert (economics.priced(study.model).forbidden == (frame.LEASE == "OTHERS")).all() and (study.priced.forbidden == (frame.LEASE == "OTHERS")).all()
+
+
 def test_a_store_takes_no_pickles(tmp_path):
     np.savez(tmp_path / "x.npz", told=np.array([{"a": 1}], dtype=object))
     with pytest.raises(pp.PlanError, match="isn.t a model that pitplan wrote"):
