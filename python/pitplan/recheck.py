@@ -584,9 +584,9 @@ class Sum:
         """Whether a line of a table, of a pit or of a bench, has these blocks, tonnes and worth, of these metals the amounts and the grades,
         and of a pit the mill's feed and the strip ratio. `mine.blocks` has tonnes to three decimals."""
         off = 6e-4 * self.blocks
-        sums = {"rock_t": (self.rock, off), "ore_t": (self.ore, off), "waste_t": (self.rock - self.ore, 2 * off), "worth_at_base" if is_pit else "worth": (self.worth / NANO, 1e-3),
+        sums = {"rock_t": (self.rock, off), "ore_t": (self.ore, off), "waste_t": (self.rock - self.ore, 2 * off), **({} if is_pit else {"worth": (self.worth / NANO, 1e-3)}),
                 **{f"metal_{name}": (self.metal[name], 0.0) for name in metals}, **({"feed_t": (self.ore * feed, off * feed)} if is_pit else {})}
-        if not all(is_close(line[name], *of) for name, of in sums.items()) or int(line["blocks"]) != self.blocks:
+        if not all(is_close(line[name], *of) for name, of in sums.items()) or int(line["blocks"]) != self.blocks or is_pit and float(line["worth_at_base"]) != self.worth / NANO:
             return False
         by_ore = {f"grade_{name}": self.graded[name] for name in metals} | ({"strip": self.rock - self.ore} if is_pit else {})
         if not self.ore:
@@ -626,7 +626,7 @@ def check_tables(told: Told, blocks: Blocks, facts: dict[str, Any], shell: list[
     feed = economics.get("mining_recovery", 1.0) * (1 + economics.get("dilution", 0.0))
     lines = read_table("pit_by_pit.csv")
     bad = [n for n, (line, verdict) in enumerate(zip(lines, verdicts), 2) if round(float(line["factor"]) * THOUSAND) != verdict["factor"]
-           or not is_close(line["worth_at_factor"], float(verdict["worth"]), 1e-6) or not pits[verdict["factor"]].is_line(line, True, feed, metals)]
+           or Decimal(line["worth_at_factor"]) != Decimal(verdict["worth"]) or not pits[verdict["factor"]].is_line(line, True, feed, metals)]
     of = ", the grades and the metals" if worked else ""
     told.check(len(lines) == len(verdicts) and not bad, f"tables/pit_by_pit.csv has the blocks, the tonnes, the worths{of} of each pit" + (f": not so in line {bad[0]}" if bad else ""))
     lines = read_table("benches.csv")

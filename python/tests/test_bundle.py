@@ -309,6 +309,13 @@ def column(name, title, value):
     return change
 
 
+def last_digits(folder, title):
+    """A number of the first line of the pit-by-pit table, and it with a thousandth of a unit more."""
+    lines = (folder / "tables" / "pit_by_pit.csv").read_text().splitlines()
+    cell = lines[1].split(",")[lines[0].split(",").index(title)]
+    return f",{cell},", f",{cell}{'' if '.' in cell else '.0'}01,"
+
+
 def no_pits(folder):
     """No pit, no certificate and no line of a table: nothing contradicts anything."""
     (folder / "verdicts.json").write_text("[]")
@@ -350,6 +357,8 @@ CHANGES = {
     "ore of a pit": (column("pit_by_pit.csv", "ore_t", "1.0"), "tables/pit_by_pit.csv"),
     "the strip ratio of a pit": (column("pit_by_pit.csv", "strip", "9.0"), "tables/pit_by_pit.csv"),
     "the worth of a pit at the full price": (column("pit_by_pit.csv", "worth_at_base", "1.0"), "tables/pit_by_pit.csv"),
+    "the last digit of a worth": (lambda f: replaced(f / "tables" / "pit_by_pit.csv", *last_digits(f, "worth_at_factor")), "tables/pit_by_pit.csv"),
+    "the last digit of a worth at the full price": (lambda f: replaced(f / "tables" / "pit_by_pit.csv", *last_digits(f, "worth_at_base")), "tables/pit_by_pit.csv"),
     "the mill's feed of a pit": (column("pit_by_pit.csv", "feed_t", "1.0"), "the grades and the metals of each pit: not so in line 2"),
     "the grade of a pit": (column("pit_by_pit.csv", "grade_copper", "9.0"), "the grades and the metals of each pit: not so in line 2"),
     "the metal of a bench": (column("benches.csv", "metal_copper", "1.0"), "the grades and the metals of each bench and shell: not so in line 2"),
