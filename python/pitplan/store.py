@@ -2,6 +2,7 @@
 from __future__ import annotations
 
 import json
+import tokenize
 import zipfile
 import zlib
 from collections.abc import Iterator
@@ -20,6 +21,8 @@ from .model import Model
 from .next_command import command
 
 Array = npt.NDArray[Any]
+# What numpy and zipfile raise of a file that is damaged.
+DAMAGED = (ValueError, KeyError, TypeError, IndexError, EOFError, RuntimeError, zipfile.BadZipFile, zlib.error, tokenize.TokenError)
 COLUMN, WORDS, METAL, GRADE = "column ", "words ", "metal ", "grade "
 
 
@@ -60,7 +63,7 @@ def opened(path: Path) -> Iterator[Any]:
     try:
         with np.load(path, allow_pickle=False) as file:
             yield file
-    except (ValueError, KeyError, TypeError, IndexError, EOFError, zipfile.BadZipFile, zlib.error):
+    except DAMAGED:
         raise PlanError("isn't a model that pitplan wrote", table=path, try_this=command("build", path.parent.parent)) from None
 
 

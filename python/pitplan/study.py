@@ -218,7 +218,7 @@ class Study:
             digests = pool.submit(self.verify)
             try:
                 yield digests.result
-            except PlanError:
+            except (PlanError, OSError):
                 digests.result()
                 raise
             digests.result()
@@ -345,9 +345,8 @@ class Study:
         done = self.verdict(factor)
         if not done:
             raise PlanError(f"the pit at factor {factor / THOUSAND:g} hasn't been run over this model", try_this=command("shells", self.named))
-        with np.load(self.place(factor) / "pit.npz", allow_pickle=False) as file:
-            bits = file["bits"]
-        if hashlib.sha256(bits.tobytes()).hexdigest() != done["bits"]:
+        bits = bits_of(self.place(factor) / "pit.npz")
+        if bits is None or hashlib.sha256(bits.tobytes()).hexdigest() != done["bits"]:
             raise Disagreement(f"{self.place(factor) / 'pit.npz'} isn't what was {'accepted' if done['certificate'] else 'stated'}", try_this=f"take {self.place(factor)} away, then: {command('shells', self.named)}")
         mask: Bools = np.unpackbits(bits, count=self.manifest["blocks"]).astype(bool)
         if (factor, done["bits"], done["count"], done["worth"]) not in self.added_up:
@@ -417,6 +416,20 @@ def near(table: Path, folder: Path) -> str:
     used from anywhere; else by its whole path."""
     found = os.path.relpath(table.resolve(), folder.resolve())
     return found if found.count("..") <= 2 else str(table.resolve())
+
+
+def bits_of(path: Path) -> npt.NDArray[np.uint8] | None:
+    """The blocks of a pit as `Study.kept` packs them; None where the file is gone or damaged."""
+    try:
+        with np.load(path, allow_pickle=False) as file:
+            bits: npt.NDArray[np.uint8] = file["bits"]
+            return bits
+    except store.DAMAGED:
+        return None
+    except OSError as error:
+        if error.errno not in (errno.ENOENT, errno.EINVAL):       # the second where a damaged file leads before its beginning
+            raise
+        return None
 
 
 def key_of(files: dict[str, str]) -> str:

@@ -105,6 +105,27 @@ def test_a_result_that_was_damaged_is_never_shown(tmp_path):
         pp.Shells(study, [600, 800])
 
 
+def test_a_result_that_cannot_be_read_is_told(tmp_path):
+    """Cut off, empty, gone, or with a byte that is another: nothing of numpy's or zipfile's own comes out."""
+    study = shells_of(tmp_path).study
+    path = study.place(800) / "pit.npz"
+    kept = path.read_bytes()
+    for data in (b"", kept[:len(kept) // 2], None, *(kept[:at] + bytes([kept[at] ^ bit]) + kept[at + 1:] for bit in (1, 128) for at in range(0, len(kept), 3))):
+        path.unlink(missing_ok=True)
+        if data is not None:
+            path.write_bytes(data)
+        try:
+            study.mask(800)                  # a byte that nothing reads
+        except pp.Disagreement as error:
+            assert "isn't what was stated" in str(error) and "take " in str(error)
+    path.unlink()
+    with pytest.raises(pp.Disagreement, match="isn't what was stated"):
+        pp.Shells(study, [600, 800])
+    (study.where / "blocks.npz").unlink()
+    with pytest.raises(pp.PlanError, match="blocks.npz is gone"):
+        pp.Shells(pp.Study(study.folder), [600])
+
+
 def test_pits_that_arent_nested_are_never_shown(tmp_path):
     study = shells_of(tmp_path).study
     a, b = study.place(600), study.place(1200)
