@@ -183,6 +183,7 @@ class Study:
         priced = economics.priced(model)
         region = slopes.region_of(model)
         folder.mkdir(parents=True, exist_ok=True)
+        sweep(folder, ".model.*")
         with made_whole(folder / "model") as work:
             write_blocks(work / "mine.blocks", model, priced)
             (work / "settings.toml").write_text("".join(f"{name} = {i}\n" for i, name in enumerate(COLUMNS)))
