@@ -651,7 +651,65 @@ def check_slopes(told: Told, pit: str, regions: list[int | None] | None) -> None
             run.wait()
     of = "" if len(lists) == 1 else ", whichever of these" if regions is None else ", for its region that of these"
     told.check(bad is None, f"each block's predecessors are those that pit slopes gives it by model/{', '.join(lists)}{of}" + (f": not so in line {bad + 1}" if bad is not None else ""))
-    told.say("look", "whether these offsets hold the angles of [slopes] in study.toml" + ("" if len(lists) == 1 or regions else ", and whether each block is in the region that it should be in"))
+    if len(lists) > 1 and not regions:
+        told.say("look", "whether each block is in the region that it should be in")
+    tell_walls(told, lists)
+
+
+def tell_walls(told: Told, lists: list[str]) -> None:
+    """How far the walls that the offsets build are from the angles of study.toml: the planner's bounds aren't known here, so it is the
+    auditor's to judge; but with `safe` no wall is steeper."""
+    grid, slopes = load("facts.json")["grid"], study_of("slopes")
+    asked = {"default": slopes.get("angles", 45.0), **slopes.get("regions", {})}
+    for name, (region, angles) in zip(lists, asked.items()):
+        offsets = tomllib.loads(within(f"model/{name}").read_text("utf-8"))["offsets"]
+        errors = [built - wanted for built, wanted in zip(built_angles(offsets, grid), asked_angles(angles))]
+        steeper, flatter = max(0.0, *errors), max(0.0, *(-error for error in errors))
+        what = f"the slopes of {region}: a deep wall of model/{name} is at most {steeper:.2f} degrees steeper and {flatter:.2f} flatter than study.toml asks"
+        if slopes.get("safe") and steeper > 0.005:
+            told.check(False, f"{what}, by safe = true never steeper")
+        else:
+            told.say("look", what)
+
+
+def built_angles(offsets: list[list[int]], grid: dict[str, Any]) -> list[float]:
+    """Degrees of a deep wall at each whole bearing: over many levels a pit opens to the hull of its offsets, each divided by its level."""
+    (x, y, z), turn = grid["size"], math.radians(grid["rotation"])
+    flat = [(i * x / (k * z), j * y / (k * z)) for i, j, k in offsets]
+    points = sorted({(u * math.cos(turn) + v * math.sin(turn), v * math.cos(turn) - u * math.sin(turn)) for u, v in flat})
+    corners = [*half_hull(points), *half_hull(points[::-1])]
+    found = []
+    for bearing in range(360):
+        east, north, out = math.sin(math.radians(bearing)), math.cos(math.radians(bearing)), 0.0
+        for (a, b), (c, d) in zip(corners, corners[1:] + corners[:1]):
+            left, right = a * north - b * east, c * north - d * east
+            if left * right <= 0 and left != right:              # the edge crosses the bearing: so far out for a metre of height
+                share = left / (left - right)
+                out = max(out, (a + (c - a) * share) * east + (b + (d - b) * share) * north)
+        found.append(math.degrees(math.atan2(1.0, out)))
+    return found
+
+
+def half_hull(points: list[tuple[float, float]]) -> list[tuple[float, float]]:
+    """The corners on one side of the hull of sorted points, without the last."""
+    found: list[tuple[float, float]] = []
+    for e, n in points:
+        while len(found) > 1 and (found[-1][0] - found[-2][0]) * (n - found[-2][1]) <= (found[-1][1] - found[-2][1]) * (e - found[-2][0]):
+            found.pop()
+        found.append((e, n))
+    return found[:-1]
+
+
+def asked_angles(told: Any) -> list[float]:
+    """Degrees that study.toml asks for at each whole bearing; between two bearings the angle changes evenly."""
+    pairs = sorted((float(bearing) % 360, float(angle)) for bearing, angle in told) if isinstance(told, list) else [(0.0, float(told))]
+    found = []
+    for bearing in range(360):
+        low = max((pair for pair in pairs if pair[0] <= bearing), default=pairs[-1])
+        high = min((pair for pair in pairs if pair[0] > bearing), default=pairs[0])
+        gap = (high[0] - low[0]) % 360
+        found.append(low[1] + (high[1] - low[1]) * ((bearing - low[0]) % 360) / gap if gap else low[1])
+    return found
 
 
 def check_all(told: Told, pit: str, is_plain: bool) -> None:

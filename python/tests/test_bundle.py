@@ -13,7 +13,7 @@ import numpy as np
 import pytest
 
 import mines
-from pitplan import bundle, economics
+from pitplan import bundle, economics, offsets
 from pitplan.errors import PlanError
 from pitplan.study import Study
 from pitplan.study_file import read_study_file
@@ -392,6 +392,38 @@ def test_what_is_changed_with_its_digests_is_found_by_what_it_means(copy, what):
     summed(copy)
     lines, status = rechecked(copy)
     assert status == 1 and any(line.startswith("WRONG") and told in line for line in lines), lines
+
+
+def walls(folder):
+    """What recheck.py says of each region's wall: degrees steeper and flatter than study.toml asks."""
+    ran = subprocess.run([sys.executable, "-I", str(folder / "recheck.py"), os.environ["PIT"]], capture_output=True, text=True)
+    return ran.returncode, [(kind, region, float(steeper), float(flatter)) for kind, region, steeper, flatter in
+                            re.findall(r"(?m)^(look|WRONG) +the slopes of (\w+): .* at most ([\d.]+) degrees steeper and ([\d.]+) flatter", ran.stdout)]
+
+
+@pytest.mark.parametrize("angles", ["45", "[[0, 38], [90, 45], [300, 42]]"])
+def test_the_walls_of_the_offsets_are_held_against_the_angles(tmp_path, angles):
+    """The figures are those of `pitplan slopes`; and another angle in study.toml shows."""
+    text = RICH.replace("angles = 45", f"angles = {angles}")
+    folder = bundled(tmp_path, text, mines.table(7, 6, 4, 3, 30))
+    told = read_study_file(folder.parent).slopes
+    status, found = walls(folder)
+    assert status == 0 and [name for _, name, *_ in found] == ["default", "WEST"]
+    for (_, name, steeper, flatter), pattern in zip(found, told.patterns(Study(folder.parent).model.grid).values()):
+        outline = offsets.Outline(pattern.wall, pattern.offsets)
+        errors = [outline.slope(bearing) - pattern.wall.slope(bearing) for bearing in range(360)]
+        assert (steeper, flatter) == pytest.approx((max(0, *errors), -min(0, *errors)), abs=0.0051)
+    replaced(folder / "study.toml", "WEST = 38", "WEST = 33")
+    summed(folder)
+    assert walls(folder)[1][1][2] > found[1][2] + 4.9
+
+
+def test_a_wall_that_is_steeper_than_a_safe_one_is_found(tmp_path):
+    folder = bundled(tmp_path, mines.STUDY_TOML.replace("angles = 45", "angles = 45\nsafe = true"))
+    assert walls(folder) == (0, [("look", "default", 0.0, walls(folder)[1][0][3])])
+    replaced(folder / "study.toml", "angles = 45", "angles = 42")
+    summed(folder)
+    assert walls(folder)[0] == 1 and walls(folder)[1][0][0] == "WRONG"
 
 
 @pytest.mark.parametrize("shape", [(5, 4, 3), (9, 8, 5)])
