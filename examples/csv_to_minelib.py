@@ -30,7 +30,11 @@ def rows_of(table):
             file.seek(0)
             reader = csv.DictReader(file, delimiter=separator)
             columns = reader.fieldnames or []
-            rows = list(reader)
+            rows = []
+            for row in reader:
+                rows.append(row)
+                if reader.line_num != len(rows) + 1:          # whoever marks a pit in the table counts its lines
+                    sys.exit("block %d is in line %d of the table, and has to be in line %d: take blank lines, and line ends within cells, out" % (len(rows) - 1, reader.line_num, len(rows) + 1))
     except OSError as error:
         sys.exit("%s: %s" % (table, error.strerror))
     except UnicodeDecodeError:

@@ -227,6 +227,8 @@ WRONG_TABLES = (
     (TABLE.replace("20,", "432037.5,"), "mine", "block 1, row 2 below the header: x is 432037.5, which is 21601.88 blocks of 20 above the lowest"),
     (TABLE.replace("value", "Value"), "mine", "the table has no column value: its header line has x, y, z, Value; is 'Value' meant?"),
     (TABLE.replace(",", "\t"), "mine", "the table has no column x: its header line has x\ty\tz\tvalue; are there commas or semicolons between the columns"),
+    (TABLE.replace("\n20", "\n\n20"), "mine", "block 1 is in line 4 of the table, and has to be in line 3: take blank lines"),
+    (TABLE.replace("z,value", 'z,value,"a\nname"').replace("1\n", "1,\n").replace("-2.5", "-2.5,"), "mine", "block 0 is in line 3 of the table, and has to be in line 2"),
     ("made by hand\n" + TABLE, "mine", "block 0, row 1 below the header, has 4 cells, and the header line 1: is there a comma within a number, or a line above"),
 )
 

@@ -1,6 +1,7 @@
 """What an auditor gets: all that the numbers rest on, with two scripts that check it again without this package."""
 from __future__ import annotations
 
+import glob
 import json
 import re
 import shutil
@@ -16,7 +17,7 @@ from .csv_text import Dialect
 from .digests import sha256
 from .errors import PlanError
 from .next_command import command
-from .study import COLUMNS, READ, made_whole
+from .study import COLUMNS, READ, made_whole, sweep
 
 if TYPE_CHECKING:
     from .shells import Shells
@@ -90,6 +91,7 @@ def write(shells: Shells, folder: str | Path, told: Path, dialect: Dialect, rate
     if table is None or not table.is_file() or sha256(table) != study.manifest["source"]["sha256"]:
         raise PlanError("the table that the study was built from isn't there any more", table=table, try_this=f"{command('build', study.named)} && {command('shells', study.named)}")
     shells = shells.with_certificates()
+    sweep(folder.parent, f".{glob.escape(folder.name)}.*")
     with made_whole(folder) as work:
         name = f"table/{plain_name(table.name)}"
         copy_files(study, work, {told: "study.toml", table: name})

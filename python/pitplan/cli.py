@@ -45,10 +45,10 @@ def remedy(error: OSError) -> str:
 
 def main() -> None:
     """Runs a command. Exit status: 0 done, 1 no, 2 wrong words, 3 a file is wrong, 4 the machine, 130 stopped."""
-    remember(sys.argv[0])
-    lazily("pandas")                         # the first pits can be looked for while it is loaded
-    load_commands()
     try:
+        remember(sys.argv[0])
+        lazily("pandas")                     # the first pits can be looked for while it is loaded
+        load_commands()
         try:
             status = app(prog_name="pitplan", standalone_mode=False)
         finally:

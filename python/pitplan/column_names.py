@@ -33,6 +33,7 @@ USUAL: dict[str, tuple[str, ...]] = {
 REGIONS = ("sector", "setor", "secteur", "geotec", "gtdom", "gt_dom", "slope", "talud", "wall", "pared", "region", "região", "dominio", "domain", "zona", "zone")
 PLACES = ("x", "y", "z")
 SIZES = ("dx", "dy", "dz")
+NUMBER = re.compile(r"[+-]?\d*[.,]?\d+")      # that no column is called
 ALIKE = 0.6                                  # from 0 to 1: names that are less alike aren't offered
 
 
@@ -51,8 +52,8 @@ def which_columns(header: Sequence[str], given: Mapping[str, str], table: str, t
     Raises
     ------
     PlanError
-        Where a name that was given isn't in the header, where a key is none of `USUAL`, or where no column is known
-        as x, y or z.
+        Where a name that was given isn't in the header, where a key is none of `USUAL`, where no column is known as x, y or z, or
+        where the header line is none.
     """
     found: dict[str, str] = {}
     for key, name in given.items():
@@ -68,6 +69,9 @@ def which_columns(header: Sequence[str], given: Mapping[str, str], table: str, t
             found[key] = hits[0]
     missing = [key for key in PLACES if key not in found]
     if missing:
+        if len(header) < len(PLACES) or any(NUMBER.fullmatch(name) for name in header):
+            raise PlanError(f"the first line isn't the header line, or has another separator than a comma, a semicolon or a tab: {', '.join(header)}", table=table,
+                            try_this="a first line with a name for each column, and no line above it")
         near = nearest(missing, [name for name in header if name not in found.values()])
         raise PlanError(f"no column is known as {', '.join(missing)}; the header line has {', '.join(header)}", table=table,
                         try_this=typed(near) if typed else "columns = { " + ", ".join(f'{key} = "{name}"' for key, name in near.items()) + " } in [model]")

@@ -16,6 +16,7 @@ from .next_command import command
 if TYPE_CHECKING:
     from rich.status import Status
 
+    from .model import Model
     from .slopes import Heard
     from .study import Study
     from .study_file import StudyFile
@@ -35,6 +36,8 @@ def init(table: Path = typer.Argument(..., help="A table of blocks: CSV or CSV.g
     path = folder / "study.toml"
     if path.exists() and not is_forced:
         raise PlanError(f"{path} is there already", try_this="--force writes over it, --study names another folder")
+    if folder.exists() and not folder.is_dir():
+        raise PlanError(f"{folder} is a file, and a study is a folder", try_this="--study names another folder")
     folder.mkdir(parents=True, exist_ok=True)
     path.write_text(written(look, near(table, folder)))
     say(f"{table}: {look.rows:,} rows")
@@ -76,6 +79,7 @@ def build(folder: Path = STUDY) -> None:
     for note in study.model.notes[len(model.notes):]:
         say("  " + note)
     print_tonnage(study)
+    tell_strange(study, told, model)
     print_patterns(told.slopes, study.model.grid)
     set_aside(study, key_of(told.slopes, study.model.grid))
     print_size(study, told)
@@ -109,6 +113,15 @@ def print_tonnage(study: Study) -> None:
     lines = by_rock(study.model, study.priced, study.manifest["metals"])
     columns = [list(map(str, lines[lines.columns[0]])), *(cells_of(lines[name].tolist()) for name in lines.columns[1:])]
     print_columns("in place, at the full price; metals as recovered", list(map(str, lines.columns)), list(zip(*columns)), words=1)
+
+
+def tell_strange(study: Study, told: StudyFile, model: Model) -> None:
+    """How many blocks may not be dug, and what looks as if a unit were another one."""
+    from .plausible import strange
+    if told.economics.forbid:
+        say(f"{int(study.priced.forbidden.sum()):,} of {len(model):,} blocks may not be dug, by forbid")
+    for what in strange(model, study.priced, told.economics):
+        warn(what)
 
 
 def cells_of(values: Sequence[int | float]) -> list[str]:

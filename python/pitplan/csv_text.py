@@ -8,7 +8,7 @@ import io
 import re
 import warnings
 import zlib
-from collections.abc import Collection, Sequence
+from collections.abc import Collection, Mapping, Sequence
 from contextlib import suppress
 from dataclasses import dataclass
 from pathlib import Path
@@ -21,10 +21,11 @@ import pandas as pd
 from .errors import PlanError
 
 SEPARATORS = ",;\t"
-THOUSANDS = re.compile(r"[+-]?\d{1,3}(([, ]\d{3})+(\.\d+)?|([. ]\d{3})+,\d+)")
+THOUSANDS = re.compile(r"[+-]?\d{1,3}(([,'\s]\d{3})+(\.\d+)?|([.\s]\d{3})+,\d+)")
 COMMA_DECIMAL = re.compile(r"([+-]?\d*),(\d+(?:[eE][+-]?\d+)?)")
 SMALL, MOST_TIMES = 1 << 26, 200              # bytes that any table may unpack to, and how many times its size a larger one may
 SAY_ENCODING = 'save it as "CSV UTF-8"; or tell init --encoding cp1252, or say encoding = "cp1252" in [model]'
+MOST_WORDS = 1000                            # different cells that a column of codes has at most; one of numbers with a mark among them has more
 PLAIN = re.compile(r"[+-]?(\d+\.?\d*|\.\d+)([eE][+-]?\d+)?")
 
 
@@ -105,6 +106,8 @@ def head_of(path: Path, encoding: str = "utf-8-sig", lines: int = 12) -> list[st
         raise PlanError("is text in UTF-16", table=path, try_this='save it as "CSV UTF-8"')
     if start in (b"PK\x03\x04", b"\xd0\xcf\x11\xe0"):
         raise PlanError("is a spreadsheet and no text", table=path, try_this='save it as "CSV UTF-8"')
+    if b"\0" in b"".join(raw[:1]):
+        raise PlanError("has bytes of zeros in its header line: it is text in UTF-16, or no text", table=path, try_this='save it as "CSV UTF-8"')
     try:
         text = [line.decode(encoding).rstrip("\r\n") for line in raw]
     except (UnicodeDecodeError, LookupError):
@@ -113,6 +116,8 @@ def head_of(path: Path, encoding: str = "utf-8-sig", lines: int = 12) -> list[st
         raise PlanError("has no header line", table=path)
     if "\r" in text[0]:
         raise PlanError("a carriage return stands within the header line", table=path, row=-1, try_this='save it as "CSV UTF-8", in which lines end as on Windows or Unix')
+    if text[0].count('"') % 2:
+        raise PlanError("a name in the header line goes on in the next line", table=path, row=-1, try_this="names of columns in one line each")
     return text
 
 
@@ -204,9 +209,9 @@ def read_frame(path: Path, dialect: Dialect, words: Collection[str] = ()) -> pd.
     if doubled:
         raise PlanError(f"two columns are called {doubled[0]}", table=path, try_this="another name for one of them")
     frame = parsed(path, dialect, names, words)
-    if dialect.decimal == ",":
-        points_for_commas(frame, words)
     frame.index = pd.RangeIndex(dialect.skip, dialect.skip + len(frame))
+    if dialect.decimal == ",":
+        points_for_commas(frame, words, path)
     blank = frame[next((name for name in names if name not in words), names[0])].isna().to_numpy()
     if blank.any():
         some = frame[blank]
@@ -217,15 +222,28 @@ def read_frame(path: Path, dialect: Dialect, words: Collection[str] = ()) -> pd.
     return frame
 
 
-def points_for_commas(frame: pd.DataFrame, words: Collection[str]) -> None:
+def points_for_commas(frame: pd.DataFrame, words: Collection[str], path: Path) -> None:
     """Makes 2.438 of the cell 2,438 in columns that pandas left as words, since a mark as "-" or "<0,01" stands among the
     numbers. The marks stay as they are."""
     for name in frame.columns:
         if name in words or frame[name].dtype.kind in "iufb":
             continue
         values = frame[name]
+        refuse_points(values, path)
         swapped = values.astype(object).where(values.map(type) == str).str.replace(f"^{COMMA_DECIMAL.pattern}$", r"\1.\2", regex=True)
         frame[name] = swapped.where(swapped.notna(), values)
+
+
+def refuse_points(values: pd.Series, path: Path) -> None:
+    """Refuses a point in a column of numbers of a table whose decimals have a comma: 8.200 may be eight thousand there, or eight."""
+    filled = values.dropna()
+    text = filled.astype(str).str.strip()
+    is_plain, is_text = text.str.fullmatch(PLAIN.pattern), filled.map(type) == str
+    pointed = is_plain & is_text & text.str.contains(".", regex=False)
+    if pointed.any() and (is_plain | text.str.fullmatch(COMMA_DECIMAL.pattern)).mean() > 0.5:
+        row = pointed.idxmax()
+        raise PlanError(f"the cell is {text[row]!r}, with a point, and decimals of this table have a comma", table=path, row=int(row), column=values.name,
+                        try_this='take the thousands separators out; or decimal = "." in [model], if it is a decimal')
 
 
 def parsed(path: Path, dialect: Dialect, names: Sequence[str], words: Collection[str]) -> pd.DataFrame:
@@ -239,10 +257,10 @@ def parsed(path: Path, dialect: Dialect, names: Sequence[str], words: Collection
             warnings.simplefilter("error", pd.errors.ParserWarning)
             try:
                 with opened(path) as file:
-                    return pd.read_csv(file, names=list(names), **given)
+                    return of_one_kind(pd.read_csv(file, names=list(names), **given), path, names, given)
             except pd.errors.ParserWarning:
                 with opened(path) as file:
-                    return without_ends(pd.read_csv(file, names=[*names, ""], **given), names, path)
+                    return of_one_kind(without_ends(pd.read_csv(file, names=[*names, ""], **given), names, path), path, [*names, ""], given)
     except pd.errors.ParserWarning:
         raise too_long(path, dialect, len(names)) from None
     except pd.errors.EmptyDataError:
@@ -253,6 +271,18 @@ def parsed(path: Path, dialect: Dialect, names: Sequence[str], words: Collection
         raise no_text(path, dialect.encoding) from None
     except (EOFError, OSError, zlib.error) as error:
         raise PlanError(f"can't be read: {error}", table=path) from None
+
+
+def of_one_kind(frame: pd.DataFrame, path: Path, names: Sequence[str], given: Mapping[str, Any]) -> pd.DataFrame:
+    """The table with each column of few words as text throughout. pandas reads a large table piece by piece: where a piece has
+    numbers alone, 007 is 7 there, and another code than the 007 of a piece that has a word too."""
+    mixed = [name for name in frame.columns if frame[name].dtype == object and pd.api.types.infer_dtype(frame[name], skipna=True).startswith("mixed")
+             and frame[name].nunique() <= MOST_WORDS]
+    if mixed:
+        with opened(path) as file:
+            text = pd.read_csv(file, names=list(names), **{**given, "usecols": mixed, "dtype": str, "na_values": {name: [""] for name in mixed}})
+        frame[mixed] = text[mixed]
+    return frame
 
 
 def too_long(path: Path, dialect: Dialect, width: int) -> PlanError:
@@ -284,7 +314,7 @@ def uneven(path: Path, said: str, width: int) -> PlanError:
                      try_this="is there a separator within a number or a name?")
 
 
-def number_column(values: pd.Series, table: object, absent: Collection[str] = ()) -> npt.NDArray[np.float64]:
+def number_column(values: pd.Series, table: object, absent: Collection[str] = (), hint: str | None = None) -> npt.NDArray[np.float64]:
     """A column as numbers.
 
     Parameters
@@ -293,6 +323,8 @@ def number_column(values: pd.Series, table: object, absent: Collection[str] = ()
         Its name is the column, its index the row below the header line.
     absent : collection of str
         Cells that stand for "not estimated", as "-99", "-" or "" for an empty one; they count as 0.
+    hint : str, optional
+        What to try where a cell is empty, or a word, of a column in which none may be absent.
 
     Returns
     -------
@@ -304,7 +336,7 @@ def number_column(values: pd.Series, table: object, absent: Collection[str] = ()
         At the first cell that is no number or not finite: with its row, what stands there, and what to try.
     """
     if values.dtype.kind not in "iuf":
-        values = numbers_of(values, table, absent)
+        values = numbers_of(values, table, absent, hint)
     found: npt.NDArray[np.float64] = values.to_numpy(dtype=float, copy=True)
     marks = numbers_among(absent)
     if marks:
@@ -316,7 +348,7 @@ def number_column(values: pd.Series, table: object, absent: Collection[str] = ()
         row = int(np.argmax(bad))
         what = "empty" if np.isnan(found[row]) else "not finite"
         raise PlanError(f"{cells(int(bad.sum()))} {what}", table=table, row=int(values.index[row]), column=values.name,
-                        try_this='absent = [""] in [model], if an empty cell stands for "not estimated"' if what == "empty" else None)
+                        try_this=hint or ('absent = [""] in [model], if an empty cell stands for "not estimated"' if what == "empty" else None))
     return found
 
 
@@ -334,7 +366,7 @@ def cells(n: int) -> str:
     return "the cell is" if n == 1 else f"{n:,} cells are"
 
 
-def numbers_of(values: pd.Series, table: object, absent: Collection[str]) -> pd.Series:
+def numbers_of(values: pd.Series, table: object, absent: Collection[str], hint: str | None = None) -> pd.Series:
     """The numbers that a column of words spells; the first word that spells none is told."""
     empty = values.isna()
     text = values.astype(str).str.strip().mask(empty, "")
@@ -348,14 +380,14 @@ def numbers_of(values: pd.Series, table: object, absent: Collection[str]) -> pd.
         what = "the cell is no number" if n == 1 else f"{n:,} cells are no numbers, the first is"
         there = f" {cell!r}" if cell else " empty"
         raise PlanError(what + (": it is" if n == 1 else "") + there, table=table, row=int(values.index[row]), column=values.name,
-                        try_this=remedy(cell))
+                        try_this=remedy(cell, hint))
     return found.astype(float)
 
 
-def remedy(cell: str) -> str:
-    """What to try where a cell is no number."""
+def remedy(cell: str, hint: str | None) -> str:
+    """What to try where a cell is no number; `hint` where none may be absent."""
     if THOUSANDS.fullmatch(cell):
         return "take the thousands separators out"
     if COMMA_DECIMAL.fullmatch(cell):
         return 'decimal = "," in [model]'
-    return f'absent = ["{cell}"] in [model], if that stands for "not estimated"'
+    return hint or f'absent = ["{cell}"] in [model], if that stands for "not estimated"'

@@ -16,6 +16,7 @@ from .gaps import AIR
 from .model import Model
 from .units import metal_in_a_tonne
 
+QUOTES = '""'                                # a key of TOML for a rock without a name
 # A number, a column of the table, a formula over columns, or a number by rock with "other" for the rest.
 Amount = Union[float, str, Mapping[str, float]]
 
@@ -79,7 +80,7 @@ class Economics:
     mill : sequence of str, optional
         The rocks that the mill takes; all but air unless told.
     dilution : float
-        Tonnes of waste, at no grade, that come to the mill with each tonne of ore.
+        Tonnes of waste, at no grade, that come to the mill with each tonne of ore, from 0 to 1.
     mining_recovery : float
         The share of the ore that reaches the mill, above 0 and at most 1.
     rounding : float
@@ -106,8 +107,10 @@ class Economics:
         names = [metal.name for metal in self.metals]
         if len(set(names)) < len(names):
             raise PlanError(f"[economics] two metals are called {next(n for n in names if names.count(n) > 1)}")
-        number("[economics] dilution", self.dilution, 0)
+        number("[economics] dilution", self.dilution, 0, 1)
         number("[economics] mining_recovery", self.mining_recovery, 0, 1)
+        if not self.mining_recovery:
+            raise PlanError("[economics] mining_recovery is 0, and has to be above 0: none of the ore would reach the mill")
         rounding_of(self.rounding)
         if isinstance(self.forbid, str):
             raise PlanError("[economics] forbid is a list of formulas", try_this=f'forbid = ["{self.forbid}"]')
@@ -211,8 +214,8 @@ def amount(what: str, given: Amount, model: Model) -> Floats:
     unsaid = sorted(set(kinds) - set(given) - {AIR})
     if unsaid and "other" not in given:
         strange = next((name for name in given if name not in kinds), None)
-        raise PlanError(f"{what}: nothing is said of rock {', '.join(unsaid)}{meant(strange, unsaid) if strange else ''}",
-                        try_this=f"{{ {unsaid[0]} = .. }}, or {{ other = .. }} for the rest")
+        raise PlanError(f"{what}: nothing is said of rock {', '.join(rock or 'without a name, an empty cell' for rock in unsaid)}{meant(strange, unsaid) if strange else ''}",
+                        table=model.table, row=row_at(model, int(np.argmax(b.rock == unsaid[0]))), try_this=f"{{ {unsaid[0] or QUOTES} = .. }}, or {{ other = .. }} for the rest")
     for rock, value in given.items():
         number(f"{what} of rock {rock}", value, -math.inf)
         if "other" in given and rock not in (*kinds, "other", AIR):        # else a misspelt rock counts as one of the others

@@ -14,9 +14,10 @@ import pandas as pd
 from .column_names import PLACES, REGIONS, SIZES, which_columns
 from .csv_text import Dialect, dialect_of, head_of, names_of, number_column, read_frame
 from .errors import PlanError
+from .formula import text_of
 from .grid import Floats, Grid
 from .next_command import command
-from .slopes import DEFAULT, text_of
+from .slopes import DEFAULT
 from .study_template import TEMPLATE
 
 UTF_8 = Dialect().encoding

@@ -8,14 +8,16 @@ from __future__ import annotations
 import ast
 import operator
 import re
-from collections.abc import Callable
+from collections.abc import Callable, Sequence
 from typing import Any
 
 import numpy as np
 import numpy.typing as npt
 import pandas as pd
 
+from .csv_text import number_column
 from .errors import PlanError, meant
+from .gaps import AIR
 
 Operator = Callable[..., Any]
 BINARY: dict[type[ast.operator], Operator] = {ast.Add: operator.add, ast.Sub: operator.sub, ast.Mult: operator.mul, ast.Div: operator.truediv, ast.Pow: operator.pow}
@@ -45,18 +47,21 @@ def worked_out(text: str, table: pd.DataFrame, what: str) -> npt.NDArray[Any]:
     Raises
     ------
     PlanError
-        Where it is no such formula, names no column, counts with words, or gives a row no finite number.
+        Where it is no such formula, names no column, counts with words, compares with a word that no cell has, or gives a row no
+        finite number.
     """
     told = f"{what} = {text!r}"
+    reading = Reading(table, told)
     try:
         tree = ast.parse(text.strip(), mode="eval") if len(text) <= LONGEST else None
         if tree is None:
             raise PlanError(f"{what}: a formula of more than {LONGEST:,} letters")
         with np.errstate(all="ignore"):
-            found = Reading(table, told).value(tree.body)
+            found = reading.value(tree.body)
     except (SyntaxError, RecursionError, MemoryError, ValueError):
         raise PlanError(f"{told} is no formula{single_sign(text)}", try_this=PARTS) from None
     except (TypeError, OverflowError):
+        reading.tell_words()
         raise PlanError(f"{told} counts with words") from None
     each: npt.NDArray[Any] = np.broadcast_to(np.asarray(found), (len(table),)).copy()
     if each.dtype == bool:
@@ -64,8 +69,7 @@ def worked_out(text: str, table: pd.DataFrame, what: str) -> npt.NDArray[Any]:
     if each.dtype.kind not in "iuf":
         raise PlanError(f"{told} gives words and no number")
     if not np.isfinite(each).all():
-        row = int(np.argmax(~np.isfinite(each)))
-        raise PlanError(f"{told} gives no number here", row=int(table["row"].iloc[row]) if "row" in table else row)
+        raise PlanError(f"{told} gives no number here", row=reading.row_of(int(np.argmax(~np.isfinite(each)))))
     return each.astype(float)
 
 
@@ -78,7 +82,7 @@ class Reading:
     """One reading of a formula over a table."""
 
     def __init__(self, table: pd.DataFrame, told: str) -> None:
-        self.table, self.told = table, told
+        self.table, self.told, self.used = table, told, list[str]()
 
     def value(self, node: ast.expr) -> Any:
         """What a part of the formula is worth: an array, or one value for all rows."""
@@ -92,8 +96,9 @@ class Reading:
         if isinstance(node, ast.UnaryOp) and type(node.op) in UNARY:
             return UNARY[type(node.op)](self.value(node.operand))
         if isinstance(node, ast.Compare) and all(type(op) in ORDER for op in node.ops):
-            sides = [self.value(side) for side in (node.left, *node.comparators)]
-            return np.logical_and.reduce([ORDER[type(op)](a, b) for op, a, b in zip(node.ops, sides, sides[1:])])
+            parts = (node.left, *node.comparators)
+            sides = [self.value(part) for part in parts]
+            return np.logical_and.reduce([self.compared(node.ops[i], sides[i:i + 2], parts[i:i + 2]) for i in range(len(node.ops))])
         if isinstance(node, ast.BoolOp):
             sides = np.broadcast_arrays(*[self.value(side) for side in node.values])
             return np.logical_and.reduce(sides) if isinstance(node.op, ast.And) else np.logical_or.reduce(sides)
@@ -114,4 +119,58 @@ class Reading:
         if name not in self.table.columns:
             raise PlanError(f"{self.told}: there is no column {name!r}{meant(name, map(str, self.table.columns))}")
         found = self.table[name].to_numpy()
+        self.used.append(name)
         return found.astype(float) if found.dtype.kind in "iu" else found
+
+    def compared(self, op: ast.cmpop, sides: Sequence[Any], parts: Sequence[ast.expr]) -> Any:
+        """One comparison. Words are compared without the blanks around them.
+
+        Raises
+        ------
+        PlanError
+            Where it would hold for no block, or for each, whatever the table has: a word that no cell has, a word beside
+            numbers, a cell without a number.
+        """
+        a, b = sides
+        is_same = isinstance(op, (ast.Eq, ast.NotEq))
+        if is_same and has_words(a) != has_words(b):
+            self.tell_words()
+            raise PlanError(f"{self.told}: {ast.unparse(parts[0])} and {ast.unparse(parts[1])} are a word and a number, which are never the same",
+                            try_this="a word in quotes beside a column of words, a number without quotes beside one of numbers")
+        for side, other, part in ((a, b, parts[0]), (b, a, parts[1])):
+            if is_same and isinstance(other, str) and not isinstance(side, str):
+                return ORDER[type(op)](self.words_of(side, other, ast.unparse(part)), other.strip())
+            if isinstance(side, np.ndarray) and side.dtype.kind == "f" and np.isnan(side).any():
+                raise PlanError(f"{self.told}: there is no number to compare here", row=self.row_of(int(np.argmax(np.isnan(side)))), column=ast.unparse(part),
+                                try_this='absent = [""] in [model], if an empty cell stands for "not estimated" and counts as 0')
+        return ORDER[type(op)](a, b)
+
+    def words_of(self, cells: Any, word: str, part: str) -> npt.NDArray[Any]:
+        """The words of a column without the blanks around them; `word` has to be one of them."""
+        code, kinds = pd.factorize(cells)
+        words = np.array([*(text_of(kind) for kind in kinds), ""], object)          # the last is that of an empty cell, whose code is -1
+        if word.strip() not in (*words[:-1], "", AIR):
+            raise PlanError(f"{self.told}: no block has {part} = {word!r}{meant(word.strip(), sorted(set(words[:-1])))}")
+        found: npt.NDArray[Any] = words[code]
+        return found
+
+    def tell_words(self) -> None:
+        """Tells the cell that makes words of a column of numbers, of the columns that were read so far."""
+        for name in self.used:
+            cells = self.table[name]
+            if cells.dtype.kind not in "iufb" and pd.to_numeric(cells, errors="coerce").notna().mean() > 0.5:
+                number_column(pd.Series(cells.to_numpy(), index=self.table["row"] if "row" in self.table else None, name=name), None)
+
+    def row_of(self, block: int) -> int:
+        """The row of a block, as `PlanError` takes it."""
+        return int(self.table["row"].iloc[block]) if "row" in self.table else block
+
+
+def has_words(side: Any) -> bool:
+    """Whether a part of a formula is a word, or a column of words."""
+    return isinstance(side, str) or isinstance(side, np.ndarray) and side.dtype.kind not in "iufb"
+
+
+def text_of(value: Any) -> str:
+    """What stands in a cell, without the blanks around it; a column of whole numbers with empty cells is read as 1.0, 2.0."""
+    return str(int(value)) if isinstance(value, float) and value.is_integer() else str(value).strip()

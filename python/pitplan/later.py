@@ -10,16 +10,24 @@ from types import ModuleType
 from typing import Any
 
 LOADING = threading.RLock()
+STOPPED = "stopped by"                       # no name that code asks for
 
 
 class Later(ModuleType):
-    """A module that is loaded when something of it is asked for."""
+    """A module that is loaded when something of it is asked for. What stops that, as ctrl-C does, comes again at whatever is asked for
+    then: a handler that names an error of the module would hide it."""
 
     def __getattr__(self, name: str) -> Any:
         with LOADING:
             if sys.modules.get(self.__name__) is self:
                 del sys.modules[self.__name__]
-                self.__dict__.update(vars(importlib.import_module(self.__name__)))
+                try:
+                    self.__dict__.update(vars(importlib.import_module(self.__name__)))
+                except BaseException as error:
+                    self.__dict__[STOPPED] = error
+                    raise
+        if STOPPED in self.__dict__:
+            raise self.__dict__[STOPPED]
         return getattr(sys.modules[self.__name__], name)
 
 

@@ -146,8 +146,11 @@ class TableKeys:
         for key, known in (("z", ("elevation", "depth")), ("missing", ("refuse", "air", "rock"))):
             if getattr(self, key) not in known:
                 raise PlanError(f"{key} = {getattr(self, key)!r} in [model] is none of {', '.join(known)}")
-        if self.widen < 0:
-            raise PlanError(f"widen = {self.widen} in [model] is less than none")
+        for key, count in (("widen", self.widen), ("skip", self.skip or 0)):
+            if count < 0:
+                raise PlanError(f"{key} = {count} in [model] is less than none")
+        if self.decimal not in (None, ".", ","):
+            raise PlanError(f"decimal = {self.decimal!r} in [model] is neither a point nor a comma", try_this='decimal = ","')
 
     def dialect(self, path: Path) -> Dialect:
         found = dialect_of(path, self.encoding or "utf-8-sig")
@@ -187,8 +190,10 @@ def read_with(path: Path, keys: TableKeys) -> Model:
     names = which_columns(header, keys.columns, table)
     frame = read_frame(path, dialect, [names[key] for key in ("id", "rock") if key in names])
     notes = ["columns: " + ", ".join(f"{key} = {name}" for key, name in names.items())]
+    if dialect.skip:
+        notes.append(f"{dialect.skip} lines below the header hold no blocks")
     rows = int(frame.index[-1]) + 1
-    places = subblocks.Places(*(number_column(frame[names[key]], table) for key in PLACES))
+    places = subblocks.Places(*(number_column(frame[names[key]], table, hint="fill its place in, or take the row out") for key in PLACES))
     size = size_of(frame, names, keys, table, notes)
     estimated(frame, names, keys.absent)
     whole = subblocks.whole_blocks(frame, names, places, size, subblocks.Wanted(keys.regularise, keys.rotation, table))
@@ -329,6 +334,13 @@ def light(blocks: pd.DataFrame) -> list[str]:
     return [f"{int(rocks.sum()):,} rows weigh nothing, and count as air: {named}"]
 
 
+def without_blanks(words: pd.Series) -> npt.NDArray[Any]:
+    """Words without the blanks around them, which packages fill cells up with."""
+    code, kinds = pd.factorize(words)
+    found: npt.NDArray[Any] = np.array([*(str(kind).strip() for kind in kinds), ""], object)[code]       # the last is that of an empty cell, whose code is -1
+    return found
+
+
 def columns_of(frame: pd.DataFrame, names: Mapping[str, str], grid: Grid, index: tuple[Ints, Ints, Ints], table: str) -> pd.DataFrame:
     """The table with this package's own columns beside the planner's."""
     own: dict[str, Any] = {"id": frame[names["id"]].to_numpy() if "id" in names else (frame.index.to_numpy() + 2).astype(str)}
@@ -346,7 +358,7 @@ def columns_of(frame: pd.DataFrame, names: Mapping[str, str], grid: Grid, index:
         raise PlanError(f"{cell:g} is less than nothing", table=table, row=int(frame.index[row]), column=weighed,
                         try_this=f'absent = ["{cell:g}"] in [model], if that stands for "not estimated"')
     own["tonnes"] = tonnes
-    own["rock"] = frame[names["rock"]].to_numpy() if "rock" in names else np.full(len(frame), "rock", object)
+    own["rock"] = without_blanks(frame[names["rock"]]) if "rock" in names else np.full(len(frame), "rock", object)
     own["row"] = frame.index.to_numpy().astype(np.int32)
     rest = {str(name): frame[name].to_numpy() for name in frame.columns if name not in OURS}
     return pd.DataFrame({**own, **rest}, copy=False)        # a copy into common blocks would take as long as all checks

@@ -311,6 +311,12 @@ class Table:
         return 0.0 if float(plain) in self.marks else float(plain)
 
 
+    def is_of_numbers(self, column: str) -> bool:
+        """Whether each cell of a column is a number, empty, or stands for "not estimated"."""
+        cells = {self.word(row, column).strip() for row in self.rows}
+        return all(not cell or cell in self.absent or NUMBER.fullmatch(cell.replace(self.told["decimal"], ".")) for cell in cells)
+
+
 @cache
 def parsed(text: str) -> ast.expr:
     """A formula as a tree: it is the same for each row."""
@@ -342,7 +348,7 @@ class Formula:
             inner = self.value(node.operand)
             return -inner if isinstance(node.op, ast.USub) else not inner if isinstance(node.op, ast.Not) else inner
         if isinstance(node, ast.Compare):
-            sides = [self.value(side) for side in (node.left, *node.comparators)]
+            sides = [side.strip() if isinstance(side, str) else side for side in map(self.value, (node.left, *node.comparators))]
             return all(self.ORDER[type(op)](a, b) for op, a, b in zip(node.ops, sides, sides[1:]))
         if isinstance(node, ast.BoolOp):
             return (all if isinstance(node.op, ast.And) else any)([self.value(side) for side in node.values])
@@ -365,10 +371,11 @@ class Worked(NamedTuple):
 
 
 class OfRows(NamedTuple):
-    """What the table says row by row: the list of offsets that each block has, and what each is made of."""
+    """What the table says row by row: the list of offsets that each block has, what each is made of, and which blocks `forbid` keeps."""
 
     regions: list[int | None]
     worked: list[Worked | None]
+    fenced: list[int]
 
 
 class Economics:
@@ -378,9 +385,10 @@ class Economics:
         self.told, self.table, self.columns = told, table, facts["columns"]
         self.volume: float = math.prod(facts["grid"]["size"])
         self.rounding = float(told.get("rounding", 1))
+        self.has_words: dict[str, bool] = {}
 
     def rock(self, row: int) -> str:
-        return self.table.word(row, self.columns["rock"]) if "rock" in self.columns else "rock"
+        return self.table.word(row, self.columns["rock"]).strip() if "rock" in self.columns else "rock"
 
     def tonnes(self, row: int) -> float:
         """Of a block: its tonnes, or its density times its volume."""
@@ -391,10 +399,10 @@ class Economics:
     def cell(self, row: int, name: str) -> Any:
         """What a formula gets for a column."""
         if name in self.table.at:
-            if name in (self.columns.get("rock"), self.columns.get("id")):
-                return self.table.word(row, name)
             word = self.table.word(row, name).strip()
-            return self.table.number(row, name) if word in self.table.absent or NUMBER.fullmatch(word.replace(self.table.told["decimal"], ".")) else word
+            if name not in self.has_words:
+                self.has_words[name] = name in (self.columns.get("rock"), self.columns.get("id")) or not self.table.is_of_numbers(name)
+            return word if self.has_words[name] else self.table.number(row, name) if word or word in self.table.absent else math.nan
         if name in ("rock", "tonnes"):
             return self.rock(row) if name == "rock" else self.tonnes(row)
         raise Bad(f"a formula names {name}, which is no column of the table")
@@ -429,7 +437,7 @@ class Economics:
 
     def is_near(self, ours: float, theirs: int) -> bool:
         """Whether an amount in millionths is the nearest multiple of `rounding`."""
-        return math.isfinite(ours) and abs(theirs / MICRO - ours) <= self.rounding * 0.500001 + 1e-9 * abs(ours)
+        return math.isfinite(ours) and theirs % round(self.rounding * MICRO) == 0 and abs(theirs / MICRO - ours) <= self.rounding * 0.500001 + 1e-9 * abs(ours)
 
 
 def check_facts(told: Told, blocks: Blocks, facts: dict[str, Any]) -> None:
@@ -441,8 +449,8 @@ def check_facts(told: Told, blocks: Blocks, facts: dict[str, Any]) -> None:
     bad = [name for name, digest in listed.items() if digest_of(within(f"model/{name}")) != digest]
     told.check(not bad and {"mine.blocks", "mine.prec", "settings.toml"} <= set(listed), "the files of model/ are those that were built" + (f": not so for {', '.join(bad)}" if bad else ""))
     offsets = [tomllib.loads(within(f"model/slope-{i}.toml").read_text("utf-8"))["offsets"] for i in range(len(list((HERE / "model").glob("slope-*.toml"))))]
-    regions = {"default", *study_of("slopes").get("regions", {})}
-    told.check(offsets == list(manifest["offsets"].values()) and set(manifest["offsets"]) == regions, f"the lists of offsets are those of the {len(regions):,} slopes of study.toml")
+    regions = ["default", *study_of("slopes").get("regions", {})]
+    told.check(offsets == list(manifest["offsets"].values()) and list(manifest["offsets"]) == regions, f"the lists of offsets are those of the {len(regions):,} slopes of study.toml")
     with open(within("model/mine.prec"), "rb") as file:
         pairs = sum(int(line.split()[1]) for line in file)
     told.check(len(blocks.places) == facts["blocks"] == manifest["blocks"] and pairs == facts["pairs"] == manifest["pairs"], f"the model has {len(blocks.places):,} blocks and {pairs:,} pairs")
@@ -475,7 +483,11 @@ def check_table(told: Told, blocks: Blocks, facts: dict[str, Any]) -> OfRows | N
     for what, is_right in steps.items():
         bad = [row for b, row in enumerate(rows) if row >= 0 and not is_right(b, row)]
         told.check(not bad, f"the {what} of each block is that of its row" + (f": not so for {len(bad):,}, the first is row {bad[0] + 2}" if bad else ""))
-    return OfRows(regions_of(table, rows), check_amounts(told, economics, blocks, rows))
+    fenced = [b for b, row in enumerate(rows) if row >= 0 and economics.is_fenced(row)]
+    is_asked = model.get("widen", 0) != 0 or model.get("missing", "refuse") != "refuse"
+    if len(known) < len(rows) and not is_asked:
+        told.check(False, f"{len(rows) - len(known):,} blocks have no row, and study.toml asks for none (widen, missing)")
+    return OfRows(regions_of(table, rows), check_amounts(told, economics, blocks, rows, set(fenced)), fenced)
 
 
 def regions_of(table: Table, rows: list[int]) -> list[int | None]:
@@ -487,8 +499,7 @@ def regions_of(table: Table, rows: list[int]) -> list[int | None]:
         return [0] * len(rows)
     by = slopes["by"] if slopes["by"] in table.at else table.facts["columns"].get(slopes["by"], slopes["by"])
     cells = {table.word(row, by).strip() for row in rows if row >= 0}
-    is_words = by in (table.facts["columns"].get("rock"), table.facts["columns"].get("id"))
-    is_numbers = not is_words and all(not cell or cell in table.absent or NUMBER.fullmatch(cell.replace(table.told["decimal"], ".")) for cell in cells)
+    is_numbers = by not in (table.facts["columns"].get("rock"), table.facts["columns"].get("id")) and table.is_of_numbers(by)
     of_cell: dict[str, int] = {}
     for cell in cells:
         number = 0.0 if cell in table.absent else float(cell.replace(table.told["decimal"], ".")) if is_numbers and cell else math.nan
@@ -511,24 +522,23 @@ def numbering() -> list[dict[str, str]]:
         return list(csv.DictReader(file))
 
 
-def check_amounts(told: Told, economics: Economics, blocks: Blocks, rows: list[int]) -> list[Worked | None]:
-    """What each block brings and costs, by the table and [economics]; gives it, None of blocks without a row."""
-    bad, fenced, most = [], 0, 2 * sum(amounts[0] for amounts in blocks.amounts)
+def check_amounts(told: Told, economics: Economics, blocks: Blocks, rows: list[int], fenced: set[int]) -> list[Worked | None]:
+    """What each block brings and costs, by the table and [economics]; gives it, None of blocks without a row. Those of `fenced` may not
+    be dug, and digging one costs more than the mine brings."""
+    bad, most = [], 2 * sum(amounts[0] for amounts in blocks.amounts)
     worked = [economics.of_row(row) if row >= 0 else None for row in rows]
     for b, (row, ours) in enumerate(zip(rows, worked)):
         revenue, processing, mining = blocks.amounts[b]
         if ours is None:
             is_right = revenue == processing == 0 <= mining
         else:
-            is_out = economics.is_fenced(row)
-            fenced += is_out
-            is_right = economics.is_near(ours.revenue, revenue) and economics.is_near(ours.processing, processing) and (mining > most if is_out else economics.is_near(ours.mining, mining))
+            is_right = economics.is_near(ours.revenue, revenue) and economics.is_near(ours.processing, processing) and (mining > most if b in fenced else economics.is_near(ours.mining, mining))
         if not is_right:
             bad.append((b, row))
     more = f": not so for {len(bad):,} blocks, the first is {bad[0][0]} of row {bad[0][1] + 2}" if bad else ""
     told.check(not bad, "what each block brings and costs, worked out again from the table and study.toml, is what pit was given" + more)
     if fenced:
-        told.say("ok", f"{fenced:,} blocks may not be dug by forbid, and cost more than the whole mine brings")
+        told.say("ok", f"{len(fenced):,} blocks may not be dug by forbid, and cost more than the whole mine brings")
     added = sum(row < 0 for row in rows)
     if added:
         told.say("look", f"{added:,} blocks have no row (widen, missing): they bring nothing, and what digging them costs isn't worked out again")
@@ -575,9 +585,9 @@ class Sum:
         """Whether a line of a table, of a pit or of a bench, has these blocks, tonnes and worth, of these metals the amounts and the grades,
         and of a pit the mill's feed and the strip ratio. `mine.blocks` has tonnes to three decimals."""
         off = 6e-4 * self.blocks
-        sums = {"rock_t": (self.rock, off), "ore_t": (self.ore, off), "waste_t": (self.rock - self.ore, 2 * off), "worth_at_base" if is_pit else "worth": (self.worth / NANO, 1e-3),
+        sums = {"rock_t": (self.rock, off), "ore_t": (self.ore, off), "waste_t": (self.rock - self.ore, 2 * off), **({} if is_pit else {"worth": (self.worth / NANO, 1e-3)}),
                 **{f"metal_{name}": (self.metal[name], 0.0) for name in metals}, **({"feed_t": (self.ore * feed, off * feed)} if is_pit else {})}
-        if not all(is_close(line[name], *of) for name, of in sums.items()) or int(line["blocks"]) != self.blocks:
+        if not all(is_close(line[name], *of) for name, of in sums.items()) or int(line["blocks"]) != self.blocks or is_pit and float(line["worth_at_base"]) != self.worth / NANO:
             return False
         by_ore = {f"grade_{name}": self.graded[name] for name in metals} | ({"strip": self.rock - self.ore} if is_pit else {})
         if not self.ore:
@@ -617,7 +627,7 @@ def check_tables(told: Told, blocks: Blocks, facts: dict[str, Any], shell: list[
     feed = economics.get("mining_recovery", 1.0) * (1 + economics.get("dilution", 0.0))
     lines = read_table("pit_by_pit.csv")
     bad = [n for n, (line, verdict) in enumerate(zip(lines, verdicts), 2) if round(float(line["factor"]) * THOUSAND) != verdict["factor"]
-           or not is_close(line["worth_at_factor"], float(verdict["worth"]), 1e-6) or not pits[verdict["factor"]].is_line(line, True, feed, metals)]
+           or Decimal(line["worth_at_factor"]) != Decimal(verdict["worth"]) or not pits[verdict["factor"]].is_line(line, True, feed, metals)]
     of = ", the grades and the metals" if worked else ""
     told.check(len(lines) == len(verdicts) and not bad, f"tables/pit_by_pit.csv has the blocks, the tonnes, the worths{of} of each pit" + (f": not so in line {bad[0]}" if bad else ""))
     lines = read_table("benches.csv")
@@ -642,7 +652,65 @@ def check_slopes(told: Told, pit: str, regions: list[int | None] | None) -> None
             run.wait()
     of = "" if len(lists) == 1 else ", whichever of these" if regions is None else ", for its region that of these"
     told.check(bad is None, f"each block's predecessors are those that pit slopes gives it by model/{', '.join(lists)}{of}" + (f": not so in line {bad + 1}" if bad is not None else ""))
-    told.say("look", "whether these offsets hold the angles of [slopes] in study.toml" + ("" if len(lists) == 1 or regions else ", and whether each block is in the region that it should be in"))
+    if len(lists) > 1 and not regions:
+        told.say("look", "whether each block is in the region that it should be in")
+    tell_walls(told, lists)
+
+
+def tell_walls(told: Told, lists: list[str]) -> None:
+    """How far the walls that the offsets build are from the angles of study.toml: the planner's bounds aren't known here, so it is the
+    auditor's to judge; but with `safe` no wall is steeper."""
+    grid, slopes = load("facts.json")["grid"], study_of("slopes")
+    asked = {"default": slopes.get("angles", 45.0), **slopes.get("regions", {})}
+    for name, (region, angles) in zip(lists, asked.items()):
+        offsets = tomllib.loads(within(f"model/{name}").read_text("utf-8"))["offsets"]
+        errors = [built - wanted for built, wanted in zip(built_angles(offsets, grid), asked_angles(angles))]
+        steeper, flatter = max(0.0, *errors), max(0.0, *(-error for error in errors))
+        what = f"the slopes of {region}: a deep wall of model/{name} is at most {steeper:.2f} degrees steeper and {flatter:.2f} flatter than study.toml asks"
+        if slopes.get("safe") and steeper > 0.005:
+            told.check(False, f"{what}, by safe = true never steeper")
+        else:
+            told.say("look", what)
+
+
+def built_angles(offsets: list[list[int]], grid: dict[str, Any]) -> list[float]:
+    """Degrees of a deep wall at each whole bearing: over many levels a pit opens to the hull of its offsets, each divided by its level."""
+    (x, y, z), turn = grid["size"], math.radians(grid["rotation"])
+    flat = [(i * x / (k * z), j * y / (k * z)) for i, j, k in offsets]
+    points = sorted({(u * math.cos(turn) + v * math.sin(turn), v * math.cos(turn) - u * math.sin(turn)) for u, v in flat})
+    corners = [*half_hull(points), *half_hull(points[::-1])]
+    found = []
+    for bearing in range(360):
+        east, north, out = math.sin(math.radians(bearing)), math.cos(math.radians(bearing)), 0.0
+        for (a, b), (c, d) in zip(corners, corners[1:] + corners[:1]):
+            left, right = a * north - b * east, c * north - d * east
+            if left * right <= 0 and left != right:              # the edge crosses the bearing: so far out for a metre of height
+                share = left / (left - right)
+                out = max(out, (a + (c - a) * share) * east + (b + (d - b) * share) * north)
+        found.append(math.degrees(math.atan2(1.0, out)))
+    return found
+
+
+def half_hull(points: list[tuple[float, float]]) -> list[tuple[float, float]]:
+    """The corners on one side of the hull of sorted points, without the last."""
+    found: list[tuple[float, float]] = []
+    for e, n in points:
+        while len(found) > 1 and (found[-1][0] - found[-2][0]) * (n - found[-2][1]) <= (found[-1][1] - found[-2][1]) * (e - found[-2][0]):
+            found.pop()
+        found.append((e, n))
+    return found[:-1]
+
+
+def asked_angles(told: Any) -> list[float]:
+    """Degrees that study.toml asks for at each whole bearing; between two bearings the angle changes evenly."""
+    pairs = sorted((float(bearing) % 360, float(angle)) for bearing, angle in told) if isinstance(told, list) else [(0.0, float(told))]
+    found = []
+    for bearing in range(360):
+        low = max((pair for pair in pairs if pair[0] <= bearing), default=pairs[-1])
+        high = min((pair for pair in pairs if pair[0] > bearing), default=pairs[0])
+        gap = (high[0] - low[0]) % 360
+        found.append(low[1] + (high[1] - low[1]) * ((bearing - low[0]) % 360) / gap if gap else low[1])
+    return found
 
 
 def check_all(told: Told, pit: str, is_plain: bool) -> None:
@@ -659,6 +727,9 @@ def check_all(told: Told, pit: str, is_plain: bool) -> None:
     told.attempt("the slopes", check_slopes, told, pit, found.regions if found else None)
     told.attempt("the factors", check_series, told)
     shell = told.attempt("verdicts.json", check_pits, told, pit, blocks, facts, is_plain)
+    if shell is not None and found and found.fenced:
+        dug = [b for b in found.fenced if shell[b]]
+        told.check(not dug, "no pit has a block that forbid keeps" + (f": not so for {len(dug):,}, the first is block {dug[0]}" if dug else ""))
     if shell is not None:
         told.attempt("the tables", check_tables, told, blocks, facts, shell, found.worked if found else None)
 

@@ -18,6 +18,7 @@ import pandas as pd
 
 from . import offsets as search
 from .errors import PlanError, meant
+from .formula import text_of
 from .grid import Grid
 from .model import Model
 from .offsets import Angles, Offset, Pattern
@@ -178,11 +179,6 @@ def _are_angles(angles: Any) -> bool:
         return True
     return isinstance(angles, Sequence) and not isinstance(angles, str) and len(angles) > 0 and all(
         isinstance(pair, Sequence) and len(pair) == 2 and all(map(is_number, pair)) for pair in angles)
-
-
-def text_of(value: Any) -> str:
-    """What stands in a cell; a column of whole numbers with empty cells is read as 1.0, 2.0."""
-    return str(int(value)) if isinstance(value, float) and value.is_integer() else str(value).strip()
 
 
 def _pairs(there: npt.NDArray[np.bool_], of: npt.NDArray[np.bool_], offset: Offset) -> int:

@@ -2,6 +2,7 @@
 from __future__ import annotations
 
 import json
+import tokenize
 import zipfile
 import zlib
 from collections.abc import Iterator
@@ -20,12 +21,15 @@ from .model import Model
 from .next_command import command
 
 Array = npt.NDArray[Any]
+# What numpy and zipfile raise of a file that is damaged.
+DAMAGED = (ValueError, KeyError, TypeError, IndexError, EOFError, RuntimeError, zipfile.BadZipFile, zlib.error, tokenize.TokenError)
 COLUMN, WORDS, METAL, GRADE = "column ", "words ", "metal ", "grade "
 
 
 def words_as_bytes(words: Any) -> Array:
-    """Words as one array of UTF-8 bytes, a line each: a fixed width for all would take the longest one's for each."""
-    return np.frombuffer("\n".join(str(word).replace("\n", " ") for word in words).encode(), np.uint8)
+    """Words as one array of UTF-8 bytes, a line each: a fixed width for all would take the longest one's for each. An empty cell is
+    a line without words."""
+    return np.frombuffer("\n".join("" if word != word else str(word).replace("\n", " ") for word in words).encode(), np.uint8)
 
 
 def bytes_as_words(data: Array, count: int) -> Array:
@@ -59,7 +63,7 @@ def opened(path: Path) -> Iterator[Any]:
     try:
         with np.load(path, allow_pickle=False) as file:
             yield file
-    except (ValueError, KeyError, TypeError, IndexError, EOFError, zipfile.BadZipFile, zlib.error):
+    except DAMAGED:
         raise PlanError("isn't a model that pitplan wrote", table=path, try_this=command("build", path.parent.parent)) from None
 
 

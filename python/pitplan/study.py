@@ -20,7 +20,7 @@ import tempfile
 import time
 from collections.abc import Callable, Iterator, Sequence
 from concurrent.futures import ThreadPoolExecutor
-from contextlib import contextmanager
+from contextlib import contextmanager, suppress
 from functools import cached_property
 from pathlib import Path
 from typing import TYPE_CHECKING, Any, TypedDict
@@ -46,6 +46,7 @@ Bools = npt.NDArray[np.bool_]
 Told = Callable[[int, str, float], None]     # a factor, what is done for it, and how far that is, from 0 to 1
 COLUMNS = ("revenue", "processing", "mining", "tonnes")
 READ = ("mine.blocks", "mine.prec", "settings.toml")
+TIMES = 10                                   # that a folder is tried to be put where other processes put theirs
 FULL = (errno.ENOSPC, errno.EDQUOT)          # a disk has no room, or its user's share of it
 
 
@@ -185,6 +186,7 @@ class Study:
         priced = economics.priced(model)
         region = slopes.region_of(model)
         folder.mkdir(parents=True, exist_ok=True)
+        sweep(folder, ".model.*")
         with made_whole(folder / "model") as work:
             write_blocks(work / "mine.blocks", model, priced)
             (work / "settings.toml").write_text("".join(f"{name} = {i}\n" for i, name in enumerate(COLUMNS)))
@@ -220,7 +222,7 @@ class Study:
             digests = pool.submit(self.verify)
             try:
                 yield digests.result
-            except PlanError:
+            except (PlanError, OSError):
                 digests.result()
                 raise
             digests.result()
@@ -347,9 +349,8 @@ class Study:
         done = self.verdict(factor)
         if not done:
             raise PlanError(f"the pit at factor {factor / THOUSAND:g} hasn't been run over this model", try_this=command("shells", self.named))
-        with np.load(self.place(factor) / "pit.npz", allow_pickle=False) as file:
-            bits = file["bits"]
-        if hashlib.sha256(bits.tobytes()).hexdigest() != done["bits"]:
+        bits = bits_of(self.place(factor) / "pit.npz")
+        if bits is None or hashlib.sha256(bits.tobytes()).hexdigest() != done["bits"]:
             raise Disagreement(f"{self.place(factor) / 'pit.npz'} isn't what was {'accepted' if done['certificate'] else 'stated'}", try_this=f"take {self.place(factor)} away, then: {command('shells', self.named)}")
         mask: Bools = np.unpackbits(bits, count=self.manifest["blocks"]).astype(bool)
         if (factor, done["bits"], done["count"], done["worth"]) not in self.added_up:
@@ -421,6 +422,20 @@ def near(table: Path, folder: Path) -> str:
     return found if found.count("..") <= 2 else str(table.resolve())
 
 
+def bits_of(path: Path) -> npt.NDArray[np.uint8] | None:
+    """The blocks of a pit as `Study.kept` packs them; None where the file is gone or damaged."""
+    try:
+        with np.load(path, allow_pickle=False) as file:
+            bits: npt.NDArray[np.uint8] = file["bits"]
+            return bits
+    except store.DAMAGED:
+        return None
+    except OSError as error:
+        if error.errno not in (errno.ENOENT, errno.EINVAL):       # the second where a damaged file leads before its beginning
+            raise
+        return None
+
+
 def key_of(files: dict[str, str]) -> str:
     """What names a model: the digest of the digests of the three files that `pit` reads."""
     return hashlib.sha256("".join(files[name] for name in READ).encode()).hexdigest()
@@ -445,11 +460,7 @@ def made_whole(place: Path) -> Iterator[Path]:
     work.chmod(place.parent.stat().st_mode & 0o777)       # mkdtemp makes it for one's own eyes
     try:
         yield work
-        older = work.with_name(work.name + ".old")
-        if place.exists():
-            os.rename(place, older)
-        os.rename(work, place)
-        shutil.rmtree(older, ignore_errors=True)
+        put(work, place)
     except OSError as error:
         shutil.rmtree(work, ignore_errors=True)
         hint = ROOM if error.errno in FULL else None
@@ -457,6 +468,25 @@ def made_whole(place: Path) -> Iterator[Path]:
     except BaseException:
         shutil.rmtree(work, ignore_errors=True)
         raise
+
+
+def put(work: Path, place: Path) -> None:
+    """Renames a folder to `place`, in place of what is there. Where another process puts its own there at the same moment, one of the two
+    comes to stand there; whatever goes wrong, something does."""
+    older = work.with_name(work.name + ".old")
+    for left in reversed(range(TIMES)):
+        try:
+            with suppress(FileNotFoundError):
+                os.rename(place, older)
+            os.rename(work, place)
+            break
+        except BaseException as error:
+            if older.exists() and not place.exists() and work.exists():
+                os.rename(older, place)
+            if not left or not isinstance(error, OSError) or error.errno not in (errno.ENOTEMPTY, errno.EEXIST):
+                raise
+        finally:
+            shutil.rmtree(older, ignore_errors=True)
 
 
 def host() -> str:

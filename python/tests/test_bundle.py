@@ -9,10 +9,11 @@ import subprocess
 import sys
 from pathlib import Path
 
+import numpy as np
 import pytest
 
 import mines
-from pitplan import bundle
+from pitplan import bundle, economics, offsets
 from pitplan.errors import PlanError
 from pitplan.study import Study
 from pitplan.study_file import read_study_file
@@ -120,6 +121,57 @@ def test_worths_are_added_up_whatever_pit_says(copy, tmp_path):
     ran = subprocess.run([sys.executable, "-I", str(copy / "recheck.py"), str(tmp_path / "pit")], capture_output=True, text=True)
     wrong = [line for line in ran.stdout.splitlines() if line.startswith("WRONG")]
     assert ran.returncode == 1 and [bool(re.search("its .* blocks add up to", line)) for line in wrong[:2]] == [True, True] and not any("pit check" in line for line in wrong), ran.stdout
+
+
+def test_added_blocks_that_nobody_asked_for_are_found(tmp_path):
+    folder = bundled(tmp_path, mines.STUDY_TOML.replace("[economics]", "widen = 1\n\n[economics]"))
+    assert rechecked(folder)[1] == 0
+    replaced(folder / "study.toml", "widen = 1\n", "")
+    summed(folder)
+    lines, status = rechecked(folder)
+    assert status == 1 and any("blocks have no row, and study.toml asks for none" in line for line in lines), lines
+
+
+def test_a_pit_that_digs_what_forbid_keeps_is_found(tmp_path, monkeypatch):
+    """Such a block costs twice what the mine brings at the full price, and at factor 10 that is worth paying."""
+    frame = mines.table(5, 5, 3, 3)
+    frame["CU"] = np.where((frame.XC == 5040) & (frame.YC == 9040) & (frame.ZC == 100), 20.0, 0.0)
+    monkeypatch.setattr(economics, "fence_price", lambda priced, rounding: 2 * economics.exact_sum(priced.revenue) + 1)
+    monkeypatch.setattr(Study, "adds_up", lambda *words: None)
+    text = mines.STUDY_TOML.replace("[0.6, 1.0, 1.2]", "[1.0, 10.0]").replace("[slopes]", 'forbid = ["XC == 5040 and YC == 9040 and ZC == 115"]\n\n[slopes]')
+    lines, status = rechecked(bundled(tmp_path, text, frame))
+    assert status == 1 and lines[0].startswith("WRONG   no pit has a block that forbid keeps: not so for 1, the first is block"), lines
+
+
+CODES = """[model]
+table = "t.csv"
+size = [20, 20, 15]
+
+[economics]
+mining = "where(ZONE == '1', 2.0, 2.5)"
+processing = "where(ROCK == 'OXI', 7.5, where(ROCK == 'SUL' and CU > 0.1, 9.0, 8.0))"
+forbid = ["ZONE == '2A' and XC > 5100"]
+metals = [ { name = "copper", grade = "CU", price = 8500, recovery = "where(ROCK == 'OXI', AS, 0.85)" } ]
+
+[slopes]
+angles = 45
+by = "ZONE"
+regions = { 1 = 38 }
+
+[shells]
+factors = [0.6, 1.0]
+"""
+
+
+def test_codes_blanks_and_empty_cells_are_read_alike(tmp_path):
+    """A column of codes, of which some are numbers; words with blanks around them; and cells that stand empty where nothing asks for them."""
+    frame = mines.table(7, 6, 4, 3)
+    frame["ZONE"] = ["1", "2A", "3"] * (len(frame) // 3) + ["1"] * (len(frame) % 3)
+    frame["AS"] = frame.ROCK.map({"OXI": "0.7", "SUL": ""})
+    frame.loc[[1, 5], "ROCK"] += " "
+    frame.loc[4, "ZONE"] = " 2A "
+    lines, status = rechecked(bundled(tmp_path, CODES, frame))
+    assert status == 0, lines
 
 
 def test_sub_blocks_are_said_to_be_no_part_of_it(tmp_path):
@@ -257,6 +309,13 @@ def column(name, title, value):
     return change
 
 
+def last_digits(folder, title):
+    """A number of the first line of the pit-by-pit table, and it with a thousandth of a unit more."""
+    lines = (folder / "tables" / "pit_by_pit.csv").read_text().splitlines()
+    cell = lines[1].split(",")[lines[0].split(",").index(title)]
+    return f",{cell},", f",{cell}{'' if '.' in cell else '.0'}01,"
+
+
 def no_pits(folder):
     """No pit, no certificate and no line of a table: nothing contradicts anything."""
     (folder / "verdicts.json").write_text("[]")
@@ -298,6 +357,8 @@ CHANGES = {
     "ore of a pit": (column("pit_by_pit.csv", "ore_t", "1.0"), "tables/pit_by_pit.csv"),
     "the strip ratio of a pit": (column("pit_by_pit.csv", "strip", "9.0"), "tables/pit_by_pit.csv"),
     "the worth of a pit at the full price": (column("pit_by_pit.csv", "worth_at_base", "1.0"), "tables/pit_by_pit.csv"),
+    "the last digit of a worth": (lambda f: replaced(f / "tables" / "pit_by_pit.csv", *last_digits(f, "worth_at_factor")), "tables/pit_by_pit.csv"),
+    "the last digit of a worth at the full price": (lambda f: replaced(f / "tables" / "pit_by_pit.csv", *last_digits(f, "worth_at_base")), "tables/pit_by_pit.csv"),
     "the mill's feed of a pit": (column("pit_by_pit.csv", "feed_t", "1.0"), "the grades and the metals of each pit: not so in line 2"),
     "the grade of a pit": (column("pit_by_pit.csv", "grade_copper", "9.0"), "the grades and the metals of each pit: not so in line 2"),
     "the metal of a bench": (column("benches.csv", "metal_copper", "1.0"), "the grades and the metals of each bench and shell: not so in line 2"),
@@ -308,6 +369,7 @@ CHANGES = {
     "pits that aren't nested": (not_nested, "the pit at 1 lies within that at 1.2"),
     "the order of the pits": (swapped, "comes behind"),
     "a price": (lambda f: replaced(f / "study.toml", "8500", "8600"), "what each block brings and costs"),
+    "the rounding": (lambda f: replaced(f / "study.toml", "mining = 2.0", "rounding = 1000\nmining = 2.0"), "what each block brings and costs"),
     "a cost": (lambda f: replaced(f / "study.toml", "mining = 2.0", "mining = 2.1"), "what each block brings and costs"),
     "a grade": (cell(5, "7.5"), "what each block brings and costs"),
     "a coordinate": (cell(1, "4000"), "the place of each block"),
@@ -330,6 +392,38 @@ def test_what_is_changed_with_its_digests_is_found_by_what_it_means(copy, what):
     summed(copy)
     lines, status = rechecked(copy)
     assert status == 1 and any(line.startswith("WRONG") and told in line for line in lines), lines
+
+
+def walls(folder):
+    """What recheck.py says of each region's wall: degrees steeper and flatter than study.toml asks."""
+    ran = subprocess.run([sys.executable, "-I", str(folder / "recheck.py"), os.environ["PIT"]], capture_output=True, text=True)
+    return ran.returncode, [(kind, region, float(steeper), float(flatter)) for kind, region, steeper, flatter in
+                            re.findall(r"(?m)^(look|WRONG) +the slopes of (\w+): .* at most ([\d.]+) degrees steeper and ([\d.]+) flatter", ran.stdout)]
+
+
+@pytest.mark.parametrize("angles", ["45", "[[0, 38], [90, 45], [300, 42]]"])
+def test_the_walls_of_the_offsets_are_held_against_the_angles(tmp_path, angles):
+    """The figures are those of `pitplan slopes`; and another angle in study.toml shows."""
+    text = RICH.replace("angles = 45", f"angles = {angles}")
+    folder = bundled(tmp_path, text, mines.table(7, 6, 4, 3, 30))
+    told = read_study_file(folder.parent).slopes
+    status, found = walls(folder)
+    assert status == 0 and [name for _, name, *_ in found] == ["default", "WEST"]
+    for (_, name, steeper, flatter), pattern in zip(found, told.patterns(Study(folder.parent).model.grid).values()):
+        outline = offsets.Outline(pattern.wall, pattern.offsets)
+        errors = [outline.slope(bearing) - pattern.wall.slope(bearing) for bearing in range(360)]
+        assert (steeper, flatter) == pytest.approx((max(0, *errors), -min(0, *errors)), abs=0.0051)
+    replaced(folder / "study.toml", "WEST = 38", "WEST = 33")
+    summed(folder)
+    assert walls(folder)[1][1][2] > found[1][2] + 4.9
+
+
+def test_a_wall_that_is_steeper_than_a_safe_one_is_found(tmp_path):
+    folder = bundled(tmp_path, mines.STUDY_TOML.replace("angles = 45", "angles = 45\nsafe = true"))
+    assert walls(folder) == (0, [("look", "default", 0.0, walls(folder)[1][0][3])])
+    replaced(folder / "study.toml", "angles = 45", "angles = 42")
+    summed(folder)
+    assert walls(folder)[0] == 1 and walls(folder)[1][0][0] == "WRONG"
 
 
 @pytest.mark.parametrize("shape", [(5, 4, 3), (9, 8, 5)])

@@ -2,6 +2,7 @@
 import os
 import re
 import shlex
+import shutil
 import subprocess
 import tomllib
 
@@ -10,8 +11,9 @@ import pandas as pd
 import pytest
 
 from mines import STUDY_TOML, table, written_study
-from pitplan import first_look
+from pitplan import first_look, later
 from pitplan.formula import worked_out
+from pitplan.study import host
 from pitplan.study_file import read_study_file
 from processes import TOP
 from served import PITPLAN, linked, pitplan
@@ -125,6 +127,38 @@ def test_a_command_loads_what_it_needs():
     for word, loaded in (("--version", ""), ("--help", "typer.rich_utils rich.markdown")):
         ran = subprocess.run(["/usr/bin/python3", "-I", "-c", LOADED.format(str(TOP / "python"), word)], capture_output=True, text=True)
         assert ran.stdout.splitlines()[-1] == loaded, ran.stdout + ran.stderr
+
+
+def test_ctrl_c_while_a_module_is_loaded_is_no_other_error(tmp_path, monkeypatch):
+    """A handler names an error of the module, which asks for the module again."""
+    (tmp_path / "slow_module.py").write_text("raise KeyboardInterrupt\n")
+    monkeypatch.syspath_prepend(str(tmp_path))
+    later.lazily("slow_module")
+    import slow_module
+    for _ in range(2):
+        with pytest.raises(KeyboardInterrupt):
+            try:
+                slow_module.read()
+            except slow_module.Error:
+                pass
+
+
+def test_ctrl_c_while_the_command_is_loaded_is_told_in_a_line(tmp_path):
+    (tmp_path / "lib" / "pontihaw" / "pitplan").mkdir(parents=True)
+    (tmp_path / "lib" / "pontihaw" / "pitplan" / "cli.py").write_text("raise KeyboardInterrupt\n")
+    shutil.copy(PITPLAN, tmp_path / "pitplan")
+    ran = subprocess.run([str(tmp_path / "pitplan"), "shells"], capture_output=True, text=True)
+    assert (ran.returncode, ran.stderr) == (130, "stopped before anything was done\n")
+
+
+def test_what_a_killed_build_and_bundle_left_is_taken_away(tmp_path):
+    folder = written_study(tmp_path / "s")
+    gone = f"{host()}.{subprocess.run(['sh', '-c', 'echo $$'], capture_output=True, text=True).stdout.strip()}.abcdefgh"
+    for name in (f".model.{gone}", f".for me.{gone}", f".model.{host()}.{os.getpid()}.abcdefgh"):
+        (folder / name).mkdir()
+    for words in (("build", folder), ("shells", folder), ("bundle", folder / "for me", folder)):
+        assert pitplan(*words).returncode == 0
+    assert sorted(path.name for path in folder.iterdir() if path.name.startswith(".")) == [f".model.{host()}.{os.getpid()}.abcdefgh"]
 
 
 def test_a_missing_pit_is_told(tmp_path):

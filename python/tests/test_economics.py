@@ -11,6 +11,7 @@ import pitplan as pp
 from mines import COPPER, SIZE, costs, table
 from pitplan.amounts import Priced, exact_sum, rounding_of, spelled
 from pitplan.formula import worked_out
+from pitplan.plausible import of_tonnes, strange
 from pitplan.units import metal_in_a_tonne
 
 
@@ -76,12 +77,17 @@ def test_unknown_units_are_refused():
     (dict(metals=(pp.Metal("m", "ZC", price=1),)), "more than the whole rock"),
     (dict(metals=(pp.Metal("m", "CU", price=1e12),)), "is a unit wrong?"),
     (dict(forbid=["ZC + 1"]), "neither yes nor no"),
+    (dict(forbid=["SECTOR == 'West'"]), "no block has SECTOR = 'West'; is 'WEST' meant?"),
+    (dict(forbid=["SECTOR != 'NORTH'"]), "no block has SECTOR = 'NORTH'; there are EAST, WEST"),
+    (dict(forbid=["SECTOR == 1"]), "SECTOR and 1 are a word and a number"),
+    (dict(forbid=["ZC == '100'"]), "ZC and '100' are a word and a number"),
+    (dict(processing="where(ROCK == 'OXID', 7.5, 9.0)"), "no block has ROCK = 'OXID'; is 'OXI' meant?"),
 ])
 def test_what_the_economics_may_not_say(model, keys, said):
     assert said in refusal(costs(**keys).priced, model)
 
 
-@pytest.mark.parametrize("keys, said", [(dict(dilution=-0.1), "dilution"), (dict(mining_recovery=1.2), "mining_recovery"), (dict(rounding=0), "rounding"), (dict(rounding=1e-9), "six decimals"),
+@pytest.mark.parametrize("keys, said", [(dict(dilution=-0.1), "dilution"), (dict(dilution=5), "from 0 to 1"), (dict(mining_recovery=1.2), "mining_recovery"), (dict(mining_recovery=0), "above 0"), (dict(rounding=0), "rounding"), (dict(rounding=1e-9), "six decimals"),
                                         (dict(metals=()), "no metals"), (dict(metals=(COPPER, COPPER)), "two metals"), (dict(forbid="ZC > 1"), "a list")])
 def test_numbers_out_of_range(keys, said):
     assert said in refusal(costs, **keys)
@@ -146,6 +152,60 @@ def test_formulas(frame, model):
     assert (worth("not (XC > 5040) or CU < 0.1") == (~(frame.XC > 5040) | (frame.CU < 0.1))).all()
     assert np.allclose(worth("max(2, sqrt(abs(column('CU')))) ** 2 - +1"), np.maximum(2, np.sqrt(frame.CU)) ** 2 - 1)
     assert (worth("3") == 3).all() and worth("iz").dtype == float
+
+
+def test_a_formula_compares_words_without_the_blanks_around_them(frame):
+    frame = frame.copy()
+    frame.loc[3, "SECTOR"], frame.loc[5, "ROCK"] = f" {frame.SECTOR[3]} ", f"{frame.ROCK[5]} "
+    found = model_of(frame)
+    kept = costs(forbid=["SECTOR == 'WEST '"]).priced(found).forbidden
+    assert (kept == (frame.SECTOR.str.strip() == "WEST")).all() and (worked_out("ROCK == 'OXI'", found.blocks, "") == (frame.ROCK.str.strip() == "OXI")).all()
+
+
+@pytest.mark.parametrize("cell, said", [("", "row 5, column DIST: [economics] forbid = 'DIST < 50': there is no number to compare here"), ("-", "row 5, column DIST: the cell is no number: it is '-'")])
+@pytest.mark.parametrize("is_known", [False, True])
+def test_a_cell_without_a_number_is_not_passed_over_by_forbid(frame, cell, said, is_known):
+    frame = frame.copy()
+    frame["DIST"] = (frame.XC - 5000).astype(object)
+    frame.loc[3, "DIST"] = cell
+    found, economics = model_of(frame, absent=[cell] if is_known else []), costs(forbid=["DIST < 50"])
+    if is_known:
+        assert economics.priced(found).forbidden[3]
+    else:
+        assert said in refusal(economics.priced, found)
+
+
+def test_a_rock_without_a_name_is_told_with_its_row(frame):
+    frame = frame.copy()
+    frame.loc[4, "ROCK"] = ""
+    said = refusal(costs(processing={"OXI": 7.5, "SUL": 9.0}).priced, model_of(frame))
+    assert "t.csv, row 6: processing: nothing is said of rock without a name" in said and '{ "" = .. }' in said
+
+
+COPPER_T = pp.Metal("copper", "CU", price=8500, recovery=0.85)
+
+
+@pytest.mark.parametrize("keys, said", [
+    (dict(), []),
+    (dict(metals=(pp.Metal("copper", "CU", price=8500, price_unit="lb", recovery=0.85),)), ["times what digging and treating it costs"]),
+    (dict(metals=(pp.Metal("copper", "CU", price=3.9, recovery=0.85),)), ["no block pays for its treatment"]),
+    (dict(metals=(COPPER_T, pp.Metal("gold", "AU", price=60, grade_unit="g/t", price_unit="t"))), ["gold brings"]),
+    (dict(mill=[]), ["no block pays for its treatment"]),
+    (dict(forbid=["XC > 6000"]), ["forbid = 'XC > 6000' holds for no block"]),
+    (dict(forbid=["XC > 5000"]), []),
+    (dict(metals=(pp.Metal("arsenic", "CU", price=0, selling=1), COPPER_T)), []),
+])
+def test_what_looks_like_another_unit_is_told(frame, keys, said):
+    found = model_of(frame)
+    told = strange(found, costs(**keys).priced(found), costs(**keys))
+    assert len(told) == len(said) and all(part in line for part, line in zip(said, told)), told
+
+
+@pytest.mark.parametrize("factor, said", [(1, 0), (1000, 1), (0.001, 1), (0, 1)])
+def test_rock_that_is_too_light_or_too_heavy_is_told(frame, factor, said):
+    frame = frame.copy()
+    frame["TONNES"] *= factor
+    assert len(of_tonnes(model_of(frame))) == said
 
 
 def test_spelled():

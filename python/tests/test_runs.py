@@ -5,6 +5,7 @@ import re
 import os
 import shutil
 import signal
+from contextlib import nullcontext
 
 import numpy as np
 import pandas as pd
@@ -14,6 +15,7 @@ import pitplan as pp
 from mines import SIZE, costs, shells_of, study_of, table, written_study
 from pitplan import machine, program as programs, store, workers
 from pitplan.program import Accepted, Pit, PitLines
+from pitplan.study import made_whole
 from processes import TOP, command, gone, waited_for
 
 
@@ -103,6 +105,27 @@ def test_a_result_that_was_damaged_is_never_shown(tmp_path):
         pp.Shells(study, [600, 800])
 
 
+def test_a_result_that_cannot_be_read_is_told(tmp_path):
+    """Cut off, empty, gone, or with a byte that is another: nothing of numpy's or zipfile's own comes out."""
+    study = shells_of(tmp_path).study
+    path = study.place(800) / "pit.npz"
+    kept = path.read_bytes()
+    for data in (b"", kept[:len(kept) // 2], None, *(kept[:at] + bytes([kept[at] ^ bit]) + kept[at + 1:] for bit in (1, 128) for at in range(0, len(kept), 3))):
+        path.unlink(missing_ok=True)
+        if data is not None:
+            path.write_bytes(data)
+        try:
+            study.mask(800)                  # a byte that nothing reads
+        except pp.Disagreement as error:
+            assert "isn't what was stated" in str(error) and "take " in str(error)
+    path.unlink()
+    with pytest.raises(pp.Disagreement, match="isn't what was stated"):
+        pp.Shells(study, [600, 800])
+    (study.where / "blocks.npz").unlink()
+    with pytest.raises(pp.PlanError, match="blocks.npz is gone"):
+        pp.Shells(pp.Study(study.folder), [600])
+
+
 def test_pits_that_arent_nested_are_never_shown(tmp_path):
     study = shells_of(tmp_path).study
     a, b = study.place(600), study.place(1200)
@@ -155,6 +178,26 @@ def test_a_build_that_fails_leaves_the_study_as_it_was(tmp_path):
     (tmp_path / "empty").mkdir()
     with pytest.raises(pp.PlanError, match="never built"):
         pp.Study(tmp_path / "empty")
+
+
+@pytest.mark.parametrize("is_stopped", [False, True])
+def test_a_folder_is_put_in_its_place_beside_another_process_or_a_ctrl_c(tmp_path, monkeypatch, is_stopped):
+    """Another process puts its own there, or ctrl-C comes, when the folder before is out of the way."""
+    place, rename, met = tmp_path / "model", os.rename, []
+
+    def late(source, target):
+        if target == place and not met:
+            met.append(target)
+            if is_stopped:
+                raise KeyboardInterrupt
+            (place / "theirs").mkdir(parents=True)
+        rename(source, target)
+    place.mkdir()
+    (place / "before").touch()
+    monkeypatch.setattr(os, "rename", late)
+    with pytest.raises(KeyboardInterrupt) if is_stopped else nullcontext(), made_whole(place) as work:
+        (work / "ours").touch()
+    assert met and [path.name for path in place.iterdir()] == ["before" if is_stopped else "ours"] and list(tmp_path.iterdir()) == [place]
 
 
 def test_a_series_goes_on_where_it_was(tmp_path, monkeypatch):
@@ -294,6 +337,16 @@ def test_a_model_comes_back_from_its_file(tmp_path):
     again = study.model
     assert again.grid == model.grid and again.columns == model.columns and (again.row_block == model.row_block).all()
     pd.testing.assert_frame_equal(again.blocks, model.blocks)
+
+
+def test_an_empty_cell_among_words_comes_back_as_one(tmp_path):
+    """What-ifs, designs and risk read the model from its file: where the lease has no name, a block may be dug there too."""
+    frame = table(6, 5, 4, 3)
+    frame["LEASE"] = np.where(frame.XC < 5040, "", "OTHERS")
+    frame.to_csv(tmp_path / "t.csv", index=False)
+    economics = costs(forbid=["LEASE != ''"])
+    study = pp.Study.create(tmp_path / "s", pp.read_table(tmp_path / "t.csv", size=SIZE), economics, pp.Slopes(45))
+    assert (economics.priced(study.model).forbidden == (frame.LEASE == "OTHERS")).all() and (study.priced.forbidden == (frame.LEASE == "OTHERS")).all()
 
 
 def test_a_store_takes_no_pickles(tmp_path):

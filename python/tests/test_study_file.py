@@ -31,6 +31,8 @@ WRONG = [
     ('mining = 2.0', 'mining = ', "isn't TOML"),
     ('size = [20, 20, 15]', 'size = [20, 20, 15]\nregularise = "yes"', "has to be true or false"),
     ('size = [20, 20, 15]', 'size = [20, 20, 15]\nrotation = "north"', "has to be a number"),
+    ('size = [20, 20, 15]', 'size = [20, 20, 15]\ndecimal = "comma"', "decimal = 'comma' in [model] is neither a point nor a comma"),
+    ('size = [20, 20, 15]', 'size = [20, 20, 15]\nskip = -1', "skip = -1 in [model] is less than none"),
 ]
 
 

@@ -62,6 +62,12 @@ def test_the_usual_names_of_columns_are_known(tmp_path, package):
         assert (plain.blocks[column] == found.blocks[column]).all()
 
 
+@pytest.mark.parametrize("change", [lambda text: text.split("\n", 1)[1], lambda text: "My mine\n" + text, lambda text: text.replace(",", "|")])
+def test_a_first_line_that_is_no_header_is_told(tmp_path, change):
+    said = refusal(tmp_path, None, text=change(table(4, 3, 3, 1).to_csv(index=False)).encode())
+    assert "the first line isn't the header line" in said and "NAME" not in said
+
+
 def test_names_of_ones_own(tmp_path):
     f = table(4, 3, 3, 1).rename(columns={"XC": "Ostwert", "TONNES": "Masse", "IJK": "Nr"})
     assert "no column is known as x" in refusal(tmp_path, f)
@@ -102,7 +108,50 @@ def test_separators_at_the_ends_of_lines_do_no_harm(tmp_path):
     assert read(tmp_path, f, text=text).blocks.equals(read(tmp_path, f).blocks)
 
 
-@pytest.mark.parametrize("text, said", [(b"", "no header line"), (b"XC,YC,ZC,TONNES\n", "no rows"), ("XC,YC,ZC,TONNES\n1,2,3,4\n".encode("utf-16"), "UTF-16"),
+@pytest.mark.parametrize("sep, decimal, tonnes, said", [(";", ",", "14.100", "column TONNES: the cell is '14.100', with a point"), ("\t", ",", "14.100", "column TONNES: the cell is '14.100', with a point"),
+                                                        (";", ".", "14,100", "with a point, and decimals of this table have a comma"), (";", ",", "14.100,5", "take the thousands separators out"),
+                                                        (",", ".", "14'100", "take the thousands separators out"), (",", ".", "14\u00a0100", "take the thousands separators out")])
+def test_a_thousands_separator_is_no_decimal(tmp_path, sep, decimal, tonnes, said):
+    f = table(4, 3, 3, 1)
+    f["TONNES"] = tonnes
+    assert said in refusal(tmp_path, f, text=f.to_csv(index=False, sep=sep, decimal=decimal).encode())
+
+
+def test_words_with_a_point_stay_in_a_table_with_decimal_commas(tmp_path):
+    f = table(4, 3, 3, 1)
+    f["DATE"], f["LABEL"] = "31.12.2025", np.where(np.arange(len(f)) % 3, "upper", "1.2")
+    assert set(read(tmp_path, None, text=f.to_csv(index=False, sep=";", decimal=",").encode()).blocks.LABEL) == {"upper", "1.2"}
+
+
+def test_a_code_is_one_code_in_all_pieces_of_a_large_table(tmp_path):
+    """pandas reads some 65,536 rows at a time: in the first of these pieces are numbers alone."""
+    n = 70_000
+    f = pd.DataFrame({"XC": 10 * (np.arange(n) % 280), "YC": 10 * (np.arange(n) // 280), "ZC": 0, "SG": 2.5, "CU": 0.5, "ROCK": "SUL", "ZONE": np.where(np.arange(n) % 2, "01", "02")})
+    f["NOTE"], f["AS"], f["END"] = "", 1, 1
+    for _ in range(8):
+        f[f"C{_}"] = 0
+    f.loc[n - 1, "ZONE"] = "10A"
+    found = read(tmp_path, f, size=(10, 10, 10))
+    kept = costs(processing=9.0, forbid=["ZONE == '01'"]).priced(found).forbidden
+    assert (found.blocks.ZONE == f.ZONE).all() and (kept == (f.ZONE == "01")).all()
+    assert (pp.Slopes(45, by="ZONE", regions={"02": 38}).region_of(found) == (f.ZONE == "02")).all()
+
+
+def test_lines_that_were_passed_over_are_told(tmp_path):
+    lines = table(4, 3, 3, 1).to_csv(index=False).splitlines(keepends=True)
+    assert "1 lines below the header hold no blocks" in read(tmp_path, None, text="".join([lines[0], "-,m,m,m,t,%,g/t,-,-\n", *lines[1:]]).encode()).notes
+
+
+@pytest.mark.parametrize("cell", ["", "-"])
+def test_a_block_without_a_place_is_not_absent(tmp_path, cell):
+    f = table(4, 3, 3, 1)
+    f["XC"] = f.XC.astype(object)
+    f.loc[3, "XC"] = cell
+    said = refusal(tmp_path, f, absent=[cell])
+    assert "row 5, column XC" in said and "absent" not in said and "take the row out" in said
+
+
+@pytest.mark.parametrize("text, said", [(b"", "no header line"), ("XC,YC,ZC,TONNES\n1,2,3,4\n".encode("utf-16-le"), "UTF-16, or no text"), (b'XC,YC,ZC,"TON\nNES"\n1,2,3,4\n', "goes on in the next line"), (b"XC,YC,ZC,TONNES\n", "no rows"), ("XC,YC,ZC,TONNES\n1,2,3,4\n".encode("utf-16"), "UTF-16"),
                                         (b"PK\x03\x04rest", "spreadsheet"), (b"XC,YC,ZC,CU,CU\n1,2,3,4,5\n", "two columns are called CU"),
                                         (b"XC,YC,ZC,Gr\xf6\xdfe\n1,2,3,4\n", 'encoding = "cp1252"')])
 def test_what_is_no_table(tmp_path, text, said):
