@@ -485,9 +485,21 @@ def check_table(told: Told, blocks: Blocks, facts: dict[str, Any]) -> OfRows | N
         told.check(not bad, f"the {what} of each block is that of its row" + (f": not so for {len(bad):,}, the first is row {bad[0] + 2}" if bad else ""))
     fenced = [b for b, row in enumerate(rows) if row >= 0 and economics.is_fenced(row)]
     is_asked = model.get("widen", 0) != 0 or model.get("missing", "refuse") != "refuse"
-    if len(known) < len(rows) and not is_asked:
-        told.check(False, f"{len(rows) - len(known):,} blocks have no row, and study.toml asks for none (widen, missing)")
+    strange = [] if is_asked else added_without_need(blocks, rows)
+    if strange:
+        told.check(False, f"{len(strange):,} blocks have no row, and study.toml asks for none (widen, missing)")
     return OfRows(regions_of(table, rows), check_amounts(told, economics, blocks, rows, set(fenced)), fenced)
+
+
+def added_without_need(blocks: Blocks, rows: list[int]) -> list[int]:
+    """The blocks without a row that aren't air above the ground, which slopes lead through beside a cliff: that has no tonnes, brings
+    nothing and costs nothing."""
+    ground: dict[tuple[int, ...], int] = {}
+    for place, row in zip(blocks.places, rows):
+        if row >= 0:
+            ground[place[:2]] = max(place[2], ground.get(place[:2], -1))
+    return [b for b, (place, row) in enumerate(zip(blocks.places, rows))
+            if row < 0 and (blocks.tonnes[b] or any(blocks.amounts[b]) or place[2] <= ground.get(place[:2], place[2]))]
 
 
 def regions_of(table: Table, rows: list[int]) -> list[int | None]:
@@ -541,7 +553,7 @@ def check_amounts(told: Told, economics: Economics, blocks: Blocks, rows: list[i
         told.say("ok", f"{len(fenced):,} blocks may not be dug by forbid, and cost more than the whole mine brings")
     added = sum(row < 0 for row in rows)
     if added:
-        told.say("look", f"{added:,} blocks have no row (widen, missing): they bring nothing, and what digging them costs isn't worked out again")
+        told.say("look", f"{added:,} blocks have no row (widen, missing, air above steep ground): they bring nothing, and what digging them costs isn't worked out again")
     return worked
 
 

@@ -8,12 +8,14 @@ import shutil
 import subprocess
 import sys
 from pathlib import Path
+from types import SimpleNamespace
 
 import numpy as np
+import pandas as pd
 import pytest
 
 import mines
-from pitplan import bundle, economics, offsets
+from pitplan import bundle, economics, offsets, recheck
 from pitplan.errors import PlanError
 from pitplan.study import Study
 from pitplan.study_file import read_study_file
@@ -121,6 +123,23 @@ def test_worths_are_added_up_whatever_pit_says(copy, tmp_path):
     ran = subprocess.run([sys.executable, "-I", str(copy / "recheck.py"), str(tmp_path / "pit")], capture_output=True, text=True)
     wrong = [line for line in ran.stdout.splitlines() if line.startswith("WRONG")]
     assert ran.returncode == 1 and [bool(re.search("its .* blocks add up to", line)) for line in wrong[:2]] == [True, True] and not any("pit check" in line for line in wrong), ran.stdout
+
+
+def test_air_above_steep_ground_is_no_strange_block(tmp_path):
+    """The blocks that slopes lead through beside a cliff have no row, and nobody asked for them."""
+    frame = mines.below(8)
+    folder = bundled(tmp_path, mines.STUDY_TOML.replace("size = [20, 20, 15]", "size = [10, 10, 10]"), frame[frame.TONNES > 0])
+    assert 0 in pd.read_csv(folder / "tables" / "blocks.csv").row.tolist()
+    lines, status = rechecked(folder)
+    assert status == 0, lines
+
+
+@pytest.mark.parametrize("place, tonnes, amounts, is_strange", [((0, 0, 3), 0, (0, 0, 0), False), ((0, 0, 1), 0, (0, 0, 0), True), ((1, 0, 3), 0, (0, 0, 0), True),
+                                                                ((0, 0, 3), 5, (0, 0, 0), True), ((0, 0, 3), 0, (0, 0, 7), True)])
+def test_a_block_without_a_row_is_air_above_ground(place, tonnes, amounts, is_strange):
+    """It stands above the highest row of its column, weighs nothing and costs nothing."""
+    blocks = SimpleNamespace(places=[(0, 0, 0), (0, 0, 2), place], tonnes=[9, 9, tonnes], amounts=[(0, 0, 1), (0, 0, 1), amounts])
+    assert recheck.added_without_need(blocks, [0, 1, -1]) == ([2] if is_strange else [])
 
 
 def test_added_blocks_that_nobody_asked_for_are_found(tmp_path):
