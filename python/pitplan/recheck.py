@@ -553,7 +553,7 @@ def check_amounts(told: Told, economics: Economics, blocks: Blocks, rows: list[i
         told.say("ok", f"{len(fenced):,} blocks may not be dug by forbid, and cost more than the whole mine brings")
     added = sum(row < 0 for row in rows)
     if added:
-        told.say("look", f"{added:,} blocks have no row (widen, missing, air above steep ground): they bring nothing, and what digging them costs isn't worked out again")
+        told.say("look", f"{added:,} blocks have no row (widen, missing, air beside steep ground): they bring nothing, and what digging them costs isn't worked out again")
     return worked
 
 

@@ -20,7 +20,7 @@ if TYPE_CHECKING:
     from .slopes import Slopes
 
 Bools = npt.NDArray[np.bool_]
-Ints = npt.NDArray[np.int64]
+Ints = npt.NDArray[np.int16]
 Offsets = Sequence[Sequence[Tuple[int, int, int]]]
 Slices = Tuple[slice, slice]
 
@@ -45,7 +45,7 @@ def with_air(model: Model, slopes: Slopes) -> Model:
     highest = np.take_along_axis(index, np.maximum(top, 0)[:, :, None], axis=2)[:, :, 0]
     air = (np.arange(index.shape[2]) > top[:, :, None]) & (top >= 0)[:, :, None]
     region = np.where(air, highest[:, :, None], index)
-    region = np.where(region >= 0, slopes.region_of(model)[region], -1)
+    region = np.where(region >= 0, slopes.region_of(model).astype(np.int16)[region], np.int16(-1))
     found = led_through(index >= 0, air, region, list(slopes.offsets_by_region(model.grid).values()))
     i, j, k = np.nonzero(found)
     if not len(i):
@@ -71,12 +71,13 @@ def led_through(there: Bools, air: Bools, region: Ints, offsets: Offsets) -> Boo
     offsets : the offsets of each region
     """
     to, of = np.zeros_like(air), np.zeros_like(air)
-    for k in reversed(range(air.shape[2])):                  # from the top: which air leads to a block
+    levels = np.flatnonzero(air.any(axis=(0, 1))).tolist()
+    for k in reversed(levels):                               # from the top: which air leads to a block
         for r, low, high, up in steps(offsets, air.shape, range(k + 1, air.shape[2]), k):
             to[(*low, k)] |= (there[(*high, up)] | to[(*high, up)]) & air[(*low, k)] & (region[(*low, k)] == r)
     if not to.any():
         return to
-    for k in range(air.shape[2]):                            # from below: to which of it a block leads
+    for k in levels:                                         # from below: to which of it a block leads
         for r, low, high, down in steps(offsets, air.shape, range(k), k):
             of[(*high, k)] |= (there[(*low, down)] | of[(*low, down)]) & (region[(*low, down)] == r) & to[(*high, k)]
     return of

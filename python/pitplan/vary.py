@@ -221,7 +221,7 @@ def table(study: Study) -> pd.DataFrame:
         of = task(asked, change)
         one, factor = study if of.name == BASE else scenario(study, of.name), of.factors[0]
         one.verify()
-        mask, verdict = one.mask(factor)[:len(tonnes)], one.verdict(factor)      # blocks behind those are air, which other slopes lead through
+        mask, verdict = one.mask(factor)[:len(tonnes)], one.verdict(factor)      # blocks after those are air, which other slopes lead through
         assert verdict is not None               # its mask has just been read
         rows.append({"what": change.what if change else BASE, "by": change.by if change else 0.0, "unit": UNITS[change.what].strip() if change else "",
                      "factor": factor / THOUSAND, "blocks": verdict["count"], "rock_t": float(tonnes[mask].sum()), "worth": float(verdict["worth"])})

@@ -88,7 +88,7 @@ def test_sections_have_every_block_at_its_distance_and_elevation(model):
 def test_borders_are_those_that_shapely_finds(seed, rotation):
     r = np.random.default_rng(seed)
     g = Grid((0.0, 0.0, 0.0), (10.0, 5.0, 2.0), (5, 4, 1), rotation)
-    model = Model(table(5, 4, 1, 1, size=g.size).assign(ix=0, iy=0, iz=0), g)
+    model = Model(table(5, 4, 1, 1, size=g.size).assign(ix=0, iy=0, iz=0, tonnes=1.0), g)
     cut = plane.bench(model, 0)
     inside = r.random((4, 5)) < 0.5
     x, y = plane.borders(inside, cut)
