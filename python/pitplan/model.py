@@ -222,9 +222,14 @@ def unweighed(frame: pd.DataFrame, names: Mapping[str, str], absent: Sequence[st
     name = names.get("tonnes") or names.get("density")
     if not absent or not name:
         return []
-    text = frame[name].astype(str).str.strip().mask(frame[name].isna(), "")
+    values = frame[name]
     marks = [float(mark) for mark in absent if PLAIN.fullmatch(mark)]
-    count = int((text.isin([mark.strip() for mark in absent]) | pd.to_numeric(text, errors="coerce").isin(marks)).sum())
+    if values.dtype.kind in "iuf":
+        hit = values.isin(marks) | (values.isna() if "" in absent else False)
+    else:
+        text = values.astype(str).str.strip().mask(values.isna(), "")
+        hit = text.isin([mark.strip() for mark in absent]) | pd.to_numeric(text, errors="coerce").isin(marks)
+    count = int(hit.sum())
     return [f"look: {count:,} {'row has' if count == 1 else 'rows have'} no {name}, by absent: such a block weighs nothing, and digging it costs nothing"] if count else []
 
 
