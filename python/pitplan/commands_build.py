@@ -31,6 +31,7 @@ def init(table: Path = typer.Argument(..., help="A table of blocks: CSV or CSV.g
     """Look at a table of blocks, and write a study.toml for it."""
     from .first_look import look_at, written
     from .study import near
+    from .whole_file import whole_file
     look = look_at(table, dict(map(named, column)), encoding)
     folder = folder or Path(table.name.removesuffix(".gz").removesuffix(".csv"))
     path = folder / "study.toml"
@@ -39,7 +40,8 @@ def init(table: Path = typer.Argument(..., help="A table of blocks: CSV or CSV.g
     if folder.exists() and not folder.is_dir():
         raise PlanError(f"{folder} is a file, and a study is a folder", try_this="--study names another folder")
     folder.mkdir(parents=True, exist_ok=True)
-    path.write_text(written(look, near(table, folder)))
+    with whole_file(path) as part:
+        part.write_text(written(look, near(table, folder)))
     say(f"{table}: {look.rows:,} rows")
     say("  columns: " + ", ".join(f"{key} = {name}" for key, name in look.names.items()))
     say(f"  grades: {', '.join(look.grades) or 'none found'}")

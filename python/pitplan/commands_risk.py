@@ -104,12 +104,13 @@ def write_risk(found: Risk, factor: int) -> pd.DataFrame:
     from . import page
     from .pictures import save
     from .risk_pictures import section
+    from .whole_file import write_table
     folder = results(found.study)
-    found.runs.to_csv(folder / "risk_runs.csv", index=False)
-    found.table().to_csv(folder / "risk.csv", index=False)
-    found.of_blocks().to_csv(folder / "likelihood.csv", index=False)
+    write_table(found.runs, folder / "risk_runs.csv")
+    write_table(found.table(), folder / "risk.csv")
+    write_table(found.of_blocks(), folder / "likelihood.csv")
     pits = found.pits(factor)
-    pits.to_csv(folder / "likelihood_pits.csv", index=False)
+    write_table(pits, folder / "likelihood_pits.csv")
     save(section(found, factor), folder / "likelihood.png")
     page.write_likelihood(found, factor, folder / "likelihood.html", pits)
     return pits

@@ -93,15 +93,16 @@ def write_tables(found: Shells, table: pd.DataFrame) -> None:
     """Pit by pit, bench by bench, and the planner's own table with a column more."""
     from . import table_back
     from .export_csv import safe
+    from .whole_file import write_table
     folder = results(found.study)
-    table.to_csv(folder / "pit_by_pit.csv", index=False)
-    found.benches().to_csv(folder / "benches.csv", index=False)
+    write_table(table, folder / "pit_by_pit.csv")
+    write_table(found.benches(), folder / "benches.csv")
     name = found.study.table.name if found.study.table else "blocks.csv"
     try:
         rows = table_back.write(found, folder / name)
         say(f"{folder / name}: the table with a column more, pit_shell, that {rows:,} of its rows have")
     except PlanError as error:
-        safe(found.of_blocks()).to_csv(folder / "blocks.csv", index=False)
+        write_table(safe(found.of_blocks()), folder / "blocks.csv")
         warn(f"{error}\n{folder / 'blocks.csv'} has the shell of each block by its id instead")
 
 

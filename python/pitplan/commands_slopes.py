@@ -9,6 +9,7 @@ import typer
 from . import older
 from .console import STUDY, app, described, err, print_columns, say, warn
 from .errors import PlanError
+from .whole_file import whole_file, write_table
 
 if TYPE_CHECKING:
     import pandas as pd
@@ -33,7 +34,7 @@ def slopes(folder: Path = STUDY, every: int = EVERY) -> None:
     folder = told.path.parent / "out"
     folder.mkdir(exist_ok=True)
     older.watch(folder, key_of(told.slopes, grid))
-    table.round(3).to_csv(folder / "slopes.csv", index=False)
+    write_table(table.round(3), folder / "slopes.csv")
     draw_rose(told.slopes, grid, folder / "slopes.png")
     say(f"{folder / 'slopes.png'}, {folder / 'slopes.csv'}")
 
@@ -112,5 +113,6 @@ def draw_rose(slopes: Slopes, grid: Grid, path: Path) -> None:
     axes.set_xticks([math.radians(b) for b in range(0, 360, 45)], ["N", "45", "E", "135", "S", "225", "W", "315"])
     axes.set_title("Overall slope of the walls by bearing, in degrees")
     axes.legend(loc="upper center", bbox_to_anchor=(0.5, -0.06), ncol=2, frameon=False)
-    figure.savefig(path, dpi=110, bbox_inches="tight")
+    with whole_file(path) as part:
+        figure.savefig(part, dpi=110, bbox_inches="tight")
     pyplot.close(figure)

@@ -52,9 +52,10 @@ def write_what_ifs(study: Any) -> None:
     from rich.table import Table
     from .pictures import save
     from .vary import UNITS, table, tornado
+    from .whole_file import write_table
     found, folder = table(study), results(study)
     currency = study.currency
-    found.to_csv(folder / "vary.csv", index=False)
+    write_table(found, folder / "vary.csv")
     save(tornado(found, currency), folder / "tornado.png")
     shown = Table(title=escape(f"a proved pit for each, worths in million {currency}"), title_justify="left", box=SIMPLE_HEAD)
     for name in ("what", "by", "blocks", "rock Mt", "worth", "difference"):

@@ -23,6 +23,7 @@ from .errors import PlanError
 SEPARATORS = ",;\t"
 THOUSANDS = re.compile(r"[+-]?\d{1,3}(([,'\s]\d{3})+(\.\d+)?|([.\s]\d{3})+,\d+)")
 COMMA_DECIMAL = re.compile(r"([+-]?\d*),(\d+(?:[eE][+-]?\d+)?)")
+GROUPED = re.compile(r"[+-]?[1-9]\d{0,2}([.,])\d{3}(\1\d{3})*")       # a whole number with thousands separators, or one with three decimals
 SMALL, MOST_TIMES = 1 << 26, 200              # bytes that any table may unpack to, and how many times its size a larger one may
 SAY_ENCODING = 'save it as "CSV UTF-8"; or tell init --encoding cp1252, or say encoding = "cp1252" in [model]'
 MOST_WORDS = 1000                            # different cells that a column of codes has at most; one of numbers with a mark among them has more
@@ -162,7 +163,10 @@ def dialect_of(path: Path, encoding: str = "utf-8-sig") -> Dialect:
     head = head_of(path, encoding)
     separator = separator_of(head[0])
     rows = [line.split(separator) for line in head[1:] if line.strip()]
-    commas = separator != "," and any(COMMA_DECIMAL.fullmatch(cell.strip()) for row in rows for cell in row)
+    cells_of = [cell.strip() for row in rows for cell in row]
+    with_comma = [cell for cell in cells_of if COMMA_DECIMAL.fullmatch(cell)]
+    has_points = any("." in cell and PLAIN.fullmatch(cell) and not GROUPED.fullmatch(cell) for cell in cells_of)
+    commas = separator != "," and with_comma and not (has_points and all(map(GROUPED.fullmatch, with_comma)))      # else 14,100 is whole beside 0.45
     decimal = "," if commas else "."
     counts = [sum(bool(PLAIN.fullmatch(cell.strip().replace(decimal, "."))) for cell in row) for row in rows]
     skip = next((i for i, n in enumerate(counts) if n >= 3), 0)
@@ -235,15 +239,16 @@ def points_for_commas(frame: pd.DataFrame, words: Collection[str], path: Path) -
 
 
 def refuse_points(values: pd.Series, path: Path) -> None:
-    """Refuses a point in a column of numbers of a table whose decimals have a comma: 8.200 may be eight thousand there, or eight."""
+    """Refuses points in a column of numbers of a table whose decimals have a comma, where 8.200 may be eight thousand or eight. Where
+    another cell, as 0.15, can't be a whole number, they are decimals."""
     filled = values.dropna()
     text = filled.astype(str).str.strip()
     is_plain, is_text = text.str.fullmatch(PLAIN.pattern), filled.map(type) == str
     pointed = is_plain & is_text & text.str.contains(".", regex=False)
-    if pointed.any() and (is_plain | text.str.fullmatch(COMMA_DECIMAL.pattern)).mean() > 0.5:
+    if pointed.any() and text[pointed].str.fullmatch(GROUPED.pattern).all() and (is_plain | text.str.fullmatch(COMMA_DECIMAL.pattern)).mean() > 0.5:
         row = pointed.idxmax()
         raise PlanError(f"the cell is {text[row]!r}, with a point, and decimals of this table have a comma", table=path, row=int(row), column=values.name,
-                        try_this='take the thousands separators out; or decimal = "." in [model], if it is a decimal')
+                        try_this="take the thousands separators out; or a comma in its place, if it is a decimal")
 
 
 def parsed(path: Path, dialect: Dialect, names: Sequence[str], words: Collection[str]) -> pd.DataFrame:

@@ -131,8 +131,10 @@ def rewrite(path: Path, target: Path, head: bytes, cells: list[bytes], shell: np
                 row += write_piece(new, text, cells, shell[row:])
         os.chmod(name, 0o644)
         os.replace(name, target)
-    except BaseException:
+    except BaseException as error:
         os.unlink(name)
+        if isinstance(error, OSError):
+            error.filename = error.filename or str(target)       # a full disk names none
         raise
 
 

@@ -23,6 +23,7 @@ from .shells import thousandths
 from .slopes import Slopes
 from .study import Study
 from .task import BASE, Task
+from .whole_file import whole_file
 
 if TYPE_CHECKING:
     from matplotlib.figure import Figure
@@ -115,7 +116,8 @@ def prepare(study: Study, economics: Economics, slopes: Slopes, changes: Sequenc
             price_factor(factor, change)
     path = study.folder / "vary" / "vary.json"
     path.parent.mkdir(exist_ok=True)
-    path.write_text(json.dumps(asdict(asked)))
+    with whole_file(path) as part:
+        part.write_text(json.dumps(asdict(asked)))
     return asked
 
 

@@ -6,6 +6,7 @@ import tempfile
 from collections.abc import Iterator
 from contextlib import contextmanager
 from pathlib import Path
+from typing import Any
 
 
 @contextmanager
@@ -18,11 +19,21 @@ def whole_file(target: str | os.PathLike[str]) -> Iterator[Path]:
     Raises
     ------
     OSError
-        Where it can't be written or renamed.
+        Where it can't be written or renamed; it names the file also where the system doesn't, as on a full disk.
     """
     path = Path(target)
     path.parent.mkdir(parents=True, exist_ok=True)
-    with tempfile.TemporaryDirectory(prefix=f".{path.name}.", dir=path.parent) as work:
-        part = Path(work) / path.name
-        yield part
-        os.replace(part, path)
+    try:
+        with tempfile.TemporaryDirectory(prefix=f".{path.name}.", dir=path.parent) as work:
+            part = Path(work) / path.name
+            yield part
+            os.replace(part, path)
+    except OSError as error:
+        error.filename = error.filename or str(path)
+        raise
+
+
+def write_table(frame: Any, target: str | os.PathLike[str]) -> None:
+    """Writes a pandas table as CSV, as `whole_file` writes."""
+    with whole_file(target) as part:
+        frame.to_csv(part, index=False)

@@ -277,6 +277,20 @@ def test_a_full_disk_is_told_and_the_run_goes_on(tmp_path, small_disks):
     assert small_disks.done("ls", "-A", place / "base").split() == ["f00600", "f01000", "f01200"]
 
 
+@pytest.mark.parametrize("words", [("shells",), ("vary", "price=-10..10"), ("slopes",)])
+def test_a_table_stays_whole_on_a_full_disk_which_is_told_by_the_file(tmp_path, small_disks, words):
+    folder, pitplan = written_study(tmp_path / "s", table(12, 12, 6, 5)), TOP / "bin/pitplan"
+    assert command("build", folder).wait() == 0 and command("shells", folder).wait() == 0
+    out = folder / "out"
+    small_disks.mount(out, 400)
+    small_disks.done(pitplan, words[0], folder, *words[1:])
+    small_disks.fill(out)
+    before = small_disks.done("sh", "-c", f"cd {out} && sha256sum *.csv")
+    code, _, errors = small_disks.said(pitplan, words[0], folder, *words[1:])
+    assert code == 4 and f"error: {out}/" in errors and "make room on that disk" in errors, errors
+    assert small_disks.done("sh", "-c", f"cd {out} && sha256sum *.csv") == before
+
+
 @pytest.mark.parametrize("files, wanted", [({}, 8), ({"cpu.max": "max 100000\n"}, 8), ({"cpu.max": "250000 100000\n"}, 2), ({"cpu.max": "50000 100000\n"}, 1),
                                            ({"cpu/cpu.cfs_quota_us": "300000\n", "cpu/cpu.cfs_period_us": "100000\n"}, 3),
                                            ({"cpu/cpu.cfs_quota_us": "-1\n", "cpu/cpu.cfs_period_us": "100000\n"}, 8)])

@@ -109,12 +109,20 @@ def test_separators_at_the_ends_of_lines_do_no_harm(tmp_path):
 
 
 @pytest.mark.parametrize("sep, decimal, tonnes, said", [(";", ",", "14.100", "column TONNES: the cell is '14.100', with a point"), ("\t", ",", "14.100", "column TONNES: the cell is '14.100', with a point"),
-                                                        (";", ".", "14,100", "with a point, and decimals of this table have a comma"), (";", ",", "14.100,5", "take the thousands separators out"),
+                                                        (";", ".", "14,100", "column TONNES: 18 cells are no numbers, the first is '14,100'"), ("\t", ".", "1,014,100", "take the thousands separators out"), (";", ",", "14.100,5", "take the thousands separators out"),
                                                         (",", ".", "14'100", "take the thousands separators out"), (",", ".", "14\u00a0100", "take the thousands separators out")])
 def test_a_thousands_separator_is_no_decimal(tmp_path, sep, decimal, tonnes, said):
     f = table(4, 3, 3, 1)
     f["TONNES"] = tonnes
     assert said in refusal(tmp_path, f, text=f.to_csv(index=False, sep=sep, decimal=decimal).encode())
+
+
+def test_points_that_must_be_decimals_are_read_beside_commas(tmp_path):
+    f = table(4, 3, 3, 1)
+    lines = f.assign(CU=f.CU.round(3).astype(object), AU="0,450").to_csv(index=False, sep=";", decimal=",")
+    assert ";0.236;" in lines
+    found = read(tmp_path, None, text=lines.encode())
+    assert np.allclose(costs().priced(found).grade["copper"], f.CU) and (found.numbers("AU", "") == 0.45).all()
 
 
 def test_words_with_a_point_stay_in_a_table_with_decimal_commas(tmp_path):
