@@ -12,6 +12,8 @@ import functions
 
 MOST = 8
 PLACE = re.compile(r"note: (?:\./)?(src/\S+?):(\d+):")
+# an answer of a function's own proof that its goal doesn't fit any more
+ANSWER = re.compile(r"(?:\./)?proofs/(\S+)/Answers\.antt:\d+:\d+: error: (?!\d+ declarations? that depends?\b)")
 # what an edit has that may change more than a body
 BEYOND = re.compile(r"\b(fn|requires|ensures|struct|enum|impl|use|const|mod)\b")
 
@@ -57,13 +59,18 @@ def groups_of(edits):
 
 
 def goal_of(edit, texts, goals):
-    """The first of these open goals that is in the function whose body the edit changes, or None."""
+    """The first of these refused goals that is of the function whose body the edit changes, or None: one that is left open in its
+    lines, or one that an answer of its own proof doesn't fit."""
     body = body_of(edit) if texts else None
     if body is None or body.file not in texts:
         return None
     lines = functions.lines_of(texts[body.file], body.path, functions.module_of(Path(body.file)))
-    for goal in goals:
-        place = PLACE.match(goal)
-        if place and place[1] == body.file and int(place[2]) in lines:
-            return goal
-    return None
+    return next((goal for goal in goals if is_of(body, lines, goal)), None)
+
+
+def is_of(body, lines, goal):
+    """Whether this is a goal of the function, which has these lines in its file."""
+    place, answer = PLACE.match(goal), ANSWER.match(goal)
+    if place:
+        return place[1] == body.file and int(place[2]) in lines
+    return bool(answer) and ("::" + answer[1].replace("/", "::")).endswith("::" + body.path)

@@ -198,7 +198,7 @@ def told_by_one_check(group):
 def verdicts(group, verdict_of):
     """Whether each edit of a group is refused, and what to say of it: by one check of all, and by its own where that leaves no goal of it open."""
     texts, told = told_by_one_check(group) if len(group) > 1 else ({}, [])
-    goals = list(filter(OPEN.match, told))
+    goals = [*filter(OPEN.match, told), *(line for line in told if ": error: " in line and not OF_NAMES.match(line))]
     for edit in group:
         goal = edit_groups.goal_of(edit, texts, goals) if goals else None
         yield (True, "%s: refused: %s" % (edit.label, goal[:160])) if goal else verdict_of(edit)

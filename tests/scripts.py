@@ -8,6 +8,7 @@ import sys
 import tempfile
 from pathlib import Path
 
+import edit_groups
 import must_fail
 import pages
 
@@ -214,7 +215,24 @@ def refusals_are_read(top):
     return not wrong, "\n".join(wrong)
 
 
-OF_THIS_TREE = [version_is_up_to_date, pages_are_right, refusals_are_read]
+# What the prover printed of a check of several functions, and whether it refuses an edit of the body of `next` in src/row.rt, in lines 3 to 7.
+OF_NEXT = (("note: src/row.rt:5:9: it is not proved that what the function ensures holds when it returns (`returns`)", True),
+           ("note: src/row.rt:8:9: it is not proved that what the function ensures holds when it returns (`returns`)", False),
+           ("note: src/lib.rt:5:9: it is not proved that what the function ensures holds when it returns (`returns`)", False),
+           ("./proofs/row/next/Answers.antt:4:5: error: `returns`: as printed, the two types differ", True),
+           ("./proofs/row/next_but_one/Answers.antt:4:5: error: `returns`: as printed, the two types differ", False),
+           ("./proofs/Rows.antt:4:5: error: `is_next`: as printed, the two types differ", False),
+           ("./proofs/row/next/Answers.antt:4:5: error: 1 declaration that depends on `returns`, which was not admitted, was not checked: loop", False))
+
+
+def goals_are_of_their_function(top):
+    """Whether of several functions each has its own goals, by its lines or by the answers of its proof."""
+    body = edit_groups.Body("src/row.rt", "row::next")
+    wrong = [line for line, is_its in OF_NEXT if edit_groups.is_of(body, range(3, 8), line) != is_its]
+    return not wrong, "\n".join(wrong)
+
+
+OF_THIS_TREE = [version_is_up_to_date, pages_are_right, refusals_are_read, goals_are_of_their_function]
 
 
 TABLE = "x,y,z,value\n0,0,0,1\n20,0,0,-2.5\n"
