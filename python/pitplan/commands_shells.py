@@ -31,7 +31,7 @@ def shells(folder: Path = STUDY, workers: Optional[int] = typer.Option(None, min
     with shown(told.factors, count) as listener:
         found = study.shells(told.factors, count, listener, certificates)
     table = found.table(**told.rates)
-    write_tables(found, table)
+    write_tables(found, table, told.keys.decimal)
     print_table(found, table)
     warn_of_edges(found)
 
@@ -89,8 +89,8 @@ def lines(total: int) -> Told:
     return listener
 
 
-def write_tables(found: Shells, table: pd.DataFrame) -> None:
-    """Pit by pit, bench by bench, and the planner's own table with a column more."""
+def write_tables(found: Shells, table: pd.DataFrame, decimal: str | None = None) -> None:
+    """Pit by pit, bench by bench, and the planner's own table with a column more; `decimal` is its mark of a decimal, where study.toml says it."""
     from . import table_back
     from .export_csv import safe
     from .whole_file import write_table
@@ -99,7 +99,7 @@ def write_tables(found: Shells, table: pd.DataFrame) -> None:
     write_table(found.benches(), folder / "benches.csv")
     name = found.study.table.name if found.study.table else "blocks.csv"
     try:
-        rows = table_back.write(found, folder / name)
+        rows = table_back.write(found, folder / name, decimal)
         say(f"{folder / name}: the table with a column more, pit_shell, that {rows:,} of its rows have")
     except PlanError as error:
         write_table(safe(found.of_blocks()), folder / "blocks.csv")

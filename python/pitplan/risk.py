@@ -115,9 +115,10 @@ def prepare(study: Study, economics: Economics, realisations: Path, factors: Seq
     """
     column = column_of(economics, metal)
     rows = rows_of(study)
+    lines = len(study.model.row_block)
     with made_whole(folder_of(study)) as work:
         grades, file = opened(realisations, work, study, keys)
-        if grades.ndim != 2 or grades.shape[1] != rows:
+        if grades.ndim != 2 or grades.shape[1] not in (rows, lines):
             shape = " x ".join(map(str, grades.shape))
             raise PlanError(f"the realisations are {shape}, and the table has {rows:,} rows", table=realisations, try_this="a realisation for each row of the .npy, or a column for each of a CSV")
         if len(grades) >= 1 << 16 or not len(grades):
@@ -137,12 +138,21 @@ def column_of(economics: Economics, metal: str | None) -> str:
 
 
 def rows_of(study: Study) -> int:
-    """How many rows the table has. Raises PlanError where several of them are one block."""
+    """How many rows of the table have a block, as blank lines and descriptions haven't. Raises PlanError where several of them are one block."""
     row_block = study.model.row_block
     held = row_block[row_block >= 0]
     if len(np.unique(held)) < len(held):
         raise PlanError("realisations over a table with sub-blocks: whose grade would count?", try_this="a table of whole blocks, and realisations over it")
-    return len(row_block)
+    return len(held)
+
+
+def by_line(grades: Floats, row_block: npt.NDArray[np.int32]) -> Floats:
+    """Grades of the rows that have a block as grades of all lines below the header, 0 where a line has none; grades of all lines as they are."""
+    if len(grades) == len(row_block):
+        return grades
+    found = np.zeros(len(row_block), np.float32)
+    found[row_block >= 0] = grades
+    return found
 
 
 def opened(path: Path, work: Path, study: Study | None = None, keys: TableKeys | None = None) -> tuple[Any, str]:
@@ -279,7 +289,7 @@ class Realisation(Study):
         return economics_of(self.setup.economics).priced(model)
 
     def grades(self) -> Floats:
-        """The grades of this realisation, of shape (rows of the table,).
+        """The grades of this realisation, of shape (lines of the table below its header,).
 
         Raises
         ------
@@ -293,7 +303,7 @@ class Realisation(Study):
             raise PlanError(f"realisation {self.number} can't be read: {error}", table=path, try_this=command("risk", self.base.named, "--realisations", "FILE")) from None
         if digest_of(found) != self.setup.digests[self.number]:
             raise PlanError(f"realisation {self.number} has changed since pitplan risk looked through it", table=path, try_this=command("risk", self.base.named, "--realisations", "FILE"))
-        return found
+        return by_line(found, self.model.row_block)
 
     def place(self, factor: int) -> Path:
         """The folder of a factor's result (in thousandths)."""

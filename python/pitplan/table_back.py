@@ -75,7 +75,7 @@ def with_column(record: bytes, more: bytes) -> bytes:
     return body + more + record[len(body):]
 
 
-def write(shells: Shells, target: Path) -> int:
+def write(shells: Shells, target: Path, decimal: str | None = None) -> int:
     """Writes the study's table again, with a column `pit_shell` behind the others: the share of the price at which a pit first
     has the row's block, with the table's own mark of a decimal, and nothing where none has it. The way back is by row, never by
     coordinates.
@@ -85,6 +85,8 @@ def write(shells: Shells, target: Path) -> int:
     shells : Shells
     target : Path
         Packed where its name ends in ``.gz``.
+    decimal : str, optional
+        The table's mark of a decimal; found out by its first lines unless told.
 
     Returns
     -------
@@ -105,7 +107,7 @@ def write(shells: Shells, target: Path) -> int:
     header = head_of(path, "latin-1", 1)[0]
     mark = separator_of(header)
     name = free_name(names_of(header, mark))
-    decimal = dialect_of(path, "latin-1").decimal          # where 0,5 is a number, 0.5 is a word, and 1.1 a day of January
+    decimal = decimal or dialect_of(path, "latin-1").decimal          # where 0,5 is a number, 0.5 is a word, and 1.1 a day of January
     shares = [f"{factor / THOUSAND:g}".replace(".", decimal) for factor in shells.factors] + [""]
     cells = [(mark + share).encode() for share in shares]
     block = study.model.row_block

@@ -306,6 +306,18 @@ def test_the_formulas_that_init_shows_name_the_table_s_own_columns(tmp_path, nam
     assert np.allclose(height, 2.2 + 0.02 * (1500 - f[name]) / 10) and (beyond == (f["x " + name] > 12000)).all()
 
 
+def test_a_mark_of_a_decimal_that_is_told_is_that_of_the_shells_too(tmp_path):
+    """The first lines have whole numbers alone, so that it can't be found out."""
+    f = table(7, 6, 4, 3).sort_values("CU", ignore_index=True)
+    f["CU"] = [f"{v:g}".replace(".", ",") for v in f.CU]
+    study = written_study(tmp_path / "s", f, STUDY_TOML.replace("[model]\n", '[model]\ndecimal = ","\n'))
+    f[["XC", "YC", "ZC", "TONNES"]] = f[["XC", "YC", "ZC", "TONNES"]].round().astype(int)
+    f.assign(AU=0).to_csv(study / "t.csv", index=False, sep=";")
+    assert pitplan("build", study).returncode == 0 and pitplan("shells", study).returncode == 0
+    back = pd.read_csv(study / "out/t.csv", sep=";", dtype=str)
+    assert "0,6" in set(back.pit_shell) and not back.pit_shell.dropna().str.contains(".", regex=False).any()
+
+
 def test_a_byte_that_is_no_text_is_told_with_its_row(tmp_path):
     f = table(9, 8, 6, 3)
     f["ROCK"] = f.ROCK.where(f.index != 100, "Óxido")

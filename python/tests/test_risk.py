@@ -99,6 +99,30 @@ def test_each_realisation_is_the_study_with_its_grades(tmp_path):
     assert (found.likelihood(1000) == likely).all()
 
 
+def test_realisations_of_a_table_with_lines_that_are_no_blocks(tmp_path):
+    """A line of units below the header and a blank one: a grade for each row that has a block, or for each line."""
+    frame = table(6, 5, 4, 3)
+    lines = frame.to_csv(index=False).splitlines()
+    lines[1:1] = [",".join(["units"] * len(frame.columns))]
+    lines[9:9] = [""]
+    (tmp_path / "u.csv").write_text("\n".join(lines) + "\n")
+    model = pp.read_table(tmp_path / "u.csv", size=SIZE)
+    plain = study_of(tmp_path, frame)
+    study = pp.Study.create(tmp_path / "u", model, costs(), pp.Slopes(45))
+    grades = grades_of(frame, 2)
+    every = np.insert(np.insert(grades, 7, 0, axis=1), 0, 0, axis=1)
+    (tmp_path / "u.sims.csv").write_text("\n".join(["A,B", *(f"{a},{b}" for a, b in grades.T)]) + "\n")
+    np.save(tmp_path / "rows.npy", grades), np.save(tmp_path / "lines.npy", every)
+    risk.prepare(plain, costs(), tmp_path / "rows.npy", [1000])
+    wanted = done(plain).runs
+    for name in ("rows.npy", "lines.npy", "u.sims.csv"):
+        risk.prepare(study, costs(), tmp_path / name, [1000])
+        assert done(study).runs.equals(wanted), name
+    np.save(tmp_path / "short.npy", grades[:, 1:])
+    with pytest.raises(pp.PlanError, match=f"the realisations are 2 x {len(frame) - 1}, and the table has {len(frame)} rows"):
+        risk.prepare(study, costs(), tmp_path / "short.npy", [1000])
+
+
 def test_the_grades_may_be_those_of_another_metal(tmp_path):
     """The same file, first as grades of copper and then of gold: pits of the one aren't those of the other."""
     frame = table(6, 5, 4, 3)
