@@ -15,8 +15,14 @@ import time
 from pathlib import Path
 from types import SimpleNamespace
 
-import numpy as np
-import pandas as pd
+PYTHON = "/usr/bin/python3"
+try:
+    import numpy as np
+    import pandas as pd
+except ModuleNotFoundError:
+    if sys.executable == PYTHON:
+        raise
+    os.execv(PYTHON, [PYTHON, *sys.argv])    # another Python on the path, without Debian's packages
 
 TOP = Path(__file__).resolve().parent.parent
 sys.path[:0] = [str(TOP / "python"), str(TOP / "python/tests")]
@@ -46,7 +52,7 @@ def made_up(columns, levels, pits):
     model = Model(blocks, Grid((430_000.0, 7_215_000.0, 1_007.5), (20.0, 20.0, 15.0), (columns, columns, levels), 30.0), "made-up")
     economics = Economics(metals=(Metal("copper", "CU", price=8500, recovery=0.85),), mining=2.2, processing=9.0)
     shells = Shells.__new__(Shells)
-    shells.study = SimpleNamespace(model=model, priced=economics.priced(model), key="0" * 64,
+    shells.study = SimpleNamespace(model=model, currency="$", priced=economics.priced(model), key="0" * 64,
                                    manifest={"currency": "$", "metals": {"copper": {"grade": "CU", "grade_unit": "%", "price_unit": "t"}}})
     shells.factors = [300 + 50 * n for n in range(pits)]
     shells.shell = np.clip((out + (levels - 1 - k)) / (0.6 * columns) * pits, 0, pits).astype(np.int16)
