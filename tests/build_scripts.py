@@ -25,9 +25,9 @@ def until(is_so, seconds=20):
     return is_so()
 
 
-def proved(tree):
+def proved(tree=None, tree_log=None):
     """The crates that the stand-in proved."""
-    return sorted(line[0] for line in tree.log() if line[0] != "ci" and line[1] != "kept")
+    return sorted(line[0] for line in tree_log or tree.log() if line[0] != "ci" and line[1] != "kept")
 
 
 def is_left_alone(tree):
@@ -122,6 +122,7 @@ def a_killed_build_is_cleared_away_by_the_next(tree):
 
 def what_a_build_proved_the_gate_keeps(tree):
     tree.commit()
+    tree.has_processors(False)
     status, said = tree.ran("build")
     first = [line[:2] for line in tree.log()]
     gate = asked(tree, "gate()")
@@ -147,29 +148,120 @@ def only_what_changed_is_proved_again(tree):
     return well and built == (0, ["beside", "high", "low", "pit"]) and by_work == ["beside", "pit"], said
 
 
-def the_gate_of_a_build_ends_with_it(tree, number, whole_group=False):
-    """Whether a build whose gate is stopped ends with one line, leaves nothing, and goes on from the crates that had ended."""
-    tree.crate("high", SLOW)
+def each_library_has_a_run_of_its_own(tree):
+    """The longest chain first and by the kit's own number of processes, the others by one, none before those below it have ended."""
+    tree.write("crates/low/proofs/Long.antt", "a line\n" * 99)
+    tree.crate("low", "fn one() {}\n// SLEEP 1\n")
+    status, said = tree.ran("build")
+    log = tree.log()
+    runs = [line[1:] for line in log if line[0] == "ci"]
+    jobs = {line[0]: line[3] for line in log if line[0] != "ci" and line[1] == "gate"}
+    of_chain = "any" if len(os.sched_getaffinity(0)) >= 4 else "1"
+    in_order = re.findall(r"^\[ \d/4\] (\w+) +1 functions proved after", said, re.M)
+    well = status == 0 and sorted(runs[:2]) == [["beside"], ["low"]] and runs[2:] == [["high"], []] and proved(tree_log=log) == ["beside", "high", "low", "pit"] and is_left_alone(tree)
+    return well and sorted(in_order[:2]) == ["beside", "low"] and in_order[2:] == ["high", "pit"] and jobs == {"low": of_chain, "beside": "1", "high": of_chain, "pit": "any"}, said + repr(log)
+
+
+def what_is_kept_is_taken_by_one_run(tree):
+    """Also of another tree on the machine; and where it isn't what is wanted, the first run is left off."""
+    tree.ran("build")
+    shutil.rmtree(tree.top / "out")
+    tree.log()
+    status, said = tree.ran("build")
+    log = tree.log()
+    tree.crate("low", "fn one() {}\n// SLEEP 4\n")
+    changed, more = tree.ran("build")
+    runs = [line[1:] for line in tree.log() if line[0] == "ci"]
+    well = status == 0 and [line[:2] for line in log] == [["ci"], ["low", "kept"], ["high", "kept"], ["beside", "kept"], ["pit", "kept"]]
+    well = well and changed == 0 and runs[0] == runs[-1] == [] and sorted(runs[1:-1]) == [["beside"], ["high"], ["low"]] and is_left_alone(tree)
+    return well and said.count("as it was proved") == 4 and more.count("[") == 4 and "beside              as it was proved" in more, said + more + repr(runs)
+
+
+def one_run_proves_all_where_several_cannot(tree):
+    """With --anew, where the number of processes is set, in what calls itself CI, where the kit refuses names, and on few processors."""
+    runs, around = [], tree.around
+    for words, more in ((["--anew"], {}), ([], {"RT_JOBS": "2"}), ([], {"CI": "true"}), ([], {})):
+        tree.has_processors(bool(words or more))
+        tree.crate("low", "fn one() {}\n// %d\n" % len(runs))
+        tree.around = dict(around, **more)
+        runs.append((tree.ran("build", *words)[0], [line[1:] for line in tree.log() if line[0] == "ci"]))
+    return runs == [(0, [["--anew"]]), (0, [[]]), (0, [[]]), (0, [[]])], repr(runs)
+
+
+def a_kit_that_keeps_nothing_proves_all_in_one_run(tree):
+    tree.write("../kit/KEEPS-NOTHING", "")
+    status, said = tree.ran("build")
+    runs = [line[1:] for line in tree.log() if line[0] == "ci"]
+    return status == 0 and runs[-1] == [] and ["high"] not in runs and tree.has("out/pit") and is_left_alone(tree) and said.count("functions proved") == 4, said + repr(runs)
+
+
+def a_library_that_fails_ends_the_others(tree):
+    """One in the middle: what is above it isn't begun, what is beside it is ended, and what is below it is kept."""
+    tree.crate("high", "fn one() {}\n// SLEEP 1\n// FAIL\n")
+    tree.crate("beside", SLOW)
+    status, said = tree.ran("build")
+    first = [line[:2] for line in tree.log() if line[0] != "ci" and line[1] == "gate"]
+    is_free = is_left_alone(tree)
+    for name in ("high", "beside"):
+        tree.crate(name, "fn one() {}\n")
+    again, more = tree.ran("build")
+    well = status == 1 and "high NOT PROVED; the end of" in said and "a goal is open" in said and "stopped" not in said and is_free
+    well = well and sorted(first) == [["beside", "gate"], ["high", "gate"], ["low", "gate"]]
+    return well and again == 0 and proved(tree) == ["beside", "high", "pit"] and re.search(r"low +as it was proved", more), said + more + repr(first)
+
+
+def the_gate_of_a_build_ends_with_it(tree, number, at_work, whole_group=False):
+    """Whether a build that is stopped while these crates are at work ends with one line, leaves nothing, and goes on from the crates that had ended."""
+    for name in ("high", "beside"):
+        tree.crate(name, SLOW)
     build = tree.starts("build")
-    until(lambda: (tree.kit / "LOG").exists() and "high gate" in (tree.kit / "LOG").read_text())
+    until(lambda: (tree.kit / "LOG").exists() and all(name + " gate" in (tree.kit / "LOG").read_text() for name in at_work))
     (os.killpg if whole_group else os.kill)(build.pid, number)
     said, _ = build.communicate(timeout=30)
     well = build.returncode == 128 + number and "Traceback" not in said and said.splitlines()[-1].startswith("stopped;") and is_left_alone(tree)
     tree.log()
-    tree.crate("high", "fn one() {}\n")
+    for name in ("high", "beside"):
+        tree.crate(name, "fn one() {}\n")
     status, more = tree.ran("build")
     return well and status == 0 and proved(tree) == ["beside", "high", "pit"], said + more
 
 
-def ctrl_c_ends_the_gate_of_a_build(tree):
-    return the_gate_of_a_build_ends_with_it(tree, signal.SIGINT, whole_group=True)
+def ctrl_c_ends_the_runs_of_a_build(tree):
+    return the_gate_of_a_build_ends_with_it(tree, signal.SIGINT, ("high", "beside"), whole_group=True)
 
 
-def sigterm_ends_the_gate_of_a_build(tree):
-    return the_gate_of_a_build_ends_with_it(tree, signal.SIGTERM)
+def sigterm_ends_the_runs_of_a_build(tree):
+    return the_gate_of_a_build_ends_with_it(tree, signal.SIGTERM, ("high", "beside"))
+
+
+def a_closed_terminal_ends_the_runs_of_a_build(tree):
+    return the_gate_of_a_build_ends_with_it(tree, signal.SIGHUP, ("high", "beside"))
+
+
+def a_killed_build_takes_its_runs_along(tree):
+    tree.crate("high", SLOW)
+    build = tree.starts("build")
+    until(lambda: (tree.kit / "LOG").exists() and "high gate" in (tree.kit / "LOG").read_text())
+    build.kill()
+    build.communicate()
+    was_there = tree.has("out/room")
+    tree.crate("high", "fn one() {}\n")
+    status, said = tree.ran("build")
+    return was_there and status == 0 and is_left_alone(tree), said
+
+
+def ctrl_c_ends_the_one_run_of_a_build(tree):
+    tree.has_processors(False)
+    return the_gate_of_a_build_ends_with_it(tree, signal.SIGINT, ("high",), whole_group=True)
+
+
+def sigterm_ends_the_one_run_of_a_build(tree):
+    tree.has_processors(False)
+    return the_gate_of_a_build_ends_with_it(tree, signal.SIGTERM, ("high",))
 
 
 def a_crate_that_the_gate_refuses_is_told(tree):
+    tree.has_processors(False)
     tree.crate("high", "fn one() {}\n// FAIL\n")
     status, said = tree.ran("build")
     tree.log()
@@ -198,7 +290,8 @@ def asked(tree, call):
 
 
 def the_gate_waits_for_a_build(tree):
-    tree.crate("low", "fn one() {}\n// SLEEP 2\n")
+    tree.has_processors(False)
+    tree.crate("low", "fn one() {}\n// SLEEP 5\n")
     tree.write("out/again/crates.txt", "of a check that was killed\n")
     build = tree.starts("build")
     until(lambda: tree.has("out/room"))
@@ -289,7 +382,7 @@ def an_answer_comes_before_any_proof(tree):
     parts = ["before anything is proved", "ACCEPTED 90 71040", "run-time checks, and not proved", "Now every function is proved",
              "[ 4/4] pit", "The same check by the proved program", "ACCEPTED 90 71040"]
     at = [match.start() for match in re.finditer("|".join(map(re.escape, parts)), said)]
-    return status == 0 and len(at) == 7 and log == ["try", "ci", "low", "high", "beside", "pit"], said
+    return status == 0 and len(at) == 7 and log[:2] == ["try", "ci"] and log[-1] == "pit", said
 
 
 def quick_stops_after_the_first_answer(tree):
@@ -503,8 +596,10 @@ def the_manual_page_follows_the_help_texts(tree):
 CASES = [
     the_program_stays_where_the_gate_leaves_it, a_change_is_proved, the_room_is_in_the_tree, ctrl_c_ends_with_one_line,
     sigterm_leaves_nothing_behind, a_closed_terminal_leaves_nothing_behind, a_killed_build_is_cleared_away_by_the_next,
-    what_a_build_proved_the_gate_keeps, only_what_changed_is_proved_again, ctrl_c_ends_the_gate_of_a_build,
-    sigterm_ends_the_gate_of_a_build, a_crate_that_the_gate_refuses_is_told, a_second_build_waits_and_says_so, the_gate_waits_for_a_build,
+    what_a_build_proved_the_gate_keeps, only_what_changed_is_proved_again, each_library_has_a_run_of_its_own, what_is_kept_is_taken_by_one_run,
+    one_run_proves_all_where_several_cannot, a_kit_that_keeps_nothing_proves_all_in_one_run, a_library_that_fails_ends_the_others, ctrl_c_ends_the_runs_of_a_build, sigterm_ends_the_runs_of_a_build,
+    a_closed_terminal_ends_the_runs_of_a_build, a_killed_build_takes_its_runs_along, ctrl_c_ends_the_one_run_of_a_build,
+    sigterm_ends_the_one_run_of_a_build, a_crate_that_the_gate_refuses_is_told, a_second_build_waits_and_says_so, the_gate_waits_for_a_build,
     the_gate_tries_edits_over_its_own_libraries, each_edit_that_shows_nothing_fails_the_gate, what_is_proved_is_kept_where_one_fails, a_crate_of_few_functions_gets_one_process,
     limits_of_a_container_count, an_answer_comes_before_any_proof, quick_stops_after_the_first_answer, no_answer_without_proof_is_told,
     the_page_of_the_example_is_made,

@@ -31,7 +31,7 @@ UNTYPED = {"README.md": ("./run-example", "./install", "python3 tests/run"),
 NUMBER = re.compile(r"(?<![\w.,-])\d[\d,]*(?:\.\d+)?")
 OTHERS = {
     1965: "Lerchs and Grossmann's paper", 1976: "Picard's", 2008: "Hochbaum's and Hong's", 2026: "the year of RESULTS",
-    27: "2^27", 32: "2^32", 40: "2^40, and minutes of a first build on four cores", 12: "10^12, and seconds", 64: "bits of a word", 128: "bits of an amount",
+    27: "2^27", 32: "2^32", 40: "2^40", 12: "10^12, and seconds", 64: "bits of a word", 128: "bits of an amount",
     1001: "one more than 1,000", 10_000: "blocks, in DECISIONS", 2_000: "blocks of dense slopes, tried",
     1_060: "blocks of newman, in bench/README", 3_865: "its pairs", 9_400: "blocks of zuck", 130_697: "its pairs",
     50_000: "blocks of a chain, in RESULTS", 75: "turns, in RESULTS", 10**10: "steps, in RESULTS", 10**11: "steps, an example",

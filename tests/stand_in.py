@@ -2,15 +2,17 @@
 
 What it does with a crate is told by words in the crate's sources: `SLEEP 2` takes two seconds, `FAIL` isn't proved. Each
 crate that it works on is a line of the file LOG beside it: `NAME JOBS FOLDER`, and `again` where it goes on from earlier work;
-its gate writes `ci`, and `NAME gate FOLDER` or, where it had kept the crate, `NAME kept FOLDER`.
+its gate writes `ci` and the names that it was given, and `NAME gate FOLDER` or, where it had kept the crate, `NAME kept FOLDER`, and
+RT_JOBS. Where there is a file KEEPS-NOTHING beside LOG, it keeps nothing.
 """
 import os
+import re
 import signal
 import subprocess
 from pathlib import Path
 
 RT = r'''#!/usr/bin/env python3
-import os, re, shutil, sys, time
+import hashlib, os, re, shutil, sys, tempfile, time
 from pathlib import Path
 
 KIT = Path(__file__).resolve().parent.parent
@@ -48,12 +50,15 @@ def prove():
         (out / name).chmod(0o755)
     print("logic=proved functions=%d" % len(re.findall(r"\bfn ", text)))
 
-def gate(name, below):
+KEEPS = not (KIT / "KEEPS-NOTHING").exists()
+
+def gate(name, below, here):
     # as the real one: it keeps what has passed, and its own libraries stay where no earlier build had made any
     crate = here / "crates" / name
-    text, kept, made = "".join(source(here / "crates" / it) for it in [*below, name]), KIT / "kept" / name, crate / "out" / "rlib" / (name + ".rlib")
-    is_kept = kept.exists() and kept.read_text() == text and "--anew" not in words
-    log(" ".join([name, "kept" if is_kept else "gate", str(crate)]))
+    text, made = "".join(source(here / "crates" / it) for it in [*below, name]), crate / "out" / "rlib" / (name + ".rlib")
+    kept = KIT.parent / "rattle-kept" / ("proof-%s-%s" % (name, hashlib.sha256(text.encode()).hexdigest()))
+    is_kept = kept.exists() and "--anew" not in words
+    log(" ".join([name, "kept" if is_kept else "gate", str(crate), os.environ.get("RT_JOBS", "any")]))
     if is_kept:
         print("rt: %s is kept: an earlier run on this machine proved the same files over the same libraries" % name, flush=True)
     else:
@@ -62,8 +67,9 @@ def gate(name, below):
         if "FAIL" in source(crate):
             sys.exit("== %s\nerror: a goal is open\nlogic=not-proved\nrt: %s NOT PROVED" % (name, name))
         print("== %s\nlogic=proved functions=%d\nrt: %s proved" % (name, len(re.findall(r"\bfn ", source(crate))), name), flush=True)
-    kept.parent.mkdir(exist_ok=True)
-    kept.write_text(text)
+    if KEEPS:
+        kept.parent.mkdir(exist_ok=True)
+        kept.write_text("")
     if (crate / "src" / "main.rt").exists():
         (crate / "out").mkdir(exist_ok=True)
         (crate / "out" / name).write_text(program(source(crate)))
@@ -71,6 +77,19 @@ def gate(name, below):
     elif not made.exists():
         made.mkdir(parents=True)
         (made / "by-the-gate").write_text("")
+
+def gate_of_some(names, lines):
+    # as the real one: on a copy among the temporary files
+    below = {name: it.split() for name, _, it in lines}
+    wanted = {it for name in names for it in [name, *below[name]]}
+    with tempfile.TemporaryDirectory(prefix="rt-copy-") as room:
+        shutil.copytree(here / "crates", Path(room) / "crates", ignore=shutil.ignore_patterns("out"))
+        os.chdir(room)
+        for name in below:
+            if name in wanted:
+                gate(name, below[name], Path(room))
+        os.chdir(here)
+    print("rt: %s and the crates below passed%s. This is not the gate: run rt ci with no names" % (" ".join(names), ", and that is kept" if KEEPS else ""))
 
 if words == ["version"]:
     print("stand-in logic 0123456789abcdef")
@@ -88,8 +107,11 @@ elif words[0] in ("lib", "run"):
 elif words[0] == "ci":
     log("ci " + " ".join(words[1:]))
     lines = [line.partition(":") for line in (here / "crates.txt").read_text().splitlines()]
-    for name, _, below in lines:
-        gate(name, below.split())
+    names = [it for it in words[1:] if it != "--anew"]
+    if names:
+        gate_of_some(names, lines)
+    for name, _, below in [] if names else lines:
+        gate(name, below.split(), here)
     print("1 passed, 0 failed")
 else:
     sys.exit("the stand-in has no rt " + words[0])
@@ -145,6 +167,7 @@ class Tree:
         # as much memory as any number of processes needs
         proving = (self.top / "tools" / "proving.py").read_text()
         self.write("tools/proving.py", proving.replace("JOB_MEMORY = 1_500_000_000", "JOB_MEMORY = 1"))
+        self.has_processors(True)
         self.write("crates.txt", "low:\nhigh: low\nbeside:\npit: high low beside\n")
         for name in ("low", "high", "beside"):
             self.crate(name, "fn one() {}\n")
@@ -160,7 +183,8 @@ class Tree:
         self.write("python/pitplan/__init__.py", "__version__ = '0.1.0'\n")
         self.write("bin/pitplan", "#!/bin/sh\n", 0o755)
         self.write(".gitignore", "out/\ndist/\n")
-        self.around = dict(os.environ, PATH="%s:%s" % (self.kit / "bin", os.environ["PATH"]), GIT_CONFIG_GLOBAL=os.devnull)
+        around = {name: text for name, text in os.environ.items() if name not in ("CI", "RT_JOBS")}
+        self.around = dict(around, PATH="%s:%s" % (self.kit / "bin", os.environ["PATH"]), GIT_CONFIG_GLOBAL=os.devnull)
 
     def write(self, name, text, mode=0o644):
         file = self.top / name
@@ -170,6 +194,12 @@ class Tree:
 
     def crate(self, name, text):
         self.write("crates/%s/src/%s.rt" % (name, "main" if name == "pit" else "lib"), text)
+
+    def has_processors(self, so_many):
+        """Has a build prove each library by a run of its own, however many processors there are, or all by one run."""
+        code = (self.top / "tools" / "kit_gate.py").read_text()
+        code = re.sub(r"(?m)^PROCESSORS = \d+", "PROCESSORS = %d" % (1 if so_many else 9999), code)
+        self.write("tools/kit_gate.py", re.sub(r"(?m)^SILENT = \d+", "SILENT = 2", code))
 
     def starts(self, *words):
         """Starts a script of the tree in a group of processes of its own, which hears ctrl-C and a hangup: in the background of a

@@ -115,12 +115,44 @@ def weigh(crates):
         crate.functions = sum(len(FUNCTION.findall(file.read_bytes())) for file in crate.files() if file.suffix == ".rt")
 
 
-class Proof:
+class Work:
+    """A process of the kit that proves a crate, in a room of its own, where also lies what it prints."""
+
+    def __init__(self, crate, jobs, is_urgent, rooms=tree.ROOM):
+        self.crate, self.began, self.room = crate, time.monotonic(), rooms / crate.name
+        self.jobs, self.is_urgent = jobs, is_urgent
+
+    def start(self, words, folder, around=None):
+        """Starts the kit with these words in this folder, at a lower priority where not all waits for this crate."""
+        self.said = open(self.room / "said", "w+b")
+        self.process = subprocess.Popen(([] if self.is_urgent else ["nice", "-n", "10"]) + ["rt", *words], cwd=folder, env=around,
+                                        stdin=subprocess.DEVNULL, stdout=self.said, stderr=subprocess.STDOUT, preexec_fn=as_a_child)
+
+    def seconds(self):
+        return round(time.monotonic() - self.began)
+
+    def text(self):
+        """What the kit printed."""
+        self.said.seek(0)
+        said = self.said.read().decode(errors="replace")
+        self.said.close()
+        return said
+
+    def stop(self):
+        """Ends the process, and those that it has started."""
+        self.process.terminate()
+        self.process.wait()
+        until = time.monotonic() + 10
+        while is_at_work(self.room) and time.monotonic() < until:
+            time.sleep(0.1)
+        self.said.close()
+
+
+class Proof(Work):
     """A crate that is being proved, in a folder of its own."""
 
     def __init__(self, crate, jobs, is_urgent):
-        self.crate, self.began, self.room = crate, time.monotonic(), tree.ROOM / crate.name
-        self.jobs, self.is_urgent = jobs, is_urgent
+        super().__init__(crate, jobs, is_urgent)
         self.place()
 
     def place(self):
@@ -139,20 +171,12 @@ class Proof:
         self.sum = tree.digest(wanted, self.room)
 
     def begin(self):
-        what = ["run", "--jobs", str(self.jobs), "--", "--help"] if self.crate.is_program else ["lib", "--jobs", str(self.jobs)]
-        self.said = open(self.room / "said", "w+b")
-        self.process = subprocess.Popen(([] if self.is_urgent else ["nice", "-n", "10"]) + ["rt"] + what, cwd=self.folder,
-                                        stdin=subprocess.DEVNULL, stdout=self.said, stderr=subprocess.STDOUT, preexec_fn=as_a_child)
-
-    def seconds(self):
-        return round(time.monotonic() - self.began)
+        jobs = ["--jobs", str(self.jobs)]
+        self.start(["run", *jobs, "--", "--help"] if self.crate.is_program else ["lib", *jobs], self.folder)
 
     def end(self):
         """Moves what was made back, and gives the text that the kit printed and whether all is proved."""
-        self.said.seek(0)
-        said = self.said.read().decode(errors="replace")
-        self.said.close()
-        is_proved = self.process.returncode == 0
+        said, is_proved = self.text(), self.process.returncode == 0
         if is_proved and not self.crate.is_program:
             sum_file(self.folder).unlink(missing_ok=True)  # it may be a link to another folder's
             sum_file(self.folder).write_text(self.sum)
@@ -162,12 +186,7 @@ class Proof:
 
     def stop(self):
         """Ends the proof, and keeps what it has proved so far: the crate's next proof goes on from there."""
-        self.process.terminate()
-        self.process.wait()
-        until = time.monotonic() + 10
-        while is_at_work(self.room) and time.monotonic() < until:
-            time.sleep(0.1)
-        self.said.close()
+        super().stop()
         self.move_back("out/incremental")
 
     def move_back(self, part):
@@ -227,6 +246,12 @@ class Host:
         return int(machine.free_memory() // JOB_MEMORY) - growing
 
 
+def has_place(is_urgent, running, host, more):
+    """Whether one more crate may begin: where there is memory, and, unless all waits for it, fewer than so many more processes than processors."""
+    has_memory = host.jobs_of_memory(running) >= 2
+    return not running or has_memory and (is_urgent or sum(proof.jobs for proof in running) < host.processors + more)
+
+
 def jobs_for(crate, waiting, running, host):
     """How many processes prove the crate, and whether it is of the longest chain, on which all waits. No process while it has to wait.
 
@@ -235,27 +260,35 @@ def jobs_for(crate, waiting, running, host):
     """
     longest = max(it.chain for it in waiting + [proof.crate for proof in running])
     is_urgent = crate.chain >= longest
-    room = host.jobs_of_memory(running)
-    if running and (room < 2 or not is_urgent and sum(proof.jobs for proof in running) >= host.processors + 2):
+    if not has_place(is_urgent, running, host, 2):
         return 0, False
+    room = host.jobs_of_memory(running)
     jobs = 1 if crate.functions < FEW_FUNCTIONS else 4 if is_urgent else 2 if 2 * crate.chain > longest else 1
     return max(1, min(jobs, host.processors if is_urgent else (host.processors + 1) // 2, room)), is_urgent
 
 
 class Run:
-    """The proof of all crates: which wait, which are at work, which are done."""
+    """The proof of crates side by side: which wait, which are at work, which are done."""
 
-    def __init__(self, crates, log):
-        self.log, self.host, self.screen = log, Host(), Screen(len(crates))
+    def __init__(self, crates, log, screen):
+        self.log, self.host, self.screen = log, Host(), screen
         self.waiting = sorted(crates.values(), key=lambda it: -it.chain)
         self.running, self.done = [], set()
 
+    def proof_of(self, crate):
+        """The proof of a crate that could begin, or None while it has to wait."""
+        jobs, is_urgent = jobs_for(crate, self.waiting, self.running, self.host)
+        return Proof(crate, jobs, is_urgent) if jobs else None
+
+    def tell(self, proof, said):
+        """Says that a crate is proved."""
+        self.screen.crate(proof.crate, said, "%5d s" % proof.seconds())
+
     def begin_some(self):
         for crate in [it for it in self.waiting if self.done.issuperset(it.below)]:
-            jobs, is_urgent = jobs_for(crate, self.waiting, self.running, self.host)
-            if jobs:
+            proof = self.proof_of(crate)
+            if proof:
                 self.waiting.remove(crate)
-                proof = Proof(crate, jobs, is_urgent)
                 with unbroken():  # so that no process is begun that isn't known here
                     proof.begin()
                     self.running.append(proof)
@@ -271,17 +304,20 @@ class Run:
                 self.screen.failed(proof.crate, said, self.log.name)
                 return False
             self.done.add(proof.crate.name)
-            self.screen.crate(proof.crate, said, "%5d s" % proof.seconds())
+            self.tell(proof, said)
         return True
 
     def stop(self):
-        """Ends what is at work, and clears the room away."""
-        take_no_signals()
+        """Ends what is at work, all at once, and waits for each."""
+        for proof in self.running:
+            proof.process.terminate()
         for proof in self.running:
             proof.stop()
-        shutil.rmtree(tree.ROOM, ignore_errors=True)
-        with suppress(OSError):  # the terminal may be gone
-            self.screen.clear()
+        self.running = []
+
+    def goes_on(self):
+        """Whether there is more to prove, or to wait for."""
+        return bool(self.waiting or self.running)
 
     def pass_over(self):
         """Passes over the libraries that are as they were built."""
@@ -292,14 +328,21 @@ class Run:
             self.screen.crate(crate)
 
     def all(self):
-        self.pass_over()
-        while self.waiting or self.running:
+        """Proves all, and says whether all are proved; no other crate begins once one isn't."""
+        while self.goes_on():
             self.begin_some()
             if not self.take_ended():
                 return False
             self.screen.live("proving " + ", ".join("%s %d s" % (it.crate.name, it.seconds()) for it in self.running))
             time.sleep(0.2)
         return True
+
+
+def clear_away(screen):
+    """Removes the room, and the last line of the terminal, once nothing is at work there."""
+    shutil.rmtree(tree.ROOM, ignore_errors=True)
+    with suppress(OSError):  # the terminal may be gone
+        screen.clear()
 
 
 def prove(crates, log):
@@ -310,8 +353,11 @@ def prove(crates, log):
     weigh(crates)
     tree.clear_rooms()
     tree.ROOM.mkdir(parents=True)
-    run = Run(crates, log)
+    run = Run(crates, log, Screen(len(crates)))
     try:
+        run.pass_over()
         return run.all()
     finally:
+        take_no_signals()
         run.stop()
+        clear_away(run.screen)

@@ -32,8 +32,8 @@ def rounding_of(rounding: float | str | Decimal) -> Decimal:
         found = Decimal(str(rounding))
     except ArithmeticError:
         raise PlanError(f"rounding = {rounding!r} is no number") from None
-    if not found.is_finite() or found <= 0 or found != round(found, 6):
-        raise PlanError(f"rounding = {rounding} has to be above 0, with at most six decimals", try_this="rounding = 1")
+    if not found.is_finite() or not 0 < found <= MOST or found != round(found, 6):
+        raise PlanError(f"rounding = {rounding} has to be above 0 and at most {MOST:,}, with at most six decimals", try_this="rounding = 1")
     return found
 
 

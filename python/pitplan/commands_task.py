@@ -19,7 +19,7 @@ WORDS: Any = typer.Argument(..., help="run SCENARIO FACTOR, or realisation NUMBE
 def task(folder: Path = typer.Argument(..., help="The folder of the study."), words: List[str] = WORDS) -> None:
     """Find the pits of one task, for clusters. Does nothing where they are there; may be started anywhere, twice, and after a crash."""
     from .local import serve
-    from .task import Tasks, task_of
+    from .task import Tasks, task_of, told
     signal.signal(signal.SIGTERM, stopped)
     tasks = Tasks(folder)
     if words == ["-"]:
@@ -29,8 +29,7 @@ def task(folder: Path = typer.Argument(..., help="The folder of the study."), wo
             sys.exit(STOPPED)                # who started this one says so
         return
     found = task_of(words)
-    count = tasks.do(found)
-    say(f"{found}: " + (f"{count} pits found" if count else "done before"))
+    say(told(found, tasks.do(found)))
 
 
 def stopped(signal_number: int, frame: object) -> None:

@@ -20,7 +20,7 @@ def vary(words: List[str] = WORDS,
          later: bool = typer.Option(False, "--later", help="Build what is needed and find no pit yet: pitplan submit does."),
          workers: Optional[int] = typer.Option(None, min=1, help="Pits at a time; as many as processors and free memory allow unless told.")) -> None:
     """Find the proved pit with one thing changed at a time, and which of them moves the worth most."""
-    from .commands_risk import do_all
+    from .commands_risk import do_all, tell_slurm
     from .shells import thousandths
     from .vary import asked_of, changes_of, prepare, tasks
     folder, changes = folder_and_changes(words or [])
@@ -34,6 +34,7 @@ def vary(words: List[str] = WORDS,
     if later:
         say(f"{len(tasks(study))} pits; then: {command('submit', folder)}, and {command('vary', folder)} for the table")
         return
+    tell_slurm(study, tasks(study))
     do_all(study, list(dict.fromkeys(tasks(study))), workers)
     write_what_ifs(study)
 

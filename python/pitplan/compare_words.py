@@ -32,7 +32,7 @@ def broken_lines(found: Comparison, currency: str) -> list[str]:
         way = "straight above" if wall["bearing"] != wall["bearing"] else f"towards {wall['bearing']:05.1f}"
         may = "" if wall["built"] != wall["built"] else f" where {wall['built']:.1f} may stand"
         lines.append(f"  wall {way}: {wall['steepest']:.1f} degrees at worst{may}, {wall['height']:,.10g} m up over {wall['away']:,.1f} m, "
-                     f"from {'block ' + wall['id'] if wall['id'] else 'air'} at ({wall['x']:,.1f}, {wall['y']:,.1f}), bench {wall['bench']:,.10g}; {wall['pairs']:,} pairs")
+                     f"from {'block ' + wall['id'] if wall['id'] else 'an added block'} at ({wall['x']:,.1f}, {wall['y']:,.1f}), bench {wall['bench']:,.10g}; {wall['pairs']:,} pairs")
     more = len(found.walls) - 3
     lines += [f"  {more} more {'bearings' if more > 1 else 'bearing'} in walls.csv of pitplan compare"] if more > 0 else []
     gap = found.repair.gap
@@ -46,7 +46,7 @@ def forbidden_lines(study: Study, held: Bools) -> list[str]:
     shut = held & study.priced.forbidden
     if not shut.any():
         return []
-    count, first = int(shut.sum()), str(study.model.blocks["id"].to_numpy()[shut][0])
+    count, first = int(shut.sum()), str(study.model.blocks["id"].to_numpy()[shut][0]) or "an added block"
     return [f"look: the design digs {count:,} {'blocks' if count > 1 else 'block'} that forbid keeps from being dug, as {first}: its worth counts them at a price that no pit pays, and says nothing"]
 
 

@@ -27,6 +27,7 @@ GROUPED = re.compile(r"[+-]?[1-9]\d{0,2}([.,])\d{3}(\1\d{3})*")       # a whole 
 SMALL, MOST_TIMES = 1 << 26, 200              # bytes that any table may unpack to, and how many times its size a larger one may
 SAY_ENCODING = 'save it as "CSV UTF-8"; or tell init --encoding cp1252, or say encoding = "cp1252" in [model]'
 MOST_WORDS = 1000                            # different cells that a column of codes has at most; one of numbers with a mark among them has more
+NO_PLACE = "fill its place in, or take the row out"      # what to try where a coordinate is no number
 PLAIN = re.compile(r"[+-]?(\d+\.?\d*|\.\d+)([eE][+-]?\d+)?")
 
 
@@ -227,15 +228,17 @@ def read_frame(path: Path, dialect: Dialect, words: Collection[str] = ()) -> pd.
 
 
 def points_for_commas(frame: pd.DataFrame, words: Collection[str], path: Path) -> None:
-    """Makes 2.438 of the cell 2,438 in columns that pandas left as words, since a mark as "-" or "<0,01" stands among the
-    numbers. The marks stay as they are."""
+    """Makes 2.438 of the cell 2,438 in columns that pandas left as words, since a mark as "-" or "<0,01", or a point in place of a
+    comma, stands among the numbers. The marks stay as they are."""
     for name in frame.columns:
         if name in words or frame[name].dtype.kind in "iufb":
             continue
         values = frame[name]
         refuse_points(values, path)
         swapped = values.astype(object).where(values.map(type) == str).str.replace(f"^{COMMA_DECIMAL.pattern}$", r"\1.\2", regex=True)
-        frame[name] = swapped.where(swapped.notna(), values)
+        spelt = swapped.where(swapped.notna(), values)
+        found = pd.to_numeric(spelt, errors="coerce")
+        frame[name] = found if found.notna().equals(spelt.notna()) else spelt      # 0,15 and 0.15 are numbers both
 
 
 def refuse_points(values: pd.Series, path: Path) -> None:
@@ -265,7 +268,7 @@ def parsed(path: Path, dialect: Dialect, names: Sequence[str], words: Collection
                     return of_one_kind(pd.read_csv(file, names=list(names), **given), path, names, given)
             except pd.errors.ParserWarning:
                 with opened(path) as file:
-                    return of_one_kind(without_ends(pd.read_csv(file, names=[*names, ""], **given), names, path), path, [*names, ""], given)
+                    return of_one_kind(without_ends(pd.read_csv(file, names=[*names, ""], **given), names, path, dialect.skip), path, [*names, ""], given)
     except pd.errors.ParserWarning:
         raise too_long(path, dialect, len(names)) from None
     except pd.errors.EmptyDataError:
@@ -280,8 +283,9 @@ def parsed(path: Path, dialect: Dialect, names: Sequence[str], words: Collection
 
 def of_one_kind(frame: pd.DataFrame, path: Path, names: Sequence[str], given: Mapping[str, Any]) -> pd.DataFrame:
     """The table with each column of few words as text throughout. pandas reads a large table piece by piece: where a piece has
-    numbers alone, 007 is 7 there, and another code than the 007 of a piece that has a word too."""
-    mixed = [name for name in frame.columns if frame[name].dtype == object and pd.api.types.infer_dtype(frame[name], skipna=True).startswith("mixed")
+    numbers alone, 007 is 7 there, and another code than the 007 of a piece that has a word too. And of the words TRUE and FALSE, in
+    any spelling, it makes what is no word."""
+    mixed = [name for name in frame.columns if frame[name].dtype.kind in "bO" and pd.api.types.infer_dtype(frame[name], skipna=True).startswith(("mixed", "boolean"))
              and frame[name].nunique() <= MOST_WORDS]
     if mixed:
         with opened(path) as file:
@@ -299,12 +303,12 @@ def too_long(path: Path, dialect: Dialect, width: int) -> PlanError:
     return PlanError("has rows with more cells than the header line", table=path)
 
 
-def without_ends(frame: pd.DataFrame, names: Sequence[str], path: Path) -> pd.DataFrame:
-    """The table without the empty column that a separator at the end of each row makes."""
+def without_ends(frame: pd.DataFrame, names: Sequence[str], path: Path, skip: int) -> pd.DataFrame:
+    """The table without the empty column that a separator at the end of each row makes; `skip` lines below the header hold no blocks."""
     more = frame[""].notna().to_numpy()
     if more.any():
         row = int(np.argmax(more))
-        raise PlanError(f"has {len(names) + 1} cells, and the header line {len(names)}", table=path, row=row,
+        raise PlanError(f"has {len(names) + 1} cells, and the header line {len(names)}", table=path, row=row + skip,
                         try_this="is there a separator within a number or a name?")
     kept: pd.DataFrame = frame[list(names)]
     return kept

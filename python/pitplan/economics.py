@@ -1,7 +1,9 @@
 """From grades, prices, recoveries and costs to what each block brings and costs."""
 from __future__ import annotations
 
+import json
 import math
+import re
 from collections.abc import Mapping, Sequence
 from dataclasses import dataclass, field
 from decimal import Decimal
@@ -16,7 +18,7 @@ from .gaps import AIR
 from .model import Model
 from .units import metal_in_a_tonne
 
-QUOTES = '""'                                # a key of TOML for a rock without a name
+BARE = re.compile(r"[A-Za-z0-9_-]+")         # a key of TOML that needs no quotes
 # A number, a column of the table, a formula over columns, or a number by rock with "other" for the rest.
 Amount = Union[float, str, Mapping[str, float]]
 
@@ -164,10 +166,10 @@ class Economics:
         keep the rock beside the corridor, whose slopes lead through that air, from being dug too."""
         found: Bools = np.zeros(len(model), bool)
         for formula in self.forbid:
-            holds = worked_out(str(formula), model.blocks, "[economics] forbid")
+            holds = of_formula(str(formula), model, "[economics] forbid")
             if holds.dtype != bool:
                 raise PlanError(f"[economics] forbid = {formula!r} says neither yes nor no", try_this='as "XC > 12000"')
-            found |= holds
+            found |= holds.astype(bool)
         found &= model.blocks.tonnes.to_numpy(float) > 0
         return found
 
@@ -209,19 +211,31 @@ def amount(what: str, given: Amount, model: Model) -> Floats:
     if isinstance(given, (int, float)):
         return np.full(len(b), float(given))
     if isinstance(given, str):
-        return model.numbers(given, what) if given in b.columns else worked_out(given, b, what).astype(float)
+        return model.numbers(given, what) if given in b.columns else of_formula(given, model, what).astype(float)
     kinds = [str(kind) for kind in b.rock.unique()]
     unsaid = sorted(set(kinds) - set(given) - {AIR})
     if unsaid and "other" not in given:
         strange = next((name for name in given if name not in kinds), None)
         raise PlanError(f"{what}: nothing is said of rock {', '.join(rock or 'without a name, an empty cell' for rock in unsaid)}{meant(strange, unsaid) if strange else ''}",
-                        table=model.table, row=row_at(model, int(np.argmax(b.rock == unsaid[0]))), try_this=f"{{ {unsaid[0] or QUOTES} = .. }}, or {{ other = .. }} for the rest")
+                        table=model.table, row=row_at(model, int(np.argmax(b.rock == unsaid[0]))), try_this=f"{{ {unsaid[0] if BARE.fullmatch(unsaid[0]) else json.dumps(unsaid[0], ensure_ascii=False)} = .. }}, or {{ other = .. }} for the rest")
     for rock, value in given.items():
         number(f"{what} of rock {rock}", value, -math.inf)
         if "other" in given and rock not in (*kinds, "other", AIR):        # else a misspelt rock counts as one of the others
             raise PlanError(f"{what}: no block is of rock {rock!r}{meant(rock, kinds)}")
     found: Floats = b.rock.map({kind: float(given.get(kind, given.get("other", 0.0))) for kind in kinds}).to_numpy(float)
     return found
+
+
+def of_formula(text: str, model: Model, what: str) -> Floats | Bools:
+    """What a formula gives for each block; 0 or no for air that was added, which weighs nothing, and stands where a formula that goes
+    by the ground may give no number."""
+    asked = (model.blocks["row"].to_numpy() >= 0) | (model.blocks["tonnes"].to_numpy(float) > 0)
+    if asked.all():
+        return worked_out(text, model.blocks, what)
+    found = worked_out(text, model.blocks[asked], what)
+    each: Floats | Bools = np.zeros(len(model), found.dtype)
+    each[asked] = found
+    return each
 
 
 def share(what: str, values: Floats, model: Model) -> Floats:

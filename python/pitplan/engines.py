@@ -8,6 +8,7 @@ from __future__ import annotations
 
 import hashlib
 import json
+import os
 import shlex
 import shutil
 import subprocess
@@ -17,7 +18,7 @@ from pathlib import Path
 from typing import Any
 
 from .errors import STOPPED, MachineError, PlanError, in_a_line
-from .program import TOP
+from .program import TOP, found_program
 from .study import Study, host
 from .task import Task, Tasks, memory_of_task
 
@@ -66,7 +67,8 @@ class Limits:
 
 
 def command() -> str:
-    """How a scheduler's script starts pitplan, quoted for a shell.
+    """How a scheduler's script starts pitplan, quoted for a shell. A `pit` that PIT names here is named there too, by its whole path:
+    tasks start in the study's folder, and a site may hand on no environment.
 
     Raises
     ------
@@ -77,7 +79,7 @@ def command() -> str:
     found = str(own) if own.is_file() else shutil.which("pitplan")
     if found is None:
         raise PlanError("the command pitplan isn't on the path, and a cluster's script starts it", try_this="./install in the repository, on a disk that all machines have")
-    return shlex.quote(found)
+    return (f"env PIT={shlex.quote(found_program())} " if os.environ.get("PIT") else "") + shlex.quote(found)
 
 
 def job_name(study: Study) -> str:
@@ -158,13 +160,13 @@ class Handed:
     state: str
     log: Path
 
-    def last_line(self) -> str:
+    def last_line(self) -> str | None:
         """What stands last in the log; before `STOPPED`, which a task says that is ended, and which doesn't say why. "" where there is
-        nothing."""
+        nothing, None where there is no log: the task never began."""
         try:
             lines = [line.strip() for line in self.log.read_text(errors="replace").split("\n") if line.strip()]
         except OSError:
-            return ""
+            return None
         return in_a_line(next((line for line in reversed(lines) if line != STOPPED), STOPPED if lines else ""))
 
 

@@ -31,14 +31,14 @@ def write(shells: Shells, path: str | os.PathLike[str], columns: Sequence[str] |
 
     Each cell has ``shell`` (the factor of the first pit that has it, as a share of the price; not a number where none has),
     ``worth`` (at factor 1, in units of currency), ``block`` (its number in `pit`'s files), and the table's columns. A
-    column of words is numbered, in the order of the words.
+    column of TRUE and FALSE has 1 and 0; another one of words is numbered, in the order of the words.
 
     Parameters
     ----------
     shells : Shells
     path : str or path
     columns : sequence of str, optional
-        Of the table; all columns of numbers and the rock unless told.
+        Of the table; all columns of numbers, of TRUE and FALSE, and the rock unless told.
     is_whole : bool
         Whether all blocks are written, or the rock of the largest pit alone.
 
@@ -79,7 +79,8 @@ def mesh_of(shells: Shells, columns: Sequence[str] | None = None, is_whole: bool
         if values.dtype.kind in "iufb":
             data[free(name)] = values.to_numpy().astype(np.int32 if values.dtype.kind == "b" else values.dtype)
             continue
-        codes, found = numbered(values, name, model.name)
+        truths = yes_or_no(values)
+        codes, found = (truths, []) if truths is not None else numbered(values, name, model.name)
         data[free(name)] = codes
         legend += [(name, i, word) for i, word in enumerate(found)]
     mesh = meshio.Mesh(points, [("hexahedron", cells)], cell_data={name: [values] for name, values in data.items()})
@@ -101,14 +102,15 @@ def hexahedra(model: Model, kept: Ints) -> tuple[npt.NDArray[np.float64], Ints]:
 
 
 def columns_of(model: Model, wanted: Sequence[str] | None) -> list[str]:
-    """The columns to write: those that are asked for, or all of numbers and the rock.
+    """The columns to write: those that are asked for, or all of numbers, those of TRUE and FALSE, and the rock.
 
     Raises PlanError where the table has no such column.
     """
     there = [str(name) for name in model.blocks.columns]
     if wanted is None:
         kinds = model.blocks.dtypes
-        return [name for name in there if name == "rock" or name == "tonnes" or (name not in OURS and kinds[name].kind in "iufb")]
+        return [name for name in there if name == "rock" or name == "tonnes"
+                or (name not in OURS and (kinds[name].kind in "iufb" or yes_or_no(model.blocks[name]) is not None))]
     for name in wanted:
         if name not in there:
             raise PlanError(f"the table has no column {name!r}{meant(name, there)}")
@@ -118,6 +120,16 @@ def columns_of(model: Model, wanted: Sequence[str] | None) -> list[str]:
 def free(name: str) -> str:
     """The name of a column in the file: the table's own, but for names that this package writes itself."""
     return f"{name} of the table" if name in OWN else name
+
+
+def yes_or_no(values: pd.Series) -> npt.NDArray[np.int32] | None:
+    """1 for each TRUE, in any spelling, and 0 for each FALSE or empty cell; None for a column that has another word, or neither."""
+    code, kinds = pd.factorize(values)
+    words = [str(kind).strip().upper() for kind in kinds]
+    if not {"TRUE", "FALSE"} & set(words) or not set(words) <= {"TRUE", "FALSE", ""}:
+        return None
+    found: npt.NDArray[np.int32] = np.array([*(word == "TRUE" for word in words), False], np.int32)[code]
+    return found
 
 
 def numbered(values: pd.Series, name: str, table: str) -> tuple[npt.NDArray[np.int32], list[str]]:

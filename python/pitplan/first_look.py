@@ -12,7 +12,7 @@ import numpy as np
 import pandas as pd
 
 from .column_names import PLACES, REGIONS, SIZES, which_columns
-from .csv_text import Dialect, dialect_of, head_of, names_of, number_column, read_frame
+from .csv_text import NO_PLACE, Dialect, dialect_of, head_of, names_of, number_column, read_frame
 from .errors import PlanError
 from .formula import text_of
 from .grid import Floats, Grid
@@ -103,12 +103,12 @@ def look_at(table: Path, given: Mapping[str, str] | None = None, encoding: str |
     look = Look(dialect, names, len(frame), columns=[str(name) for name in frame.columns])
     look.absent, where = marks_in(frame, names)
     look.notes += [f"{mark or 'an empty cell'} stands for \"not estimated\" in {', '.join(columns)}, and counts as 0" for mark, columns in where.items()]
-    x, y, z = (number_column(frame[names[key]], table.name) for key in PLACES)
+    x, y, z = (number_column(frame[names[key]], table.name, hint=NO_PLACE) for key in PLACES)
     find_grid(look, frame, x, y, z)
     look.grades = [str(name) for name in frame.columns if is_grade(frame, str(name), look)]
     look.region, look.regions = regions_in(frame, look)
     if "rock" in names:
-        look.rocks = [str(rock) for rock in frame[names["rock"]].fillna("").value_counts().index[:12]]
+        look.rocks = [str(rock) for rock in frame[names["rock"]].fillna("").str.strip().value_counts().index[:12]]
     if not {"tonnes", "density"} & set(names):
         look.notes.append("no column of tonnes or density was found: name it in columns")
     if "rock" not in names:

@@ -8,6 +8,7 @@ from __future__ import annotations
 import ast
 import operator
 import re
+import unicodedata
 from collections.abc import Callable, Sequence
 from typing import Any
 
@@ -67,7 +68,7 @@ def worked_out(text: str, table: pd.DataFrame, what: str) -> npt.NDArray[Any]:
     if each.dtype == bool:
         return each
     if each.dtype.kind not in "iuf":
-        raise PlanError(f"{told} gives words and no number")
+        raise PlanError(f"{told} gives words and no number", try_this="a comparison with one of its words, as ROCK == 'OXI'")
     if not np.isfinite(each).all():
         raise PlanError(f"{told} gives no number here", row=reading.row_of(int(np.argmax(~np.isfinite(each)))))
     return each.astype(float)
@@ -92,9 +93,10 @@ class Reading:
         if isinstance(node, ast.Name):
             return self.column(node.id)
         if isinstance(node, ast.BinOp) and type(node.op) in BINARY:
-            return BINARY[type(node.op)](self.value(node.left), self.value(node.right))
+            return BINARY[type(node.op)](counted(self.value(node.left)), counted(self.value(node.right)))
         if isinstance(node, ast.UnaryOp) and type(node.op) in UNARY:
-            return UNARY[type(node.op)](self.value(node.operand))
+            inner = self.value(node.operand)
+            return UNARY[type(node.op)](inner if isinstance(node.op, ast.Not) else counted(inner))
         if isinstance(node, ast.Compare) and all(type(op) in ORDER for op in node.ops):
             parts = (node.left, *node.comparators)
             sides = [self.value(part) for part in parts]
@@ -115,7 +117,10 @@ class Reading:
         raise PlanError(f"{self.told}: {ast.unparse(node)!r} isn't part of a formula", try_this=PARTS)
 
     def column(self, name: str) -> Any:
-        """A column of the table; whole numbers count as floats, so that nothing wraps round."""
+        """A column of the table; whole numbers count as floats, so that nothing wraps round. Python reads some letters of a plain word
+        as others that look alike, as the sign of micro as a Greek mu."""
+        if name not in self.table.columns:
+            name = next((str(column) for column in self.table.columns if unicodedata.normalize("NFKC", str(column)) == name), name)
         if name not in self.table.columns:
             raise PlanError(f"{self.told}: there is no column {name!r}{meant(name, map(str, self.table.columns))}")
         found = self.table[name].to_numpy()
@@ -133,6 +138,8 @@ class Reading:
         """
         a, b = sides
         is_same = isinstance(op, (ast.Eq, ast.NotEq))
+        if is_same and isinstance(a, np.ndarray) and isinstance(b, np.ndarray) and has_words(a) and has_words(b):
+            return ORDER[type(op)](stripped(a), stripped(b))
         if is_same and has_words(a) != has_words(b):
             self.tell_words()
             raise PlanError(f"{self.told}: {ast.unparse(parts[0])} and {ast.unparse(parts[1])} are a word and a number, which are never the same",
@@ -147,11 +154,10 @@ class Reading:
 
     def words_of(self, cells: Any, word: str, part: str) -> npt.NDArray[Any]:
         """The words of a column without the blanks around them; `word` has to be one of them."""
-        code, kinds = pd.factorize(cells)
-        words = np.array([*(text_of(kind) for kind in kinds), ""], object)          # the last is that of an empty cell, whose code is -1
-        if word.strip() not in (*words[:-1], "", AIR):
-            raise PlanError(f"{self.told}: no block has {part} = {word!r}{meant(word.strip(), sorted(set(words[:-1])))}")
-        found: npt.NDArray[Any] = words[code]
+        found = stripped(cells)
+        there = set(pd.unique(found))
+        if word.strip() not in there | {"", AIR}:
+            raise PlanError(f"{self.told}: no block has {part} = {word!r}{meant(word.strip(), sorted(there - {''}))}")
         return found
 
     def tell_words(self) -> None:
@@ -161,14 +167,28 @@ class Reading:
             if cells.dtype.kind not in "iufb" and pd.to_numeric(cells, errors="coerce").notna().mean() > 0.5:
                 number_column(pd.Series(cells.to_numpy(), index=self.table["row"] if "row" in self.table else None, name=name), None)
 
-    def row_of(self, block: int) -> int:
-        """The row of a block, as `PlanError` takes it."""
-        return int(self.table["row"].iloc[block]) if "row" in self.table else block
+    def row_of(self, block: int) -> int | None:
+        """The row of a block, as `PlanError` takes it; None of a block that was added, which has none."""
+        row = int(self.table["row"].iloc[block]) if "row" in self.table else block
+        return row if row >= 0 else None
+
+
+def counted(value: Any) -> Any:
+    """A part of a formula as what is counted with: yes is 1 and no is 0. numpy's own yes plus yes is 1."""
+    return value.astype(float) if isinstance(value, (np.ndarray, np.bool_)) and value.dtype == bool else value
 
 
 def has_words(side: Any) -> bool:
     """Whether a part of a formula is a word, or a column of words."""
     return isinstance(side, str) or isinstance(side, np.ndarray) and side.dtype.kind not in "iufb"
+
+
+def stripped(cells: Any) -> npt.NDArray[Any]:
+    """The words of a column without the blanks around them; an empty cell is a word of no letter."""
+    code, kinds = pd.factorize(cells)
+    words = np.array([*(text_of(kind) for kind in kinds), ""], object)          # the last is that of an empty cell, whose code is -1
+    found: npt.NDArray[Any] = words[code]
+    return found
 
 
 def text_of(value: Any) -> str:

@@ -12,7 +12,7 @@ import pandas as pd
 
 from . import gaps, subblocks
 from .column_names import PLACES, SIZES, which_columns
-from .csv_text import Dialect, dialect_of, head_of, names_of, number_column, numbers_among, read_frame
+from .csv_text import NO_PLACE, Dialect, dialect_of, head_of, names_of, number_column, numbers_among, read_frame
 from .errors import PlanError, meant
 from .grid import Floats, Grid
 
@@ -193,7 +193,7 @@ def read_with(path: Path, keys: TableKeys) -> Model:
     if dialect.skip:
         notes.append(f"{dialect.skip} lines below the header hold no blocks")
     rows = int(frame.index[-1]) + 1
-    places = subblocks.Places(*(number_column(frame[names[key]], table, hint="fill its place in, or take the row out") for key in PLACES))
+    places = subblocks.Places(*(number_column(frame[names[key]], table, hint=NO_PLACE) for key in PLACES))
     size = size_of(frame, names, keys, table, notes)
     estimated(frame, names, keys.absent)
     whole = subblocks.whole_blocks(frame, names, places, size, subblocks.Wanted(keys.regularise, keys.rotation, table))
@@ -330,8 +330,9 @@ def light(blocks: pd.DataFrame) -> list[str]:
     rocks = blocks["rock"][blocks["tonnes"] == 0].value_counts()
     if not len(rocks):
         return []
-    named = ", ".join(f"{rock} {count:,}" for rock, count in rocks.head(3).items()) + (", .." if len(rocks) > 3 else "")
-    return [f"{int(rocks.sum()):,} rows weigh nothing, and count as air: {named}"]
+    named = ", ".join(f"{rock or 'without a rock'} {count:,}" for rock, count in rocks.head(3).items()) + (", .." if len(rocks) > 3 else "")
+    count = int(rocks.sum())
+    return [f"{count:,} {'rows weigh' if count > 1 else 'row weighs'} nothing, and {'count' if count > 1 else 'counts'} as air: {named}"]
 
 
 def without_blanks(words: pd.Series) -> npt.NDArray[Any]:
@@ -354,7 +355,7 @@ def columns_of(frame: pd.DataFrame, names: Mapping[str, str], grid: Grid, index:
         raise PlanError("no column is known as tonnes or density", table=table, try_this='columns = { tonnes = "..." } in [model]')
     if (tonnes < 0).any():
         row = int(np.argmax(tonnes < 0))
-        cell = frame[weighed].iloc[row]
+        cell = number_column(frame[weighed].iloc[row:row + 1], table)[0]
         raise PlanError(f"{cell:g} is less than nothing", table=table, row=int(frame.index[row]), column=weighed,
                         try_this=f'absent = ["{cell:g}"] in [model], if that stands for "not estimated"')
     own["tonnes"] = tonnes

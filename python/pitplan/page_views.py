@@ -230,7 +230,7 @@ def likelihood(found: Risk, factor: int, table: pd.DataFrame) -> View:
     columns += [scaled(name, table[column], money) for name, column in (("Worth, least", "worth_least"), ("Worth, mean", "worth_mean"), ("Worth, most", "worth_most"))]
     most = int(np.argmax(table["worth_mean"]))
     said = [f"{found.count:,} realisations at factor {factor_text(factor)}.",
-            f"The blocks of at least {names[most]} are the fixed pit worth most on the mean, {amount_text(table['worth_mean'].iloc[most], money)} {money.unit}; "
+            f"Of these {len(names)} pits that of at least {names[most]} is worth most on the mean, {amount_text(table['worth_mean'].iloc[most], money)} {money.unit}; "
             f"each realisation's own best pit is worth {amount_text(table['best_mean'].iloc[0], money)} on the mean."]
     return View(f"Likelihood at factor {factor_text(factor)}", "Blocks of a likelihood of at least", Table("Pits by likelihood", "At least", names, columns), levels,
                 "Likelihood, at least", LIKELY, names, 1 + names.index("50%"), said=said, more=[spread(found, currency)])
@@ -244,4 +244,4 @@ def spread(found: Risk, currency: str) -> Table:
         ends = [(word, f"{column}_{key}") for word, key in (("least", "least"), ("p10", "p10"), ("median", "p50"), ("mean", "mean"), ("p90", "p90"), ("most", "most"))]
         scale = scale_of(table[[key for _, key in ends]], unit)
         columns += [scaled(f"{name}, {word}", table[key], scale) for word, key in ends]
-    return Table("Each realisation's own best pit: a tenth lies below p10, a tenth above p90", "Factor", [factor_text(round(f * THOUSAND)) for f in table["factor"]], columns)
+    return Table("Each realisation's own best pit, its worth at the factor's own price: a tenth lies below p10, a tenth above p90", "Factor", [factor_text(round(f * THOUSAND)) for f in table["factor"]], columns)

@@ -7,8 +7,7 @@ from __future__ import annotations
 import numpy as np
 
 from .amounts import THOUSAND, Priced
-from .economics import Economics
-from .formula import worked_out
+from .economics import Economics, of_formula
 from .model import Model
 
 LIGHTEST, HEAVIEST = 0.05, 10.0              # tonnes for each cubic unit of the coordinates, be these metres or feet
@@ -40,7 +39,7 @@ def of_worths(priced: Priced, economics: Economics) -> list[str]:
     units = "price, price_unit, grade_unit and recovery in [economics]"
     ore = priced.milled(THOUSAND)
     if not ore.any():
-        return [f"no block pays for its treatment at the full price, so each pit is empty\n  try: {units}"]
+        return [f"no block pays for its treatment at the full price, so each pit up to factor 1 is empty\n  try: {units}"]
     costs = float(priced.processing[ore].sum(dtype=float) + priced.mining[ore & ~priced.forbidden].sum(dtype=float))
     times = float(priced.revenue[ore].sum(dtype=float)) / max(costs, 1.0)
     found = [f"the ore brings {times:,.0f} times what digging and treating it costs\n  try: {units}"] if times > RICHEST else []
@@ -52,4 +51,4 @@ def of_worths(priced: Priced, economics: Economics) -> list[str]:
 def of_forbid(model: Model, economics: Economics) -> list[str]:
     """The formulas of `forbid` that hold for no block."""
     return [f"[economics] forbid = {formula!r} holds for no block, so it keeps nothing from being dug\n  try: the numbers in it, by the table's own coordinates and units"
-            for formula in economics.forbid if not np.any(worked_out(str(formula), model.blocks, "[economics] forbid"))]
+            for formula in economics.forbid if not np.any(of_formula(str(formula), model, "[economics] forbid"))]

@@ -13,14 +13,17 @@ import ast
 import csv
 import gzip
 import hashlib
+import io
 import json
 import math
 import re
 import subprocess
 import sys
 import tomllib
+import unicodedata
+import zlib
 from collections import Counter, defaultdict
-from collections.abc import Callable, Iterator
+from collections.abc import Callable, Collection, Iterator, Mapping
 from decimal import Decimal
 from functools import cache
 from itertools import zip_longest
@@ -31,13 +34,132 @@ HERE = Path(__file__).resolve().parent
 SUMS, PIECE, THOUSAND, MICRO, NANO = "SHA256SUMS", 1 << 20, 1000, 10 ** 6, 10 ** 9
 LINE = 120                                   # bytes that a line of a certificate has at most
 NUMBER = re.compile(r"[+-]?(\d+\.?\d*|\.\d+)([eE][+-]?\d+)?")
+COMMA = re.compile(r"([+-]?\d*),(\d+(?:[eE][+-]?\d+)?)")
+SMALL, MOST_TIMES = 1 << 26, 200              # bytes that any table may unpack to, and how many times its size a larger one may
 GRADES = {"%": 10_000.0, "kg/t": 1_000.0, "g/t": 1.0, "ppm": 1.0, "mg/kg": 1.0, "ppb": 0.001}           # grams in a tonne
 SERIES = {"from": 0.30, "to": 1.20, "step": 0.05}                                                       # where study.toml says no factors
 PRICES = {"t": 1e6, "kg": 1e3, "g": 1.0, "lb": 453.59237, "oz": 31.1034768, "dmtu": 10_000.0}          # grams in a unit
+FAR, LONGEST = 1e100, 2000                   # how far from 0 a number of a file may be, and how many letters a formula may have
+MOST = 10 ** 18                              # millionths that `pit` reads for a block
+UNWORKABLE = (ArithmeticError, MemoryError, RecursionError, SyntaxError, TypeError, ValueError)      # what Python raises over a text that is no formula
 
 
 class Bad(Exception):
     """Something is wrong, and what."""
+
+
+class Kind(NamedTuple):
+    """What a value of a file may be: in words, and whether a value is one."""
+
+    must: str
+    holds: Callable[[Any], bool]
+
+
+def is_number(value: Any, low: float = -FAR, high: float = FAR) -> bool:
+    return isinstance(value, (int, float)) and not isinstance(value, bool) and low <= value <= high
+
+
+def is_whole(value: Any, low: float = 0, high: float = FAR) -> bool:
+    return isinstance(value, int) and is_number(value, low, high)
+
+
+def is_word(value: Any) -> bool:
+    return isinstance(value, str) and len(value) <= LONGEST
+
+
+def is_list(value: Any, holds: Callable[[Any], bool], least: int = 0, most: float = FAR) -> bool:
+    return isinstance(value, list) and least <= len(value) <= most and all(map(holds, value))
+
+
+def is_table(value: Any, holds: Callable[[Any], bool]) -> bool:
+    return isinstance(value, dict) and all(map(holds, value.values()))
+
+
+def is_angles(value: Any) -> bool:
+    """Whether this is an angle, or a list of bearings with an angle for each."""
+    def is_angle(angle: Any) -> bool:
+        return is_number(angle, 5, 89)
+    return is_angle(value) or is_list(value, lambda pair: is_list(pair, is_number, 2, 2) and 0 <= pair[0] <= 360 and is_angle(pair[1]), 1)
+
+
+def is_rounding(value: Any) -> bool:
+    """Whether this is a whole number of millionths, and not none."""
+    return is_number(value, 1 / MICRO, MOST / MICRO) and Decimal(str(value)) * MICRO % 1 == 0
+
+
+def one_of(*words: str) -> Kind:
+    return Kind(f"one of {', '.join(words)}", lambda value: value in words if isinstance(value, str) else False)
+
+
+WORD, WORDS = Kind("words in quotes", is_word), Kind("a list of words in quotes", lambda value: is_list(value, is_word))
+NUMERIC, WHOLE, IS_SO = Kind("a number", is_number), Kind("a whole number of at least 0", is_whole), Kind("true or false", lambda value: isinstance(value, bool))
+SHARE, COST = Kind("a number from 0 to 1", lambda value: is_number(value, 0, 1)), Kind("a number of at least 0", lambda value: is_number(value, 0))
+SIZES = Kind("three numbers above 0", lambda value: is_list(value, lambda size: is_number(size, 1e-9), 3, 3))
+DIGEST = Kind("the 64 digits of a sha256", lambda value: isinstance(value, str) and re.fullmatch("[0-9a-f]{64}", value) is not None)
+NAMES = Kind("a table of words in quotes", lambda value: is_table(value, is_word))
+AMOUNT = Kind(f"a number, a column, a formula of at most {LONGEST:,} letters, or a table of numbers by rock", lambda value: is_number(value) or is_word(value) or is_table(value, is_number))
+ANGLES = Kind("degrees from 5 to 89, or a list of bearings and degrees as [[0, 38], [90, 45]]", is_angles)
+OFFSETS = Kind("a list of offsets as [[0, 0, 1]], each at least one level up", lambda value: is_list(value, lambda offset: is_list(offset, lambda step: is_whole(step, -2 ** 31, 2 ** 31), 3, 3) and offset[2] > 0))
+
+# The keys of each section of study.toml that are looked at, and what each may be; likewise of the other files.
+STUDY: dict[str, dict[str, Kind]] = {
+    "model": {"size": SIZES, "rotation": NUMERIC, "columns": NAMES, "z": one_of("elevation", "depth"), "absent": WORDS, "missing": one_of("refuse", "air", "rock"), "widen": WHOLE, "regularise": IS_SO},
+    "economics": {"metals": Kind("a list of metals", lambda value: is_list(value, lambda metal: isinstance(metal, dict), 1)), "mining": AMOUNT, "processing": AMOUNT, "mill": WORDS, "dilution": SHARE,
+                  "mining_recovery": Kind("a number above 0 and at most 1", lambda value: is_number(value, 0, 1) and value > 0),
+                  "rounding": Kind("a number of at least 0.000001, with at most six decimals", is_rounding), "currency": WORD, "forbid": WORDS},
+    "slopes": {"angles": ANGLES, "by": WORD, "regions": Kind("a table of angles, each " + ANGLES.must, lambda value: is_table(value, is_angles)), "safe": IS_SO},
+    "shells": {"factors": Kind("a list of numbers from 0 to 10, or three numbers from, to and step", lambda value: is_list(value, lambda share: is_number(share, 0, 10), 1)
+                               or is_table(value, is_number) and set(value) == set(SERIES))}}
+METAL = {"name": WORD, "grade": WORD, "price": COST, "grade_unit": one_of(*GRADES), "price_unit": one_of(*PRICES), "recovery": AMOUNT, "payable": SHARE, "selling": COST}
+NEEDED = ("metals", "mining", "processing", "name", "grade", "price")
+GRID = {"origin": Kind("three numbers", lambda value: is_list(value, is_number, 3, 3)), "size": SIZES, "rotation": NUMERIC}
+DIALECT = {"separator": Kind("a comma, a semicolon or a tab", lambda value: value in (",", ";", "\t")), "decimal": Kind("a point or a comma", lambda value: value in (".", ",")),
+           "encoding": Kind("an encoding that Python knows, as utf-8", lambda value: is_word(value) and is_encoding(value)), "skip": WHOLE}
+TABLE = Kind("a table", lambda value: isinstance(value, dict))
+FACTS = {"pit": WORDS, "table": WORD, "sha256": DIGEST, "dialect": TABLE, "grid": TABLE, "depth": IS_SO, "blocks": WHOLE, "pairs": WHOLE, "currency": WORD, "has_sub_blocks": IS_SO,
+         "columns": Kind("the names of the columns x, y and z, and of tonnes or density", lambda value: is_table(value, is_word) and {"x", "y", "z"} <= set(value) and not {"tonnes", "density"}.isdisjoint(value))}
+MANIFEST = {"source": TABLE, "files": Kind("a table of sha256", lambda value: is_table(value, DIGEST.holds)), "offsets": Kind("a table, of each region " + OFFSETS.must, lambda value: is_table(value, OFFSETS.holds)),
+            "blocks": WHOLE, "pairs": WHOLE, "currency": WORD}
+VERDICT = {"factor": Kind("a whole number from 0 to 10,000", lambda value: is_whole(value, 0, 10 * THOUSAND)), "file": WORD, "count": WHOLE, "certificate": DIGEST,
+           "worth": Kind("a number in quotes", lambda value: is_word(value) and re.fullmatch(r"-?\d{1,100}(\.\d{1,9})?", value) is not None)}
+AT = Kind("a whole number from 0 to 65,535", lambda value: is_whole(value, 0, 65_535))
+COLUMNS = {"revenue": AT, "processing": AT, "mining": AT, "tonnes": AT}
+
+
+def is_encoding(name: str) -> bool:
+    """Whether this names an encoding of text."""
+    try:
+        return isinstance("a".encode(name), bytes)
+    except (LookupError, ValueError):
+        return False
+
+
+def shown(value: Any) -> str:
+    """A value of a file as its reader finds it there, cut off where it is long."""
+    if value is None or isinstance(value, bool):
+        return {None: "null", True: "true", False: "false"}[value]
+    if isinstance(value, int) and not is_number(value):
+        return "a number of very many digits"
+    text = repr(value)
+    return text if len(text) <= 80 else text[:80] + ".."
+
+
+def looked_at(where: str, told: Any, kinds: Mapping[str, Kind], needed: Collection[str]) -> dict[str, Any]:
+    """A table of a file, each of whose values is one that its key may have.
+
+    Raises
+    ------
+    Bad
+        Where one isn't, or isn't there: the file, the key, what it is and what it has to be.
+    """
+    if not isinstance(told, dict):
+        raise Bad(f"{where.rstrip(':,')} is {shown(told)}, and has to be a table")
+    for key, kind in kinds.items():
+        if key in told and not kind.holds(told[key]):
+            raise Bad(f"{where} {key} is {shown(told[key])}, and has to be {kind.must}")
+        if key not in told and key in needed:
+            raise Bad(f"{where} {key} isn't there, and has to be {kind.must}")
+    return told
 
 
 class Told:
@@ -59,8 +181,17 @@ class Told:
         try:
             return step(*words)
         except Exception as error:
-            self.say("WRONG", f"{what}: {error if isinstance(error, Bad) else f'{type(error).__name__}: {error}'}")
+            self.say("WRONG", f"{what}: {reason(error)}")
             return None
+
+
+def reason(error: Exception) -> str:
+    """Why a step couldn't be made, in words."""
+    if isinstance(error, (EOFError, gzip.BadGzipFile, zlib.error)):
+        return f"the packed file is damaged: {error}"
+    if isinstance(error, OSError) and error.strerror:
+        return f"{str(error.filename or '').removeprefix(f'{HERE}/')}: {error.strerror}"
+    return str(error) if isinstance(error, Bad) else f"{type(error).__name__}: {error}"
 
 
 def digest_of(path: Path) -> str:
@@ -75,7 +206,7 @@ def digest_of(path: Path) -> str:
 def within(name: str) -> Path:
     """A file of the bundle by its name; a name that leads out of the bundle is none."""
     path = HERE / name
-    if Path(name).is_absolute() or ".." in Path(name).parts or path.is_symlink() or HERE not in path.resolve().parents:
+    if "\0" in name or Path(name).is_absolute() or ".." in Path(name).parts or path.is_symlink() or HERE not in path.resolve().parents:
         raise Bad(f"{name} leads out of the bundle")
     return path
 
@@ -83,7 +214,7 @@ def within(name: str) -> Path:
 def check_digests(told: Told) -> None:
     """Each file is listed and is the one that was listed."""
     listed: dict[str, str] = {}
-    *lines, behind = within(SUMS).read_bytes().decode("utf-8").split("\n")     # no other byte ends a line, as for sha256sum
+    *lines, behind = text_of(SUMS, "text").split("\n")     # no other byte ends a line, as for sha256sum
     for line in [*lines, behind] if behind else lines:
         found = re.fullmatch(r"([0-9a-f]{64})  ([^\x00-\x1f]+)", line)
         if not found or line is behind:
@@ -98,13 +229,64 @@ def check_digests(told: Told) -> None:
         told.check(False, f"{name} isn't listed in {SUMS}")
 
 
+def text_of(name: str, kind: str) -> str:
+    """A text of the bundle; `kind` says what it is."""
+    try:
+        return within(name).read_bytes().decode("utf-8")
+    except UnicodeDecodeError as error:
+        raise Bad(f"{name} isn't {kind} in UTF-8: {error}") from None
+
+
 def load(name: str) -> Any:
-    return json.loads(within(name).read_text("utf-8"))
+    """What a JSON file has."""
+    try:
+        return json.loads(text_of(name, "JSON"))
+    except (ValueError, RecursionError) as error:
+        raise Bad(f"{name} isn't JSON: {error}") from None
+
+
+def toml_of(name: str) -> dict[str, Any]:
+    """What a TOML file has."""
+    try:
+        return tomllib.loads(text_of(name, "TOML").removeprefix("\ufeff").replace("\r\n", "\n").replace("\r", "\n"))
+    except (ValueError, RecursionError) as error:
+        raise Bad(f"{name} isn't TOML: {error}") from None
+
+
+def facts_of() -> dict[str, Any]:
+    """facts.json: how the table was read, the grid, and what the model has."""
+    found = looked_at("facts.json:", load("facts.json"), FACTS, FACTS)
+    looked_at("facts.json: grid,", found["grid"], GRID, GRID)
+    looked_at("facts.json: dialect,", found["dialect"], DIALECT, DIALECT)
+    return found
+
+
+def manifest_of() -> dict[str, Any]:
+    """model/manifest.json: what the model was made from and of."""
+    found = looked_at("model/manifest.json:", load("model/manifest.json"), MANIFEST, MANIFEST)
+    looked_at("model/manifest.json: source,", found["source"], {"sha256": DIGEST}, ["sha256"])
+    return found
+
+
+def verdicts_of() -> list[dict[str, Any]]:
+    """verdicts.json: what was said of each pit."""
+    found = load("verdicts.json")
+    if not isinstance(found, list):
+        raise Bad(f"verdicts.json is {shown(found)}, and has to be a list of pits")
+    return [looked_at(f"verdicts.json: pit {i},", verdict, VERDICT, VERDICT) for i, verdict in enumerate(found, 1)]
+
+
+def offsets_of(name: str) -> list[list[int]]:
+    """The offsets that a file of the model lists."""
+    found: list[list[int]] = looked_at(f"model/{name}:", toml_of(f"model/{name}"), {"offsets": OFFSETS}, ["offsets"])["offsets"]
+    return found
 
 
 def millionths(text: str) -> int:
     """An amount of .blocks in millionths, exactly."""
     found = Decimal(text) * MICRO
+    if not abs(found) <= MOST:
+        raise Bad(f"{text} is more than pit reads for a block")
     if found != int(found):
         raise Bad(f"{text} has more than six decimals")
     return int(found)
@@ -114,18 +296,29 @@ class Blocks:
     """model/mine.blocks: places, and what each block brings and costs."""
 
     def __init__(self) -> None:
-        columns = tomllib.loads(within("model/settings.toml").read_text())
-        names = ("revenue", "processing", "mining")
+        columns = looked_at("model/settings.toml:", toml_of("model/settings.toml"), COLUMNS, COLUMNS)
+        revenue, processing, mining, tonnes = (3 + columns[name] for name in COLUMNS)
         rows: dict[int, list[str]] = {}
-        with open(within("model/mine.blocks"), encoding="ascii") as file:
-            for line in file:
+        with open(within("model/mine.blocks"), encoding="ascii", errors="replace") as file:
+            for n, line in enumerate(file, 1):
                 fields = line.split()
+                if not fields or not fields[0].isdecimal() or len(fields[0]) > 10:
+                    raise Bad(f"line {n} begins with no number of a block: {shown(line[:80])}")
                 rows[int(fields[0])] = fields[1:]
         if sorted(rows) != list(range(len(rows))):
             raise Bad("the blocks aren't numbered from 0 on")
-        self.places = [tuple(map(int, rows[b][:3])) for b in range(len(rows))]
-        self.amounts = [tuple(millionths(rows[b][3 + columns[name]]) for name in names) for b in range(len(rows))]
-        self.tonnes = [float(rows[b][3 + columns["tonnes"]]) for b in range(len(rows))]
+        self.places, self.amounts, self.tonnes = list[tuple[int, ...]](), list[tuple[int, int, int]](), list[float]()
+        for b in range(len(rows)):
+            row = rows[b]
+            try:
+                x, y, z = map(int, row[:3])
+                self.places.append((x, y, z))
+                self.amounts.append((millionths(row[revenue]), millionths(row[processing]), millionths(row[mining])))
+                self.tonnes.append(float(row[tonnes]))
+            except (ArithmeticError, IndexError, ValueError):
+                raise Bad(f"block {b} is {shown(' '.join(row))}, and has to be a place of three whole numbers, and numbers in the columns that model/settings.toml names") from None
+            except Bad as error:
+                raise Bad(f"block {b}: {error}") from None
 
     def worth(self, block: int, factor: int) -> int:
         """What a block is worth at a factor in thousandths, in billionths."""
@@ -139,13 +332,13 @@ def spelled(nanos: int) -> str:
     return ("-" if nanos < 0 else "") + f"{whole}.{rest:09d}".rstrip("0").rstrip(".")
 
 
-def pieces(file: BinaryIO, most: int) -> Iterator[bytes]:
-    """What a packed file has, in pieces; one that unpacks to more than `most` bytes isn't read on."""
+def pieces(file: BinaryIO, most: int, what: str = "a certificate of this model") -> Iterator[bytes]:
+    """What a packed file has, in pieces; one that unpacks to more than `most` bytes, which is more than it can have, isn't read on."""
     with gzip.open(file, "rb") as unpacked:
         while data := unpacked.read(PIECE):
             most -= len(data)
             if most < 0:
-                raise Bad("it unpacks to more than a certificate of this model can have")
+                raise Bad(f"it unpacks to more than {what} can have")
             yield data
 
 
@@ -185,29 +378,34 @@ def judged(pit: str, path: Path, most: int) -> Judged:
         run.wait()
     head = re.match(rb"[^\n]*\nBLOCKS (\d{1,10})\n(?:PRICE MILL (\d{1,5})\n)?", text)
     of, factor = (int(number) if number else None for number in head.groups()) if head else (None, None)
-    return Judged(said, digest.hexdigest(), [int(line[4:]) for line in bytes(text).splitlines() if line.startswith(b"PIT ")], of, factor)
+    held = [line[4:] for line in bytes(text).splitlines() if line.startswith(b"PIT ")]
+    strange = next((block for block in held if not block.isdigit() or len(block) > 10), None)
+    if strange is not None:
+        raise Bad(f"a PIT line has {shown(strange.decode(errors='replace'))}, and has to have the number of a block")
+    return Judged(said, digest.hexdigest(), list(map(int, held)), of, factor)
 
 
 def check_pits(told: Told, pit: str, blocks: Blocks, facts: dict[str, Any], is_plain: bool) -> list[int]:
     """Each certificate, and that its pit lies within the next. Returns the first factor whose pit has each block, 0 where none
     has it."""
     most = LINE * (3 * len(blocks.places) + facts["pairs"] + 10)
-    shell, below, last = [0] * len(blocks.places), set[int](), 0
-    verdicts = load("verdicts.json")
+    shell, below, last = [0] * len(blocks.places), set[int](), -1
+    verdicts = verdicts_of()
     plain = plainly([within(verdict["file"]) for verdict in verdicts]) if is_plain else []
     for verdict, line in zip_longest(verdicts, plain):
         factor = verdict["factor"]
         at = f"factor {factor / THOUSAND:g}"
         found = told.attempt(f"the certificate at {at}", judged, pit, within(verdict["file"]), most)
+        if factor <= last:
+            told.check(False, f"{at} comes after {last / THOUSAND:g}")
         if not found or factor <= last:
-            told.check(factor > last, f"{at} comes behind {last / THOUSAND:g}")
             continue
         there = [block for block in found.held if block < len(shell)]
         if len(there) < len(found.held):
             told.check(False, f"the pit at {at} has {len(found.held) - len(there):,} blocks that the model hasn't")
         check_pit(told, blocks, verdict, found._replace(held=there), line)
         now = set(there)
-        if last:
+        if last >= 0:
             told.check(below <= now, f"the pit at {last / THOUSAND:g} lies within that at {factor / THOUSAND:g}")
         for block in now - below:
             shell[block] = shell[block] or factor
@@ -232,7 +430,7 @@ def check_pit(told: Told, blocks: Blocks, verdict: dict[str, Any], found: Judged
 
 def check_series(told: Told) -> None:
     """There is a pit for each factor of study.toml, and a certificate for each pit, and no more."""
-    verdicts, wanted = load("verdicts.json"), series(study_of("shells").get("factors", SERIES))
+    verdicts, wanted = verdicts_of(), series(study_of("shells", "factors").get("factors", SERIES))
     ours, theirs = [verdict["factor"] for verdict in verdicts], [f"{factor / THOUSAND:g}" for factor in wanted]
     told.check(ours == wanted and bool(ours), f"the pits are those at the {len(wanted):,} factors of study.toml: {', '.join(theirs)}")
     there = sorted(path.relative_to(HERE).as_posix() for path in (HERE / "certificates").iterdir())
@@ -250,11 +448,16 @@ def series(said: Any) -> list[int]:
     return [round(float(share) * THOUSAND) for share in said]
 
 
-def study_of(section: str) -> dict[str, Any]:
-    """A section of study.toml."""
-    found = tomllib.loads(within("study.toml").read_text("utf-8-sig")).get(section, {})
-    if not isinstance(found, dict):
-        raise Bad(f"study.toml: {section} is no section")
+def study_of(section: str, *keys: str) -> dict[str, Any]:
+    """A section of study.toml, in which each of `keys` has a value that it may have."""
+    return looked_at(f"study.toml: [{section}]", toml_of("study.toml").get(section, {}), {key: STUDY[section][key] for key in keys}, NEEDED)
+
+
+def economics_of() -> dict[str, Any]:
+    """[economics] of study.toml, with its metals."""
+    found = study_of("economics", *STUDY["economics"])
+    for i, metal in enumerate(found["metals"], 1):
+        looked_at(f"study.toml: [economics] metals, number {i},", metal, METAL, NEEDED)
     return found
 
 
@@ -269,7 +472,7 @@ def plainly(paths: list[Path]) -> list[str]:
     run = subprocess.run([sys.executable, "-I", str(HERE / "plainly.py"), *words, *map(str, paths)], cwd=HERE, stdout=subprocess.PIPE, text=True)
     lines = run.stdout.splitlines()
     # where the model can't be read, that is the one line
-    return lines + lines[-1:] * (len(paths) - len(lines)) if lines else ["no answer"] * len(paths)
+    return (lines + lines[-1:] * (len(paths) - len(lines)))[:len(paths)] if lines else ["no answer"] * len(paths)
 
 
 class Table:
@@ -285,15 +488,34 @@ class Table:
 
     def __init__(self, facts: dict[str, Any], absent: list[str]) -> None:
         self.facts, self.told, self.absent = facts, facts["dialect"], [mark.strip() for mark in absent]
-        self.marks = {float(mark) for mark in self.absent if NUMBER.fullmatch(mark)}
-        path = within(facts["table"])
-        is_packed = path.suffix.lower() == ".gz"
-        with gzip.open(path, "rt", 9, self.told["encoding"], newline="") if is_packed else open(path, encoding=self.told["encoding"], newline="") as file:
-            rows = csv.reader(file, delimiter=self.told["separator"], skipinitialspace=True)
-            self.names = [name.strip() or f"column {i + 1}" for i, name in enumerate(next(rows))]
-            filled = {i: row for i, row in enumerate(rows) if any(cell.strip() for cell in row)}
-            self.rows, self.passed = ({i: row for i, row in filled.items() if (i >= self.told["skip"]) == is_block} for is_block in (True, False))
+        self.marks = {float(plain) for mark in self.absent if NUMBER.fullmatch(plain := COMMA.sub(r"\1.\2", mark))}
+        self.name: str = facts["table"]
+        self.names, filled = self.read()
+        self.rows, self.passed = ({i: row for i, row in filled.items() if (i >= self.told["skip"]) == is_block} for is_block in (True, False))
         self.at = {name: i for i, name in enumerate(self.names)}
+        for key, column in facts["columns"].items():
+            self.asked("facts.json: columns,", key, column)
+
+    def read(self) -> tuple[list[str], dict[int, list[str]]]:
+        """The names of the header line, and the cells of each row that isn't blank."""
+        path, encoding = within(self.name), self.told["encoding"]
+        is_packed = path.suffix.lower() == ".gz"
+        if is_packed:
+            with open(path, "rb") as packed:
+                for _ in pieces(packed, max(SMALL, MOST_TIMES * path.stat().st_size), "a table"):
+                    pass
+        try:
+            with gzip.open(path, "rt", 9, encoding, newline="") if is_packed else open(path, encoding=encoding, newline="") as file:
+                rows = csv.reader(file, delimiter=self.told["separator"], skipinitialspace=True)
+                names = [name.strip() or f"column {i + 1}" for i, name in enumerate(next(rows, []))]
+                return names, {i: row for i, row in enumerate(rows) if any(cell.strip() for cell in row)}
+        except (csv.Error, UnicodeError) as error:
+            raise Bad(f"{self.name} can't be read as {encoding}, which facts.json says it is: {error}") from None
+
+    def asked(self, where: str, key: str, column: str) -> None:
+        """Raises Bad where a file names a column that the table hasn't."""
+        if column not in self.at:
+            raise Bad(f"{where} {key} is {shown(column)}, and has to be a column of {self.name}: {shown(', '.join(self.names))}")
 
     def word(self, row: int, column: str) -> str:
         """A cell as it stands."""
@@ -307,9 +529,8 @@ class Table:
             return 0.0
         plain = cell.replace(self.told["decimal"], ".")
         if not NUMBER.fullmatch(plain):
-            raise Bad(f"row {row + 2}, column {column}: {cell!r} is no number")
+            raise Bad(f"{self.name}, row {row + 2}, column {column}: the cell is {shown(cell)}, and has to be a number")
         return 0.0 if float(plain) in self.marks else float(plain)
-
 
     def is_of_numbers(self, column: str) -> bool:
         """Whether each cell of a column is a number, empty, or stands for "not estimated"."""
@@ -323,14 +544,29 @@ def parsed(text: str) -> ast.expr:
     return ast.parse(text.strip(), mode="eval").body
 
 
+def divided(a: float, b: float) -> float:
+    """As numpy divides: by 0 that is no number or infinite, which `where` may pass over."""
+    return a / b if b else math.nan if not a or math.isnan(a) else math.copysign(math.inf, a) * math.copysign(1.0, b)
+
+
+def raised(a: float, b: float) -> float:
+    """A power as numpy has it, likewise."""
+    try:
+        found: Any = math.inf if not a and b < 0 else a ** b
+    except OverflowError:
+        found = -math.inf if a < 0 and b % 2 == 1 else math.inf
+    return math.nan if isinstance(found, complex) else float(found)
+
+
 class Formula:
     """A formula of study.toml, worked out for one row at a time: numbers, words, columns, operators and five functions."""
 
-    BINARY: dict[type, Callable[[Any, Any], Any]] = {ast.Add: lambda a, b: a + b, ast.Sub: lambda a, b: a - b, ast.Mult: lambda a, b: a * b, ast.Div: lambda a, b: a / b,
-                                                     ast.Pow: lambda a, b: a ** b}
+    BINARY: dict[type, Callable[[Any, Any], Any]] = {ast.Add: lambda a, b: a + b, ast.Sub: lambda a, b: a - b, ast.Mult: lambda a, b: a * b, ast.Div: divided, ast.Pow: raised}
     ORDER: dict[type, Callable[[Any, Any], Any]] = {ast.Gt: lambda a, b: a > b, ast.GtE: lambda a, b: a >= b, ast.Lt: lambda a, b: a < b, ast.LtE: lambda a, b: a <= b,
                                                      ast.Eq: lambda a, b: a == b, ast.NotEq: lambda a, b: a != b}
-    CALLS: dict[str, Callable[..., Any]] = {"where": lambda a, b, c: b if a else c, "min": min, "max": max, "abs": abs, "sqrt": math.sqrt}
+    CALLS: dict[tuple[str, int], Callable[..., Any]] = {("where", 3): lambda a, b, c: b if a else c, ("min", 2): min, ("max", 2): max, ("abs", 1): abs,
+                                                        ("sqrt", 1): lambda a: math.sqrt(a) if a >= 0 else math.nan}
+    UNARY: dict[type, Callable[[Any], Any]] = {ast.USub: lambda a: -a, ast.UAdd: lambda a: +a, ast.Not: lambda a: not a}
 
     def __init__(self, text: str, cell: Callable[[str], Any]) -> None:
         self.tree, self.cell = parsed(text), cell
@@ -344,18 +580,35 @@ class Formula:
             return self.cell(node.id)
         if isinstance(node, ast.BinOp) and type(node.op) in self.BINARY:
             return self.BINARY[type(node.op)](self.value(node.left), self.value(node.right))
-        if isinstance(node, ast.UnaryOp):
-            inner = self.value(node.operand)
-            return -inner if isinstance(node.op, ast.USub) else not inner if isinstance(node.op, ast.Not) else inner
-        if isinstance(node, ast.Compare):
+        if isinstance(node, ast.UnaryOp) and type(node.op) in self.UNARY:
+            return self.UNARY[type(node.op)](self.value(node.operand))
+        if isinstance(node, ast.Compare) and all(type(op) in self.ORDER for op in node.ops):
             sides = [side.strip() if isinstance(side, str) else side for side in map(self.value, (node.left, *node.comparators))]
             return all(self.ORDER[type(op)](a, b) for op, a, b in zip(node.ops, sides, sides[1:]))
         if isinstance(node, ast.BoolOp):
             return (all if isinstance(node.op, ast.And) else any)([self.value(side) for side in node.values])
         if isinstance(node, ast.Call) and isinstance(node.func, ast.Name) and not node.keywords:
-            words = [self.value(word) for word in node.args]
-            return self.cell(words[0]) if node.func.id == "column" else self.CALLS[node.func.id](*words)
-        raise Bad(f"{ast.unparse(node)!r} is no part of a formula")
+            words, called = [self.value(word) for word in node.args], (node.func.id, len(node.args))
+            if called == ("column", 1) and isinstance(words[0], str):
+                return self.cell(words[0])
+            if called in self.CALLS:
+                return self.CALLS[called](*words)
+        raise Bad(f"{shown(ast.unparse(node))} is no part of a formula")
+
+
+def finite(value: Any) -> float:
+    """A number that a formula gives; Bad where it is none."""
+    found = float(value)
+    if not math.isfinite(found):
+        raise Bad("it gives no number")
+    return found
+
+
+def yes_or_no(value: Any) -> bool:
+    """What a comparison gives; Bad where it is something else."""
+    if not isinstance(value, bool):
+        raise Bad("it says neither yes nor no")
+    return value
 
 
 class Worked(NamedTuple):
@@ -386,6 +639,8 @@ class Economics:
         self.volume: float = math.prod(facts["grid"]["size"])
         self.rounding = float(told.get("rounding", 1))
         self.has_words: dict[str, bool] = {}
+        for i, metal in enumerate(told["metals"], 1):
+            table.asked(f"study.toml: [economics] metals, number {i},", "grade", metal["grade"])
 
     def rock(self, row: int) -> str:
         return self.table.word(row, self.columns["rock"]).strip() if "rock" in self.columns else "rock"
@@ -397,7 +652,10 @@ class Economics:
         return self.table.number(row, self.columns["density"]) * self.volume
 
     def cell(self, row: int, name: str) -> Any:
-        """What a formula gets for a column."""
+        """What a formula gets for a column. Python reads some letters of a plain word as others that look alike, as the sign of micro as a
+        Greek mu."""
+        if name not in self.table.at:
+            name = next((column for column in self.table.names if unicodedata.normalize("NFKC", column) == name), name)
         if name in self.table.at:
             word = self.table.word(row, name).strip()
             if name not in self.has_words:
@@ -405,19 +663,27 @@ class Economics:
             return word if self.has_words[name] else self.table.number(row, name) if word or word in self.table.absent else math.nan
         if name in ("rock", "tonnes"):
             return self.rock(row) if name == "rock" else self.tonnes(row)
-        raise Bad(f"a formula names {name}, which is no column of the table")
+        raise Bad(f"it names {shown(name)}, which is no column of {self.table.name}")
 
-    def amount(self, given: Any, row: int) -> float:
+    def formula(self, key: str, text: str, row: int, kind: Callable[[Any], Any]) -> Any:
+        """What the formula of a key gives for a row, as `kind` makes it of that."""
+        try:
+            return kind(Formula(text, lambda name: self.cell(row, name)).value())
+        except (Bad, *UNWORKABLE) as error:
+            why = error if isinstance(error, Bad) else "it is no formula, or it counts with words"
+            raise Bad(f"study.toml: [economics] {key} is {shown(text)}, and has to be a formula that can be worked out; for row {row + 2} of {self.table.name} it can't be: {why}") from None
+
+    def amount(self, key: str, given: Any, row: int) -> float:
         """A number, a column, a formula, or a number by rock."""
         if isinstance(given, dict):
             return float(given.get(self.rock(row), given.get("other", 0.0)))
         if isinstance(given, str):
-            return self.table.number(row, given) if given in self.table.at else float(Formula(given, lambda name: self.cell(row, name)).value())
+            return self.table.number(row, given) if given in self.table.at else float(self.formula(key, given, row, finite))
         return float(given)
 
     def is_fenced(self, row: int) -> bool:
         """Whether a formula of forbid keeps the block of a row; it keeps no air, which has no tonnes."""
-        return self.tonnes(row) > 0 and any(Formula(text, lambda name: self.cell(row, name)).value() for text in self.told.get("forbid", ()))
+        return self.tonnes(row) > 0 and any(self.formula("forbid", text, row, yes_or_no) for text in self.told.get("forbid", ()))
 
     def of_row(self, row: int) -> Worked:
         """What the block of a row comes to."""
@@ -429,54 +695,71 @@ class Economics:
         for metal in told["metals"] if takes else ():
             content = GRADES[metal.get("grade_unit", "%")] / PRICES[metal.get("price_unit", "t")]
             grades[metal["name"]] = grade = self.table.number(row, metal["grade"])
-            metals[metal["name"]] = units = tonnes * kept * grade * content * self.amount(metal.get("recovery", 1.0), row)
+            metals[metal["name"]] = units = tonnes * kept * grade * content * self.amount("recovery", metal.get("recovery", 1.0), row)
             revenue += units * metal["price"] * metal.get("payable", 1.0)
             selling += units * metal.get("selling", 0.0)
-        treating = tonnes * kept * (1 + told.get("dilution", 0.0)) * self.amount(told["processing"], row) + selling if takes else 0.0
-        return Worked(revenue, treating, tonnes * self.amount(told["mining"], row), tonnes, grades, metals)
+        treating = tonnes * kept * (1 + told.get("dilution", 0.0)) * self.amount("processing", told["processing"], row) + selling if takes else 0.0
+        return Worked(revenue, treating, tonnes * self.amount("mining", told["mining"], row), tonnes, grades, metals)
 
     def is_near(self, ours: float, theirs: int) -> bool:
         """Whether an amount in millionths is the nearest multiple of `rounding`."""
         return math.isfinite(ours) and theirs % round(self.rounding * MICRO) == 0 and abs(theirs / MICRO - ours) <= self.rounding * 0.500001 + 1e-9 * abs(ours)
 
 
+def slope_files() -> list[str]:
+    """The files of offsets, one for each slope."""
+    return [f"slope-{i}.toml" for i in range(len(list((HERE / "model").glob("slope-*.toml"))))]
+
+
+def pairs_listed() -> int:
+    """How many pairs of a block and a predecessor model/mine.prec has."""
+    found = 0
+    with open(within("model/mine.prec"), "rb") as file:
+        for n, line in enumerate(file, 1):
+            fields = line.split(maxsplit=2)
+            if len(fields) < 2 or not fields[1].isdigit() or len(fields[1]) > 10:
+                raise Bad(f"model/mine.prec: line {n} is {shown(line[:80].decode(errors='replace').rstrip())}, and has to be a block, how many predecessors it has, and these")
+            found += int(fields[1])
+    return found
+
+
 def check_facts(told: Told, blocks: Blocks, facts: dict[str, Any]) -> None:
     """What facts.json and model/manifest.json say of the other files is so, and is what study.toml asks for."""
-    manifest, model = load("model/manifest.json"), study_of("model")
+    manifest, model = manifest_of(), study_of("model", "size", "rotation", "columns", "z")
     table, grid = digest_of(within(facts["table"])), facts["grid"]
     told.check(table == facts["sha256"] == manifest["source"]["sha256"], "the table is the one that the model was built from")
     listed = {name: digest for name, digest in manifest["files"].items() if name != "blocks.npz"}        # pitplan's own, not bundled
     bad = [name for name, digest in listed.items() if digest_of(within(f"model/{name}")) != digest]
     told.check(not bad and {"mine.blocks", "mine.prec", "settings.toml"} <= set(listed), "the files of model/ are those that were built" + (f": not so for {', '.join(bad)}" if bad else ""))
-    offsets = [tomllib.loads(within(f"model/slope-{i}.toml").read_text("utf-8"))["offsets"] for i in range(len(list((HERE / "model").glob("slope-*.toml"))))]
-    regions = ["default", *study_of("slopes").get("regions", {})]
+    offsets = [offsets_of(name) for name in slope_files()]
+    regions = ["default", *study_of("slopes", "regions").get("regions", {})]
     told.check(offsets == list(manifest["offsets"].values()) and list(manifest["offsets"]) == regions, f"the lists of offsets are those of the {len(regions):,} slopes of study.toml")
-    with open(within("model/mine.prec"), "rb") as file:
-        pairs = sum(int(line.split()[1]) for line in file)
+    pairs = pairs_listed()
     told.check(len(blocks.places) == facts["blocks"] == manifest["blocks"] and pairs == facts["pairs"] == manifest["pairs"], f"the model has {len(blocks.places):,} blocks and {pairs:,} pairs")
     asked = {"size": model.get("size", grid["size"]), "rotation": model.get("rotation", 0.0)}
     columns = {**facts["columns"], **model.get("columns", {})}
     told.check(asked == {key: grid[key] for key in asked} and columns == facts["columns"] and facts["depth"] == (model.get("z") == "depth"),
                "the grid and the columns are those of [model] in study.toml")
-    currency = study_of("economics").get("currency", "$")
+    currency = study_of("economics", "currency").get("currency", "$")
     told.check(currency == facts["currency"] == manifest["currency"], f"amounts are in {currency}")
 
 
 def check_table(told: Told, blocks: Blocks, facts: dict[str, Any]) -> OfRows | None:
     """Each block's place, tonnes and amounts are those of its row of the planner's table. Gives what the rows say, None where a block
     has several."""
-    model = study_of("model")
+    model = study_of("model", "absent", "missing", "widen", "regularise")
     told.say("look", "the columns that were taken: " + ", ".join(f"{key} = {name}" for key, name in facts["columns"].items()))
     if facts["has_sub_blocks"]:
         told.check(model.get("regularise") is True, "study.toml asks for sub-blocks to be added up")
         told.say("look", "sub-blocks were added up to whole blocks: what a block brings and costs isn't added up from the table here")
         return None
     table = Table(facts, model.get("absent", []))
-    economics = Economics(study_of("economics"), table, facts)
+    economics = Economics(economics_of(), table, facts)
     check_passed(told, table, facts)
-    rows = [int(line["row"]) - 2 for line in numbering()]
+    rows = [line.row - 2 for line in numbering()]
     known = [row for row in rows if row >= 0]
-    told.check(len(rows) == len(blocks.places) and sorted(known) == sorted(table.rows), f"each of the {len(table.rows):,} rows of the table is one block")
+    if not told.check(len(rows) == len(blocks.places) and sorted(known) == sorted(table.rows), f"each of the {len(table.rows):,} rows of the table is one block"):
+        return None
     steps: dict[str, Callable[[int, int], bool]] = {
         "place": lambda b, row: is_placed(table, row, blocks.places[b], facts),
         "tonnage": lambda b, row: math.isfinite(blocks.tonnes[b]) and abs(economics.tonnes(row) - blocks.tonnes[b]) <= 6e-4 + 1e-9 * blocks.tonnes[b]}
@@ -505,11 +788,13 @@ def added_without_need(blocks: Blocks, rows: list[int]) -> list[int]:
 def regions_of(table: Table, rows: list[int]) -> list[int | None]:
     """Which list of offsets each block has: that of the region that its row names, by the order of [slopes] regions; 0, that of
     `angles`, for all others; None of blocks without a row. In a column of numbers 1 and 1.0 are the same region."""
-    slopes = study_of("slopes")
+    slopes = study_of("slopes", "by", "regions")
     names = list(slopes.get("regions", {}))
     if not names:
         return [0] * len(rows)
-    by = slopes["by"] if slopes["by"] in table.at else table.facts["columns"].get(slopes["by"], slopes["by"])
+    by = slopes.get("by", "")
+    by = by if by in table.at else table.facts["columns"].get(by, by)
+    table.asked("study.toml: [slopes]", "by", by)
     cells = {table.word(row, by).strip() for row in rows if row >= 0}
     is_numbers = by not in (table.facts["columns"].get("rock"), table.facts["columns"].get("id")) and table.is_of_numbers(by)
     of_cell: dict[str, int] = {}
@@ -528,10 +813,18 @@ def check_passed(told: Told, table: Table, facts: dict[str, Any]) -> None:
         told.check(not blocks, f"{len(table.passed):,} lines below the header are descriptions and no blocks" + (f": not so in row {blocks[0] + 2}" if blocks else ""))
 
 
-def numbering() -> list[dict[str, str]]:
-    """tables/blocks.csv: the row of each block (as a spreadsheet counts it; 0 where it was added), and its shell."""
-    with open(within("tables/blocks.csv"), newline="", encoding="utf-8") as file:
-        return list(csv.DictReader(file))
+class Numbered(NamedTuple):
+    """A line of tables/blocks.csv: the number of a block, its row (as a spreadsheet counts it; 0 where it was added), and its shell as
+    a factor in thousandths, 0 where it has none."""
+
+    block: str
+    row: int
+    shell: int
+
+
+def numbering() -> list[Numbered]:
+    """tables/blocks.csv."""
+    return [Numbered(line.word("block"), line.whole("row"), round(line.number("shell") * THOUSAND) if line.word("shell") else 0) for line in read_table("blocks.csv")]
 
 
 def check_amounts(told: Told, economics: Economics, blocks: Blocks, rows: list[int], fenced: set[int]) -> list[Worked | None]:
@@ -593,38 +886,76 @@ class Sum:
             self.graded[name] += other.graded[name]
             self.metal[name] += other.metal[name]
 
-    def is_line(self, line: dict[str, str], is_pit: bool, feed: float, metals: list[str]) -> bool:
+    def is_line(self, line: Line, is_pit: bool, feed: float, metals: list[str]) -> bool:
         """Whether a line of a table, of a pit or of a bench, has these blocks, tonnes and worth, of these metals the amounts and the grades,
         and of a pit the mill's feed and the strip ratio. `mine.blocks` has tonnes to three decimals."""
         off = 6e-4 * self.blocks
         sums = {"rock_t": (self.rock, off), "ore_t": (self.ore, off), "waste_t": (self.rock - self.ore, 2 * off), **({} if is_pit else {"worth": (self.worth / NANO, 1e-3)}),
                 **{f"metal_{name}": (self.metal[name], 0.0) for name in metals}, **({"feed_t": (self.ore * feed, off * feed)} if is_pit else {})}
-        if not all(is_close(line[name], *of) for name, of in sums.items()) or int(line["blocks"]) != self.blocks or is_pit and float(line["worth_at_base"]) != self.worth / NANO:
+        if not all(is_close(line.number(name), *of) for name, of in sums.items()) or line.whole("blocks") != self.blocks or is_pit and line.number("worth_at_base") != self.worth / NANO:
             return False
         by_ore = {f"grade_{name}": self.graded[name] for name in metals} | ({"strip": self.rock - self.ore} if is_pit else {})
         if not self.ore:
-            return all(line[name] == "" for name in by_ore)
-        return all(is_close(line[name], value / self.ore, 3 * off * (1 + (self.rock + value) / self.ore) / self.ore) for name, value in by_ore.items())
+            return all(line.word(name) == "" for name in by_ore)
+        return all(is_close(line.number(name), value / self.ore, 3 * off * (1 + (self.rock + value) / self.ore) / self.ore) for name, value in by_ore.items())
 
 
-def is_close(cell: str, value: float, far: float) -> bool:
-    """Whether a cell is a number that is no further off, but for how numbers are rounded."""
-    return math.isclose(float(cell or "nan"), value, rel_tol=1e-9, abs_tol=far)
+def is_close(found: float, value: float, far: float) -> bool:
+    """Whether a number is no further off than that, except for how numbers are rounded."""
+    return math.isclose(found, value, rel_tol=1e-9, abs_tol=far)
 
 
-def read_table(name: str) -> list[dict[str, str]]:
+class Line(NamedTuple):
+    """A line of a table of the bundle: its file, its number there, and its cells by the names of the header line."""
+
+    file: str
+    at: int
+    cells: dict[str, Any]
+
+    def word(self, column: str) -> str:
+        """A cell as it stands."""
+        found = self.cells.get(column)
+        if not isinstance(found, str):
+            raise Bad(f"{self.file}, line {self.at} has no cell of column {column}")
+        return found
+
+    def number(self, column: str) -> float:
+        """A cell as a number."""
+        cell = self.word(column)
+        if not NUMBER.fullmatch(cell) or not math.isfinite(float(cell)):
+            raise Bad(f"{self.file}, line {self.at}, column {column}: the cell is {shown(cell)}, and has to be a number")
+        return float(cell)
+
+    def exact(self, column: str) -> Decimal:
+        """A cell as a number, of which no digit is lost."""
+        self.number(column)
+        return Decimal(self.word(column))
+
+    def whole(self, column: str) -> int:
+        """A cell as a whole number."""
+        cell = self.word(column)
+        if not re.fullmatch(r"-?[0-9]{1,18}", cell):
+            raise Bad(f"{self.file}, line {self.at}, column {column}: the cell is {shown(cell)}, and has to be a whole number")
+        return int(cell)
+
+
+def read_table(name: str) -> list[Line]:
     """The lines of a table of the bundle."""
-    with open(within(f"tables/{name}"), newline="", encoding="utf-8") as file:
-        return list(csv.DictReader(file))
+    path = f"tables/{name}"
+    try:
+        with open(within(path), newline="", encoding="utf-8") as file:
+            return [Line(path, n, cells) for n, cells in enumerate(csv.DictReader(file), 2)]
+    except (csv.Error, UnicodeDecodeError) as error:
+        raise Bad(f"{path} is no table in UTF-8: {error}") from None
 
 
 def check_tables(told: Told, blocks: Blocks, facts: dict[str, Any], shell: list[int], worked: list[Worked | None] | None) -> None:
     """The tables say what the certificates do, and of metals what the planner's table does."""
-    shown = [round(float(line["shell"]) * THOUSAND) if line["shell"] else 0 for line in numbering()]
-    is_counted = [line["block"] for line in numbering()] == [str(b) for b in range(len(shell))]
-    bad = [n for n, (ours, theirs) in enumerate(zip(shell, shown), 2) if ours != theirs]
-    told.check(is_counted and shown == shell, "tables/blocks.csv has the number and the shell of each block" + (f": not so in line {bad[0]}" if bad else ""))
-    verdicts, benches = load("verdicts.json"), dict[tuple[float, int], Sum]()
+    lines_of = numbering()
+    is_counted = [line.block for line in lines_of] == [str(b) for b in range(len(shell))]
+    bad = [n for n, (ours, line) in enumerate(zip(shell, lines_of), 2) if ours != line.shell]
+    told.check(is_counted and not bad, "tables/blocks.csv has the number and the shell of each block" + (f": not so in line {bad[0]}" if bad else ""))
+    verdicts, benches = verdicts_of(), dict[tuple[float, int], Sum]()
     pits = {verdict["factor"]: Sum() for verdict in verdicts}
     for b, factor in enumerate(shell):
         if factor:
@@ -634,30 +965,36 @@ def check_tables(told: Told, blocks: Blocks, facts: dict[str, Any], shell: list[
         for larger, found in pits.items():
             if larger >= factor:
                 found.join(part)
-    economics = study_of("economics")
+    economics = economics_of()
     metals = [metal["name"] for metal in economics["metals"]] if worked else []
     feed = economics.get("mining_recovery", 1.0) * (1 + economics.get("dilution", 0.0))
     lines = read_table("pit_by_pit.csv")
-    bad = [n for n, (line, verdict) in enumerate(zip(lines, verdicts), 2) if round(float(line["factor"]) * THOUSAND) != verdict["factor"]
-           or Decimal(line["worth_at_factor"]) != Decimal(verdict["worth"]) or not pits[verdict["factor"]].is_line(line, True, feed, metals)]
+    bad = [n for n, (line, verdict) in enumerate(zip(lines, verdicts), 2) if round(line.number("factor") * THOUSAND) != verdict["factor"]
+           or line.exact("worth_at_factor") != Decimal(verdict["worth"]) or not pits[verdict["factor"]].is_line(line, True, feed, metals)]
     of = ", the grades and the metals" if worked else ""
     told.check(len(lines) == len(verdicts) and not bad, f"tables/pit_by_pit.csv has the blocks, the tonnes, the worths{of} of each pit" + (f": not so in line {bad[0]}" if bad else ""))
     lines = read_table("benches.csv")
-    keys = [(round(float(line["bench"]), 3), round(float(line["shell"]) * THOUSAND)) for line in lines]
+    keys = [(round(line.number("bench"), 3), round(line.number("shell") * THOUSAND)) for line in lines]
     bad = [n for n, (key, line) in enumerate(zip(keys, lines), 2) if key not in benches or not benches[key].is_line(line, False, feed, metals)]
     told.check(sorted(keys) == sorted(benches) and not bad, f"tables/benches.csv has the blocks, the tonnes, the worth{of} of each bench and shell" + (f": not so in line {bad[0]}" if bad else ""))
+
+
+def of_region(lines: tuple[bytes, ...], regions: list[int | None] | None, block: int) -> tuple[bytes, ...]:
+    """The lines that `pit slopes` gives a block by the list of its region; by any of the lists where its region isn't known."""
+    at = regions[block] if regions is not None else None
+    return lines if at is None else lines[at:at + 1]
 
 
 def check_slopes(told: Told, pit: str, regions: list[int | None] | None) -> None:
     """Each block's predecessors are those that `pit slopes` gives it by the list of offsets of its region; by any of the lists where
     its region isn't known."""
-    lists = [f"slope-{i}.toml" for i in range(len(list((HERE / "model").glob("slope-*.toml"))))]
+    lists = slope_files()
     words = [pit, "slopes", "--blocks", str(within("model/mine.blocks")), "--pattern", "settings", "--settings"]
     runs = [subprocess.Popen([*words, str(within(f"model/{name}"))], stdout=subprocess.PIPE) for name in lists]
     try:
         with open(within("model/mine.prec"), "rb") as file:
             found = enumerate(zip_longest(file, *(run.stdout or () for run in runs)))
-            bad = next((n for n, lines in found if None in lines or lines[0] not in (lines[1:] if regions is None or (at := regions[n]) is None else (lines[1 + at],))), None)
+            bad = next((n for n, lines in found if None in lines or lines[0] not in of_region(lines[1:], regions, n)), None)
     finally:
         for run in runs:
             run.kill()
@@ -672,11 +1009,10 @@ def check_slopes(told: Told, pit: str, regions: list[int | None] | None) -> None
 def tell_walls(told: Told, lists: list[str]) -> None:
     """How far the walls that the offsets build are from the angles of study.toml: the planner's bounds aren't known here, so it is the
     auditor's to judge; but with `safe` no wall is steeper."""
-    grid, slopes = load("facts.json")["grid"], study_of("slopes")
+    grid, slopes = facts_of()["grid"], study_of("slopes", "angles", "regions", "safe")
     asked = {"default": slopes.get("angles", 45.0), **slopes.get("regions", {})}
     for name, (region, angles) in zip(lists, asked.items()):
-        offsets = tomllib.loads(within(f"model/{name}").read_text("utf-8"))["offsets"]
-        errors = [built - wanted for built, wanted in zip(built_angles(offsets, grid), asked_angles(angles))]
+        errors = [built - wanted for built, wanted in zip(built_angles(offsets_of(name), grid), asked_angles(angles))]
         steeper, flatter = max(0.0, *errors), max(0.0, *(-error for error in errors))
         what = f"the slopes of {region}: a deep wall of model/{name} is at most {steeper:.2f} degrees steeper and {flatter:.2f} flatter than study.toml asks"
         if slopes.get("safe") and steeper > 0.005:
@@ -728,7 +1064,7 @@ def asked_angles(told: Any) -> list[float]:
 def check_all(told: Told, pit: str, is_plain: bool) -> None:
     """All steps, in the order of what rests on what."""
     told.attempt(SUMS, check_digests, told)
-    facts, blocks = told.attempt("facts.json", load, "facts.json"), told.attempt("model/mine.blocks", Blocks)
+    facts, blocks = told.attempt("facts.json", facts_of), told.attempt("model/mine.blocks", Blocks)
     said = told.attempt(f"{pit} --version", lambda: subprocess.run([pit, "--version"], stdout=subprocess.PIPE, text=True).stdout.split("\n"))
     if facts is None or blocks is None or said is None:
         return
@@ -752,6 +1088,8 @@ def main() -> int:
     if len(words) > 1 or any(word.startswith("-") for word in words):
         print(__doc__)
         return 2
+    if isinstance(sys.stdout, io.TextIOWrapper):
+        sys.stdout.reconfigure(errors="replace")
     told = Told()
     check_all(told, words[0] if words else "pit", "--plainly" in sys.argv)
     try:

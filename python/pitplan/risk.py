@@ -12,6 +12,8 @@ import hashlib
 import json
 import re
 import tempfile
+import time
+import unicodedata
 from collections.abc import Callable, Iterator, Sequence
 from contextlib import contextmanager
 from dataclasses import asdict, dataclass
@@ -86,7 +88,7 @@ def setup_of(study: Study) -> Setup | None:
         found = Setup(**json.loads((folder_of(study) / "risk.json").read_text()))
     except FileNotFoundError:
         return None
-    except (TypeError, json.JSONDecodeError):
+    except (TypeError, ValueError):
         raise PlanError(f"{folder_of(study) / 'risk.json'} is damaged", try_this=command("risk", study.named, "--realisations", "FILE")) from None
     return found if found.study == study.key else None
 
@@ -185,12 +187,18 @@ def of_table(path: Path, model: Model | None, keys: TableKeys | None) -> Floats:
     names = [name for name in frame.columns if name not in own.values()]
     if not names:
         raise PlanError("has no column of a realisation", table=path)
-    return np.stack([number_column(frame[name], path.name, keys.absent if keys else ()).astype(np.float32) for name in names])
+    try:
+        return np.stack([number_column(frame[name], path.name, keys.absent if keys else ()).astype(np.float32) for name in names])
+    except PlanError as error:
+        if error.column in names and "id" not in own and pd.to_numeric(frame[error.column], errors="coerce").isna().all():
+            raise PlanError(error.what, table=error.table, row=error.row, column=error.column,
+                            try_this=f"columns = {{ id = {json.dumps(error.column, ensure_ascii=False)} }} in [model] and pitplan build, if these are the blocks' ids, or a file without this column") from None
+        raise
 
 
 def same_ids(found: pd.Series, model: Model, path: Path) -> None:
     """Refuses realisations whose rows are of other blocks than the table's."""
-    told = model.blocks[model.blocks["row"] >= 0].sort_values("row")["id"].astype(str).to_numpy()
+    told = model.blocks[model.blocks["row"] >= 0].sort_values("row")["id"].astype(str).str.strip().to_numpy()
     given = found.fillna("").astype(str).str.strip().to_numpy()
     least = min(len(told), len(given))
     wrong = told[:least] != given[:least]
@@ -228,12 +236,12 @@ def words_in(value: Any) -> list[str]:
 
 def lean_model(study: Study, economics: dict[str, Any]) -> Model:
     """The study's model without the columns that pricing doesn't ask for: the planner's names of 10,000,000 blocks take a gigabyte."""
-    said = "\n".join(words_in(economics))
+    said = unicodedata.normalize("NFKC", "\n".join(words_in(economics)))       # as Python reads the plain words of a formula
     with np.load(study.where / "blocks.npz", allow_pickle=False) as file:
         told = store.told_of(file)
         columns: dict[str, Any] = {}
         for name in told["order"]:
-            if name not in ASKED and not re.search(rf"(?<!\w){re.escape(name)}(?!\w)", said) and not set("'\"\\") & set(name):
+            if name not in ASKED and not re.search(rf"(?<!\w){re.escape(unicodedata.normalize('NFKC', name))}(?!\w)", said) and not set("'\"\\") & set(name):
                 continue                     # a name with quotes may stand there in another spelling
             if store.COLUMN + name in file.files:
                 columns[name] = file[store.COLUMN + name]
@@ -335,6 +343,7 @@ class Realisation(Study):
         if self.made:
             yield self.files
             return
+        self.began = time.time()             # pricing and writing count with the first pit: `pitplan status` reckons by what pits took
         sweep(Path(tempfile.gettempdir()), SCRATCH + "*")
         with tempfile.TemporaryDirectory(prefix=SCRATCH + mark(), ignore_cleanup_errors=True) as scratch:
             self.made = Path(scratch) / "mine.blocks"
@@ -344,7 +353,7 @@ class Realisation(Study):
             except OSError as error:
                 raise MachineError(f"{error.filename or scratch}: {error.strerror}", try_this=ROOM if error.errno in FULL else None) from error
             finally:
-                self.made = None
+                self.made = self.began = None
 
 
 def realisation(base: Study, number: int) -> Realisation:

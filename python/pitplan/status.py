@@ -13,7 +13,7 @@ import numpy as np
 from .engines import Handed, in_slurm
 from .errors import STOPPED
 from .study import Study, host
-from .task import Task, Tasks
+from .task import DONE_WORDS, Task, Tasks
 
 DONE, RUNNING, WAITING, FAILED, TO_DO = "done", "running", "waiting", "failed", "to do"
 STATES = (DONE, RUNNING, WAITING, FAILED, TO_DO)
@@ -72,10 +72,12 @@ def state_of(of: Tasks, task: Task, handed: Handed | None) -> State:
         return State(task, RUNNING, f"on {', '.join(sorted(at))}" if at else f"Slurm says {handed.state if handed else ''}", len(missing))
     try:
         return State(task, FAILED, str(json.loads(of.note(task).read_text())["words"]), len(missing))
-    except (FileNotFoundError, json.JSONDecodeError, KeyError):
-        last = handed.last_line() if handed else ""
-        why = f"; its log ends with: {last}" if last not in ("", STOPPED) else ": killed, out of memory, or out of time"
-        return State(task, FAILED, ENDED + why, len(missing)) if is_dead or last else State(task, TO_DO, "", len(missing))
+    except (FileNotFoundError, ValueError, KeyError, TypeError):      # the last three of a note that is damaged
+        last = handed.last_line() if handed else None
+        if last is not None and DONE_WORDS.search(last):
+            last = None                      # it was done, over a model that stands there no more
+        why = f"; its log ends with: {last}" if last not in (None, "", STOPPED) else ": killed, out of memory, or out of time"
+        return State(task, FAILED, ENDED + why, len(missing)) if is_dead or last is not None else State(task, TO_DO, "", len(missing))
 
 
 def half_done(folder: Path, missing: Sequence[int]) -> tuple[set[str], bool]:

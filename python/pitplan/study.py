@@ -46,6 +46,7 @@ Bools = npt.NDArray[np.bool_]
 Told = Callable[[int, str, float], None]     # a factor, what is done for it, and how far that is, from 0 to 1
 COLUMNS = ("revenue", "processing", "mining", "tonnes")
 READ = ("mine.blocks", "mine.prec", "settings.toml")
+MANIFEST = {"key", "files", "blocks", "pairs", "offsets", "metals", "currency", "source", "keys", "pit"}      # what manifest.json has at least
 TIMES = 10                                   # that a folder is tried to be put where other processes put theirs
 FULL = (errno.ENOSPC, errno.EDQUOT)          # a disk has no room, or its user's share of it
 
@@ -94,13 +95,16 @@ class Study:
             self.manifest: dict[str, Any] = json.loads((self.where / "manifest.json").read_text())
         except (FileNotFoundError, NotADirectoryError):
             raise PlanError(f"{self.folder} is no study, or was never built", try_this=command("build", self.named)) from None
-        except json.JSONDecodeError:
-            raise PlanError(f"{self.where / 'manifest.json'} is damaged", try_this=command("build", self.named)) from None
+        except ValueError:                   # no JSON, or no text
+            self.manifest = {}
+        if not isinstance(self.manifest, dict) or not self.manifest.keys() >= MANIFEST:
+            raise PlanError(f"{self.where / 'manifest.json'} is damaged", try_this=command("build", self.named))
         self.key: str = self.manifest["key"]
         self.given = program
         self.added_up = set[tuple[int, str, int, str]]()     # of pits that this object added up and kept: factor, digest of the bits, count, worth
 
     keeps = True                             # the certificate of each pit, packed, beside it
+    began: float | None = None               # when what the next pit needs was begun, where that was before its run
 
     def room(self, work: Path) -> Path:
         """The folder in which a certificate is written while it is checked: beside the result, unless told otherwise."""
@@ -109,6 +113,11 @@ class Study:
     @cached_property
     def program(self) -> Pit:
         return self.given or Pit()
+
+    @cached_property
+    def version(self) -> list[str]:
+        """What the program that finds and checks pits here says of itself; the build may have had another."""
+        return self.program.version()
 
     @property
     def table(self) -> Path | None:
@@ -235,9 +244,10 @@ class Study:
         """The verdict of a run that is done over this very model, else None."""
         try:
             found: Verdict = json.loads((self.place(factor) / "verdict.json").read_text())
-        except (FileNotFoundError, NotADirectoryError, json.JSONDecodeError):
+        except (FileNotFoundError, NotADirectoryError, ValueError):      # the last where it is no JSON, or no text
             return None
-        return found if found.get("model") == self.key and found.get("factor") == factor else None
+        is_whole = isinstance(found, dict) and found.keys() >= Verdict.__annotations__.keys()
+        return found if is_whole and found["model"] == self.key and found["factor"] == factor else None
 
     def certified(self, factor: int) -> Verdict | None:
         """The verdict of a pit whose certificate `pit check` accepted, over this very model, else None."""
@@ -267,7 +277,8 @@ class Study:
         done = self.certified(factor)
         if done:
             return done
-        began, place = time.time(), self.place(factor)
+        began, place = self.began or time.time(), self.place(factor)
+        self.began = None
         stated = self.mask(factor) if self.verdict(factor) else None
         with made_whole(place) as work:
             found = self.program.best(self.files, factor, self.room(work) / "best.cert", solving(told, factor), self.keeps)
@@ -283,7 +294,7 @@ class Study:
         bits = np.packbits(found.mask)
         np.savez_compressed(work / "pit.npz", bits=bits)
         done = Verdict(factor=found.factor, count=found.count, worth=found.worth, certificate=found.certificate, bits=hashlib.sha256(bits.tobytes()).hexdigest(), model=self.key,
-                       pit=self.manifest["pit"], seconds=round(seconds, 2), host=host())
+                       pit=self.version, seconds=round(seconds, 2), host=host())
         (work / "verdict.json").write_text(json.dumps(done, indent=1))
         self.added_up.add((found.factor, done["bits"], found.count, found.worth))
         return done

@@ -11,6 +11,7 @@ from __future__ import annotations
 
 import hashlib
 import json
+import re
 import time
 from collections.abc import Iterable, Sequence
 from contextlib import nullcontext
@@ -28,6 +29,7 @@ if TYPE_CHECKING:
 
 BASE = "base"
 MADE = 200                                   # bytes a block that a realisation's process holds beside its `pit` (bench/scale.csv)
+DONE_WORDS = re.compile(r": (?:\d+ pits? found|done before)$")      # of `told`, at the end of a task's log
 PROCESS = 200_000_000                        # bytes of a process of this package with nothing in it
 
 
@@ -77,6 +79,11 @@ def task_of(words: Sequence[str]) -> Task:
         raise PlanError(f"{' '.join(words)!r} is no task: factors are whole thousandths", try_this=example)
     factors = tuple(sorted({thousandths(int(part) / 1000) for part in parts}))
     return Task(words[0], str(int(words[1])) if words[0] == "realisation" else words[1], factors)
+
+
+def told(task: Task, count: int) -> str:
+    """What is said of a task that is done: how many pits were found for it."""
+    return f"{task}: " + (f"{count} pit{'s' * (count > 1)} found" if count else "done before")
 
 
 class Tasks:

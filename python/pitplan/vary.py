@@ -156,8 +156,9 @@ def price_factor(factor: int, change: Change) -> int:
     """
     exact = factor * (1 + change.by / 100)
     if abs(exact - round(exact)) > 1e-6:
+        near = round(exact) if round(exact) != factor else factor + (1 if change.by > 0 else -1)      # no change is none that can be made
         raise PlanError(f"{change} of factor {factor / THOUSAND:g} is factor {exact / THOUSAND:.9g}, and factors are whole thousandths",
-                        try_this=f"{change.what}={100 * (round(exact) / factor - 1):+.9g}" if factor else None)
+                        try_this=f"{change.what}={100 * (near / factor - 1):+.9g}")
     return thousandths(round(exact) / THOUSAND)
 
 
@@ -172,7 +173,7 @@ def asked_of(study: Study) -> Asked | None:
         found = Asked(**json.loads(path.read_text()))
     except FileNotFoundError:
         return None
-    except (TypeError, json.JSONDecodeError):
+    except (TypeError, ValueError):
         raise PlanError(f"{path} is damaged", try_this=command("vary", study.named, "price=-20..20")) from None
     return found if found.study == study.key else None
 

@@ -7,6 +7,9 @@ import re
 import shutil
 import subprocess
 import sys
+import tomllib
+from copy import deepcopy
+from functools import reduce
 from pathlib import Path
 from types import SimpleNamespace
 
@@ -167,9 +170,9 @@ table = "t.csv"
 size = [20, 20, 15]
 
 [economics]
-mining = "where(ZONE == '1', 2.0, 2.5)"
+mining = "where(ZONE == '1', 2.0, 2.5) + 0.1 * ((CU > 0.1) + (CLAY_\u00b5 > 0.1))"
 processing = "where(ROCK == 'OXI', 7.5, where(ROCK == 'SUL' and CU > 0.1, 9.0, 8.0))"
-forbid = ["ZONE == '2A' and XC > 5100"]
+forbid = ["ZONE == '2A' and XC > 5100", "MINED == 'TRUE'"]
 metals = [ { name = "copper", grade = "CU", price = 8500, recovery = "where(ROCK == 'OXI', AS, 0.85)" } ]
 
 [slopes]
@@ -187,6 +190,8 @@ def test_codes_blanks_and_empty_cells_are_read_alike(tmp_path):
     frame = mines.table(7, 6, 4, 3)
     frame["ZONE"] = ["1", "2A", "3"] * (len(frame) // 3) + ["1"] * (len(frame) % 3)
     frame["AS"] = frame.ROCK.map({"OXI": "0.7", "SUL": ""})
+    frame["MINED"] = np.where(frame.XC < 5010, "TRUE", "FALSE")
+    frame["CLAY_\u00b5"] = frame.AU
     frame.loc[[1, 5], "ROCK"] += " "
     frame.loc[4, "ZONE"] = " 2A "
     lines, status = rechecked(bundled(tmp_path, CODES, frame))
@@ -386,7 +391,7 @@ CHANGES = {
     "a worth": (other_worth, "pit check at factor 0.6"),
     "the digest of a certificate": (told_otherwise("verdicts.json", 0, "certificate", value="0" * 64), "the certificate at factor 0.6 is the one whose pit is shown"),
     "pits that aren't nested": (not_nested, "the pit at 1 lies within that at 1.2"),
-    "the order of the pits": (swapped, "comes behind"),
+    "the order of the pits": (swapped, "comes after"),
     "a price": (lambda f: replaced(f / "study.toml", "8500", "8600"), "what each block brings and costs"),
     "the rounding": (lambda f: replaced(f / "study.toml", "mining = 2.0", "rounding = 1000\nmining = 2.0"), "what each block brings and costs"),
     "a cost": (lambda f: replaced(f / "study.toml", "mining = 2.0", "mining = 2.1"), "what each block brings and costs"),
@@ -411,6 +416,179 @@ def test_what_is_changed_with_its_digests_is_found_by_what_it_means(copy, what):
     summed(copy)
     lines, status = rechecked(copy)
     assert status == 1 and any(line.startswith("WRONG") and told in line for line in lines), lines
+
+
+def study(old, new):
+    return lambda folder: replaced(folder / "study.toml", old, new)
+
+
+def cell_of(name, line, at, value):
+    """A cell of a file of the bundle that is another; its cells are parted by commas in a table, and by blanks in a file of the model."""
+    def change(folder):
+        lines = (folder / name).read_text().split("\n")
+        mark = "," if name.endswith(".csv") else " "
+        cells = lines[line].split(mark)
+        cells[at] = value
+        (folder / name).write_text("\n".join([*lines[:line], mark.join(cells), *lines[line + 1:]]))
+    return change
+
+
+ROUNDING = "study.toml: [economics] rounding is {}, and has to be a number of at least 0.000001, with at most six decimals"
+STRANGE = {
+    **{f"rounding = {value}": (study("mining = 2.0", f"rounding = {value}\nmining = 2.0"), ROUNDING.format(said))
+       for value, said in (("0", "0"), ("nan", "nan"), ("'a'", "'a'"), ("-1", "-1"), ("1e-7", "1e-07"), ("inf", "inf"), ("0.0000015", "1.5e-06"), ("true", "true"), ("1" * 400, "a number of very many digits"))},
+    "an angle": (study("angles = 45", "angles = 0"), "study.toml: [slopes] angles is 0, and has to be degrees from 5 to 89, or a list of bearings and degrees as [[0, 38], [90, 45]]"),
+    "an angle by bearing": (study("angles = 45", "angles = [[0, 45], [90, nan]]"), "study.toml: [slopes] angles is [[0, 45], [90, nan]], and has to be degrees"),
+    "no angles": (study("angles = 45", "angles = []"), "study.toml: [slopes] angles is [], and has to be"),
+    "the angles of a region": (study("angles = 45", "angles = 45\nby = 'SECTOR'\nregions = { WEST = 'flat' }"), "study.toml: [slopes] regions is {'WEST': 'flat'}, and has to be a table of angles"),
+    "regions without a column": (study("angles = 45", "angles = 45\nregions = { WEST = 38 }"), "study.toml: [slopes] by is '', and has to be a column of table/t.csv: 'IJK, XC, YC"),
+    "a size": (study("size = [20, 20, 15]", "size = [20, 0, 15]"), "study.toml: [model] size is [20, 0, 15], and has to be three numbers above 0"),
+    "a rotation": (study("size =", "rotation = 'east'\nsize ="), "study.toml: [model] rotation is 'east', and has to be a number"),
+    "marks": (study("size =", "absent = [-99]\nsize ="), "study.toml: [model] absent is [-99], and has to be a list of words"),
+    "columns added": (study("size =", "widen = -1\nsize ="), "study.toml: [model] widen is -1, and has to be a whole number of at least 0"),
+    "a section": (study("[model]", "slopes = 45\n[model]"), "study.toml isn't TOML"),
+    "no section": (lambda f: (f / "study.toml").write_text("shells = 1\n"), "study.toml: [shells] is 1, and has to be a table"),
+    "a recovery": (study("recovery = 0.85", "recovery = [0.85]"), "study.toml: [economics] metals, number 1, recovery is [0.85], and has to be a number, a column, a formula"),
+    "a recovery by rock": (study("recovery = 0.85", "recovery = { OXI = 'all' }"), "study.toml: [economics] metals, number 1, recovery is {'OXI': 'all'}, and has to be"),
+    "a share of the price": (study("recovery = 0.85", "recovery = 0.85, payable = 96"), "study.toml: [economics] metals, number 1, payable is 96, and has to be a number from 0 to 1"),
+    "a price": (study("8500", "'8500'"), "study.toml: [economics] metals, number 1, price is '8500', and has to be a number of at least 0"),
+    "no price": (study("price = 8500, ", ""), "study.toml: [economics] metals, number 1, price isn't there, and has to be a number of at least 0"),
+    "a unit": (study("price = 8500", "price_unit = 'stone', price = 8500"), "price_unit is 'stone', and has to be one of t, kg, g, lb, oz, dmtu"),
+    "a column of grades": (study('grade = "CU"', 'grade = "CV"'), "study.toml: [economics] metals, number 1, grade is 'CV', and has to be a column of table/t.csv: 'IJK, XC, YC"),
+    "no metals": (study("metals = [ {", "metals = []\nmore = [ {"), "study.toml: [economics] metals is [], and has to be a list of metals"),
+    "dilution": (study("mining = 2.0", "dilution = 5\nmining = 2.0"), "study.toml: [economics] dilution is 5, and has to be a number from 0 to 1"),
+    "a formula of words": (study("mining = 2.0", "mining = '2 + ROCK'"), "study.toml: [economics] mining is '2 + ROCK', and has to be a formula that can be worked out; for row 2 of table/t.csv it can't be: it is no formula, or it counts with words"),
+    "a formula that is none": (study("mining = 2.0", "mining = '2 +'"), "study.toml: [economics] mining is '2 +', and has to be a formula that can be worked out"),
+    "a formula of too much": (study("mining = 2.0", "mining = '9**9**9**9'"), "for row 2 of table/t.csv it can't be: it gives no number"),
+    "a formula of another column": (study("mining = 2.0", "mining = '2 + ZD'"), "it names 'ZD', which is no column of table/t.csv"),
+    "a formula of another function": (study("mining = 2.0", "mining = 'max(2)'"), "'max(2)' is no part of a formula"),
+    "a fence that says no": (study("mining = 2.0", "forbid = ['XC']\nmining = 2.0"), "study.toml: [economics] forbid is 'XC', and has to be a formula that can be worked out; for row 2 of table/t.csv it can't be: it says neither yes nor no"),
+    "factors": (study("factors = [0.6,", "factors = ['0.6',"), "study.toml: [shells] factors is ['0.6', 1.0, 1.2], and has to be a list of numbers from 0 to 10"),
+    "a series of factors": (study("factors = [0.6, 1.0, 1.2]", "factors = { from = 0.6, to = nan, step = 0.2 }"), "study.toml: [shells] factors is {'from': 0.6, 'to': nan, 'step': 0.2}, and has to be"),
+    "no text": (lambda f: (f / "study.toml").write_bytes(b"\xff"), "study.toml isn't TOML in UTF-8"),
+    "the size of the grid": (told_otherwise("facts.json", "grid", "size", value=[20, 20, "15"]), "facts.json: grid, size is [20, 20, '15'], and has to be three numbers above 0"),
+    "the origin of the grid": (told_otherwise("facts.json", "grid", "origin", value=[float("nan"), 0, 0]), "facts.json: grid, origin is [nan, 0, 0], and has to be three numbers"),
+    "the columns": (told_otherwise("facts.json", "columns", "x", value="EAST"), "facts.json: columns, x is 'EAST', and has to be a column of table/t.csv: 'IJK, XC, YC"),
+    "the encoding": (told_otherwise("facts.json", "dialect", "encoding", value="runes"), "facts.json: dialect, encoding is 'runes', and has to be an encoding that Python knows"),
+    "the name of the table": (told_otherwise("facts.json", "table", value="table/u.csv"), "table/u.csv: No such file or directory"),
+    "the digests of the model": (told_otherwise("model/manifest.json", "files", value=7), "model/manifest.json: files is 7, and has to be a table of sha256"),
+    "offsets": (lambda f: (f / "model" / "slope-0.toml").write_text("offsets = [[0, 0, 0]]\n"), "model/slope-0.toml: offsets is [[0, 0, 0]], and has to be a list of offsets as [[0, 0, 1]], each at least one level up"),
+    "a column of the model": (lambda f: (f / "model" / "settings.toml").write_text("revenue = 0\nprocessing = 1\nmining = 2\ntonnes = 'last'\n"), "model/settings.toml: tonnes is 'last', and has to be a whole number from 0 to 65,535"),
+    "a place": (cell_of("model/mine.blocks", 4, 1, "east"), "model/mine.blocks: block 4 is 'east "),
+    "an amount": (cell_of("model/mine.blocks", 4, 4, "nan"), "and has to be a place of three whole numbers, and numbers in the columns that model/settings.toml names"),
+    "the number of a block": (cell_of("model/mine.blocks", 4, 0, "x"), "model/mine.blocks: line 5 begins with no number of a block"),
+    "how many predecessors": (cell_of("model/mine.prec", 4, 1, "x"), "model/mine.prec: line 5 is '4 x"),
+    "a factor": (told_otherwise("verdicts.json", 0, "factor", value="0.6"), "verdicts.json: pit 1, factor is '0.6', and has to be a whole number from 0 to 10,000"),
+    "a worth": (told_otherwise("verdicts.json", 2, "worth", value="much"), "verdicts.json: pit 3, worth is 'much', and has to be a number in quotes"),
+    "no pit": (told_otherwise("verdicts.json", 1, value=None), "verdicts.json: pit 2 is null, and has to be a table"),
+    "a PIT line": (lambda f: packed(f / "certificates" / "f01000.cert.gz", lambda t: re.sub(r"PIT \d+", "PIT x", t, count=1)), "the certificate at factor 1: a PIT line has 'x', and has to have the number of a block"),
+    "half a certificate": (lambda f: (f / "certificates" / "f01000.cert.gz").write_bytes((f / "certificates" / "f01000.cert.gz").read_bytes()[:50]), "the certificate at factor 1: the packed file is damaged"),
+    "a row": (cell_of("tables/blocks.csv", 1, 1, "two"), "tables/blocks.csv, line 2, column row: the cell is 'two', and has to be a whole number"),
+    "a shell": (cell_of("tables/blocks.csv", 1, 2, "nan"), "tables/blocks.csv, line 2, column shell: the cell is 'nan', and has to be a number"),
+    "tonnes of a pit": (cell_of("tables/pit_by_pit.csv", 1, 2, "many"), "tables/pit_by_pit.csv, line 2, column rock_t: the cell is 'many', and has to be a number"),
+    "a column of the pits": (cell_of("tables/pit_by_pit.csv", 0, 2, "rock"), "tables/pit_by_pit.csv, line 2 has no cell of column rock_t"),
+    "a bench": (cell_of("tables/benches.csv", 1, 0, ""), "tables/benches.csv, line 2, column bench: the cell is '', and has to be a number"),
+    "a grade": (cell_of("table/t.csv", 2, 5, "rich"), "table/t.csv, row 3, column CU: the cell is 'rich', and has to be a number"),
+}
+NAME_OF_AN_ERROR = re.compile(r"\b[A-Z]\w*(Error|Exception|Operation|File)\b")
+
+
+@pytest.mark.parametrize("what", STRANGE)
+def test_a_value_that_a_key_may_not_have_is_told_with_its_file_and_what_it_has_to_be(copy, what):
+    change, told = STRANGE[what]
+    change(copy)
+    summed(copy)
+    lines, status = rechecked(copy)
+    assert status == 1 and any(line.startswith("WRONG") and told in line for line in lines), lines
+    assert not any(NAME_OF_AN_ERROR.search(line) for line in lines), lines
+
+
+def places_of(value, at=()):
+    """The way to each value within what a JSON or TOML file has; of a list to its first two."""
+    yield at
+    for key, inner in value.items() if isinstance(value, dict) else list(enumerate(value))[:2] if isinstance(value, list) else ():
+        yield from places_of(inner, (*at, key))
+
+
+def as_toml(value):
+    if isinstance(value, dict):
+        return "{ " + ", ".join(f"{json.dumps(key)} = {as_toml(inner)}" for key, inner in value.items()) + " }"
+    return "[" + ", ".join(map(as_toml, value)) + "]" if isinstance(value, list) else "1979-05-27" if value is None else json.dumps(value).replace("Infinity", "inf").replace("NaN", "nan")
+
+
+VALUES = (0, -1, float("nan"), float("inf"), 10 ** 400, 1e-9, "", "x", "1+", "CU", "\0", True, None, [], [1], [[0, 45]], {}, {"a": 1})
+
+
+@pytest.mark.parametrize("name", ["facts.json", "model/manifest.json", "verdicts.json", "model/settings.toml", "model/slope-0.toml", "study.toml"])
+def test_no_value_of_a_file_is_answered_by_the_name_of_an_error(copy, tmp_path, monkeypatch, capsys, name):
+    """Each value becomes two others, one after the other, or is taken away. `pit` is a script that says at once what it said of the sound bundle."""
+    verdicts = json.loads((copy / "verdicts.json").read_text())
+    said = "\n".join(f"{v['factor']}) echo ACCEPTED {v['count']} {v['worth']};;" for v in verdicts)
+    shutil.copy(copy / "model" / "mine.prec", tmp_path / "prec")
+    (tmp_path / "pit").write_text(f"#!/bin/sh\ncase $1 in\nslopes) cat '{tmp_path}/prec';;\ncheck) case $(sed -n 's/^PRICE MILL //p') in\n{said}\nesac;;\n*) echo pit;;\nesac\n")
+    (tmp_path / "pit").chmod(0o755)
+    monkeypatch.setattr(recheck, "HERE", copy)
+    text = (copy / name).read_text()
+    sound = json.loads(text) if name.endswith(".json") else tomllib.loads(text)
+    for n, at in enumerate(place for place in places_of(sound) if place):
+        for value in (VALUES[n % len(VALUES)], VALUES[(7 * n + 3) % len(VALUES)], places_of):
+            told = deepcopy(sound)
+            *way, last = at
+            inner = reduce(lambda of, key: of[key], way, told)
+            if value is places_of:
+                del inner[last]
+            else:
+                inner[last] = value
+            (copy / name).write_text(json.dumps(told) if name.endswith(".json") else "".join(f"{json.dumps(key)} = {as_toml(of)}\n" for key, of in told.items()))
+            recheck.check_all(recheck.Told(), str(tmp_path / "pit"), False)
+            lines = capsys.readouterr().out.splitlines()
+            assert f"WRONG   sha256 of {name}" in lines and not any(NAME_OF_AN_ERROR.search(line) for line in lines), (at, value, lines)
+
+
+def test_a_formula_divides_as_numpy_does_where_another_value_is_taken(tmp_path):
+    """A share of nothing is infinite, and where() passes it over, as numpy's does."""
+    frame = mines.table(7, 6, 4, 3)
+    assert (frame.CU == 0).any()
+    text = mines.STUDY_TOML.replace("mining = 2.0", 'mining = "where(CU > 0, 2 + 0.001 / CU + sqrt(CU - 0.0), where(CU > 0, sqrt(0 - CU - 1), 2.5) + where(CU > 1, CU ** -1, 0)) + where(CU >= 0, 0, 10 ** (400 + CU))"')
+    lines, status = rechecked(bundled(tmp_path, text, frame))
+    assert status == 0, lines
+
+
+def test_a_series_may_begin_at_factor_0(tmp_path):
+    """Its pit is the one of no block, which lies within each other."""
+    lines, status = rechecked(bundled(tmp_path, mines.STUDY_TOML.replace("[0.6, 1.0, 1.2]", "[0.0, 0.6, 1.0]")))
+    assert status == 0, lines
+
+
+def test_marks_with_a_comma_are_numbers(tmp_path):
+    """As -99,0 in study.toml of a table with decimal commas, where a cell is -99 or -99,00."""
+    frame = mines.table(7, 6, 4, 3)
+    frame.loc[[3, 9], "CU"] = -99
+    written = frame.to_csv(sep=";", decimal=",", index=False).replace(";-99,0;", ";-99,00;", 1).replace(";-99,0;", ";-99;", 1)
+    assert ";-99,00;" in written and ";-99;" in written
+    told_at = mines.written_study(tmp_path, frame, mines.STUDY_TOML.replace("size =", 'absent = ["-99,0"]\nsize ='))
+    (tmp_path / "t.csv").write_text(written)
+    told = read_study_file(told_at)
+    study = Study.create(told.path.parent, told.read_model(), told.economics, told.slopes, keys=told.digest)
+    bundle.write(study.shells(told.factors), tmp_path / "b", told.path, told.keys.dialect(told.table), told.rates)
+    lines, status = rechecked(tmp_path / "b")
+    assert status == 0, lines
+
+
+def test_a_packed_table_that_unpacks_without_end_is_not_read_on(copy):
+    with gzip.open(copy / "table" / "t.csv.gz", "wb", 9) as file:
+        for _ in range(80):
+            file.write(bytes(1 << 20))
+    told_otherwise("facts.json", "table", value="table/t.csv.gz")(copy)
+    summed(copy)
+    lines, status = rechecked(copy)
+    assert status == 1 and any("it unpacks to more than a table can have" in line for line in lines), lines
+
+
+def test_letters_that_a_terminal_has_not_are_no_fault_of_the_bundle(tmp_path):
+    folder = bundled(tmp_path, mines.STUDY_TOML.replace("mining = 2.0", 'currency = "€"\nmining = 2.0'))
+    ran = subprocess.run([sys.executable, str(folder / "recheck.py"), os.environ["PIT"]], capture_output=True, text=True, env={**os.environ, "PYTHONIOENCODING": "ascii"})
+    assert ran.returncode == 0 and "amounts are in ?" in ran.stdout, ran.stdout
 
 
 def walls(folder):

@@ -12,6 +12,7 @@ import pytest
 
 from mines import STUDY_TOML, table, written_study
 from pitplan import first_look, later
+from pitplan.errors import PlanError
 from pitplan.formula import worked_out
 from pitplan.study import host
 from pitplan.study_file import read_study_file
@@ -199,6 +200,22 @@ def test_init_sees_marks_sub_blocks_and_descriptions(tmp_path):
     (tmp_path / "study.toml").write_text(text)
     told = read_study_file(tmp_path)
     assert told.keys.absent == ["-99"] and told.keys.regularise
+
+
+def test_init_names_rocks_without_the_blanks_around_them(tmp_path):
+    """As `build` reads them; else the rocks that init shows are none that the model has."""
+    f = table(6, 5, 3, 3)
+    f.loc[::2, "ROCK"] += "  "
+    f.to_csv(tmp_path / "t.csv", index=False)
+    assert sorted(first_look.look_at(tmp_path / "t.csv").rocks) == ["OXI", "SUL"]
+
+
+def test_init_offers_no_mark_where_a_place_is_none(tmp_path):
+    f = table(4, 4, 3, 3).astype({"XC": object})
+    f.loc[3, "XC"] = ""
+    f.to_csv(tmp_path / "t.csv", index=False)
+    with pytest.raises(PlanError, match="row 5, column XC: the cell is empty\n  try: fill its place in, or take the row out"):
+        first_look.look_at(tmp_path / "t.csv")
 
 
 @pytest.mark.parametrize("column, values, wanted", [

@@ -1,5 +1,6 @@
 """What blocks bring and cost, against sums made here; and formulas, which are arithmetic and nothing else."""
 import math
+import tomllib
 from decimal import Decimal
 
 import numpy as np
@@ -87,7 +88,7 @@ def test_what_the_economics_may_not_say(model, keys, said):
     assert said in refusal(costs(**keys).priced, model)
 
 
-@pytest.mark.parametrize("keys, said", [(dict(dilution=-0.1), "dilution"), (dict(dilution=5), "from 0 to 1"), (dict(mining_recovery=1.2), "mining_recovery"), (dict(mining_recovery=0), "above 0"), (dict(rounding=0), "rounding"), (dict(rounding=1e-9), "six decimals"),
+@pytest.mark.parametrize("keys, said", [(dict(dilution=-0.1), "dilution"), (dict(dilution=5), "from 0 to 1"), (dict(mining_recovery=1.2), "mining_recovery"), (dict(mining_recovery=0), "above 0"), (dict(rounding=0), "rounding"), (dict(rounding=1e-9), "six decimals"), (dict(rounding=1e30), "at most 1,000,000,000,000"),
                                         (dict(metals=()), "no metals"), (dict(metals=(COPPER, COPPER)), "two metals"), (dict(forbid="ZC > 1"), "a list")])
 def test_numbers_out_of_range(keys, said):
     assert said in refusal(costs, **keys)
@@ -162,6 +163,28 @@ def test_a_formula_compares_words_without_the_blanks_around_them(frame):
     assert (kept == (frame.SECTOR.str.strip() == "WEST")).all() and (worked_out("ROCK == 'OXI'", found.blocks, "") == (frame.ROCK.str.strip() == "OXI")).all()
 
 
+def test_yes_counts_as_1(frame, model):
+    """Also where it is added to another yes, or taken from it."""
+    rich, gold = (frame.CU > 0).to_numpy(), (frame.AU > 0).to_numpy()
+    assert (rich & gold).any() and (gold & ~rich).any()
+    for text, wanted in (("((CU > 0) + (AU > 0)) * 3", 3 * (rich * 1 + gold)), ("(CU > 0) - (AU > 0)", rich * 1 - gold), ("-(CU > 0)", -1 * rich), ("not (CU > 0)", ~rich)):
+        assert worked_out(text, model.blocks, "mining").tolist() == wanted.tolist(), text
+
+
+@pytest.mark.parametrize("name", ["AU_\u00b5g", "N\u00ba", "\u00c9cart", "E\u0301cart"])
+def test_a_column_is_found_whose_letters_python_reads_as_others(frame, name):
+    model = model_of(frame.rename(columns={"AU": name}))
+    assert worked_out(f"2 * {name}", model.blocks, "mining").tolist() == (2 * frame.AU).tolist()
+
+
+def test_a_formula_compares_two_columns_of_words_without_the_blanks_around_them(frame):
+    """An empty cell is as one of blanks alone."""
+    frame = frame.assign(OLD=frame.ROCK + " ", NEW=frame.ROCK)
+    frame.loc[[3, 5], "OLD"], frame.loc[5, "NEW"] = ["", "  "], ""
+    assert (worked_out("OLD == NEW", model_of(frame).blocks, "") == (frame.OLD.str.strip() == frame.NEW)).all() and (frame.OLD.str.strip() != frame.NEW).sum() == 1
+    assert worked_out("OLD != NEW", model_of(frame).blocks, "").tolist() == (frame.OLD.str.strip() != frame.NEW).tolist()
+
+
 @pytest.mark.parametrize("cell, said", [("", "row 5, column DIST: [economics] forbid = 'DIST < 50': there is no number to compare here"), ("-", "row 5, column DIST: the cell is no number: it is '-'")])
 @pytest.mark.parametrize("is_known", [False, True])
 def test_a_cell_without_a_number_is_not_passed_over_by_forbid(frame, cell, said, is_known):
@@ -182,13 +205,21 @@ def test_a_rock_without_a_name_is_told_with_its_row(frame):
     assert "t.csv, row 6: processing: nothing is said of rock without a name" in said and '{ "" = .. }' in said
 
 
+@pytest.mark.parametrize("rock", ["HARD ROCK", "Óxido", 'a "b"', "OX-2"])
+def test_the_hint_for_a_rock_is_toml(frame, rock):
+    frame = frame.copy()
+    frame.loc[4, "ROCK"] = rock
+    said = refusal(costs(processing={"OXI": 7.5, "SUL": 9.0}).priced, model_of(frame))
+    assert tomllib.loads("processing = " + said.rsplit("try: ", 1)[1].split(", or ")[0].replace("..", "1")) == {"processing": {rock: 1}}
+
+
 COPPER_T = pp.Metal("copper", "CU", price=8500, recovery=0.85)
 
 
 @pytest.mark.parametrize("keys, said", [
     (dict(), []),
     (dict(metals=(pp.Metal("copper", "CU", price=8500, price_unit="lb", recovery=0.85),)), ["times what digging and treating it costs"]),
-    (dict(metals=(pp.Metal("copper", "CU", price=3.9, recovery=0.85),)), ["no block pays for its treatment"]),
+    (dict(metals=(pp.Metal("copper", "CU", price=3.9, recovery=0.85),)), ["no block pays for its treatment at the full price, so each pit up to factor 1 is empty"]),
     (dict(metals=(COPPER_T, pp.Metal("gold", "AU", price=60, grade_unit="g/t", price_unit="t"))), ["gold brings"]),
     (dict(mill=[]), ["no block pays for its treatment"]),
     (dict(forbid=["XC > 6000"]), ["forbid = 'XC > 6000' holds for no block"]),

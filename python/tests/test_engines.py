@@ -4,6 +4,7 @@ import shutil
 import signal
 import subprocess
 import threading
+import time
 
 import numpy as np
 import pandas as pd
@@ -13,7 +14,7 @@ import clusters
 import pitplan as pp
 from mines import STUDY_TOML, table, written_study
 from pitplan import engines, local, risk, status
-from pitplan.task import Task, Tasks, wanted
+from pitplan.task import Task, Tasks, told, wanted
 from processes import TOP, command, gone, parent, runs, said, started, waited_for
 from test_risk import grades_of, prepared
 
@@ -112,9 +113,10 @@ def test_a_slurm_array_with_a_killed_task_and_a_killed_node(tmp_path, asked_for,
     assert "nothing to hand in" in said("submit", study.folder, "--engine", "slurm", env=env) and "12 done, of 12" in said("status", study.folder, env=env)
 
 
-def test_snakemake_over_slurm_starts_a_killed_job_again(tmp_path, held, slurm):
+def test_snakemake_over_slurm_starts_a_killed_job_again(tmp_path, held, slurm, monkeypatch):
     assert shutil.which("snakemake"), "not installed: snakemake"
     study, pit = prepared(tmp_path, 4, table(7, 6, 4, 3), factors=(1000,)), held(first=1)
+    monkeypatch.setenv("PIT", str(pit.path))     # the Snakefile names it
     written = engines.write_snakefile(study, risk.tasks(study))
     line = engines.snakemake_lines(written)["Slurm"] + " --latency-wait 60"
     env = {**slurm.env, "PIT": str(pit.path), "HOME": str(tmp_path), "XDG_CACHE_HOME": str(tmp_path / "cache"), "CI": "true"}      # then it looks each second
@@ -267,6 +269,69 @@ def test_what_another_machine_left_half_done(tmp_path, asked_for):
     shown, look = run.communicate(timeout=600)
     assert "11 tasks of" in shown and "realisation 3 1000" not in shown and "1 task running on node7" in look and "--again" in look, (shown, look)
     assert "12 tasks of" in said("submit", study.folder, "--dry", "--again")
+
+
+def test_a_log_without_a_word_and_one_of_a_model_that_was(tmp_path, asked_for):
+    """A task that was killed before it said anything did begin, and one that was done over another model didn't fail."""
+    study, task, log = twelve(asked_for, tmp_path), Task("realisation", "3", (1000,)), tmp_path / "log"
+    state = lambda: status.states(study, [task], {task: engines.Handed("", log)})[0]      # noqa: E731
+    assert state().state == status.TO_DO         # cancelled while it waited
+    log.write_text("")
+    assert (state().state, state().words) == (status.FAILED, "was ended from outside: killed, out of memory, or out of time")
+    for count in (0, 1, 3):
+        log.write_text(f"{told(task, count)}\n")
+        assert (state().state, state().words) == (status.TO_DO, ""), count
+    log.write_text(f"{told(task, 3)}\nslurmstepd: error: *** JOB 7 CANCELLED ***\n")      # Slurm started it again
+    assert state().state == status.FAILED and state().words.endswith("JOB 7 CANCELLED ***")
+
+
+def test_the_rest_is_reckoned_with_pricing(tmp_path, monkeypatch):
+    """A realisation is priced and written before its first pit, and on a mine of few blocks or few factors that takes longest."""
+    study = prepared(tmp_path, 3, table(6, 5, 4, 3))
+    write = risk.write_blocks
+    monkeypatch.setattr(risk, "write_blocks", lambda *words: time.sleep(1) or write(*words))
+    one, *others = risk.tasks(study)
+    Tasks(study.folder).do(one)
+    first, second = (risk.realisation(study, 0).verdict(factor)["seconds"] for factor in one.factors)
+    assert second < 1 <= first
+    found = status.states(study, risk.tasks(study), {})
+    assert sum(state.missing for state in found) == 4
+    assert status.seconds_left(study, found) == pytest.approx(2 * (first + second))
+    written = risk.realisation(study, 1)
+    with written.written():
+        pass
+    assert written.began is None                 # what was written and not used counts with no pit
+
+
+def test_a_scheduler_starts_the_pit_that_was_named(tmp_path, asked_for, program, monkeypatch):
+    """Also where PIT is a relative path, since tasks start in the study's folder."""
+    study, place = twelve(asked_for, tmp_path), tmp_path / "a place"
+    place.mkdir()
+    shutil.copy(program, place / "own-pit")
+    monkeypatch.chdir(tmp_path)
+    monkeypatch.delenv("PIT", raising=False)
+    assert " PIT=" not in engines.slurm_script(study, 1, "submit/1")
+    monkeypatch.setenv("PIT", "a place/own-pit")
+    said = engines.slurm_script(study, 1, "submit/1").splitlines()[-1]
+    assert said == f"exec env PIT='{place.resolve()}/own-pit' {TOP / 'bin/pitplan'} task . $words"
+    bare = {name: value for name, value in os.environ.items() if name != "PIT"}
+    written = engines.write_snakefile(study, [Task("realisation", "3", (1000,))])
+    assert f"PIT='{place.resolve()}/own-pit'" in (written / "Snakefile").read_text()
+    subprocess.run(["sh", "-c", said.removeprefix("exec ").replace("$words", "realisation 3 1000")], cwd=study.folder, env=bare, check=True, stdout=subprocess.DEVNULL)
+    assert not Tasks(study.folder).missing(Task("realisation", "3", (1000,)))
+
+
+def test_risk_says_what_slurm_has_in_hand(tmp_path, asked_for, program):
+    study, queue = twelve(asked_for, tmp_path), tmp_path / "squeue"
+    (study.folder / "submit/1").mkdir(parents=True)
+    (study.folder / "submit/1/tasks.txt").write_text("".join(f"realisation {r} 1000\n" for r in range(3)))
+    (study.folder / "submit/1/submitted.json").write_text('{"engine": "slurm", "job": "7", "host": "head"}')
+    queue.write_text("#!/bin/sh\necho 7 2 RUNNING\necho 7 3 PENDING\n")
+    queue.chmod(0o755)
+    env = {**os.environ, "PIT": program, "PATH": f"{tmp_path}:{os.environ['PATH']}"}
+    assert "2 of these tasks wait or run in Slurm, and are done here too" in command("risk", study.folder, env=env).communicate(timeout=600)[1]
+    run = command("risk", study.folder, env=env)
+    assert "in Slurm" not in run.communicate(timeout=600)[1] and run.returncode == 0      # nothing is left to do
 
 
 def test_a_task_of_many_factors_has_a_file_name(tmp_path, asked_for):

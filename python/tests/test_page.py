@@ -564,6 +564,8 @@ def test_pits_by_likelihood(likelihood_view, risk):
             assert has(told, name, value), (name, told, value)
     light = [luminance("#%02x%02x%02x" % tuple(colour[:3])) for colour in swatches(browser)]
     assert (np.diff(light) > 0.01).all() and len(light) == 9                     # the likeliest is darkest
+    means = [np.mean([float(p.worth_of(10 * hits >= tenth * risk.count, 1000)) for p in priced]) for tenth in tenths]
+    assert f"Of these 9 pits that of at least {10 * tenths[int(np.argmax(means))]}% is worth most on the mean" in browser.find_element(By.TAG_NAME, "body").text
     own = risk.runs.worth.to_numpy()
     spread = dict(zip([c.text.split(" (")[0] for c in browser.find_elements(By.CSS_SELECTOR, "section table")[1].find_elements(By.CSS_SELECTOR, "thead th")], rows_of(browser, 1)[0]))
     unit = 1e6 if abs(own).max() >= 1e7 else 1e3

@@ -155,8 +155,8 @@ def test_a_certificate_of_a_realisation_is_written_into_scratch_and_not_packed(t
 
 def test_the_lean_model_has_what_pricing_asks_for(tmp_path):
     frame = table(6, 5, 4, 3).rename(columns={"AU": "ley é", "TONNES": "T"})
-    frame = frame.assign(**{"it's": 1.5, "spare": 1.0})
-    economics = costs(mining="2 + 0.01 * (160 - ZC) + column('ley é')", processing={"OXI": 7.5, "SUL": 9.0}, forbid=["SECTOR == 'WEST' and column(\"it's\") > 2"])
+    frame = frame.assign(**{"it's": 1.5, "spare": 1.0, "CLAY_\u00b5": 0.5})
+    economics = costs(mining="2 + 0.01 * (160 - ZC) + column('ley é') + CLAY_\u03bc", processing={"OXI": 7.5, "SUL": 9.0}, forbid=["SECTOR == 'WEST' and column(\"it's\") > 2"])
     study = study_of(tmp_path, frame, economics=economics, columns={"tonnes": "T"})
     lean = risk.lean_model(study, dataclasses.asdict(economics))
     assert {"ZC", "ley é", "SECTOR", "it's", "CU", "rock"} <= set(lean.blocks.columns) and not {"spare", "id", "IJK", "T", "XC"} & set(lean.blocks.columns)
@@ -251,6 +251,10 @@ def test_a_csv_may_name_its_blocks_and_has_to_name_the_tables(tmp_path):
     beside = pd.concat([frame[[names[key] for key in ("id", "x", "y", "z")]].reset_index(drop=True), sims], axis=1)
     beside.to_csv(tmp_path / "sims.csv", index=False, sep=";", decimal=",")
     assert risk.prepare(study, costs(), tmp_path / "sims.csv", [1000]).digests == digests
+    beside.to_csv(tmp_path / "plain.csv", index=False)
+    blanks = frame.assign(**{names["id"]: frame[names["id"]] + "  "})        # as some packages fill cells up
+    (tmp_path / "blanks").mkdir()
+    assert risk.prepare(study_of(tmp_path / "blanks", blanks), costs(), tmp_path / "plain.csv", [1000]).digests == digests
     beside.iloc[[0, 1, 3, 2, *range(4, len(beside))]].to_csv(tmp_path / "sims.csv", index=False)
     with pytest.raises(pp.PlanError, match=f"row 4, column {names['id']}: .* stands where the table has"):
         risk.prepare(study, costs(), tmp_path / "sims.csv", [1000])
@@ -375,13 +379,46 @@ def test_the_command_goes_on_and_its_tables(tmp_path, program):
     run = command("risk", folder, "--workers", 2)
     said, faults = run.communicate(timeout=120)
     assert run.returncode == 0, faults
-    assert "3 of 3" in faults and "realisation 2 " not in faults and (folder / "runs/r0002/f00800/verdict.json").stat().st_mtime_ns == stamp
+    assert "3 of 3" in faults and "\nthe pits are read and added up again\n" in faults and "realisation 2 " not in faults and (folder / "runs/r0002/f00800/verdict.json").stat().st_mtime_ns == stamp
     found = risk.Risk(pp.Study(folder))
     for name, frame in (("risk", found.table()), ("risk_runs", found.runs), ("likelihood_pits", found.pits(1000)), ("likelihood", found.of_blocks())):
         pd.testing.assert_frame_equal(pd.read_csv(folder / f"out/{name}.csv"), frame, check_dtype=False)
     assert f"{found.table().worth_p50.iloc[1] / 1e6:,.2f}" in said
     assert (folder / "out/likelihood.png").read_bytes().startswith(b"\x89PNG")
     assert "<title>t: likelihood over 4 realisations</title>" in (folder / "out/likelihood.html").read_text()
+
+
+def test_to_go_on_takes_no_other_factors_and_no_other_metal(tmp_path, program):
+    folder, frame = written_study(tmp_path / "s", table(7, 6, 4, 3)), table(7, 6, 4, 3)
+    assert command("build", folder).wait() == 0
+    np.save(tmp_path / "sims.npy", grades_of(frame, 2))
+    asked = ["risk", folder, "--later"]
+    assert command(*asked, "--realisations", tmp_path / "sims.npy", "--factors", "0.8,1").wait() == 0
+    setup = risk.setup_of(pp.Study(folder))
+    for more in ([], ["--factors", "0.8,1"], ["--metal", "copper"]):
+        run = command(*asked, *more)
+        assert "2 realisations at 2 factors" in run.communicate(timeout=60)[0], more
+    for more in (["--factors", "0.9"], ["--factors", "0.8,1,1.2"], ["--metal", "silver"]):
+        run = command(*asked, *more)
+        faults = run.communicate(timeout=60)[1]
+        assert run.returncode == 3 and "were given as grades of copper, at --factors 0.8,1" in faults and f"--realisations FILE {' '.join(more)}" in faults, (more, faults)
+    assert risk.setup_of(pp.Study(folder)) == setup
+
+
+def test_ids_that_the_study_doesnt_know_are_named(tmp_path):
+    """A CSV of realisations has the blocks' ids, and the study has no such column."""
+    frame = table(6, 5, 4, 3)
+    model = study_of(tmp_path, frame.drop(columns="IJK")).model
+    assert "id" not in model.columns
+    given = pd.DataFrame({"BLK": [f"B-{i}" for i in range(len(frame))], "ONE": grades_of(frame, 1)[0]})
+    given.to_csv(tmp_path / "sims.csv", index=False)
+    with pytest.raises(pp.PlanError, match="column BLK") as error:
+        risk.of_table(tmp_path / "sims.csv", model, None)
+    assert 'try: columns = { id = "BLK" }' in str(error.value) and "row 2, column BLK" in str(error.value)
+    given.assign(BLK=1.0, ONE=["x", *given.ONE[1:].astype(str)]).to_csv(tmp_path / "sims.csv", index=False)
+    with pytest.raises(pp.PlanError, match="column ONE") as error:
+        risk.of_table(tmp_path / "sims.csv", model, None)
+    assert "absent" in error.value.try_this
 
 
 @pytest.mark.parametrize("scale, said", [(1.06, "6.0% above"), (0.9, "10.0% below"), (1.015, None)])

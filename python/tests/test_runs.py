@@ -13,7 +13,7 @@ import pytest
 
 import pitplan as pp
 from mines import SIZE, costs, shells_of, study_of, table, written_study
-from pitplan import machine, program as programs, store, workers
+from pitplan import machine, program as programs, risk, store, vary, workers
 from pitplan.program import Accepted, Pit, PitLines
 from pitplan.study import made_whole
 from processes import TOP, command, gone, waited_for
@@ -124,6 +124,49 @@ def test_a_result_that_cannot_be_read_is_told(tmp_path):
     (study.where / "blocks.npz").unlink()
     with pytest.raises(pp.PlanError, match="blocks.npz is gone"):
         pp.Shells(pp.Study(study.folder), [600])
+
+
+def test_a_verdict_names_the_pit_that_found_it(tmp_path, program):
+    """And not the one that the model was built with."""
+    study = study_of(tmp_path, table(7, 6, 4, 3))
+    other = tmp_path / "pit"
+    other.write_text(f"#!/bin/sh\n[ \"$1\" = --version ] && echo 'pit 9.9.9' || exec {program} \"$@\"\n")
+    other.chmod(0o755)
+    own = study.run(1000)["pit"]
+    assert own == study.manifest["pit"] == pp.Pit(program).version()
+    assert pp.Study(study.folder, pp.Pit(other)).run(800)["pit"] == ["pit 9.9.9"] and study.verdict(1000)["pit"] == own
+    again = pp.Study(study.folder, pp.Pit(other))
+    again.run_series([600, 700])
+    assert [again.verdict(factor)["pit"] for factor in (600, 700)] == [["pit 9.9.9"]] * 2
+
+
+def test_a_verdict_or_a_manifest_that_was_damaged_is_none(tmp_path):
+    """A byte that is no text, another JSON, a key with a byte that is another: nothing of Python's own comes out."""
+    study = shells_of(tmp_path).study
+    for path, found in ((study.place(800) / "verdict.json", lambda: pp.Study(study.folder).verdict(800)), (study.where / "manifest.json", lambda: pp.Study(study.folder).key)):
+        kept = path.read_bytes()
+        for data in (b"", b"[]", b"{}", b"7", *(kept[:at] + bytes([kept[at] ^ bit]) + kept[at + 1:] for bit in (2, 128) for at in range(0, min(len(kept), 900), 7))):
+            path.write_bytes(data)
+            try:
+                found()
+            except pp.PlanError as error:
+                assert "manifest.json is damaged" in str(error) and path.name == "manifest.json"
+        path.write_bytes(kept)
+        assert found()
+    verdict = json.loads((study.place(800) / "verdict.json").read_text())
+    (study.place(800) / "verdict.json").write_text(json.dumps(verdict).replace('"count"', '"counu"'))
+    with pytest.raises(pp.PlanError, match="hasn't been run over this model"):
+        study.mask(800)
+
+
+@pytest.mark.parametrize("data", [b"\xff", b"[]", b"{}", b"[1"])
+def test_what_was_asked_for_is_damaged_and_told(tmp_path, data):
+    study = shells_of(tmp_path, series=(1000,)).study
+    for name, asked in (("vary/vary.json", vary.asked_of), ("risk/risk.json", risk.setup_of)):
+        (study.folder / name).parent.mkdir()
+        (study.folder / name).write_bytes(data)
+        with pytest.raises(pp.PlanError, match="json is damaged"):
+            asked(study)
 
 
 def test_pits_that_arent_nested_are_never_shown(tmp_path):

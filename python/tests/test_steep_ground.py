@@ -1,10 +1,12 @@
 """Beside a cliff a slope leads through air that tables have no rows for: the pits are those of the table that has these rows."""
+from dataclasses import replace
+
 import numpy as np
 import pytest
 
 import pitplan as pp
 from mines import CUBE, WASTE, below, study_of
-from pitplan import compare, compare_words, design, vary
+from pitplan import compare, compare_words, design, plausible, vary
 from pitplan.steep_ground import led_through, with_air
 from served import pitplan
 
@@ -27,6 +29,31 @@ def test_a_cliff_is_dug_back_whether_or_not_air_has_rows(tmp_path, slopes):
     added = lean.model.blocks["row"] < 0
     assert added.any() and (lean.model.blocks.tonnes[added] == 0).all() and lean.priced.worth(1000)[added].any() == 0
     assert len(lean.model) < len(whole.model) and "blocks of air added" in lean.model.notes[-1]
+
+
+@pytest.mark.parametrize("mining, cost", [("2 + 0.1 * sqrt(TOPO - ZC)", lambda f: 2 + 0.1 * np.sqrt(np.maximum(0, f.TOPO - f.ZC))),
+                                          ("0.5 + 0.02 * (TOPO - ZC)", lambda f: 0.5 + 0.02 * np.maximum(0, f.TOPO - f.ZC))])
+def test_a_formula_that_goes_by_the_ground_is_not_asked_of_added_air(tmp_path, mining, cost):
+    """Above the ground it gives no number, or less than nothing, and air weighs nothing: the pits are those of the same costs in a column."""
+    f = below(8)
+    rock = f.TONNES > 0
+    f["TOPO"] = f.ZC.where(rock).groupby([f.XC, f.YC]).transform("max") + 5
+    f["COST"] = cost(f)
+    (tmp_path / "a").mkdir(), (tmp_path / "b").mkdir()
+    forbid = ["sqrt(TOPO - ZC) > 9"]
+    lean = study_of(tmp_path / "a", f[rock], pp.Slopes(45), replace(WASTE, mining=mining, forbid=forbid), size=CUBE)
+    whole = study_of(tmp_path / "b", f, pp.Slopes(45), replace(WASTE, mining="COST", forbid=["TOPO - ZC > 81"]), size=CUBE)
+    assert dug(lean) == dug(whole) and dug(lean)[0] and (lean.model.blocks["row"] < 0).any()
+    assert not plausible.of_forbid(lean.model, replace(WASTE, forbid=forbid)) and lean.priced.forbidden.sum() == whole.priced.forbidden.sum() > 0
+
+
+def test_a_formula_without_a_number_names_no_row_of_a_block_that_has_none(tmp_path):
+    f = below(1)
+    f[f.TONNES > 0].to_csv(tmp_path / "t.csv", index=False)
+    model = pp.read_table(tmp_path / "t.csv", size=CUBE, widen=1)
+    with pytest.raises(pp.PlanError, match="gives no number here") as error:
+        replace(WASTE, mining="2 + sqrt(XC)").priced(model)
+    assert error.value.row is None and "row 1" not in str(error.value)
 
 
 def test_no_air_is_added_where_the_ground_is_nowhere_steeper_than_the_slopes(tmp_path):
@@ -96,5 +123,5 @@ def test_a_wall_that_air_leads_to_has_no_block_of_the_table_at_its_foot(tmp_path
     study.shells([1000])
     found = compare.compare(study, design.by_ids(study.model, f.IJK[(f.TONNES > 0) & (f.XC < 50)]))
     said = "\n".join(compare_words.verdict_lines(found, "$"))
-    assert (found.pairs.id == "").any() and "from block  at" not in said and (("from air at" in said) == (found.walls.head(3).id == "").any())
+    assert (found.pairs.id == "").any() and "from block  at" not in said and (("from an added block at" in said) == (found.walls.head(3).id == "").any())
     assert found.repair.held[study.model.blocks.id.isin(f.IJK[f.XC >= 90])].any()

@@ -8,6 +8,7 @@ from hypothesis import given, strategies as st
 
 import pitplan as pp
 from mines import SIZE, costs, table
+from pitplan import formula
 
 
 def read(folder, frame, name="t.csv", text=None, **keys):
@@ -145,6 +146,43 @@ def test_a_code_is_one_code_in_all_pieces_of_a_large_table(tmp_path):
     assert (pp.Slopes(45, by="ZONE", regions={"02": 38}).region_of(found) == (f.ZONE == "02")).all()
 
 
+@pytest.mark.parametrize("more", [[], [""]])
+def test_true_and_false_are_the_words_that_they_are_in_the_table(tmp_path, more):
+    """As in Excel's spelling; beside empty cells too, of which each is a word of no letter."""
+    f = table(4, 3, 3, 1)
+    f["MINED"] = (["TRUE", "FALSE", *more] * len(f))[:len(f)]
+    model = read(tmp_path, f)
+    assert formula.worked_out("MINED == 'TRUE'", model.blocks, "forbid").tolist() == (f.MINED == "TRUE").tolist()
+    assert pp.Slopes(45, by="MINED", regions={"TRUE": 38}).region_of(model).tolist() == (f.MINED == "TRUE").astype(int).tolist()
+
+
+def test_a_point_in_place_of_a_comma_is_a_number_to_formulas_too(tmp_path):
+    f = table(4, 3, 3, 1)
+    text = f.to_csv(index=False, sep=";", decimal=",").split("\n")
+    at = next(i for i, line in enumerate(text[1:], 1) if line.split(";")[5] not in ("0,0", "0"))
+    cells = text[at].split(";")
+    text[at] = ";".join([*cells[:5], cells[5].replace(",", "."), *cells[6:]])
+    model = read(tmp_path, f, text="\n".join(text).encode())
+    assert formula.worked_out("CU > 0.1", model.blocks, "forbid").tolist() == (f.CU > 0.1).tolist()
+
+
+@pytest.mark.parametrize("column", ["TONNES", "DENSITY"])
+def test_less_than_nothing_is_told_also_where_a_point_stands_in_place_of_a_comma(tmp_path, column):
+    f = table(4, 3, 3, 1).rename(columns={"TONNES": column}).astype({column: object})
+    f[column] = [f"{float(v) % 3 + 1:.2f}".replace(".", ",") for v in f[column]]
+    f.loc[4, column] = "-5.5"
+    said = refusal(tmp_path, f, text=f.to_csv(index=False, sep=";").encode())
+    assert f"row 6, column {column}: -5.5 is less than nothing" in said, said
+
+
+def test_a_row_with_a_cell_too_many_is_told_below_lines_that_hold_no_blocks(tmp_path):
+    """Each line ends with a separator, and one has a cell behind it."""
+    lines = table(4, 3, 3, 1).to_csv(index=False).split("\n")
+    lines = [lines[0], "text," * 9, *(line + "," for line in lines[1:6]), lines[6] + ",7"]
+    with pytest.raises(pp.PlanError, match="row 8: has 10 cells, and the header line 9"):
+        read(tmp_path, None, text="\n".join(lines).encode())
+
+
 def test_lines_that_were_passed_over_are_told(tmp_path):
     lines = table(4, 3, 3, 1).to_csv(index=False).splitlines(keepends=True)
     assert "1 lines below the header hold no blocks" in read(tmp_path, None, text="".join([lines[0], "-,m,m,m,t,%,g/t,-,-\n", *lines[1:]]).encode()).notes
@@ -207,6 +245,8 @@ def test_rows_that_weigh_nothing_are_told(tmp_path):
     assert not any("weigh nothing" in note for note in read(tmp_path, f).notes)
     f.loc[[3, 5, 7], "TONNES"], f.loc[[3, 5], "ROCK"], f.loc[7, "ROCK"] = -99, "SUL", "OXI"
     assert "3 rows weigh nothing, and count as air: SUL 2, OXI 1" in read(tmp_path, f, absent=["-99"]).notes
+    f.loc[[3, 5, 7], "TONNES"], f.loc[3, "ROCK"] = [-99, 5, 5], ""
+    assert "1 row weighs nothing, and counts as air: without a rock 1" in read(tmp_path, f, absent=["-99"]).notes
 
 
 def test_several_grades_below_0_are_no_mark(tmp_path):

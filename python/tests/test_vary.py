@@ -61,6 +61,11 @@ def test_a_price_between_two_factors_is_refused():
         vary.price_factor(850, Change("price", 5))           # 892.5
     (near,) = changes_of([str(error.value.try_this)])
     assert vary.price_factor(850, near) == 892
+    for by, wanted in ((0.04, 1001), (-0.04, 999)):
+        with pytest.raises(pp.PlanError) as error:
+            vary.price_factor(1000, Change("price", by))
+        (near,) = changes_of([str(error.value.try_this)])     # the nearest factor is that of no change
+        assert vary.price_factor(1000, near) == wanted
 
 
 def test_more_slope_never_costs(tmp_path):

@@ -234,7 +234,11 @@ impl<G: OrderedGroup> State<G> {
             waiting: _,
             busy: _,
         } = self;
-        Ok(Flow::new(source, Carried::from_list(flow), sink))
+        Ok(Flow::new(
+            Carried::from_list(source),
+            Carried::from_list(flow),
+            Carried::from_list(sink),
+        ))
     }
 
     /// Whether no further step is made.

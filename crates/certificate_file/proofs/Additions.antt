@@ -15,17 +15,6 @@ use Rattle.certificate_file.specs.BodyLines.{is_of_model}
 use Rattle.certificate_file.specs.Certificate.{Covers, has_pair, amount_of}
 use Rattle.certificate_file.specs.Gathered.{Gathered, with_source, with_rest, with_sink, Adds}
 
--- One amount of a list is changed.
-pub source_set : {X : Type 0} (f : X → Amount) (pit : List ℕ) (ss ts : List X) (rs : List Amount) (b : ℕ) (x : X) (g : Gathered) → record { pit = pit; flow = flow_view (map f ss) rs (map f ts) } ≡ g
-    → record { pit = pit; flow = flow_view (map f (set ss b x)) rs (map f ts) } ≡ with_source b (f x) g
-source_set f pit ss ts rs b x g is =
-    ap (λ (xs : List Amount). record { pit = pit; flow = flow_view xs rs (map f ts) }) (map-set f ss b x) ∙ ap (with_source b (f x)) is
-
-pub sink_set : {X : Type 0} (f : X → Amount) (pit : List ℕ) (ss ts : List X) (rs : List Amount) (b : ℕ) (x : X) (g : Gathered) → record { pit = pit; flow = flow_view (map f ss) rs (map f ts) } ≡ g
-    → record { pit = pit; flow = flow_view (map f ss) rs (map f (set ts b x)) } ≡ with_sink b (f x) g
-sink_set f pit ss ts rs b x g is =
-    ap (λ (xs : List Amount). record { pit = pit; flow = flow_view (map f ss) rs xs }) (map-set f ts b x) ∙ ap (with_sink b (f x)) is
-
 -- Whether a pair is among the model's.
 tail_holds : (q : ℕ × ℕ) (qs : List (ℕ × ℕ)) (x : ℕ × ℕ) → Contains qs x → Contains (q ∷ qs) x
 tail_holds q qs x h = (suc h.0, omega (arith, h.1), h.2)

@@ -47,12 +47,6 @@ one_written line k xs x h e z =
     ap (λ (ys : List Amount). body_text (amount_lines line k ys)) d ∙ ap (λ (t : Bool). body_text (cond t (amount_lines line (k + 1) (drop (k + 1) xs)) (line k x ∷ amount_lines line (k + 1) (drop (k + 1) xs)))) z
     ∙ line_first (line k x) (amount_lines line (k + 1) (drop (k + 1) xs))
 
--- The steps of the loops over amounts.
-pub at_map : {X : Type 0} (f : X → Amount) (xs : List X) (k : ℕ) (x : X) → k < length xs → x ≡ get_or xs k x → get_or (map f xs) k zero_amount ≡ f x
-at_map f [] k x h e = absurd (omega arith)
-at_map f (y ∷ ys) zero x h e = ap f (sym e)
-at_map f (y ∷ ys) (suc k) x h e = at_map f ys k x (omega arith) e
-
 pub line_put : (line : ℕ → Amount → BodyLine) (xs : List Amount) (k : ℕ) (x : Amount) (l : BodyLine) (a b c : Option (List ℕ)) (first now next all : List ℕ) → k < length xs → get_or xs k zero_amount ≡ x → is_zero x ≡ false → l ≡ line k x
     → Put a b first now (body_text (amount_lines line k (drop k xs))) all → SentOrHeld b c next (now ++ (spaced (line_words l) ++ (10 ∷ []))) → Put a c first next (body_text (amount_lines line (k + 1) (drop (k + 1) xs))) all
 line_put line xs k x l a b c first now next all h e z same p s =

@@ -13,7 +13,7 @@ ghost use Rattle.certificate_file.specs.Gathered.{Gathered, Adds, with_block, wi
 use crate::body_lines::{BodyLine, LineKind};
 use crate::cert_fault::CertFault;
 use closure_net::{Carried, Flow, Pit};
-use ordered_group::{OrderedGroup, zeros};
+use ordered_group::OrderedGroup;
 use prec_file::Rests;
 use std::alloc::{AllocError, Global};
 use std::marker::Model;
@@ -22,19 +22,18 @@ use std::marker::Model;
 #[derive(Drop)]
 pub struct Parts<G: OrderedGroup> {
     pit: Vec<u32>,
-    source: Vec<G>,
+    source: Carried<G>,
     rest: Carried<G>,
-    sink: Vec<G>,
+    sink: Carried<G>,
 }
 
 impl<G: OrderedGroup> Model for Parts<G> {
-    ghost use Rattle.std.specs.Prelude.{map};
     ghost use Rattle.closure_net.specs.Network.{flow_view};
     ghost use Rattle.certificate_file.specs.Gathered.{Gathered};
 
     ghost Value = { Gathered };
 
-    ghost view = { λ p. record { pit = p.pit.items; flow = flow_view (map G.parts_of p.source.items) p.rest (map G.parts_of p.sink.items) } };
+    ghost view = { λ p. record { pit = p.pit.items; flow = flow_view p.source p.rest p.sink } };
 }
 
 /// Whether amounts of the group have a count.
@@ -64,9 +63,9 @@ impl<G: OrderedGroup> Parts<G> {
         ensures rest { IfOk result (λ p. (k : ℕ) → amount_at p.flow.rest k ≡ zero_amount) }
         ensures sink { IfOk result (λ p. (b : ℕ) → amount_at p.flow.sink b ≡ zero_amount) }
     {
-        let source = zeros(alloc, n)?;
+        let source = Carried::nothing(alloc, n)?;
         let rest = Carried::nothing(alloc, m)?;
-        let sink = zeros(alloc, n)?;
+        let sink = Carried::nothing(alloc, n)?;
         Ok(Parts {
             pit: Vec::new(alloc),
             source,
@@ -81,11 +80,13 @@ impl<G: OrderedGroup> Parts<G> {
         self.pit.push(block).map_err(|_| CertFault::NoMemory)
     }
 
-    fn put_source(&mut self, block: u32, amount: G)
+    fn put_source(&mut self, block: u32, amount: G) -> Result<(), CertFault>
         requires { block < length self.old.flow.source }
-        ensures { self.new ≡ with_source block (G.parts_of amount) self.old }
+        ensures { MatchResult result (λ _. self.new ≡ with_source block (G.parts_of amount) self.old) (λ e. e ≡ CertFault.NoMemory) }
     {
-        self.source[block as usize] = amount;
+        self.source
+            .set(block, amount)
+            .map_err(|_| CertFault::NoMemory)
     }
 
     fn put_rest(&mut self, pair: u32, amount: G) -> Result<(), CertFault>
@@ -95,11 +96,13 @@ impl<G: OrderedGroup> Parts<G> {
         self.rest.set(pair, amount).map_err(|_| CertFault::NoMemory)
     }
 
-    fn put_sink(&mut self, block: u32, amount: G)
+    fn put_sink(&mut self, block: u32, amount: G) -> Result<(), CertFault>
         requires { block < length self.old.flow.sink }
-        ensures { self.new ≡ with_sink block (G.parts_of amount) self.old }
+        ensures { MatchResult result (λ _. self.new ≡ with_sink block (G.parts_of amount) self.old) (λ e. e ≡ CertFault.NoMemory) }
     {
-        self.sink[block as usize] = amount;
+        self.sink
+            .set(block, amount)
+            .map_err(|_| CertFault::NoMemory)
     }
 
     /// Adds what a line says: `UnknownPair` where the model doesn't have its pair.
@@ -116,14 +119,14 @@ impl<G: OrderedGroup> Parts<G> {
     {
         match line.kind {
             LineKind::Pit => return self.put_block(line.block),
-            LineKind::Source => self.put_source(line.block, amount(line)),
+            LineKind::Source => self.put_source(line.block, amount(line))?,
             LineKind::Rest => {
                 let pair = rests
                     .find(line.block, line.other)
                     .ok_or(CertFault::UnknownPair(number))?;
                 self.put_rest(pair, amount(line))?;
             }
-            LineKind::Sink => self.put_sink(line.block, amount(line)),
+            LineKind::Sink => self.put_sink(line.block, amount(line))?,
             LineKind::End => {}
         }
         Ok(())

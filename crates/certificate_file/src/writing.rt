@@ -211,21 +211,22 @@ fn put_blocks<G: OrderedGroup, W: CountedWrite>(
     page: &mut Page,
     out: &mut W,
     kind: LineKind,
-    amounts: &[G],
+    amounts: &Carried<G>,
 ) -> Result<(), WriteFault>
     requires few { length amounts.now ≤ MOST_BLOCKS }
     requires room { W.failed out.old < 2 ^ 64 - 1 }
-    ensures held { OnOk result (SentOrHeld (W.contents out.old) (W.contents out.new) page.new (page.old ++ body_text (amount_lines (block_at kind) 0 (map G.parts_of amounts.now)))) }
-    ensures writable { OnOk result ((k : ℕ) → k < length amounts.now → Writable G.counts (amount_at (map G.parts_of amounts.now) k)) }
+    ensures held { OnOk result (SentOrHeld (W.contents out.old) (W.contents out.new) page.new (page.old ++ body_text (amount_lines (block_at kind) 0 amounts.now))) }
+    ensures writable { OnOk result ((k : ℕ) → k < length amounts.now → Writable G.counts (amount_at amounts.now k)) }
     ensures kept { OnOk result (W.failed out.new ≡ W.failed out.old) }
-    ensures prefix { OnErr result (ReceivedPrefix (W.contents out.old) (W.contents out.new) (page.old ++ body_text (amount_lines (block_at kind) 0 (map G.parts_of amounts.now)))) }
+    ensures prefix { OnErr result (ReceivedPrefix (W.contents out.old) (W.contents out.new) (page.old ++ body_text (amount_lines (block_at kind) 0 amounts.now))) }
     ensures counted { OnErr result (W.failed out.new ≡ W.failed out.old + 1) }
 {
-    for (k, amount) in amounts.iter().enumerate() {
+    for k in 0..amounts.len() {
+        let amount = amounts.at(k as u32);
         // proof: every amount can be written
-        can_be_written(*amount);
-        if !is_zero(*amount) {
-            put_line(page, out, &block_line(kind, k as u32, *amount))?;
+        can_be_written(amount);
+        if !is_zero(amount) {
+            put_line(page, out, &block_line(kind, k as u32, amount))?;
         }
     }
     Ok(())

@@ -1,7 +1,7 @@
 //! Decides whether a flow proves that a pit is a maximum closure of a net: gives the accepted pit with its worth, or
 //! the first fault.
 
-ghost use Rattle.std.specs.Prelude.{◌≡◌, ◌↔◌, ◌<◌, ℕ, IsTrue, length, map, All, MatchOption, MatchResult};
+ghost use Rattle.std.specs.Prelude.{◌≡◌, ◌↔◌, ◌<◌, ℕ, IsTrue, length, All, MatchOption, MatchResult};
 ghost use Rattle.std.specs.Result.{IsOk};
 ghost use Rattle.ordered_group.specs.Amount.{zero_amount, minus, FitsPair};
 ghost use Rattle.prec_file.specs.Rests.{IsFirstNot};
@@ -33,24 +33,12 @@ fn sizes_agree<G: OrderedGroup>(net: &Net<G>, pit: &Pit, flow: &Flow<G>) -> bool
     flow.fits(net) && all_below(pit.blocks(), net.rests().len())
 }
 
-// Whether no amount of the list is negative.
-fn none_negative<G: OrderedGroup>(amounts: &[G]) -> bool
-    ensures { IsTrue result ↔ NoneNegative (map G.parts_of amounts.now) }
-{
-    for x in amounts {
-        if !at_most(G::zero(), *x) {
-            return false;
-        }
-    }
-    true
-}
-
-// Whether no pair carries less than nothing.
-fn none_carried_negative<G: OrderedGroup>(pairs: u32, carried: &Carried<G>) -> bool
-    requires { length carried.now ≡ pairs }
+// Whether none of so many arcs carries less than nothing.
+fn none_negative<G: OrderedGroup>(arcs: u32, carried: &Carried<G>) -> bool
+    requires { length carried.now ≡ arcs }
     ensures { IsTrue result ↔ NoneNegative carried.now }
 {
-    for k in 0..pairs {
+    for k in 0..arcs {
         if !at_most(G::zero(), carried.at(k)) {
             return false;
         }
@@ -63,9 +51,10 @@ fn none_below_zero<G: OrderedGroup>(net: &Net<G>, flow: &Flow<G>) -> bool
     requires { FlowFits net.now flow.now }
     ensures { IsTrue result ↔ NoneBelowZero flow.now }
 {
-    none_negative(flow.source())
-        && none_carried_negative(net.rests().pairs(), flow.rest())
-        && none_negative(flow.sink())
+    let blocks = net.len();
+    none_negative(blocks, flow.source())
+        && none_negative(net.rests().pairs(), flow.rest())
+        && none_negative(blocks, flow.sink())
 }
 
 // Whether a block with these amounts keeps to its worth.
@@ -86,12 +75,11 @@ fn first_over<G: OrderedGroup>(net: &Net<G>, flow: &Flow<G>) -> Option<u32>
         (AllWithin net.now flow.now)
         (λ b. IsFirstNot (KeepsWithin net.now flow.now) (length net.now.worths) b) }
 {
-    let worths = net.worths();
-    let source = flow.source();
-    let sink = flow.sink();
-    for b in 0..worths.len() {
-        if !is_within(worths[b], source[b], sink[b]) {
-            return Some(b as u32);
+    // proof: the opposite of each worth fits
+    let _worths = net.worths();
+    for b in 0..net.len() {
+        if !is_within(net.worth(b), flow.source().at(b), flow.sink().at(b)) {
+            return Some(b);
         }
     }
     None
@@ -107,7 +95,7 @@ fn balances<G: OrderedGroup>(net: &Net<G>, flow: &Flow<G>) -> Result<(), PitFaul
     let carried = flow.rest();
     let sink = flow.sink();
     for b in 0..rests.len() {
-        let balanced = balance_of(rests, source[b as usize], carried, sink[b as usize], b);
+        let balanced = balance_of(rests, source.at(b), carried, sink.at(b), b);
         if !balanced.ok_or(PitFault::TooLarge)? {
             return Err(PitFault::Unbalanced(b));
         }

@@ -1,7 +1,7 @@
 //! Sums what flows into a block and out of it, what a pit is worth and what the source has left, in a stated order,
 //! and tells where a sum doesn't fit.
 
-ghost use Rattle.std.specs.Prelude.{◌≡◌, ◌↔◌, ◌<◌, ℕ, ◌⊎◌, IsTrue, map, length, MatchOption};
+ghost use Rattle.std.specs.Prelude.{◌≡◌, ◌↔◌, ◌<◌, ℕ, ◌⊎◌, IsTrue, length, MatchOption};
 ghost use Rattle.ordered_group.specs.Amount.{plus};
 ghost use Rattle.ordered_group.specs.Sums.{amount_at};
 ghost use Rattle.prec_file.specs.Rests.{from_at, to_at};
@@ -11,7 +11,7 @@ ghost use Rattle.closure_net.specs.Flows.{inflow, outflow, source_residual};
 ghost use Rattle.check_pit.specs.Fits.{EndFits, EndOverflows, SetFits, SetOverflows, ResidualFits, ResidualOverflows};
 
 use closure_net::{Carried, Flow, Net, Pit};
-use ordered_group::{OrderedGroup, positive_part, same};
+use ordered_group::{OrderedGroup, same};
 use prec_file::Rests;
 
 // The start and all that the pairs bring into b, added in the order of the pairs.
@@ -105,11 +105,9 @@ pub(crate) fn residual_of_source<G: OrderedGroup>(net: &Net<G>, flow: &Flow<G>) 
         (ResidualOverflows ws ss)
         (λ r. (G.parts_of r ≡ source_residual net.now flow.now) × ((k : ℕ) → k < length ws → ResidualFits ws ss k)) }
 {
-    let worths = net.worths();
-    let source = flow.source();
     let mut sum = G::zero();
-    for b in 0..worths.len() {
-        let room = positive_part(worths[b]).try_sub(source[b])?;
+    for b in 0..net.len() {
+        let room = net.positive(b).try_sub(flow.source().at(b))?;
         sum = sum.try_add(room)?;
     }
     Some(sum)

@@ -7,7 +7,7 @@ ghost use Rattle.certificate_file.specs.Certificate.{Covers};
 use crate::pits_and_flows::{is_printed, rests_of, same};
 use check_pit::reading::header;
 use check_pit::{CertFault, Certificate, Header, Price, read_certificate, write_certificate};
-use closure_net::Flow;
+use closure_net::{Carried, Flow};
 use fixed_worth::{Counted, MOST_BLOCKS};
 use ordered_group::{Group, OrderedGroup, Worth, WorthSize};
 use prec_file::Rests;
@@ -75,13 +75,22 @@ fn have_their_faults(rt: &impl Abort, alloc: Global, rows: &[Row]) -> Result<(),
     Ok(())
 }
 
+// Whether these arcs carry these amounts.
+fn carry<G: OrderedGroup>(carried: &Carried<G>, amounts: &[G]) -> bool {
+    if carried.len() != amounts.len() || carried.len() > 3 {
+        return false;
+    }
+    for k in 0..carried.len() {
+        if carried.at(k as u32) != amounts[k] {
+            return false;
+        }
+    }
+    true
+}
+
 // Whether a flow carries these amounts: from the source, over the two pairs, and into the sink.
 fn carries<G: OrderedGroup>(flow: &Flow<G>, source: &[G], rest: &[G; 2], sink: &[G]) -> bool {
-    let over = flow.rest();
-    flow.source() == source
-        && flow.sink() == sink
-        && over.len() == 2
-        && [over.at(0), over.at(1)] == *rest
+    carry(flow.source(), source) && carry(flow.rest(), rest) && carry(flow.sink(), sink)
 }
 
 // Fails the test where a certificate doesn't say the pit of all three blocks and these amounts.

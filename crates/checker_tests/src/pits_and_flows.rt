@@ -66,9 +66,9 @@ fn flow_of<G: OrderedGroup>(
     sink: &[G],
 ) -> Result<Flow<G>, Fail> {
     Ok(Flow::new(
-        Vec::from_slice(alloc, source)?,
+        Carried::from_list(Vec::from_slice(alloc, source)?),
         Carried::from_list(Vec::from_slice(alloc, rest)?),
-        Vec::from_slice(alloc, sink)?,
+        Carried::from_list(Vec::from_slice(alloc, sink)?),
     ))
 }
 

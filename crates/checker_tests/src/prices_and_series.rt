@@ -78,17 +78,17 @@ fn net_at(
         .expect(rt, "net")
 }
 
-fn amounts(rt: &impl Abort, alloc: Global, amounts: &[WorthSize]) -> Vec<WorthSize> {
-    Vec::from_slice(alloc, amounts).expect(rt, "memory")
+fn carried(rt: &impl Abort, alloc: Global, amounts: &[WorthSize]) -> Carried<WorthSize> {
+    Carried::from_list(Vec::from_slice(alloc, amounts).expect(rt, "memory"))
 }
 
 // So much goes from the source to the first block, from there to the second, and to the sink.
 fn through(rt: &impl Abort, alloc: Global, some: WorthSize) -> Flow<WorthSize> {
     let none = WorthSize { nanos: 0, size: 0 };
     Flow::new(
-        amounts(rt, alloc, &[some, none, none]),
-        Carried::from_list(amounts(rt, alloc, &[some])),
-        amounts(rt, alloc, &[none, some, none]),
+        carried(rt, alloc, &[some, none, none]),
+        carried(rt, alloc, &[some]),
+        carried(rt, alloc, &[none, some, none]),
     )
 }
 

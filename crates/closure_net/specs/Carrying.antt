@@ -1,4 +1,4 @@
--- What pairs carry, as it is kept.
+-- What arcs carry, as it is kept.
 use Rattle.std.specs.Prelude.{◌≡◌, ◌≢◌, ℕ, zero, suc, ◌<◌, ◌≤◌, ◌^◌, [], ◌∷◌, Option, None, Some, List, map, length, All, slice_index_or}
 use Rattle.ordered_group.specs.Amount.{Amount, zero_amount}
 use Rattle.ordered_group.specs.Sums.{amount_at}
@@ -7,19 +7,19 @@ use Rattle.ordered_group.specs.Sums.{amount_at}
 abbrev pub amount_of_place : List Amount → ℕ → Amount
 amount_of_place xs p = amount_at (zero_amount ∷ xs) p
 
--- what each pair carries: the amount of its place, or where there are no places its own
+-- what each arc carries: the amount of its place, or where there are no places its own
 abbrev pub carried_by : {Kept : Type 0} → (Kept → List ℕ) → Option Kept → List Amount → List Amount
 carried_by items (Some places) xs = map (amount_of_place xs) (items places)
 carried_by items None xs = xs
 
--- how many pairs have a place
+-- how many arcs have a place
 abbrev pub placed : List ℕ → ℕ
 placed [] = 0
 placed (zero ∷ ps) = placed ps
 placed (suc p ∷ ps) = suc (placed ps)
 
--- The places of so many amounts: each is that of an amount and of one pair only, and there is an amount for each place.
--- There are so few pairs that each place is a number of 32 bits.
+-- The places of so many amounts: each is that of an amount and of one arc only, and there is an amount for each place.
+-- There are so few arcs that each place is a number of 32 bits.
 pub record ArePlaces (places : List ℕ) (amounts : ℕ) : Type 0 where
   pub few : length places < 2 ^ 32
   pub inside : All (λ p. p ≤ amounts) places

@@ -1,5 +1,5 @@
-//! The flow over each pair of a block and its predecessor, read and set by the pair's number. Where few pairs carry a
-//! flow it takes little memory.
+//! What flows over each of several arcs, read and set by the arc's number. Where few arcs carry a flow it takes little
+//! memory.
 
 ghost use Rattle.std.specs.Prelude.{◌≡◌, ℕ, ◌<◌, ◌≤◌, List, length, map, replicate, slice_set, IfOk, IfErr, MatchResult};
 ghost use Rattle.ordered_group.specs.Amount.{zero_amount};
@@ -10,14 +10,15 @@ use ordered_group::OrderedGroup;
 use std::alloc::{AllocError, Global};
 use std::marker::Model;
 
-/// An amount for each pair, in the order of the pairs.
+/// An amount for each arc of one kind, in their order: the arcs of the pairs, those from the source to each block, or those
+/// from each block to the sink.
 ///
-/// A flow that is read from a certificate carries something over few of the pairs, so that a number for each pair and
-/// the amounts of those few take a small part of the memory that an amount for each pair would.
+/// Most flows carry something over few of these, so that a number for each arc and the amounts of those few take a small
+/// part of the memory that an amount for each arc would.
 #[derive(Drop)]
 pub struct Carried<G: OrderedGroup> {
-    // For each pair the index of its amount plus one, or 0 where none was set. `None` where `amounts` has one for each
-    // pair, in their order.
+    // For each arc the index of its amount plus one, or 0 where none was set. `None` where `amounts` has one for each
+    // arc, in their order.
     places: Option<Vec<u32>>,
     amounts: Vec<G>,
 }
@@ -35,7 +36,7 @@ impl<G: OrderedGroup> Model for Carried<G> {
 }
 
 impl<G: OrderedGroup> Carried<G> {
-    /// These amounts, one for each pair.
+    /// These amounts, one for each arc.
     pub fn from_list(amounts: Vec<G>) -> Carried<G>
         ensures { result ≡ map G.parts_of amounts.items }
     {
@@ -45,21 +46,21 @@ impl<G: OrderedGroup> Carried<G> {
         }
     }
 
-    /// Nothing over each of so many pairs.
+    /// Nothing over each of so many arcs.
     ///
     /// # Errors
     /// Where memory is refused.
-    pub fn nothing(alloc: Global, pairs: u32) -> Result<Carried<G>, AllocError>
-        ensures { IfOk result (λ c. c ≡ replicate pairs zero_amount) }
+    pub fn nothing(alloc: Global, arcs: u32) -> Result<Carried<G>, AllocError>
+        ensures { IfOk result (λ c. c ≡ replicate arcs zero_amount) }
     {
-        let places = vec![in alloc; 0; pairs as usize]?;
+        let places = vec![in alloc; 0; arcs as usize]?;
         Ok(Carried {
             places: Some(places),
             amounts: Vec::new(alloc),
         })
     }
 
-    /// How many pairs there are.
+    /// How many arcs there are.
     pub fn len(&self) -> usize
         ensures { result ≡ length self.now }
     {
@@ -69,39 +70,39 @@ impl<G: OrderedGroup> Carried<G> {
         }
     }
 
-    /// What a pair carries.
-    pub fn at(&self, pair: u32) -> G
-        requires { pair < length self.now }
-        ensures { G.parts_of result ≡ amount_at self.now pair }
+    /// What an arc carries.
+    pub fn at(&self, arc: u32) -> G
+        requires { arc < length self.now }
+        ensures { G.parts_of result ≡ amount_at self.now arc }
     {
         match &self.places {
-            Some(places) => amount_of_place(&self.amounts, places[pair as usize]),
-            None => self.amounts[pair as usize],
+            Some(places) => amount_of_place(&self.amounts, places[arc as usize]),
+            None => self.amounts[arc as usize],
         }
     }
 
-    /// Sets what a pair carries.
+    /// Sets what an arc carries.
     ///
-    /// Takes memory only where the pair is set for the first time.
+    /// Takes memory only where the arc is set for the first time.
     ///
     /// # Errors
-    /// Where memory for one more amount is refused. Nothing is changed then, and the pair carries nothing.
-    pub fn set(&mut self, pair: u32, amount: G) -> Result<(), AllocError>
-        requires { pair < length self.old }
-        ensures is { MatchResult result (λ _. self.new ≡ slice_set self.old pair (G.parts_of amount)) (λ _. self.new ≡ self.old) }
-        ensures first { IfErr result (λ _. amount_at self.old pair ≡ zero_amount) }
+    /// Where memory for one more amount is refused. Nothing is changed then, and the arc carries nothing.
+    pub fn set(&mut self, arc: u32, amount: G) -> Result<(), AllocError>
+        requires { arc < length self.old }
+        ensures is { MatchResult result (λ _. self.new ≡ slice_set self.old arc (G.parts_of amount)) (λ _. self.new ≡ self.old) }
+        ensures first { IfErr result (λ _. amount_at self.old arc ≡ zero_amount) }
     {
         match &mut self.places {
             Some(places) => {
-                let place = places[pair as usize] as usize;
+                let place = places[arc as usize] as usize;
                 if place == 0 {
                     self.amounts.push(amount)?;
-                    places[pair as usize] = self.amounts.as_slice().len() as u32;
+                    places[arc as usize] = self.amounts.as_slice().len() as u32;
                 } else {
                     self.amounts[place - 1] = amount;
                 }
             }
-            None => self.amounts[pair as usize] = amount,
+            None => self.amounts[arc as usize] = amount,
         }
         Ok(())
     }

@@ -1,6 +1,6 @@
 //! A flow of a net: what each block gets from the source, what each pair carries, and what each block gives the sink.
 
-ghost use Rattle.std.specs.Prelude.{◌≡◌, ◌↔◌, IsTrue, map};
+ghost use Rattle.std.specs.Prelude.{◌≡◌, ◌↔◌, IsTrue};
 ghost use Rattle.closure_net.specs.Network.{FlowFits, flow_view};
 
 use crate::carried::Carried;
@@ -11,31 +11,30 @@ use std::marker::Model;
 /// An amount from the source for each block, one for each pair, and one to the sink for each block.
 #[derive(Drop)]
 pub struct Flow<G: OrderedGroup> {
-    source: Vec<G>,
+    source: Carried<G>,
     rest: Carried<G>,
-    sink: Vec<G>,
+    sink: Carried<G>,
 }
 
 impl<G: OrderedGroup> Model for Flow<G> {
-    ghost use Rattle.std.specs.Prelude.{map};
     ghost use Rattle.closure_net.specs.Network.{FlowView, flow_view};
 
     ghost Value = { FlowView };
 
-    ghost view = { λ f. flow_view (map G.parts_of f.source.items) f.rest (map G.parts_of f.sink.items) };
+    ghost view = { λ f. flow_view f.source f.rest f.sink };
 }
 
 impl<G: OrderedGroup> Flow<G> {
     /// The flow with these amounts.
-    pub fn new(source: Vec<G>, rest: Carried<G>, sink: Vec<G>) -> Flow<G>
-        ensures { result ≡ flow_view (map G.parts_of source.items) rest (map G.parts_of sink.items) }
+    pub fn new(source: Carried<G>, rest: Carried<G>, sink: Carried<G>) -> Flow<G>
+        ensures { result ≡ flow_view source rest sink }
     {
         Flow { source, rest, sink }
     }
 
     /// What each block gets from the source.
-    pub fn source(&self) -> &[G]
-        ensures { map G.parts_of result.now ≡ self.now.source }
+    pub fn source(&self) -> &Carried<G>
+        ensures { result.now ≡ self.now.source }
     {
         &self.source
     }
@@ -48,8 +47,8 @@ impl<G: OrderedGroup> Flow<G> {
     }
 
     /// What each block gives to the sink.
-    pub fn sink(&self) -> &[G]
-        ensures { map G.parts_of result.now ≡ self.now.sink }
+    pub fn sink(&self) -> &Carried<G>
+        ensures { result.now ≡ self.now.sink }
     {
         &self.sink
     }

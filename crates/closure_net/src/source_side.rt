@@ -21,7 +21,7 @@ fn has_room<G: OrderedGroup>(net: &Net<G>, flow: &Flow<G>, b: u32) -> bool
     requires fits { length flow.now.source ≡ length net.now.worths }
     ensures { IsTrue result ↔ HasSourceResidual net.now.worths flow.now.source b }
 {
-    !at_most(net.positive(b), flow.source()[b as usize])
+    !at_most(net.positive(b), flow.source().at(b))
 }
 
 // Whether the pair k carries something.

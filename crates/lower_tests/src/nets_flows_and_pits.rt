@@ -33,9 +33,9 @@ fn flow_of(
     rest: &[WorthSize],
     sink: &[WorthSize],
 ) -> Result<Flow<WorthSize>, Fail> {
-    let source = Vec::from_slice(alloc, source)?;
+    let source = Carried::from_list(Vec::from_slice(alloc, source)?);
     let rest = Carried::from_list(Vec::from_slice(alloc, rest)?);
-    let sink = Vec::from_slice(alloc, sink)?;
+    let sink = Carried::from_list(Vec::from_slice(alloc, sink)?);
     Ok(Flow::new(source, rest, sink))
 }
 

@@ -7,7 +7,7 @@ use crate::board_turns::{holds, leaves, same};
 use crate::small_nets::{sizes_too_large, two_on_dear_waste};
 use async_step::{Event, Kind, MOST_STEPS, replay};
 use boards::{Audited, End, Turn};
-use closure_net::{Flow, Net};
+use closure_net::{Carried, Flow, Net};
 use machine_law::MOST_EVENTS;
 use ordered_group::WorthSize;
 use std::alloc::Global;
@@ -97,6 +97,19 @@ fn replayed(
     state.into_flow(net).ok().expect(rt, "a quiet run")
 }
 
+// Whether the same goes over each arc of a net of three blocks.
+fn are_alike(some: &Carried<WorthSize>, others: &Carried<WorthSize>) -> bool {
+    if some.len() != 3 || others.len() != 3 {
+        return false;
+    }
+    for b in 0..3 {
+        if some.at(b) != others.at(b) {
+            return false;
+        }
+    }
+    true
+}
+
 // The flow leaves all three blocks, and the history leads to it.
 pub fn replays(
     rt: &impl Abort,
@@ -107,8 +120,8 @@ pub fn replays(
 ) {
     leaves(rt, alloc, net, flow, &[0, 1, 2]);
     let again = replayed(rt, alloc, net, history);
-    holds(rt, again.source() == flow.source());
-    holds(rt, again.sink() == flow.sink());
+    holds(rt, are_alike(again.source(), flow.source()));
+    holds(rt, are_alike(again.sink(), flow.sink()));
 }
 
 // What a board that is quiet gives.

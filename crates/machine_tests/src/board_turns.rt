@@ -7,7 +7,7 @@ use crate::small_nets::{
     each_on_the_other, sizes_too_large, two_on_dear_waste, two_on_waste, worth_what_it_costs,
 };
 use boards::{Board, End, Turn};
-use closure_net::{Flow, Net, pit_of};
+use closure_net::{Carried, Flow, Net, pit_of};
 use ordered_group::{OrderedGroup, Worth, WorthSize};
 use std::alloc::Global;
 use std::fmt::Debug;
@@ -221,13 +221,26 @@ fn turns_of_several_workers_make_a_board_quiet(rt: HostRuntime) {
     same(&rt, board.turn(None, 0, 140), Turn::Ended(End::Quiet));
 }
 
+/// Whether these arcs, three at most, carry these amounts.
+pub fn carry<G: OrderedGroup>(arcs: &Carried<G>, amounts: &[G]) -> bool {
+    if arcs.len() != amounts.len() || arcs.len() > 3 {
+        return false;
+    }
+    for k in 0..arcs.len() {
+        if arcs.at(k as u32) != amounts[k] {
+            return false;
+        }
+    }
+    true
+}
+
 // One unit goes from the source over block 1 into the sink.
 fn is_flow_of_one(flow: &Flow<Worth>) -> bool {
     let one = Worth {
         nanos: 1_000_000_000,
     };
     let none = Worth { nanos: 0 };
-    flow.source() == [one, none, none].as_slice() && flow.sink() == [none, one, none].as_slice()
+    carry(flow.source(), &[one, none, none]) && carry(flow.sink(), &[none, one, none])
 }
 
 // The net and the flow of a board that is quiet.
@@ -320,11 +333,9 @@ fn carries_all(flow: &Flow<WorthSize>) -> bool {
         size: -1,
     };
     let none = WorthSize { nanos: 0, size: 0 };
-    let rest = flow.rest();
-    flow.source() == [all, none].as_slice()
-        && flow.sink() == [none, all].as_slice()
-        && rest.len() == 1
-        && rest.at(0) == all
+    carry(flow.source(), &[all, none])
+        && carry(flow.rest(), &[all])
+        && carry(flow.sink(), &[none, all])
 }
 
 #[test]

@@ -4,9 +4,9 @@
 ghost use Rattle.std.specs.Prelude.{◌≤◌};
 ghost use Rattle.async_step.specs.Answers.{IsStateOf};
 
-use crate::board_turns::{holds, same};
+use crate::board_turns::{carry, holds, same};
 use async_step::{ReplayFault, Saw, State, StepRefusal, replay};
-use closure_net::{Carried, Flow, Net};
+use closure_net::{Flow, Net};
 use fixed_worth::MOST_BLOCKS;
 use machine_law::{Event, Kind};
 use ordered_group::{OrderedGroup, Worth, WorthSize};
@@ -417,15 +417,9 @@ fn every_row_of_the_run(rt: HostRuntime) {
 
 // One unit goes from the source over the first pair into the sink.
 fn is_flow_of_one(rt: &impl Abort, flow: &Flow<Worth>) {
-    assert!(rt; flow.source() == [worth(1), worth(0), worth(0)].as_slice());
-    assert!(rt; flow.sink() == [worth(0), worth(1), worth(0)].as_slice());
-    carries_one(rt, flow.rest());
-}
-
-fn carries_one(rt: &impl Abort, rest: &Carried<Worth>) {
-    assert!(rt; rest.len() == 2);
-    same(rt, rest.at(0), worth(1));
-    same(rt, rest.at(1), worth(0));
+    assert!(rt; carry(flow.source(), &[worth(1), worth(0), worth(0)]));
+    assert!(rt; carry(flow.rest(), &[worth(1), worth(0)]));
+    assert!(rt; carry(flow.sink(), &[worth(0), worth(1), worth(0)]));
 }
 
 // All steps of the run.

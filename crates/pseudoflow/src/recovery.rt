@@ -7,7 +7,7 @@ use crate::branches::Branch;
 use crate::fault::PseudoflowFault;
 use crate::forest::Direction;
 use closure_net::{Carried, Flow, Net};
-use ordered_group::{OrderedGroup, smaller, zeros};
+use ordered_group::{OrderedGroup, smaller};
 use std::alloc::Global;
 use std::marker::Model;
 
@@ -21,13 +21,28 @@ fn difference<G: OrderedGroup>(a: G, b: G) -> Result<G, PseudoflowFault> {
     a.try_sub(b).ok_or(PseudoflowFault::TooLarge)
 }
 
+// Sets what an arc carries that carries nothing so far: nothing is kept of an arc that carries nothing.
+fn put<G: OrderedGroup>(
+    carried: &mut Carried<G>,
+    arc: u32,
+    amount: G,
+) -> Result<(), PseudoflowFault>
+    requires { arc < length carried.old }
+    ensures { length carried.new ≡ length carried.old }
+{
+    if amount.is_positive() {
+        carried.set(arc, amount)?;
+    }
+    Ok(())
+}
+
 // A flow that is being made.
 #[derive(Drop)]
 struct Draft<'a, G: OrderedGroup> {
     net: &'a Net<G>,
-    source: Vec<G>,
-    carried: Carried<G>,
-    sink: Vec<G>,
+    source: Carried<G>,
+    rest: Carried<G>,
+    sink: Carried<G>,
 }
 
 impl<'a, G: OrderedGroup> Model for Draft<'a, G> {
@@ -38,7 +53,7 @@ impl<'a, G: OrderedGroup> Model for Draft<'a, G> {
 
     ghost view = { λ d. d.net.now };
 
-    ghost invariant = { λ d. (length d.source.items ≡ length d.net.now.worths) × (length d.carried ≡ length d.net.now.pairs) × (length d.sink.items ≡ length d.net.now.worths) };
+    ghost invariant = { λ d. (length d.source ≡ length d.net.now.worths) × (length d.rest ≡ length d.net.now.pairs) × (length d.sink ≡ length d.net.now.worths) };
 }
 
 impl<'a, G: OrderedGroup> Draft<'a, G> {
@@ -49,9 +64,9 @@ impl<'a, G: OrderedGroup> Draft<'a, G> {
         let n = net.len();
         Ok(Draft {
             net,
-            source: zeros(alloc, n)?,
-            carried: Carried::nothing(alloc, net.rests().pairs())?,
-            sink: zeros(alloc, n)?,
+            source: Carried::nothing(alloc, n)?,
+            rest: Carried::nothing(alloc, net.rests().pairs())?,
+            sink: Carried::nothing(alloc, n)?,
         })
     }
 
@@ -66,8 +81,8 @@ impl<'a, G: OrderedGroup> Draft<'a, G> {
         let end = if is_strong { positive } else { negative };
         let part = smaller(imbalance, end);
         let rest = difference(end, part)?;
-        self.source[b as usize] = if is_strong { rest } else { positive };
-        self.sink[b as usize] = if is_strong { negative } else { rest };
+        put(&mut self.source, b, if is_strong { rest } else { positive })?;
+        put(&mut self.sink, b, if is_strong { negative } else { rest })?;
         difference(imbalance, part)
     }
 
@@ -94,8 +109,7 @@ impl<'a, G: OrderedGroup> Draft<'a, G> {
         let Some(pair) = found else {
             return Err(PseudoflowFault::Broken);
         };
-        self.carried.set(pair, amount)?;
-        Ok(())
+        put(&mut self.rest, pair, amount)
     }
 
     // The flow.
@@ -105,10 +119,10 @@ impl<'a, G: OrderedGroup> Draft<'a, G> {
         let Draft {
             net: _,
             source,
-            carried,
+            rest,
             sink,
         } = self;
-        Flow::new(source, carried, sink)
+        Flow::new(source, rest, sink)
     }
 }
 

@@ -91,5 +91,9 @@ pub fn flow_of(
     let source = amounts_of(alloc, closed, 2 + n + n, blocks)?;
     let rest = amounts_of(alloc, closed, 2 + n + n + n + n, pairs)?;
     let sink = sinks_of(alloc, net, closed, 2 + n + n + n)?;
-    Ok(Flow::new(source, Carried::from_list(rest), sink))
+    Ok(Flow::new(
+        Carried::from_list(source),
+        Carried::from_list(rest),
+        Carried::from_list(sink),
+    ))
 }

@@ -1,16 +1,15 @@
-use Rattle.std.proofs.Common.{below_more, ◌+◌, ◌<◌, length, map, drop, sym, subst, ◌∙◌, refl, arith}
-use Rattle.std.proofs.lemmas.List.{length-map}
+use Rattle.std.proofs.Common.{below_more, ◌+◌, ◌<◌, length, drop, sym, subst, ◌∙◌, refl, arith}
 use Rattle.ordered_group.specs.Sums.{amount_at}
 use Rattle.certificate_file.specs.ReadBack.{Writable}
 use Rattle.certificate_file.specs.Written.{block_at, amount_lines, body_text}
-use Rattle.certificate_file.proofs.Puts.{put_begins, at_map, line_put, line_failed, line_skipped}
+use Rattle.certificate_file.proofs.Puts.{put_begins, line_put, line_failed, line_skipped}
 use Rattle.certificate_file.proofs.writing.put_blocks.Goals as goal
 use Rattle.certificate_file.proofs.writing.put_blocks.Goals.{then-not-is_zero+in_ok-put_line, else-not-is_zero}
 use Rattle.fixed_worth.proofs.Sides.{on_err}
 
 pub loop-k-init : goal.loop-k-init
 loop-k-init g c = record {
-  put = put_begins (g.W.Write.contents c.args.out.now) c.args.page.now (body_text (amount_lines (block_at c.args.kind) 0 (map g.G.OrderedGroup.parts_of c.args.amounts.now)));
+  put = put_begins (g.W.Write.contents c.args.out.now) c.args.page.now (body_text (amount_lines (block_at c.args.kind) 0 c.args.amounts.now));
   writable = λ j h. absurd (omega arith);
   kept = refl;
 }
@@ -18,28 +17,28 @@ loop-k-init g c = record {
 pub returns-in_err-put_line-clause-prefix : goal.returns-in_err-put_line-clause-prefix
 returns-in_err-put_line-clause-prefix g c =
     let f = g.G.OrderedGroup.parts_of in
-    let xs = map f c.args.amounts.now in
+    let xs = c.args.amounts.now in
     let line = block_at c.args.kind in
     let k = c.loop-k.k in
-    let x = c.index-amounts-k.result in
+    let x = c.at-amount.result in
     on_err c.from_residual.result
     (line_failed line xs k (f x) c.block_line.result (g.W.Write.contents c.args.out.now) (g.W.Write.contents c.loop-k.out) (g.W.Write.contents c.put_line.new.out) c.args.page.now c.loop-k.page (body_text (amount_lines line 0 xs))
-    (simp length-map c.loop-k-test.true) (at_map f c.args.amounts.now k x c.loop-k-test.true c.index-amounts-k.is) (sym c.is_zero.ensures ∙ c.if-not-is_zero.true) c.block_line.ensures c.loop-k.invariant.put c.in_err-put_line.ensures.prefix)
+    (omega arith) (sym c.at-amount.ensures) (sym c.is_zero.ensures ∙ c.if-not-is_zero.true) c.block_line.ensures c.loop-k.invariant.put c.in_err-put_line.ensures.prefix)
 
 pub loop-k-preserved : goal.loop-k-preserved
 loop-k-preserved g c =
     let f = g.G.OrderedGroup.parts_of in
-    let xs = map f c.args.amounts.now in
+    let xs = c.args.amounts.now in
     let line = block_at c.args.kind in
     let k = c.loop-k.k in
-    let x = c.index-amounts-k.result in
+    let x = c.at-amount.result in
     let first = g.W.Write.contents c.args.out.now in
     let before = g.W.Write.contents c.loop-k.out in
     let after = g.W.Write.contents c.if-not-is_zero.out in
     let all = body_text (amount_lines line 0 xs) in
     let left = body_text (amount_lines line (k + 1) (drop (k + 1) xs)) in
-    let inside : k < length xs = simp length-map c.loop-k-test.true in
-    let here = at_map f c.args.amounts.now k x c.loop-k-test.true c.index-amounts-k.is in
+    let inside : k < length xs = omega arith in
+    let here = sym c.at-amount.ensures in
     let here_too = subst (Writable g.G.OrderedGroup.counts) (sym here) c.can_be_written.ensures in
     let more = below_more (λ j. Writable g.G.OrderedGroup.counts (amount_at xs j)) k c.loop-k.invariant.writable here_too in
     elim c.if-not-is_zero.branch [

@@ -14,7 +14,7 @@ returns g c =
     let k = c.self.view_is in (
       (c.quiet.ensures c.args._net.now (sym c.requires.blocks)).0 c.if-not-quiet.false,
       flow_of c.args._net.now c.args.self c.new.result c.requires c.len-sized.ensures.sized
-          (ap (λ (x : FlowView). x.source) e ∙ ap (λ (w : StateView). w.source) k)
-          (ap (λ (x : FlowView). x.rest) e ∙ c.from_list.ensures ∙ ap (λ (w : StateView). w.flow) k)
-          (ap (λ (x : FlowView). x.sink) e ∙ ap (λ (w : StateView). w.sink) k),
+          (ap (λ (x : FlowView). x.source) e ∙ c.from_list.ensures ∙ ap (λ (w : StateView). w.source) k)
+          (ap (λ (x : FlowView). x.rest) e ∙ c.from_list-2.ensures ∙ ap (λ (w : StateView). w.flow) k)
+          (ap (λ (x : FlowView). x.sink) e ∙ c.from_list-3.ensures ∙ ap (λ (w : StateView). w.sink) k),
     )

@@ -1,7 +1,0 @@
-use Rattle.std.proofs.Common.{ℕ, ◌<◌}
-use Rattle.ordered_group.specs.Amount.{zero_amount, AtMost}
-use Rattle.ordered_group.specs.Sums.{amount_at}
-use Rattle.check_pit.proofs.checking.none_carried_negative.Given as goal
-
-abbrev pub invariant-loop-k : goal.invariant-loop-k
-invariant-loop-k g l = (j : ℕ) → j < l.k → AtMost zero_amount (amount_at l.carried j)
