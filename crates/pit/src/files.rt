@@ -1,33 +1,22 @@
-//! Runs the engines of all commands but `solve` on files: opens all files of a command before any is read,
+//! Runs the engines of `check`, `replay`, `value` and `slopes` on files: opens all files of a command before any is read,
 //! and gives the engine's answer.
 
 ghost use Rattle.engines.specs.Slopes.{IsChoice};
 
-use crate::advice::advice_for_series;
-use crate::heard::Heard;
-use crate::opened::{file, heard_file, made_file_if_named, open_mine, open_series};
-use crate::pairs_bound::{PairsBound, offsets_of};
-use crate::settings_reasons::KeptText;
-use crate::slopes_args::selection_asked;
-use crate::told::output;
-use command_line::{CheckArgs, ReplayArgs, SeriesArgs, SeriesCommand, SlopesArgs, ValueArgs};
+use command_line::{CheckArgs, ReplayArgs, SlopesArgs, ValueArgs};
 use design_engines::{ValueFault, compare_engine, value_engine};
 use engines::{
-    Effort, EngineFault, PatternChoice, Verdict, check_engine, slopes_engine,
-    slopes_from_settings_engine,
+    EngineFault, PatternChoice, Verdict, check_engine, slopes_engine, slopes_from_settings_engine,
 };
 use fixed_worth::Counted;
-use pseudoflow::Progress;
+use pit_files::{offsets_of, open_blocks, open_file, open_mine, open_settings, output};
+use pit_options::selection_asked;
 use replay_engines::{ReplayAsked, replay_engine};
-use report_engines::report_engine;
-use shell_engines::{SeriesOutputs, SeriesProgress, shells_engine};
 use shells::Factor;
 use slope::Up;
 use std::rt::Files;
-use std::sync::Wait;
 use std::sync::atomic::AtomicU64;
 use std::thread::Threads;
-use workers::Gate;
 
 /// Checks a certificate for the files of a mine.
 pub fn check_files<'a, R: Files + Print + Eprint + Threads + Sync + AllocGlobal>(
@@ -35,7 +24,7 @@ pub fn check_files<'a, R: Files + Print + Eprint + Threads + Sync + AllocGlobal>
     args: CheckArgs<'a>,
 ) -> Result<Verdict, EngineFault> {
     let mut mine = open_mine(rt, args.verbose, args.prec, args.model)?;
-    let mut certificate = file(rt, args.verbose, args.certificate)?;
+    let mut certificate = open_file(rt, args.verbose, args.certificate)?;
     let mut out = Counted::new(output(rt, args.verbose, None));
     check_engine(rt, rt.alloc(), &mut mine, &mut certificate, &mut out)
 }
@@ -47,7 +36,7 @@ pub fn replay_files<'a, R: Files + Print + Eprint + Threads + Sync + AllocGlobal
     asked: ReplayAsked,
 ) -> Result<Verdict, EngineFault> {
     let mut mine = open_mine(rt, args.verbose, args.prec, args.model)?;
-    let mut trace = file(rt, args.verbose, args.trace)?;
+    let mut trace = open_file(rt, args.verbose, args.trace)?;
     let mut out = Counted::new(output(rt, args.verbose, None));
     replay_engine(rt, rt.alloc(), &mut mine, &mut trace, asked, &mut out)
 }
@@ -59,11 +48,11 @@ pub fn value_files<'a, R: Files + Print + Eprint + Threads + Sync + AllocGlobal>
     factor: Factor,
 ) -> Result<Verdict, ValueFault> {
     let mut mine = open_mine(rt, args.verbose, args.prec, args.model)?;
-    let mut design = file(rt, args.verbose, args.design)?;
+    let mut design = open_file(rt, args.verbose, args.design)?;
     let alloc = rt.alloc();
     match args.best {
         Some(best) => {
-            let mut certificate = file(rt, args.verbose, best)?;
+            let mut certificate = open_file(rt, args.verbose, best)?;
             let mut out = Counted::new(output(rt, args.verbose, None));
             compare_engine(
                 rt,
@@ -81,28 +70,6 @@ pub fn value_files<'a, R: Files + Print + Eprint + Threads + Sync + AllocGlobal>
     }
 }
 
-/// Draws the shells of the mine of files of settings, blocks and precedence, or makes its bench table.
-pub fn series_files<
-    'a,
-    R: Files + Print + Eprint + Threads + Wait + Sync + AllocGlobal,
-    T: Gate + Progress + SeriesProgress,
->(rt: &'a R, args: SeriesArgs<'a>, effort: Effort, watch: &T) -> Result<Verdict, EngineFault> {
-    let mut inputs = open_series(rt, args)?;
-    let mut outputs = SeriesOutputs {
-        by_block: made_file_if_named(rt, args.verbose, args.by_block)?,
-        out: Counted::new(output(rt, args.verbose, Some(advice_for_series(args)))),
-    };
-    let alloc = rt.alloc();
-    match args.command {
-        SeriesCommand::Shells => {
-            shells_engine(rt, alloc, &mut inputs, effort, watch, &mut outputs)
-        }
-        SeriesCommand::Report => {
-            report_engine(rt, alloc, &mut inputs, effort, watch, &mut outputs)
-        }
-    }
-}
-
 /// Writes the predecessors of each block of a file, by a pattern.
 pub fn slopes_file<R: Files + Print + Eprint + AllocGlobal>(
     rt: &R,
@@ -113,8 +80,7 @@ pub fn slopes_file<R: Files + Print + Eprint + AllocGlobal>(
     requires { IsChoice pattern }
 {
     let offsets = AtomicU64::new(offsets_of(rt.alloc(), pattern));
-    let bound = Heard::Blocks(PairsBound::new(&offsets));
-    let mut blocks = heard_file(rt, args.verbose, args.blocks, bound)?;
+    let mut blocks = open_blocks(rt, args.verbose, args.blocks, &offsets)?;
     let mut out = Counted::new(output(rt, args.verbose, None));
     let selection = selection_asked(args);
     slopes_engine(rt.alloc(), &mut blocks, pattern, up, selection, &mut out)
@@ -128,10 +94,8 @@ pub fn listed_slopes_files<R: Files + Print + Eprint + AllocGlobal>(
     up: Up,
 ) -> Result<Verdict, EngineFault> {
     let offsets = AtomicU64::new(0);
-    let text = Heard::Settings(KeptText::new(rt.alloc(), Some(&offsets)));
-    let mut settings = heard_file(rt, args.verbose, settings, text)?;
-    let bound = Heard::Blocks(PairsBound::new(&offsets));
-    let mut blocks = heard_file(rt, args.verbose, args.blocks, bound)?;
+    let mut settings = open_settings(rt, args.verbose, settings, Some(&offsets))?;
+    let mut blocks = open_blocks(rt, args.verbose, args.blocks, &offsets)?;
     let mut out = Counted::new(output(rt, args.verbose, None));
     let selection = selection_asked(args);
     slopes_from_settings_engine(

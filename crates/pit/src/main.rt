@@ -4,43 +4,29 @@
 //! the arguments of the command line, to files and to standard output, and the exit status is given.
 #![tactic(auto)]
 
-mod advice;
-mod effort_args;
 mod files;
-mod heard;
-mod opened;
-mod pairs_bound;
 mod progress;
 mod reasons;
-mod replaced;
-mod series_args;
-mod settings_reasons;
-mod slopes_args;
-mod solve_options;
+mod series_files;
 mod solving;
-mod solving_asked;
-mod told;
 
-use advice::advise_on_workers;
 use command_line::{
     Commanded, Declined, OffsetsArgs, ReplayArgs, Request, SeriesArgs, SlopesArgs, SolveArgs,
     ValueArgs, WrongValue, declined_for, request_of,
 };
 use design_engines::{DesignProblem, ValueFault, write_problem};
-use effort_args::effort_for_series;
 use engines::{EngineFault, Unwatched, Verdict, status, stored_check, write_fault};
-use files::{
-    check_files, listed_slopes_files, replay_files, series_files, slopes_file, value_files,
-};
+use files::{check_files, listed_slopes_files, replay_files, slopes_file, value_files};
 use fixed_worth::Counted;
+use pit_options::{
+    SolvingAsked, effort_for_series, factor_asked, pattern_asked, replay_asked, solving_asked,
+    table_over_an_input, up_asked, value_factor_asked,
+};
 use progress::{Meter, PROGRESS_ALONE, Tells};
-use reasons::{tell_choice, tell_slope_reason};
-use series_args::table_over_an_input;
+use reasons::{advise_on_workers, tell_choice, tell_slope_reason};
+use series_files::series_files;
 use shells::Factor;
-use slopes_args::{pattern_asked, up_asked};
-use solve_options::{factor_asked, replay_asked, value_factor_asked};
 use solving::solve_files;
-use solving_asked::{SolvingAsked, solving_asked};
 use std::process::ExitCode;
 use std::rt::{Clock, Env, Files};
 use std::sync::Wait;

@@ -1,6 +1,7 @@
-//! What an answer leaves open, told on standard error where that is asked for.
+//! What arguments and an answer leave open, told on standard error where that is asked for.
 
-use engines::{EngineFault, SlopeProblem};
+use engines::{EngineFault, Method, SlopeProblem};
+use pit_options::SolvingAsked;
 use slope::{PatternFault, SlopeFault};
 
 /// Tells that steps have chosen push-relabel, where no method is given beside them.
@@ -9,6 +10,17 @@ pub fn tell_choice<R: Eprint>(rt: &R, is_asked: bool, method: Option<&str>, step
         let _ = rt.eprintln(
             "note: --steps without --method chooses push-relabel, which is slow above a few thousand blocks",
         );
+    }
+}
+
+/// Tells that further workers have no effect where pseudoflow alone is to solve.
+pub fn advise_on_workers<R: Eprint>(rt: &R, is_asked: bool, solving: SolvingAsked<'_>) {
+    if let SolvingAsked::ByMethod { effort, .. } = solving {
+        if is_asked && effort.workers > 1 && effort.method == Method::Pseudoflow {
+            let _ = rt.eprintln(
+                "advice: --workers has no effect with --method pseudoflow, which has one thread",
+            );
+        }
     }
 }
 

@@ -1,15 +1,13 @@
 //! Runs the engines of `solve` on files: opens all files before any is read, and gives the engine's
 //! answer.
 
-use crate::advice::advice_to_solve;
-use crate::opened::{made_file, open_mine};
-use crate::solving_asked::SolvingAsked;
-use crate::told::output;
 use audit_engines::{TracedAsked, solve_traced_engine};
 use command_line::SolveArgs;
 use engines::{EngineFault, Outcome, SolveAsked, Verdict, solve_engine};
 use fixed_worth::Counted;
 use lock_free_engine::{LockFreeAsked, solve_lock_free_engine};
+use pit_files::{advice_to_solve, make_file, open_mine, output};
+use pit_options::SolvingAsked;
 use pseudoflow::Progress;
 use shells::Factor;
 use std::rt::Files;
@@ -91,7 +89,7 @@ fn trace_files<
     watch: &T,
 ) -> Result<Verdict, EngineFault> {
     let mut mine = open_mine(rt, args.verbose, args.prec, args.model)?;
-    let mut trace = made_file(rt, args.verbose, file)?;
+    let mut trace = make_file(rt, args.verbose, file)?;
     let mut out = Counted::new(output(rt, args.verbose, Some(advice_to_solve(args))));
     solve_traced_engine(
         rt,

@@ -15,8 +15,8 @@ use blocks_file::BlockModel;
 use engines::EngineFault;
 use fixed_worth::CountedRead;
 use mine_inputs::{
-    ChargeColumns, PriceColumns, place_beside, price_columns, priced_blocks_from, prices_of,
-    rests_from, settings_from,
+    ChargeColumns, PriceColumns, place_beside, predecessors_from, price_columns,
+    priced_blocks_from, prices_of, settings_from,
 };
 use settings_file::{Key, Settings};
 use shell_engines::series_inputs::{SeriesInputs, SeriesMine, factors_of};
@@ -176,7 +176,7 @@ pub fn report_mine_from<D: CountedRead>(
 {
     let said = said_from(alloc, &mut inputs.settings)?;
     let read = priced_model_from(alloc, &mut inputs.blocks, said.columns)?;
-    let rests = rests_from(alloc, &mut inputs.prec, read.prices.len())?;
+    let rests = predecessors_from(alloc, &mut inputs.prec, read.prices.len())?;
     let series = SeriesMine {
         prices: read.prices,
         rests,

@@ -10,7 +10,7 @@ ghost use Rattle.shell_engines.specs.Parting.{ArePriced, AreHalved, IsLeft, IsLe
 use crate::best_pits::BestPit;
 use crate::mine_parts::{Halved, Part, solved_part, whole};
 use crate::series_progress::SeriesProgress;
-use prec_file::Rests;
+use prec_file::Predecessors;
 use shells::{Factor, Prices};
 use std::alloc::{AllocError, Global};
 use std::sync::atomic::{AtomicU64, Ordering};
@@ -88,7 +88,7 @@ fn first_of(part: &Part, factors: usize) -> usize
 fn solved_by<T: SeriesProgress>(
     alloc: Global,
     prices: &Prices,
-    rests: &Rests,
+    rests: &Predecessors,
     factors: &[Factor],
     parts: &[Part],
     taken: &AtomicU64,
@@ -122,7 +122,7 @@ fn level_of<R: Threads + Sync, T: SeriesProgress + Sync>(
     rt: &R,
     alloc: Global,
     prices: &Prices,
-    rests: &Rests,
+    rests: &Predecessors,
     factors: &[Factor],
     parts: &[Part],
     threads: usize,
@@ -163,7 +163,7 @@ pub fn found_beside<R: Threads + Sync, T: SeriesProgress + Sync>(
     rt: &R,
     alloc: Global,
     prices: &Prices,
-    rests: &Rests,
+    rests: &Predecessors,
     factors: &[Factor],
     threads: usize,
     turns: u64,

@@ -16,7 +16,7 @@ use crate::lifted_pits::{at_others, at_places, best_with, merged};
 use closure_net::{Net, NetFault, Pit};
 use engines::solvers::by_pseudoflow;
 use ordered_group::Scaled;
-use prec_file::Rests;
+use prec_file::Predecessors;
 use pseudoflow::Silent;
 use shells::{Factor, Prices};
 use std::alloc::{AllocError, Global};
@@ -88,7 +88,7 @@ fn worths_among(
 fn net_among(
     alloc: Global,
     prices: &Prices,
-    rests: &Rests,
+    rests: &Predecessors,
     kept: &[u32],
     factor: Factor,
 ) -> Result<Option<Net<Scaled>>, AllocError>
@@ -204,7 +204,7 @@ impl Part {
 pub fn solved_part(
     alloc: Global,
     prices: &Prices,
-    rests: &Rests,
+    rests: &Predecessors,
     factors: &[Factor],
     part: &Part,
     place: usize,

@@ -11,8 +11,8 @@ ghost use Rattle.shell_engines.specs.SeriesTexts.{IsSeriesRead, SeriesMineFails}
 
 use engines::EngineFault;
 use fixed_worth::{CountedRead, MOST_FACTOR};
-use mine_inputs::{missing, price_columns, prices_from, rests_from, settings_from};
-use prec_file::Rests;
+use mine_inputs::{missing, predecessors_from, price_columns, prices_from, settings_from};
+use prec_file::Predecessors;
 use settings_file::{Key, Settings};
 use shells::{Factor, Prices};
 use std::alloc::{AllocError, Global};
@@ -33,8 +33,9 @@ pub struct SeriesInputs<D> {
 pub struct SeriesMine {
     /// The prices of the blocks.
     pub prices: Prices,
-    /// Which block rests on which.
-    pub rests: Rests,
+    /// The predecessors of each block. The index that a series has beside them is made once the pits are found, which takes
+    /// less memory.
+    pub rests: Predecessors,
     /// The factors, rising.
     pub factors: Vec<Factor>,
     ghost form: { AreFactors factors.items },
@@ -91,7 +92,7 @@ pub fn series_mine_from<D: CountedRead>(
     let columns = price_columns(&settings, &[Key::Factors])?;
     let factors = factors_of(alloc, &settings)?;
     let prices = prices_from(alloc, &mut inputs.blocks, columns)?;
-    let rests = rests_from(alloc, &mut inputs.prec, prices.len())?;
+    let rests = predecessors_from(alloc, &mut inputs.prec, prices.len())?;
     Ok(SeriesMine {
         prices,
         rests,

@@ -18,7 +18,7 @@ use crate::solver_at::solution_at;
 use engines::Effort;
 use engines::solvers::Unsolved;
 use fixed_worth::MOST_FACTORS;
-use prec_file::Rests;
+use prec_file::{Predecessors, Rests};
 use pseudoflow::Progress;
 use shells::{Factor, Prices, Series, SeriesFault};
 use std::alloc::{AllocError, Global};
@@ -119,7 +119,7 @@ fn found_first<R: Threads + Sync, T: SeriesProgress + Sync>(
     rt: &R,
     alloc: Global,
     prices: &Prices,
-    rests: &Rests,
+    rests: &Predecessors,
     factors: &[Factor],
     effort: Effort,
     gate: &T,
@@ -171,6 +171,7 @@ pub fn settle<R: Threads + Wait + Sync, T: Gate + Progress + SeriesProgress>(
         factors,
     } = mine;
     let found = found_first(rt, alloc, &prices, &rests, factors.as_slice(), effort, gate)?;
+    let rests = rests.into_rests(alloc)?;
     let series = match Series::open(alloc, rests, prices) {
         Ok(series) => series,
         Err(SeriesFault::NoMemory) => return Err(NoSeries::Memory),

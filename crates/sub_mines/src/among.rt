@@ -6,7 +6,7 @@ ghost use Rattle.closure_net.specs.Network.{IsAscending};
 ghost use Rattle.sub_mines.specs.Kept.{IsPartPairs};
 ghost use Rattle.sub_mines.specs.Among.{ArePlaces, AreRows};
 
-use prec_file::{ListedPairs, MOST_PAIRS, Rests};
+use prec_file::{ListedPairs, MOST_PAIRS, Predecessors, Rests};
 use std::alloc::{AllocError, Global};
 
 // For each of n blocks its place among the kept ones and 1 more, or 0.
@@ -25,7 +25,7 @@ fn places_of(alloc: Global, n: u32, kept: &[u32]) -> Result<Vec<u32>, AllocError
 // Adds the pairs of block `row` of the list to the others.
 fn add_row(
     pairs: &mut Vec<(u32, u32)>,
-    rests: &Rests,
+    rests: &Predecessors,
     kept: &[u32],
     places: &[u32],
     row: u32,
@@ -55,7 +55,7 @@ fn add_row(
 // The pairs of all rows.
 fn rows_of(
     alloc: Global,
-    rests: &Rests,
+    rests: &Predecessors,
     kept: &[u32],
     places: &[u32],
 ) -> Result<Vec<(u32, u32)>, AllocError>
@@ -77,7 +77,7 @@ fn rows_of(
 ///
 /// # Errors
 /// Where memory is refused.
-pub fn rests_among(alloc: Global, rests: &Rests, kept: &[u32]) -> Result<Rests, AllocError>
+pub fn rests_among(alloc: Global, rests: &Predecessors, kept: &[u32]) -> Result<Rests, AllocError>
     requires ascending { IsAscending kept.now }
     requires below { All (λ b. b < rests.now.blocks) kept.now }
     requires size { length kept.now ≤ rests.now.blocks }

@@ -1,9 +1,6 @@
-//! Tells the user what to try where no pit is proved, and which options have no effect, by the arguments and the
-//! answer.
+//! What to try where no pit is proved, by the arguments and the answer.
 
-use crate::solving_asked::SolvingAsked;
 use command_line::{SeriesArgs, SolveArgs};
-use engines::Method;
 
 /// What to try where a command answers that no pit is proved.
 #[derive(Clone, Copy)]
@@ -44,17 +41,6 @@ pub fn advice_to_solve(args: SolveArgs<'_>) -> Advice {
 /// What to try where `shells` or `report` proves no pit at some factor: all their amounts are of one group.
 pub fn advice_for_series(args: SeriesArgs<'_>) -> Advice {
     advice_by(args.method, args.steps, MACHINE)
-}
-
-/// Tells that further workers have no effect where pseudoflow alone is to solve.
-pub fn advise_on_workers<R: Eprint>(rt: &R, is_asked: bool, solving: SolvingAsked<'_>) {
-    if let SolvingAsked::ByMethod { effort, .. } = solving {
-        if is_asked && effort.workers > 1 && effort.method == Method::Pseudoflow {
-            let _ = rt.eprintln(
-                "advice: --workers has no effect with --method pseudoflow, which has one thread",
-            );
-        }
-    }
 }
 
 impl Advice {

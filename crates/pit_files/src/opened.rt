@@ -3,17 +3,17 @@
 
 ghost use Rattle.std.specs.Prelude.{◌≡◌, IfOk};
 ghost use Rattle.mine_inputs.specs.MineInputs.{CanCount};
-ghost use Rattle.shell_engines.specs.Devices.{InputsCanCount, failures_in};
 
 use crate::heard::Heard;
+use crate::pairs_bound::PairsBound;
 use crate::replaced::Replaced;
 use crate::settings_reasons::KeptText;
 use crate::told::{Told, made, opened, opened_and_heard};
-use command_line::{ModelArgs, SeriesArgs};
+use command_line::ModelArgs;
 use engines::{EngineFault, MineInputs, WorthInputs};
 use fixed_worth::Counted;
-use shell_engines::SeriesInputs;
 use std::rt::Files;
+use std::sync::atomic::AtomicU64;
 
 /// Opens the files of a mine, that of the predecessors first.
 ///
@@ -28,35 +28,24 @@ pub fn open_mine<'a, R: Files + Eprint + AllocGlobal>(
     ensures { IfOk result (λ mine. CanCount mine (λ device. device.failures)) }
 {
     match model {
-        ModelArgs::Values { upit } => {
-            let prec = file(rt, verbose, prec)?;
-            let upit = file(rt, verbose, upit)?;
-            let worths = WorthInputs::Values { upit };
-            Ok(MineInputs { worths, prec })
-        }
-        ModelArgs::Prices { settings, blocks } => {
-            let SeriesInputs {
-                settings,
-                blocks,
-                prec,
-            } = open_prices(rt, verbose, prec, settings, blocks)?;
-            let worths = WorthInputs::Prices { settings, blocks };
-            Ok(MineInputs { worths, prec })
-        }
+        ModelArgs::Values { upit } => open_values(rt, verbose, prec, upit),
+        ModelArgs::Prices { settings, blocks } => open_prices(rt, verbose, prec, settings, blocks),
     }
 }
 
-/// Opens the files of a mine of which shells are drawn, that of the predecessors first.
-///
-/// # Errors
-/// `Device` where one can't be opened.
-pub fn open_series<'a, R: Files + Eprint + AllocGlobal>(
+// Opens the files of a mine of values.
+fn open_values<'a, R: Files + Eprint + AllocGlobal>(
     rt: &'a R,
-    args: SeriesArgs<'a>,
-) -> Result<SeriesInputs<Counted<Told<'a, R, R::File>>>, EngineFault>
-    ensures { IfOk result (λ inputs. InputsCanCount inputs (λ device. device.failures)) }
+    verbose: bool,
+    prec: &'a str,
+    upit: &'a str,
+) -> Result<MineInputs<Counted<Told<'a, R, R::File>>>, EngineFault>
+    ensures { IfOk result (λ mine. CanCount mine (λ device. device.failures)) }
 {
-    open_prices(rt, args.verbose, args.prec, args.settings, args.blocks)
+    let prec = open_file(rt, verbose, prec)?;
+    let upit = open_file(rt, verbose, upit)?;
+    let worths = WorthInputs::Values { upit };
+    Ok(MineInputs { worths, prec })
 }
 
 // Opens the files of a mine of prices.
@@ -66,26 +55,21 @@ fn open_prices<'a, R: Files + Eprint + AllocGlobal>(
     prec: &'a str,
     settings: &'a str,
     blocks: &'a str,
-) -> Result<SeriesInputs<Counted<Told<'a, R, R::File>>>, EngineFault>
-    ensures { IfOk result (λ mine.
-        (mine.prec.failures ≡ 0) × (mine.settings.failures ≡ 0) × (mine.blocks.failures ≡ 0)) }
+) -> Result<MineInputs<Counted<Told<'a, R, R::File>>>, EngineFault>
+    ensures { IfOk result (λ mine. CanCount mine (λ device. device.failures)) }
 {
-    let prec = file(rt, verbose, prec)?;
-    let heard = Heard::Settings(KeptText::new(rt.alloc(), None));
-    let settings = heard_file(rt, verbose, settings, heard)?;
-    let blocks = file(rt, verbose, blocks)?;
-    Ok(SeriesInputs {
-        settings,
-        blocks,
-        prec,
-    })
+    let prec = open_file(rt, verbose, prec)?;
+    let settings = open_settings(rt, verbose, settings, None)?;
+    let blocks = open_file(rt, verbose, blocks)?;
+    let worths = WorthInputs::Prices { settings, blocks };
+    Ok(MineInputs { worths, prec })
 }
 
 /// Opens a file to be read.
 ///
 /// # Errors
 /// `Device` where it can't be opened.
-pub fn file<'a, R: Files + Eprint>(
+pub fn open_file<'a, R: Files + Eprint>(
     rt: &'a R,
     verbose: bool,
     name: &'a str,
@@ -98,11 +82,42 @@ pub fn file<'a, R: Files + Eprint>(
     }
 }
 
-/// Opens a file to be read of which there is something to tell at its end.
+/// Opens a file of settings, of whose fault it is told at their end. There, too, the number of offsets that they list is put
+/// where it is asked for.
 ///
 /// # Errors
 /// `Device` where it can't be opened.
-pub fn heard_file<'a, R: Files + Eprint>(
+pub fn open_settings<'a, R: Files + Eprint + AllocGlobal>(
+    rt: &'a R,
+    verbose: bool,
+    name: &'a str,
+    offsets: Option<&'a AtomicU64>,
+) -> Result<Counted<Told<'a, R, R::File>>, EngineFault>
+    ensures { IfOk result (λ counted. counted.failures ≡ 0) }
+{
+    let text = KeptText::new(rt.alloc(), offsets);
+    open_heard(rt, verbose, name, Heard::Settings(text))
+}
+
+/// Opens a file of blocks, at whose end it is told how many pairs their slopes may give, by the number of offsets that is
+/// known then.
+///
+/// # Errors
+/// `Device` where it can't be opened.
+pub fn open_blocks<'a, R: Files + Eprint>(
+    rt: &'a R,
+    verbose: bool,
+    name: &'a str,
+    offsets: &'a AtomicU64,
+) -> Result<Counted<Told<'a, R, R::File>>, EngineFault>
+    ensures { IfOk result (λ counted. counted.failures ≡ 0) }
+{
+    let bound = PairsBound::new(offsets);
+    open_heard(rt, verbose, name, Heard::Blocks(bound))
+}
+
+// Opens a file to be read of which there is something to tell at its end.
+fn open_heard<'a, R: Files + Eprint>(
     rt: &'a R,
     verbose: bool,
     name: &'a str,
@@ -121,7 +136,7 @@ pub fn heard_file<'a, R: Files + Eprint>(
 ///
 /// # Errors
 /// `Device` where it can't be made.
-pub fn made_file<'a, R: Files + Eprint>(
+pub fn make_file<'a, R: Files + Eprint>(
     rt: &'a R,
     verbose: bool,
     name: &'a str,
@@ -131,22 +146,5 @@ pub fn made_file<'a, R: Files + Eprint>(
     match made(rt, verbose, name) {
         Ok(file) => Ok(Counted::new(file)),
         Err(_) => Err(EngineFault::Device),
-    }
-}
-
-/// The same of a file that is named, if it is.
-///
-/// # Errors
-/// `Device` where it can't be made.
-pub fn made_file_if_named<'a, R: Files + Eprint>(
-    rt: &'a R,
-    verbose: bool,
-    name: Option<&'a str>,
-) -> Result<Option<Counted<Told<'a, R, Replaced<R::File>>>>, EngineFault>
-    ensures { IfOk result (λ made. failures_in made (λ device. device.failures) ≡ 0) }
-{
-    match name {
-        Some(name) => Ok(Some(made_file(rt, verbose, name)?)),
-        None => Ok(None),
     }
 }

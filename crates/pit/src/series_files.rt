@@ -1,0 +1,69 @@
+//! Runs the engines of `shells` and `report` on files: opens all before any is read, and gives the engine's answer.
+
+ghost use Rattle.std.specs.Prelude.{◌≡◌, IfOk};
+ghost use Rattle.shell_engines.specs.Devices.{InputsCanCount, failures_in};
+
+use command_line::{SeriesArgs, SeriesCommand};
+use engines::{Effort, EngineFault, Verdict};
+use fixed_worth::Counted;
+use pit_files::{Replaced, Told, advice_for_series, make_file, open_file, open_settings, output};
+use pseudoflow::Progress;
+use report_engines::report_engine;
+use shell_engines::{SeriesInputs, SeriesOutputs, SeriesProgress, shells_engine};
+use std::rt::Files;
+use std::sync::Wait;
+use std::thread::Threads;
+use workers::Gate;
+
+/// Draws the shells of the mine of files of settings, blocks and precedence, or makes its bench table.
+pub fn series_files<
+    'a,
+    R: Files + Print + Eprint + Threads + Wait + Sync + AllocGlobal,
+    T: Gate + Progress + SeriesProgress,
+>(rt: &'a R, args: SeriesArgs<'a>, effort: Effort, watch: &T) -> Result<Verdict, EngineFault> {
+    let mut inputs = open_series(rt, args)?;
+    let mut outputs = SeriesOutputs {
+        by_block: make_file_if_named(rt, args.verbose, args.by_block)?,
+        out: Counted::new(output(rt, args.verbose, Some(advice_for_series(args)))),
+    };
+    let alloc = rt.alloc();
+    match args.command {
+        SeriesCommand::Shells => {
+            shells_engine(rt, alloc, &mut inputs, effort, watch, &mut outputs)
+        }
+        SeriesCommand::Report => {
+            report_engine(rt, alloc, &mut inputs, effort, watch, &mut outputs)
+        }
+    }
+}
+
+// Opens the inputs, that of the predecessors first.
+fn open_series<'a, R: Files + Eprint + AllocGlobal>(
+    rt: &'a R,
+    args: SeriesArgs<'a>,
+) -> Result<SeriesInputs<Counted<Told<'a, R, R::File>>>, EngineFault>
+    ensures { IfOk result (λ inputs. InputsCanCount inputs (λ device. device.failures)) }
+{
+    let prec = open_file(rt, args.verbose, args.prec)?;
+    let settings = open_settings(rt, args.verbose, args.settings, None)?;
+    let blocks = open_file(rt, args.verbose, args.blocks)?;
+    Ok(SeriesInputs {
+        settings,
+        blocks,
+        prec,
+    })
+}
+
+// Makes a file, if one is named.
+fn make_file_if_named<'a, R: Files + Eprint>(
+    rt: &'a R,
+    verbose: bool,
+    name: Option<&'a str>,
+) -> Result<Option<Counted<Told<'a, R, Replaced<R::File>>>>, EngineFault>
+    ensures { IfOk result (λ made. failures_in made (λ device. device.failures) ≡ 0) }
+{
+    match name {
+        Some(name) => Ok(Some(make_file(rt, verbose, name)?)),
+        None => Ok(None),
+    }
+}

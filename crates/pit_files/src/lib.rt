@@ -1,0 +1,20 @@
+//! The files of a command and its output: opened, with their failures counted, and telling the user on standard error why
+//! they failed, where that is asked for.
+//!
+//! Uses `engines`, for what a mine is read from, and `settings_file` and `slope`, to say why an input is refused. Of a device
+//! that it opens it promises that no failure is counted yet.
+#![tactic(auto)]
+
+mod advice;
+mod heard;
+mod opened;
+mod pairs_bound;
+mod replaced;
+mod settings_reasons;
+mod told;
+
+pub use advice::{Advice, advice_for_series, advice_to_solve};
+pub use opened::{make_file, open_blocks, open_file, open_mine, open_settings};
+pub use pairs_bound::offsets_of;
+pub use replaced::Replaced;
+pub use told::{Told, output};
