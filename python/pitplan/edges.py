@@ -42,7 +42,8 @@ def ground(model: Model) -> tuple[Ints, Ints]:
 
 def touching(shells: Shells) -> Bools:
     """Which blocks of the largest pit have a slope that asks for a place that isn't in the model and isn't air: beyond its sides, where
-    the ground goes on as high as in the nearest column; in a column that has no row; or below the lowest row of a column.
+    the ground goes on as high as in the nearest column; in a column that has no row; or below the lowest row of a column. Rows of air,
+    without tonnes, don't count: nothing has to hold there.
 
     Returns
     -------
@@ -50,7 +51,7 @@ def touching(shells: Shells) -> Bools:
     """
     study, b = shells.study, shells.study.model.blocks
     x, y, z = (b[name].to_numpy() for name in ("ix", "iy", "iz"))
-    found, inside = np.zeros(len(b), bool), shells.shell < len(shells.factors)
+    found, inside = np.zeros(len(b), bool), (shells.shell < len(shells.factors)) & (b["tonnes"].to_numpy() > 0)
     for region, highest in enumerate(study.sides):
         found |= inside & (study.region == region) & (z <= highest[x, y])
     return found

@@ -297,7 +297,8 @@ def test_each_block_that_touches_the_side(seed):
     where = np.where(there.any(axis=2), "rows", np.where(free[1:-1, 1:-1] == free[0, 0], "", "shaft"))
     top, low = edges.ground(model)
     shells = SimpleNamespace(study=SimpleNamespace(model=model, region=region, sides=list(edges.highest_touching(model, offsets))), shell=shell, factors=[600, 1000])
-    wanted = [bool(shell[b] < 2 and asks_for(places[b], where, offsets[region[b]], top, low)) for b in range(n)]
+    rock = blocks["tonnes"].to_numpy() > 0
+    wanted = [bool(shell[b] < 2 and rock[b] and asks_for(places[b], where, offsets[region[b]], top, low)) for b in range(n)]
     assert edges.touching(shells).tolist() == wanted
 
 
