@@ -189,7 +189,7 @@ pub fn check_graph<'a, R: CountedRead, G: OrderedGroup>(
     }
 }
 
-/// The same for a net, which is handed back with the accepted pit.
+/// Checks the rest of a certificate as [`check_graph`] does, for a net, which is handed back with the accepted pit.
 ///
 /// # Errors
 /// Those of [`check_graph`].

@@ -77,7 +77,7 @@ struct Case<'a, R> {
     held: StreamBytes,
 }
 
-// The same; the device is lent to a stream, and handed back.
+// Judges the case over this device, which a stream holds meanwhile, and hands the device back.
 fn judge_device<R: Threads + Sync, C: CountedRead>(
     device: C,
     case: Case<'_, R>,
@@ -131,7 +131,7 @@ fn judge_stream<R: Threads + Sync, C: CountedRead>(
     }
 }
 
-// The same, where the header of the certificate is read and the blocks are worth so many billionths.
+// Judges the design and the stream behind its header, where the blocks are worth so many billionths at its price.
 fn judge_priced<C: CountedRead>(
     alloc: Global,
     group: Group,

@@ -69,7 +69,7 @@ struct Case<'a, R> {
     held: StreamBytes,
 }
 
-// The same; the device is lent to a stream, and handed back.
+// Judges the case over this device, which a stream holds meanwhile, and hands the device back.
 fn judge_device<R: Threads + Sync, C: CountedRead>(
     device: C,
     case: Case<'_, R>,
@@ -199,7 +199,7 @@ pub fn judge_in<C: CountedRead>(
     }
 }
 
-// The same in amounts of the group G.
+// Judges the stream behind its header for the mine of these worths and predecessors, in amounts of the group G.
 fn judge_by<G: OrderedGroup, C: CountedRead>(
     alloc: Global,
     nanos: Vec<i128>,
@@ -219,7 +219,7 @@ fn judge_by<G: OrderedGroup, C: CountedRead>(
     judge_for(alloc, net.as_ref(), stream)
 }
 
-// The same, where the graph of the mine's net is made.
+// Judges the stream behind its header for the graph of the mine's net.
 fn judge_for<G: OrderedGroup, C: CountedRead>(
     alloc: Global,
     net: GraphRef<'_, G>,

@@ -109,8 +109,8 @@ where
     }
 }
 
-// The same, and under `Auto` pseudoflow's where a number of the run doesn't fit: the counts of blocks in the machine's
-// amounts grow from push to push, also on small mines.
+// What a run of the machine proves; under `Auto` what pseudoflow proves where a number of that run doesn't fit: the counts of
+// blocks in the machine's amounts grow from push to push, also on small mines.
 fn by_machine_first<G: OrderedGroup, R: Threads + Wait + Sync, T: Gate + Progress>(
     rt: &R,
     alloc: Global,

@@ -73,7 +73,7 @@ pub fn solve_engine<
     solve_mine(rt, alloc, mine, asked, gate, out)
 }
 
-// The same once the mine is read: the certificate names its price.
+// Solves the mine that was read, and writes the certificate, which names its price.
 fn solve_mine<R: Threads + Wait + Sync, T: Gate + Progress + Outcome, W: CountedWrite>(
     rt: &R,
     alloc: Global,
@@ -100,7 +100,7 @@ fn solve_mine<R: Threads + Wait + Sync, T: Gate + Progress + Outcome, W: Counted
     }
 }
 
-// The same, in amounts of the group G.
+// Solves the mine in amounts of the group G.
 fn solve_by<
     G: OrderedGroup,
     R: Threads + Wait + Sync,

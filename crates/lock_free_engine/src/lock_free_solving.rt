@@ -63,7 +63,7 @@ pub fn solve_lock_free_engine<
     mine_by_lock_free_run(rt, alloc, mine, asked.effort, gate, out)
 }
 
-// The same once the mine is read: the certificate names its price.
+// Solves the mine that was read, and writes the certificate, which names its price.
 fn mine_by_lock_free_run<R: Threads + Wait + Sync, T: Gate + Outcome, W: CountedWrite>(
     rt: &R,
     alloc: Global,

@@ -63,7 +63,7 @@ fn outcome_of(
     }
 }
 
-// The same in amounts of the group G.
+// What the events come to over the mine, in amounts of the group G.
 fn outcome_by<G: OrderedGroup>(
     alloc: Global,
     mine: MineToSolve,
@@ -80,7 +80,7 @@ fn outcome_by<G: OrderedGroup>(
     Ok(outcome_over(alloc, &net, events)?)
 }
 
-// The same, where the mine's net is made.
+// What the events come to over the mine's net.
 fn outcome_over<G: OrderedGroup>(
     alloc: Global,
     net: &Net<G>,
