@@ -100,7 +100,8 @@ impl<R: CountedRead> CertStream<R> {
         requires { R.failed self.old.lines.from < 2 ^ 64 - 1 }
         ensures fault_again { (e : StreamFault) → self.old.fault ≡ Some e → (result ≡ Err e) × (self.new ≡ self.old) }
         ensures header_again { (h : Header) → self.old.fault ≡ None → self.old.header ≡ Some h → (result ≡ Ok h) × (self.new ≡ self.old) }
-        ensures read { self.old.fault ≡ None → self.old.header ≡ None → MatchResult result (λ h. GivesHeader R.remaining self.old.lines self.new.lines h) (λ e. LacksHeader R.remaining self.old.lines self.new.lines e) }
+        ensures read { self.old.fault ≡ None → self.old.header ≡ None
+            → MatchResult result (λ h. GivesHeader R.remaining self.old.lines self.new.lines h) (λ e. LacksHeader R.remaining self.old.lines self.new.lines e) }
         ensures ok { IfOk result (λ h. (self.new.header ≡ Some h) × (self.new.fault ≡ None)) }
         ensures fault { IfErr result (λ e. self.new.fault ≡ Some e) }
         ensures done { self.new.is_done ≡ self.old.is_done }
@@ -157,16 +158,20 @@ pub fn check_graph<'a, R: CountedRead, G: OrderedGroup>(
     requires header { IsReadFor (length net.worths) G.name stream.old.header stream.old.fault }
     requires room { length room.old.balances ≡ length net.worths }
     ensures fault_again { (e : StreamFault) → stream.old.fault ≡ Some e → IsErrOf result e × (stream.new ≡ stream.old) }
-    ensures done_again { stream.old.fault ≡ None → stream.old.is_done ≡ true → IsErrOf result (StreamFault.Cert CertFault.Truncated) × (stream.new.lines ≡ stream.old.lines) }
-    ensures checked { stream.old.fault ≡ None → stream.old.is_done ≡ false → (bytes : List ℕ) × ReadsOn R.remaining stream.old.lines stream.new.lines bytes × MatchResult result
+    ensures done_again { stream.old.fault ≡ None → stream.old.is_done ≡ true
+        → IsErrOf result (StreamFault.Cert CertFault.Truncated) × (stream.new.lines ≡ stream.old.lines) }
+    ensures checked { stream.old.fault ≡ None → stream.old.is_done ≡ false → (bytes : List ℕ)
+        × ReadsOn R.remaining stream.old.lines stream.new.lines bytes × MatchResult result
         (λ a. (a.net ≡ net.entry) × BodyProves (R.remaining stream.new.lines.from) stream.new.lines.taken G.counts net.entry (stream.old.lines.held ++ bytes) a.pit)
         (λ e. BodyFails (R.remaining stream.new.lines.from) stream.new.lines.taken G.counts net.entry (stream.old.lines.held ++ bytes) e) }
     ensures ok { IfOk result (λ a. (stream.new.fault ≡ None) × (stream.new.is_done ≡ true)) }
     ensures fault { IfErr result (λ e. stream.new.fault ≡ Some e) }
     ensures header { stream.new.header ≡ stream.old.header }
-    ensures device { stream.old.fault ≡ None → IsErrOf result StreamFault.Device → R.failed stream.new.lines.from ≡ R.failed stream.old.lines.from + 1 }
+    ensures device { stream.old.fault ≡ None → IsErrOf result StreamFault.Device
+        → R.failed stream.new.lines.from ≡ R.failed stream.old.lines.from + 1 }
     ensures kept { ¬ IsErrOf result StreamFault.Device → R.failed stream.new.lines.from ≡ R.failed stream.old.lines.from }
-    ensures memory { stream.old.fault ≡ None → room.old.is_pit ≡ false → length net.entry.worths ≤ room.old.space → ¬ IsErrOf result (StreamFault.Cert CertFault.NoMemory) }
+    ensures memory { stream.old.fault ≡ None → room.old.is_pit ≡ false → length net.entry.worths ≤ room.old.space
+        → ¬ IsErrOf result (StreamFault.Cert CertFault.NoMemory) }
 {
     if let Some(fault) = stream.fault {
         return Err(fault);
@@ -202,16 +207,20 @@ pub fn check_stream<'a, R: CountedRead, G: OrderedGroup>(
     requires header { IsReadFor (length net.now.worths) G.name stream.old.header stream.old.fault }
     requires room { length room.old.balances ≡ length net.now.worths }
     ensures fault_again { (e : StreamFault) → stream.old.fault ≡ Some e → IsErrOf result e × (stream.new ≡ stream.old) }
-    ensures done_again { stream.old.fault ≡ None → stream.old.is_done ≡ true → IsErrOf result (StreamFault.Cert CertFault.Truncated) × (stream.new.lines ≡ stream.old.lines) }
-    ensures checked { stream.old.fault ≡ None → stream.old.is_done ≡ false → (bytes : List ℕ) × ReadsOn R.remaining stream.old.lines stream.new.lines bytes × MatchResult result
+    ensures done_again { stream.old.fault ≡ None → stream.old.is_done ≡ true
+        → IsErrOf result (StreamFault.Cert CertFault.Truncated) × (stream.new.lines ≡ stream.old.lines) }
+    ensures checked { stream.old.fault ≡ None → stream.old.is_done ≡ false → (bytes : List ℕ)
+        × ReadsOn R.remaining stream.old.lines stream.new.lines bytes × MatchResult result
         (λ a. (a.net ≡ net.now) × BodyProves (R.remaining stream.new.lines.from) stream.new.lines.taken G.counts net.now (stream.old.lines.held ++ bytes) a.pit)
         (λ e. BodyFails (R.remaining stream.new.lines.from) stream.new.lines.taken G.counts net.now (stream.old.lines.held ++ bytes) e) }
     ensures ok { IfOk result (λ a. (stream.new.fault ≡ None) × (stream.new.is_done ≡ true)) }
     ensures fault { IfErr result (λ e. stream.new.fault ≡ Some e) }
     ensures header { stream.new.header ≡ stream.old.header }
-    ensures device { stream.old.fault ≡ None → IsErrOf result StreamFault.Device → R.failed stream.new.lines.from ≡ R.failed stream.old.lines.from + 1 }
+    ensures device { stream.old.fault ≡ None → IsErrOf result StreamFault.Device
+        → R.failed stream.new.lines.from ≡ R.failed stream.old.lines.from + 1 }
     ensures kept { ¬ IsErrOf result StreamFault.Device → R.failed stream.new.lines.from ≡ R.failed stream.old.lines.from }
-    ensures memory { stream.old.fault ≡ None → room.old.is_pit ≡ false → length net.now.worths ≤ room.old.space → ¬ IsErrOf result (StreamFault.Cert CertFault.NoMemory) }
+    ensures memory { stream.old.fault ≡ None → room.old.is_pit ≡ false → length net.now.worths ≤ room.old.space
+        → ¬ IsErrOf result (StreamFault.Cert CertFault.NoMemory) }
 {
     match check_graph(stream, net.graph(), room) {
         Ok(accepted) => Ok(Accepted::new(net, accepted)),

@@ -52,7 +52,8 @@ fn read_behind<R: CountedRead>(
     requires count { R.failed from.old < 2 ^ 64 - 1 }
     ensures length { length buffer.new ≡ length buffer.old }
     ensures moved { take (end - start) buffer.new ≡ slice_range buffer.old start end }
-    ensures read { IfSome result (λ n. (end - start + n ≤ length buffer.new) × Consumes (R.remaining from.old) (R.remaining from.new) (take n (drop (end - start) buffer.new))) }
+    ensures read { IfSome result (λ n. (end - start + n ≤ length buffer.new)
+        × Consumes (R.remaining from.old) (R.remaining from.new) (take n (drop (end - start) buffer.new))) }
     ensures end { IfSome result (λ n. n ≡ 0 → IsAtEnd (R.remaining from.new)) }
     ensures counted { IfSome result (λ _. R.failed from.new ≡ R.failed from.old) }
     ensures failed { IfNone result (R.failed from.new ≡ R.failed from.old + 1) }

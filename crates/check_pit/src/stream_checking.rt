@@ -102,7 +102,8 @@ fn check_end<R: CountedRead, G: OrderedGroup>(
     requires count { R.failed lines.old.from < 2 ^ 64 - 1 }
     requires size { length room.now.balances ≡ length net.now.worths }
     ensures reads { Reads R.remaining lines.old lines.new }
-    ensures end { MatchResult result (λ _. spec.IsDone (R.remaining lines.new.from) lines.new × SumsSettle net.now room.now) (λ e. EndFails (R.remaining lines.new.from) net.now room.now lines.new e) }
+    ensures end { MatchResult result (λ _. spec.IsDone (R.remaining lines.new.from) lines.new
+        × SumsSettle net.now room.now) (λ e. EndFails (R.remaining lines.new.from) net.now room.now lines.new e) }
     ensures device { IsErrOf result StreamFault.Device → R.failed lines.new.from ≡ R.failed lines.old.from + 1 }
     ensures kept { ¬ IsErrOf result StreamFault.Device → R.failed lines.new.from ≡ R.failed lines.old.from }
 {

@@ -57,8 +57,11 @@ pub fn compare_engine<
         Compares texts d c (W.contents out.old) (W.contents out.new) result))) }
 
     // A device is named exactly where one failed.
-    ensures device { IsErrOf result (value.Engine engine.Device) → OneFailed inputs.old inputs.new D.failed (E.failed design.old + C.failed certificate.old + W.failed out.old) (E.failed design.new + C.failed certificate.new + W.failed out.new) }
-    ensures kept { ¬ IsErrOf result (value.Engine engine.Device) → NoneFailed inputs.old inputs.new D.failed × (E.failed design.new ≡ E.failed design.old) × (C.failed certificate.new ≡ C.failed certificate.old) × (W.failed out.new ≡ W.failed out.old) }
+    ensures device { IsErrOf result (value.Engine engine.Device)
+        → OneFailed inputs.old inputs.new D.failed (E.failed design.old + C.failed certificate.old + W.failed out.old) (E.failed design.new + C.failed certificate.new + W.failed out.new) }
+    ensures kept { ¬ IsErrOf result (value.Engine engine.Device) → NoneFailed inputs.old inputs.new D.failed
+        × (E.failed design.new ≡ E.failed design.old) × (C.failed certificate.new ≡ C.failed certificate.old)
+        × (W.failed out.new ≡ W.failed out.old) }
 {
     let mine = mine_to_check(alloc, inputs)?;
     let marks = marks_from(alloc, design, mine.predecessors.len())?;

@@ -51,7 +51,8 @@ pub(crate) fn judge_beside<R: Threads + Sync, C: CountedRead>(
 ) -> Result<Beside, ValueFault>
     requires room { C.failed certificate.old < 2 ^ 64 - 1 }
     requires marks { length marks.items ≡ mine.predecessors.blocks }
-    ensures judged { IfSome (C.remaining certificate.old) (λ c. (texts : MineTexts) (design : List ℕ) → IsMineRead texts (factor_in c) mine.worths mine.predecessors → ReadsDesign mine.predecessors.blocks design marks.items
+    ensures judged { IfSome (C.remaining certificate.old) (λ c. (texts : MineTexts) (design : List ℕ)
+        → IsMineRead texts (factor_in c) mine.worths mine.predecessors → ReadsDesign mine.predecessors.blocks design marks.items
         → MatchResult result (λ b. IsBeside texts design c (told b.valued) b.judgement) (BesideFails texts design c)) }
     ensures device { IsErrOf result (value.Engine engine.Device) → C.failed certificate.new ≡ C.failed certificate.old + 1 }
     ensures kept { ¬ IsErrOf result (value.Engine engine.Device) → C.failed certificate.new ≡ C.failed certificate.old }
@@ -86,7 +87,9 @@ fn judge_device<R: Threads + Sync, C: CountedRead>(
     requires marks { length case.marks.items ≡ case.mine.predecessors.blocks }
     requires held { case.held ≡ [] }
     requires sync { IsSync R.row }
-    ensures judged { IfSome (C.remaining device) (λ c. (texts : MineTexts) (design : List ℕ) → IsMineRead texts (factor_in c) case.entry.mine.worths case.entry.mine.predecessors → ReadsDesign case.entry.mine.predecessors.blocks design case.entry.marks.items
+    ensures judged { IfSome (C.remaining device) (λ c. (texts : MineTexts) (design : List ℕ)
+        → IsMineRead texts (factor_in c) case.entry.mine.worths case.entry.mine.predecessors
+        → ReadsDesign case.entry.mine.predecessors.blocks design case.entry.marks.items
         → MatchResult result.1 (λ b. IsBeside texts design c (told b.valued) b.judgement) (BesideFails texts design c)) }
     ensures device { IsErrOf result.1 (value.Engine engine.Device) → C.failed result.0 ≡ C.failed device + 1 }
     ensures kept { ¬ IsErrOf result.1 (value.Engine engine.Device) → C.failed result.0 ≡ C.failed device }
@@ -113,7 +116,8 @@ fn judge_stream<R: Threads + Sync, C: CountedRead>(
     requires count { C.failed stream.old.lines.from < 2 ^ 64 - 1 }
     requires fresh { IsFresh stream.old }
     requires marks { length marks.items ≡ mine.predecessors.blocks }
-    ensures judged { IfSome (C.remaining stream.old.lines.from) (λ c. (texts : MineTexts) (design : List ℕ) → IsMineRead texts (factor_in c) mine.worths mine.predecessors → ReadsDesign mine.predecessors.blocks design marks.items
+    ensures judged { IfSome (C.remaining stream.old.lines.from) (λ c. (texts : MineTexts) (design : List ℕ)
+        → IsMineRead texts (factor_in c) mine.worths mine.predecessors → ReadsDesign mine.predecessors.blocks design marks.items
         → MatchResult result (λ b. IsBeside texts design c (told b.valued) b.judgement) (BesideFails texts design c)) }
     ensures device { IsErrOf result (value.Engine engine.Device) → C.failed stream.new.lines.from ≡ C.failed stream.old.lines.from + 1 }
     ensures kept { ¬ IsErrOf result (value.Engine engine.Device) → C.failed stream.new.lines.from ≡ C.failed stream.old.lines.from }
@@ -144,7 +148,9 @@ fn judge_priced<C: CountedRead>(
     requires open { IsOpen stream.old }
     requires header { IsReadFor rests.blocks group stream.old.header stream.old.fault }
     requires marks { length marks.items ≡ rests.blocks }
-    ensures judged { (texts : MineTexts) (c design : List ℕ) → AreRead texts nanos.items rests → IsHeader texts c rests.blocks group → StandsBehind C.remaining c stream.old.lines → ReadsDesign rests.blocks design marks.items
+    ensures judged { (texts : MineTexts) (c design : List ℕ) → AreRead texts nanos.items rests
+        → IsHeader texts c rests.blocks group → StandsBehind C.remaining c stream.old.lines
+        → ReadsDesign rests.blocks design marks.items
         → MatchResult result (λ b. IsBeside texts design c (told b.valued) b.judgement) (BesideFails texts design c) }
     ensures device { IsErrOf result (value.Engine engine.Device) → C.failed stream.new.lines.from ≡ C.failed stream.old.lines.from + 1 }
     ensures kept { ¬ IsErrOf result (value.Engine engine.Device) → C.failed stream.new.lines.from ≡ C.failed stream.old.lines.from }

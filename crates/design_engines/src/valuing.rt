@@ -48,8 +48,10 @@ pub fn value_engine<R: Threads + Sync, D: CountedRead, E: CountedRead, W: Counte
         Values texts d (W.contents out.old) (W.contents out.new) result)) }
 
     // A device is named exactly where one failed.
-    ensures device { IsErrOf result (value.Engine engine.Device) → OneFailed inputs.old inputs.new D.failed (E.failed design.old + W.failed out.old) (E.failed design.new + W.failed out.new) }
-    ensures kept { ¬ IsErrOf result (value.Engine engine.Device) → NoneFailed inputs.old inputs.new D.failed × (E.failed design.new ≡ E.failed design.old) × (W.failed out.new ≡ W.failed out.old) }
+    ensures device { IsErrOf result (value.Engine engine.Device)
+        → OneFailed inputs.old inputs.new D.failed (E.failed design.old + W.failed out.old) (E.failed design.new + W.failed out.new) }
+    ensures kept { ¬ IsErrOf result (value.Engine engine.Device) → NoneFailed inputs.old inputs.new D.failed
+        × (E.failed design.new ≡ E.failed design.old) × (W.failed out.new ≡ W.failed out.old) }
 {
     let mine = mine_to_check(alloc, inputs)?;
     let marks = marks_from(alloc, design, mine.predecessors.len())?;

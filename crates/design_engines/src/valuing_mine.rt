@@ -35,7 +35,8 @@ pub(crate) fn value_mine<W: CountedWrite>(
 ) -> Result<Verdict, ValueFault>
     requires marks { length marks.now ≡ rests.now.blocks }
     requires room { W.failed out.old < 2 ^ 64 - 1 }
-    ensures answer { (texts : MineTexts) (design : List ℕ) → AreRead texts nanos.now rests.now → ReadsDesign rests.now.blocks design marks.now → Values texts design (W.contents out.old) (W.contents out.new) result }
+    ensures answer { (texts : MineTexts) (design : List ℕ) → AreRead texts nanos.now rests.now
+        → ReadsDesign rests.now.blocks design marks.now → Values texts design (W.contents out.old) (W.contents out.new) result }
     ensures device { IsErrOf result (value.Engine engine.Device) ↔ (W.failed out.new ≡ W.failed out.old + 1) }
     ensures kept { ¬ IsErrOf result (value.Engine engine.Device) → W.failed out.new ≡ W.failed out.old }
 {

@@ -46,7 +46,8 @@ pub fn judge<R: Threads + Sync, C: CountedRead>(
     certificate: &mut C,
 ) -> Result<Judgement, EngineFault>
     requires { C.failed certificate.old < 2 ^ 64 - 1 }
-    ensures judged { IfSome (C.remaining certificate.old) (λ c. (texts : MineTexts) → IsMineRead texts (factor_in c) mine.worths mine.predecessors → Judges texts c result) }
+    ensures judged { IfSome (C.remaining certificate.old) (λ c. (texts : MineTexts)
+        → IsMineRead texts (factor_in c) mine.worths mine.predecessors → Judges texts c result) }
     ensures device { IsErrOf result EngineFault.Device → C.failed certificate.new ≡ C.failed certificate.old + 1 }
     ensures kept { ¬ IsErrOf result EngineFault.Device → C.failed certificate.new ≡ C.failed certificate.old }
 {
@@ -77,7 +78,8 @@ fn judge_device<R: Threads + Sync, C: CountedRead>(
     requires count { C.failed device < 2 ^ 64 - 1 }
     requires held { case.held ≡ [] }
     requires sync { IsSync R.row }
-    ensures judged { IfSome (C.remaining device) (λ c. (texts : MineTexts) → IsMineRead texts (factor_in c) case.entry.mine.worths case.entry.mine.predecessors → Judges texts c result.1) }
+    ensures judged { IfSome (C.remaining device) (λ c. (texts : MineTexts)
+        → IsMineRead texts (factor_in c) case.entry.mine.worths case.entry.mine.predecessors → Judges texts c result.1) }
     ensures device { IsErrOf result.1 EngineFault.Device → C.failed result.0 ≡ C.failed device + 1 }
     ensures kept { ¬ IsErrOf result.1 EngineFault.Device → C.failed result.0 ≡ C.failed device }
 {
@@ -100,7 +102,8 @@ fn judge_stream<R: Threads + Sync, C: CountedRead>(
 ) -> Result<Judgement, EngineFault>
     requires count { C.failed stream.old.lines.from < 2 ^ 64 - 1 }
     requires fresh { IsFresh stream.old }
-    ensures judged { IfSome (C.remaining stream.old.lines.from) (λ c. (texts : MineTexts) → IsMineRead texts (factor_in c) mine.worths mine.predecessors → Judges texts c result) }
+    ensures judged { IfSome (C.remaining stream.old.lines.from) (λ c. (texts : MineTexts)
+        → IsMineRead texts (factor_in c) mine.worths mine.predecessors → Judges texts c result) }
     ensures device { IsErrOf result EngineFault.Device → C.failed stream.new.lines.from ≡ C.failed stream.old.lines.from + 1 }
     ensures kept { ¬ IsErrOf result EngineFault.Device → C.failed stream.new.lines.from ≡ C.failed stream.old.lines.from }
 {
@@ -184,7 +187,8 @@ pub fn judge_in<C: CountedRead>(
     requires count { C.failed stream.old.lines.from < 2 ^ 64 - 1 }
     requires open { IsOpen stream.old }
     requires header { IsReadFor rests.blocks group stream.old.header stream.old.fault }
-    ensures judged { (texts : MineTexts) (c : List ℕ) → AreRead texts nanos.items rests → IsHeader texts c rests.blocks group → StandsBehind C.remaining c stream.old.lines → Judges texts c result }
+    ensures judged { (texts : MineTexts) (c : List ℕ) → AreRead texts nanos.items rests → IsHeader texts c rests.blocks group
+        → StandsBehind C.remaining c stream.old.lines → Judges texts c result }
     ensures device { IsErrOf result EngineFault.Device → C.failed stream.new.lines.from ≡ C.failed stream.old.lines.from + 1 }
     ensures kept { ¬ IsErrOf result EngineFault.Device → C.failed stream.new.lines.from ≡ C.failed stream.old.lines.from }
 {

@@ -48,8 +48,10 @@ pub fn check_engine<R: Threads + Sync, D: CountedRead, C: CountedRead, W: Counte
         SoundIsAccepted texts c result)) }
 
     // A device is named exactly where one failed.
-    ensures device { IsErrOf result EngineFault.Device → OneFailed inputs.old inputs.new D.failed (C.failed certificate.old + W.failed out.old) (C.failed certificate.new + W.failed out.new) }
-    ensures kept { ¬ IsErrOf result EngineFault.Device → NoneFailed inputs.old inputs.new D.failed × (C.failed certificate.new ≡ C.failed certificate.old) × (W.failed out.new ≡ W.failed out.old) }
+    ensures device { IsErrOf result EngineFault.Device
+        → OneFailed inputs.old inputs.new D.failed (C.failed certificate.old + W.failed out.old) (C.failed certificate.new + W.failed out.new) }
+    ensures kept { ¬ IsErrOf result EngineFault.Device → NoneFailed inputs.old inputs.new D.failed
+        × (C.failed certificate.new ≡ C.failed certificate.old) × (W.failed out.new ≡ W.failed out.old) }
 {
     let mine = mine_to_check(alloc, inputs)?;
     let judgement = judge(rt, alloc, mine, certificate)?;

@@ -44,8 +44,10 @@ pub fn slopes_from_settings_engine<S: CountedRead, B: CountedRead, W: CountedWri
         GivesSlopes (listed s) text up selection (W.contents out.old) (W.contents out.new) result)) }
 
     // A device is named exactly where one failed.
-    ensures device { IsErrOf result EngineFault.Device → S.failed settings.new + B.failed blocks.new + W.failed out.new ≡ S.failed settings.old + B.failed blocks.old + W.failed out.old + 1 }
-    ensures kept { ¬ IsErrOf result EngineFault.Device → (S.failed settings.new ≡ S.failed settings.old) × (B.failed blocks.new ≡ B.failed blocks.old) × (W.failed out.new ≡ W.failed out.old) }
+    ensures device { IsErrOf result EngineFault.Device
+        → S.failed settings.new + B.failed blocks.new + W.failed out.new ≡ S.failed settings.old + B.failed blocks.old + W.failed out.old + 1 }
+    ensures kept { ¬ IsErrOf result EngineFault.Device → (S.failed settings.new ≡ S.failed settings.old)
+        × (B.failed blocks.new ≡ B.failed blocks.old) × (W.failed out.new ≡ W.failed out.old) }
 {
     let settings = settings_from(alloc, settings)?;
     let offsets = offsets_in(&settings)?;

@@ -84,7 +84,8 @@ fn solve_mine<R: Threads + Wait + Sync, T: Gate + Progress + Outcome, W: Counted
 ) -> Result<Verdict, EngineFault>
     requires price { IsPrice mine.price }
     requires room { W.failed out.old < 2 ^ 64 - 1 }
-    ensures answer { (texts : MineTexts) → AreRead texts mine.nanos.items mine.rests → mine.price ≡ price_wanted texts → Solves texts asked.group asked.effort.method asked.effort.steps (W.contents out.old) (W.contents out.new) result }
+    ensures answer { (texts : MineTexts) → AreRead texts mine.nanos.items mine.rests → mine.price ≡ price_wanted texts
+        → Solves texts asked.group asked.effort.method asked.effort.steps (W.contents out.old) (W.contents out.new) result }
     ensures device { IsErrOf result EngineFault.Device ↔ (W.failed out.new ≡ W.failed out.old + 1) }
     ensures kept { ¬ IsErrOf result EngineFault.Device → W.failed out.new ≡ W.failed out.old }
 {
@@ -118,7 +119,8 @@ where
     Locked<TurnBoard<G>>: Shared,
     requires price { IsPrice mine.price }
     requires room { W.failed out.old < 2 ^ 64 - 1 }
-    ensures answer { (texts : MineTexts) → AreRead texts mine.nanos.items mine.rests → mine.price ≡ price_wanted texts → IsGroupNamed G.name G.block_parts G.counts
+    ensures answer { (texts : MineTexts) → AreRead texts mine.nanos.items mine.rests → mine.price ≡ price_wanted texts
+        → IsGroupNamed G.name G.block_parts G.counts
         → Solves texts G.name effort.method effort.steps (W.contents out.old) (W.contents out.new) result }
     ensures device { IsErrOf result EngineFault.Device ↔ (W.failed out.new ≡ W.failed out.old + 1) }
     ensures kept { ¬ IsErrOf result EngineFault.Device → W.failed out.new ≡ W.failed out.old }

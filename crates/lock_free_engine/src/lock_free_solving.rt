@@ -74,7 +74,8 @@ fn mine_by_lock_free_run<R: Threads + Wait + Sync, T: Gate + Outcome, W: Counted
 ) -> Result<Verdict, EngineFault>
     requires price { IsPrice mine.price }
     requires room { W.failed out.old < 2 ^ 64 - 1 }
-    ensures answer { (texts : MineTexts) → AreRead texts mine.nanos.items mine.rests → mine.price ≡ price_wanted texts → SolvesWithoutLock texts effort.workers effort.steps (W.contents out.old) (W.contents out.new) result }
+    ensures answer { (texts : MineTexts) → AreRead texts mine.nanos.items mine.rests → mine.price ≡ price_wanted texts
+        → SolvesWithoutLock texts effort.workers effort.steps (W.contents out.old) (W.contents out.new) result }
     ensures device { IsErrOf result EngineFault.Device ↔ (W.failed out.new ≡ W.failed out.old + 1) }
     ensures kept { ¬ IsErrOf result EngineFault.Device → W.failed out.new ≡ W.failed out.old }
 {

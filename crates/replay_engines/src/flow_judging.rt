@@ -23,7 +23,8 @@ pub fn judge_flow<G: OrderedGroup>(
     net: &Net<G>,
     flow: Flow<G>,
 ) -> Result<Judgement, AllocError>
-    ensures { IfOk result (λ judgement. (texts : MineTexts) → IsSolved net.now flow → IsNetBy texts G.name net.now → IsGroupNamed G.name G.block_parts G.counts
+    ensures { IfOk result (λ judgement. (texts : MineTexts) → IsSolved net.now flow → IsNetBy texts G.name net.now
+        → IsGroupNamed G.name G.block_parts G.counts
         → IsFlowJudged texts G.name net.now flow judgement) }
 {
     // proof: the check of a closed pit that its flow makes tight can fail for a sum that overflows alone

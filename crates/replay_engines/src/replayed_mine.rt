@@ -33,7 +33,8 @@ pub fn replay_mine<W: CountedWrite>(
     out: &mut W,
 ) -> Result<Verdict, EngineFault>
     requires { W.failed out.old < 2 ^ 64 - 1 }
-    ensures answer { (texts : MineTexts) (trace : List ℕ) → AreRead texts mine.nanos.items mine.rests → ReadsTrace trace events.now → Replays texts group trace (W.contents out.old) (W.contents out.new) result }
+    ensures answer { (texts : MineTexts) (trace : List ℕ) → AreRead texts mine.nanos.items mine.rests
+        → ReadsTrace trace events.now → Replays texts group trace (W.contents out.old) (W.contents out.new) result }
     ensures device { IsErrOf result EngineFault.Device ↔ (W.failed out.new ≡ W.failed out.old + 1) }
     ensures kept { ¬ IsErrOf result EngineFault.Device → W.failed out.new ≡ W.failed out.old }
 {
@@ -49,7 +50,8 @@ fn outcome_of(
     group: Group,
     events: &[Event],
 ) -> Result<Outcome, EngineFault>
-    ensures comes { (texts : MineTexts) → AreRead texts mine.nanos.items mine.rests → MatchResult result (ComesOf texts group events.now) (NothingComes texts group) }
+    ensures comes { (texts : MineTexts) → AreRead texts mine.nanos.items mine.rests
+        → MatchResult result (ComesOf texts group events.now) (NothingComes texts group) }
     ensures no_device { ¬ IsErrOf result EngineFault.Device }
 {
     // proof: a greatest set of the net is a pit that is worth most, and of amounts with sizes the best one
@@ -86,7 +88,8 @@ fn outcome_over<G: OrderedGroup>(
     net: &Net<G>,
     events: &[Event],
 ) -> Result<Outcome, AllocError>
-    ensures comes { IfOk result (λ outcome. (texts : MineTexts) → IsNetBy texts G.name net.now → IsGroupNamed G.name G.block_parts G.counts → IsOutcome texts G.name net.now events.now outcome) }
+    ensures comes { IfOk result (λ outcome. (texts : MineTexts) → IsNetBy texts G.name net.now
+        → IsGroupNamed G.name G.block_parts G.counts → IsOutcome texts G.name net.now events.now outcome) }
 {
     // proof: the flow of a quiet state solves the net
     machine_laws::quiet_flow_is_greatest();

@@ -50,8 +50,10 @@ pub fn replay_engine<R: Threads + Sync, D: CountedRead, E: CountedRead, W: Count
         Replays texts asked.group t (W.contents out.old) (W.contents out.new) result)) }
 
     // A device is named exactly where one failed.
-    ensures device { IsErrOf result EngineFault.Device → OneFailed inputs.old inputs.new D.failed (E.failed trace.old + W.failed out.old) (E.failed trace.new + W.failed out.new) }
-    ensures kept { ¬ IsErrOf result EngineFault.Device → NoneFailed inputs.old inputs.new D.failed × (E.failed trace.new ≡ E.failed trace.old) × (W.failed out.new ≡ W.failed out.old) }
+    ensures device { IsErrOf result EngineFault.Device
+        → OneFailed inputs.old inputs.new D.failed (E.failed trace.old + W.failed out.old) (E.failed trace.new + W.failed out.new) }
+    ensures kept { ¬ IsErrOf result EngineFault.Device → NoneFailed inputs.old inputs.new D.failed
+        × (E.failed trace.new ≡ E.failed trace.old) × (W.failed out.new ≡ W.failed out.old) }
 {
     let mine = mine_to_solve(rt, alloc, inputs, asked.factor)?;
     let events = events_from(alloc, trace)?;

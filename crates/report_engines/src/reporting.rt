@@ -69,7 +69,8 @@ pub fn report_engine<
     // A device is named exactly where one failed.
     ensures device { IsErrOf result EngineFault.Device → input_failures inputs.new D.failed + output_failures outputs.new V.failed W.failed
         ≡ input_failures inputs.old D.failed + output_failures outputs.old V.failed W.failed + 1 }
-    ensures kept { ¬ IsErrOf result EngineFault.Device → NoInputFailed inputs.old inputs.new D.failed × NoOutputFailed outputs.old outputs.new V.failed W.failed }
+    ensures kept { ¬ IsErrOf result EngineFault.Device → NoInputFailed inputs.old inputs.new D.failed
+        × NoOutputFailed outputs.old outputs.new V.failed W.failed }
 {
     let mine = report_mine_from(alloc, inputs)?;
     let is_asked = outputs.has_table();
@@ -86,7 +87,9 @@ fn answer_of<R: Threads + Wait + Sync, T: Gate + Progress + SeriesProgress>(
     gate: &T,
     is_asked: bool,
 ) -> Result<Answer, EngineFault>
-    ensures answer { (s b p : List ℕ) → IsReportRead s b p mine.series.prices mine.series.rests mine.series.factors.items mine.model mine.charges mine.factor → MatchResult result
+    ensures answer { (s b p : List ℕ)
+        → IsReportRead s b p mine.series.prices mine.series.rests mine.series.factors.items mine.model mine.charges mine.factor
+        → MatchResult result
         (λ a. AnswersReport s b p effort is_asked a.verdict a.table.items a.text.items)
         (λ e. ReportFails s b p e) }
     ensures no_device { ¬ IsErrOf result EngineFault.Device }

@@ -112,7 +112,8 @@ impl Prices {
 
     /// The factor that a certificate's price names over this table: none where it is a price of another kind of model.
     pub fn factor_of(&self, price: Price) -> Option<Factor>
-        ensures { MatchOption result ((k : ℕ) → k ≤ MOST_FACTOR → price ≢ price_of self.now.costs k) (λ factor. price ≡ price_of self.now.costs factor) }
+        ensures { MatchOption result ((k : ℕ) → k ≤ MOST_FACTOR
+            → price ≢ price_of self.now.costs k) (λ factor. price ≡ price_of self.now.costs factor) }
     {
         match (&self.costs, price) {
             (Costs::Plain(_), Price::Factor(thousandths)) => Factor::new(thousandths),
