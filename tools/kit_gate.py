@@ -180,7 +180,7 @@ class LibraryRuns(proving.Run):
     def proof_of(self, crate):
         longest = max(it.chain for it in self.waiting + [run.crate for run in self.running])
         is_urgent = crate.chain >= NEAR * longest
-        if not proving.has_place(is_urgent, self.running, self.host, 1):
+        if not proving.has_place(is_urgent, self.running, self.host, 0):
             return None
         return LibraryRun(crate, min(MOST_JOBS, self.host.processors // 2) if is_urgent else 1, is_urgent)
 

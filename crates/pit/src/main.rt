@@ -4,11 +4,9 @@
 //! the arguments of the command line, to files and to standard output, and the exit status is given.
 #![tactic(auto)]
 
-mod files;
 mod progress;
 mod reasons;
 mod series_files;
-mod solving;
 
 use command_line::{
     Commanded, Declined, OffsetsArgs, ReplayArgs, Request, SeriesArgs, SlopesArgs, SolveArgs,
@@ -16,8 +14,10 @@ use command_line::{
 };
 use design_engines::{DesignProblem, ValueFault, write_problem};
 use engines::{EngineFault, Unwatched, Verdict, status, stored_check, write_fault};
-use files::{check_files, listed_slopes_files, replay_files, slopes_file, value_files};
 use fixed_worth::Counted;
+use pit_commands::{
+    check_files, listed_slopes_files, replay_files, slopes_file, solve_files, value_files,
+};
 use pit_options::{
     SolvingAsked, effort_for_series, factor_asked, pattern_asked, replay_asked, solving_asked,
     table_over_an_input, up_asked, value_factor_asked,
@@ -26,7 +26,6 @@ use progress::{Meter, PROGRESS_ALONE, Tells};
 use reasons::{advise_on_workers, tell_choice, tell_slope_reason};
 use series_files::series_files;
 use shells::Factor;
-use solving::solve_files;
 use std::process::ExitCode;
 use std::rt::{Clock, Env, Files};
 use std::sync::Wait;
