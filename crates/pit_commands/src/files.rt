@@ -19,6 +19,9 @@ use std::sync::atomic::AtomicU64;
 use std::thread::Threads;
 
 /// Checks a certificate for the files of a mine.
+///
+/// # Errors
+/// `Device` where a file can't be opened; then those of the engine.
 pub fn check_files<'a, R: Files + Print + Eprint + Threads + Sync + AllocGlobal>(
     rt: &'a R,
     args: CheckArgs<'a>,
@@ -30,6 +33,9 @@ pub fn check_files<'a, R: Files + Print + Eprint + Threads + Sync + AllocGlobal>
 }
 
 /// Repeats a run over the mine of files from the file of its trace.
+///
+/// # Errors
+/// `Device` where a file can't be opened; then those of the engine.
 pub fn replay_files<'a, R: Files + Print + Eprint + Threads + Sync + AllocGlobal>(
     rt: &'a R,
     args: ReplayArgs<'a>,
@@ -42,6 +48,9 @@ pub fn replay_files<'a, R: Files + Print + Eprint + Threads + Sync + AllocGlobal
 }
 
 /// Judges the design of a file over the mine of files, beside the pit of a certificate where one is named.
+///
+/// # Errors
+/// `Device` where a file can't be opened; then those of the engine.
 pub fn value_files<'a, R: Files + Print + Eprint + Threads + Sync + AllocGlobal>(
     rt: &'a R,
     args: ValueArgs<'a>,
@@ -71,6 +80,9 @@ pub fn value_files<'a, R: Files + Print + Eprint + Threads + Sync + AllocGlobal>
 }
 
 /// Writes the predecessors of each block of a file, by a pattern.
+///
+/// # Errors
+/// `Device` where a file can't be opened; then those of the engine.
 pub fn slopes_file<R: Files + Print + Eprint + AllocGlobal>(
     rt: &R,
     args: SlopesArgs<'_>,
@@ -87,6 +99,9 @@ pub fn slopes_file<R: Files + Print + Eprint + AllocGlobal>(
 }
 
 /// Writes the predecessors of each block of a file, by the offsets that a file of settings lists.
+///
+/// # Errors
+/// `Device` where a file can't be opened; then those of the engine.
 pub fn listed_slopes_files<R: Files + Print + Eprint + AllocGlobal>(
     rt: &R,
     args: SlopesArgs<'_>,

@@ -16,6 +16,9 @@ use std::thread::Threads;
 use workers::Gate;
 
 /// Solves the mine of files as it is asked for, where its blocks have prices at a factor.
+///
+/// # Errors
+/// `Device` where a file can't be opened; then those of the engine.
 pub fn solve_files<
     R: Files + Print + Eprint + Threads + Wait + Sync + AllocGlobal,
     T: Gate + Progress + Outcome,

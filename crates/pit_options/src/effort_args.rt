@@ -21,6 +21,9 @@ struct EffortArgs<'a> {
 }
 
 /// How `solve` solves the mine by a method.
+///
+/// # Errors
+/// The value that names nothing, with its option.
 pub fn effort_to_solve<'a>(args: SolveArgs<'a>, method: Method) -> Result<Effort, WrongValue<'a>> {
     let args = EffortArgs {
         command: Commanded::Solve,
@@ -31,6 +34,9 @@ pub fn effort_to_solve<'a>(args: SolveArgs<'a>, method: Method) -> Result<Effort
 }
 
 /// How much a run of `solve` without a lock may use: it has one worker or two.
+///
+/// # Errors
+/// The value that names nothing, with its option.
 pub fn effort_without_lock<'a>(args: SolveArgs<'a>) -> Result<LockFreeEffort, WrongValue<'a>> {
     let asked = EffortArgs {
         command: Commanded::Solve,
@@ -49,6 +55,9 @@ pub fn effort_without_lock<'a>(args: SolveArgs<'a>) -> Result<LockFreeEffort, Wr
 }
 
 /// How `shells` and `report` solve the mine at each factor.
+///
+/// # Errors
+/// The value that names nothing, with its option.
 pub fn effort_for_series<'a>(args: SeriesArgs<'a>) -> Result<Effort, WrongValue<'a>> {
     let command = Commanded::Series(args.command);
     let method = method_asked(command, args.method)?;
@@ -72,6 +81,9 @@ fn effort_asked<'a>(args: EffortArgs<'a>, method: Method) -> Result<Effort, Wron
 }
 
 /// The method: by the mine's size, where no option says.
+///
+/// # Errors
+/// The value that names nothing, with its option.
 pub fn method_asked<'a>(
     command: Commanded,
     value: Option<&'a str>,

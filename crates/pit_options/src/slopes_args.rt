@@ -8,6 +8,9 @@ use engines::{PatternChoice, pattern_named, up_named};
 use slope::{Selection, Up};
 
 /// Which blocks above a block are its predecessors, by the name of a pattern.
+///
+/// # Errors
+/// The value that names nothing, with its option.
 pub fn pattern_asked<'a>(value: &'a str) -> Result<PatternChoice, WrongValue<'a>>
     ensures { IfOk result IsChoice }
 {
@@ -19,6 +22,9 @@ pub fn pattern_asked<'a>(value: &'a str) -> Result<PatternChoice, WrongValue<'a>
 }
 
 /// Which way is up: a greater z, where no option says.
+///
+/// # Errors
+/// The value that names nothing, with its option.
 pub fn up_asked<'a>(args: SlopesArgs<'a>) -> Result<Up, WrongValue<'a>> {
     match args.up {
         Some(value) => up_named(value.as_bytes()).ok_or(WrongValue {

@@ -11,6 +11,9 @@ use replay_engines::ReplayAsked;
 use shells::Factor;
 
 /// What amounts count: worth and size, where no option says.
+///
+/// # Errors
+/// The value that names nothing, with its option.
 pub fn group_asked<'a>(
     command: Commanded,
     value: Option<&'a str>,
@@ -31,6 +34,9 @@ pub fn asks_for_lock_free(method: &str) -> bool {
 }
 
 /// The factor at which the revenues of a mine of prices count. Of values none is asked for, and any does.
+///
+/// # Errors
+/// The value that names nothing, with its option.
 pub fn factor_asked<'a>(
     command: Commanded,
     model: ModelArgs<'a>,
@@ -48,6 +54,9 @@ pub fn factor_asked<'a>(
 }
 
 /// What a replay is asked for.
+///
+/// # Errors
+/// The value that names nothing, with its option.
 pub fn replay_asked<'a>(args: ReplayArgs<'a>) -> Result<ReplayAsked, WrongValue<'a>> {
     let group = group_asked(Commanded::Replay, args.group)?;
     let factor = factor_asked(Commanded::Replay, args.model, args.factor)?;
@@ -58,6 +67,9 @@ pub fn replay_asked<'a>(args: ReplayArgs<'a>) -> Result<ReplayAsked, WrongValue<
 const FULL: &str = "1000";
 
 /// The factor at which a design is judged.
+///
+/// # Errors
+/// The value that names nothing, with its option.
 pub fn value_factor_asked<'a>(args: ValueArgs<'a>) -> Result<Factor, WrongValue<'a>> {
     let value = args.factor.unwrap_or(FULL);
     factor_asked(Commanded::Value, args.model, Some(value))
@@ -77,6 +89,9 @@ pub struct TraceAsked<'a> {
 
 /// The trace, where one is asked for beside a method: of the push-relabel machine alone, so that pseudoflow can't be
 /// asked for beside it. It would replace an input whose name it has.
+///
+/// # Errors
+/// The value that names nothing, with its option.
 pub fn trace_asked<'a>(
     args: SolveArgs<'a>,
     method: Method,
@@ -99,6 +114,9 @@ pub fn trace_asked<'a>(
 }
 
 /// The most steps of a trace.
+///
+/// # Errors
+/// The value that names nothing, with its option.
 pub fn room_asked<'a>(args: SolveArgs<'a>) -> Result<u32, WrongValue<'a>> {
     match args.room {
         Some(value) => room_named(value.as_bytes()).ok_or(WrongValue {

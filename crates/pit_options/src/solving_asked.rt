@@ -42,6 +42,9 @@ impl<'a> SolvingAsked<'a> {
 }
 
 /// How the arguments say that it is solved.
+///
+/// # Errors
+/// The value that names nothing, with its option.
 pub fn solving_asked<'a>(args: SolveArgs<'a>) -> Result<SolvingAsked<'a>, WrongValue<'a>> {
     let group = group_asked(Commanded::Solve, args.group)?;
     match args.method {
