@@ -1,6 +1,7 @@
 """A stand-in for the kit: an `rt` that proves nothing and does in moments what the scripts see of the real one.
 
-What it does with a crate is told by words in the crate's sources: `SLEEP 2` takes two seconds, `FAIL` isn't proved. Each
+What it does with a crate is told by words in the crate's sources: `SLEEP 2` takes two seconds, and `TRIED 2` where the program is
+run from its sources; `FAIL` isn't proved. Each
 crate that it works on is a line of the file LOG beside it: `NAME JOBS FOLDER`, and `again` where it goes on from earlier work;
 its gate writes `ci` and the names that it was given, and `NAME gate FOLDER` or, where it had kept the crate, `NAME kept FOLDER`, and
 RT_JOBS. Where there is a file KEEPS-NOTHING beside LOG, it keeps nothing.
@@ -97,6 +98,8 @@ elif words == ["doc"]:
     print(KIT / "START-HERE.md")
 elif words[0] == "try":
     log("try " + " ".join(words))
+    for seconds in re.findall(r"TRIED (\S+)", source(here)):
+        time.sleep(float(seconds))
     if "FAIL" in source(here):
         print("run=none proved=no", file=sys.stderr)
         sys.exit(2)
