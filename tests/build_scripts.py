@@ -376,18 +376,28 @@ def limits_of_a_container_count(tree):
     return said == "%d 6500000000 1 3000000000 20480000000\n" % min(2, len(os.sched_getaffinity(0))), said
 
 
-def an_answer_comes_before_any_proof(tree):
+def answered_first(tree, processors, said_between):
+    """Whether the first answer comes before the proof has ended, and the texts come in this order."""
+    tree.write("../kit/bin/nproc", "#!/bin/sh\necho %d\n" % processors, 0o755)
     tree.crate("low", "fn one() {}\n// SLEEP 2\n")
     status, said = tree.ran("run-example")
     log = [line[0] for line in tree.log()]
-    parts = ["before anything is proved", "Meanwhile every function is proved", "ACCEPTED 90 71040", "run-time checks, and not proved",
-             "low ", "[ 4/4] pit", "The same check by the proved program", "ACCEPTED 90 71040"]
+    parts = ["before anything is proved", *said_between, "low ", "[ 4/4] pit", "The same check by the proved program", "ACCEPTED 90 71040"]
     found = [it[0] for it in re.finditer("|".join(map(re.escape, parts)), said)]
     return status == 0 and found == parts and set(log[:2]) == {"try", "ci"} and log[-1] == "pit", said
 
 
+def an_answer_comes_before_any_proof(tree):
+    return answered_first(tree, 2, ["ACCEPTED 90 71040", "run-time checks, and not proved", "Now every function is proved"])
+
+
+def an_answer_comes_while_crates_are_proved(tree):
+    return answered_first(tree, 4, ["Meanwhile every function is proved", "ACCEPTED 90 71040", "run-time checks, and not proved"])
+
+
 def an_answer_that_comes_late_is_left_off(tree):
     """Where the build ends first, as where all is kept; and where it fails, or somebody ends it."""
+    tree.write("../kit/bin/nproc", "#!/bin/sh\necho 4\n", 0o755)
     tree.crate("pit", MAIN + "// TRIED 60\n")
     began = time.monotonic()
     status, said = tree.ran("run-example")
@@ -620,7 +630,7 @@ CASES = [
     a_closed_terminal_ends_the_runs_of_a_build, a_killed_build_takes_its_runs_along, ctrl_c_ends_the_one_run_of_a_build,
     sigterm_ends_the_one_run_of_a_build, a_crate_that_the_gate_refuses_is_told, a_second_build_waits_and_says_so, the_gate_waits_for_a_build,
     the_gate_tries_edits_over_its_own_libraries, each_edit_that_shows_nothing_fails_the_gate, what_is_proved_is_kept_where_one_fails, a_crate_of_few_functions_gets_one_process,
-    limits_of_a_container_count, an_answer_comes_before_any_proof, an_answer_that_comes_late_is_left_off, quick_stops_after_the_first_answer, no_answer_without_proof_is_told,
+    limits_of_a_container_count, an_answer_comes_before_any_proof, an_answer_comes_while_crates_are_proved, an_answer_that_comes_late_is_left_off, quick_stops_after_the_first_answer, no_answer_without_proof_is_told,
     the_page_of_the_example_is_made,
     an_unknown_word_is_refused, install_copies_the_program, the_launcher_changes_nothing_else, install_brings_pitplan_where_its_packages_are, pitplan_names_the_packages_that_it_lacks,
     two_folders_make_the_same_release, a_release_holds_what_it_should, a_release_holds_pitplan,
