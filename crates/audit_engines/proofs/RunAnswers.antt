@@ -4,17 +4,16 @@ use Rattle.std.specs.Io.KnownBytes.{Appends}
 use Rattle.std.specs.Prelude.{MatchResult}
 use Rattle.fixed_worth.specs.Device.{ReceivedPrefix}
 use Rattle.ordered_group.specs.declared.groups.Group.{Group}
-use Rattle.closure_net.specs.Network.{NetView, FlowView, holds_of}
+use Rattle.closure_net.specs.Network.{NetView, FlowView}
 use Rattle.machine_law.specs.declared.events.Event.{Event}
 use Rattle.workers.specs.Auditing.{IsSomeHistory, IsAudit, AuditFaultStands}
 use Rattle.workers.specs.declared.solving.SolveFault.TheVariants.{Unsettled, TooLarge}
 use Rattle.workers.specs.declared.auditing.AuditEnd.{AuditEnd}
 use Rattle.workers.specs.declared.auditing.AuditEnd.TheVariants.{NoFlow, HistoryFull}
 use Rattle.trace_file.specs.Written.{trace_text}
-use Rattle.check_pit.specs.Checks.{IsSound, FaultStands}
+use Rattle.check_pit.specs.Checks.{IsSound}
 use Rattle.check_pit.specs.declared.pit_fault.PitFault.{PitFault}
 use Rattle.certificate_file.specs.declared.header.Price.{Price}
-use Rattle.check_pit.proofs.Tightness.{refused_for_size_only}
 use Rattle.engines.specs.declared.judgement.Verdict.{Verdict}
 use Rattle.engines.specs.declared.judgement.Verdict.TheVariants.{No}
 use Rattle.mine_inputs.specs.declared.engine_fault.EngineFault.{EngineFault}
@@ -22,6 +21,7 @@ use Rattle.mine_inputs.specs.declared.engine_fault.EngineFault.TheVariants as en
 use Rattle.engines.specs.Certifying.{IsRefusedFlow}
 use Rattle.engines.specs.NetAnswers.{SendsCertificate, certificate_text, unsettled_line, too_large_line}
 use Rattle.engines.proofs.Answered.{keeps_self}
+use Rattle.engines.proofs.RefusedRuns.{refused_for_size}
 use Rattle.audit_engines.specs.Tracing.{CheckOverflowsAfter, IsNoOfRun, TellsRun, TracesNet, history_full_line}
 use Rattle.audit_engines.specs.Sending.{SendsBoth}
 
@@ -42,19 +42,8 @@ no_is_of_history net limit room history text (inr (inr (inr h))) = (h.0.audit.st
 -- what the source reaches in the flow of a settled run is refused for sums that don't fit, and nothing else
 pub check_overflows : (net : NetView) (limit room : ℕ) (flow : FlowView) (history : List Event) (fault : PitFault) → IsAudit net limit room flow history → IsRefusedFlow net flow fault → CheckOverflowsAfter net limit room history
 check_overflows net limit room flow history fault audit refused =
-    let solved = audit.settles.solved in
-    let fits = solved.greatest.is_flow.fits in
-    let reached = refused.reached fits in
-    let of_net = refused.of_net fits in
-    let e = refused_for_size_only net flow refused.pit fault (record { of_net = of_net; is_flow = solved.greatest.is_flow; closed = solved.closed (holds_of refused.pit) reached; tight = solved.tight (holds_of refused.pit) reached }) refused.stands.holds in
-    record {
-      flow = flow;
-      audit = audit;
-      pit = refused.pit;
-      reached = reached;
-      of_net = of_net;
-      stands = subst (λ (f : PitFault). FaultStands net flow refused.pit f) e refused.stands;
-    }
+    let size = refused_for_size net flow fault audit.settles.solved refused in
+    record { flow = flow; audit = audit; pit = size.pit; reached = size.reached; of_net = size.of_net; stands = size.stands }
 
 -- ---- what is written to standard output
 

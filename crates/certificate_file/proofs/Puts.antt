@@ -5,9 +5,10 @@ use Rattle.fixed_worth.specs.Device.{ReceivedPrefix, SentOrHeld}
 use Rattle.fixed_worth.proofs.Pieces.{all_held, held_more, held_more_prefix, prefix_of_first, held_both, held_sent, held_prefix, prefix_in_first, prefix_in_second}
 use Rattle.ordered_group.specs.Amount.{Amount, zero_amount, is_zero}
 use Rattle.closure_net.specs.Network.{FlowView}
-use Rattle.certificate_file.specs.declared.body_lines.LineKind.TheVariants.{Source, Sink}
+use Rattle.certificate_file.specs.declared.body_lines.LineKind.TheVariants.{Source, Rest, Sink}
+use Rattle.certificate_file.specs.declared.body_lines.LineKind.{LineKind}
 use Rattle.certificate_file.specs.declared.body_lines.BodyLine.{BodyLine}
-use Rattle.certificate_file.specs.Written.{spaced, line_words, body_text, amount_lines, pit_at, block_at, pair_at, flow_lines}
+use Rattle.certificate_file.specs.Written.{spaced, line_words, body_text, amount_lines, pit_at, block_at, pair_at, line_at, flow_lines}
 
 -- Of all that is to be put, behind what was held at first, this is left.
 pub record Put (a b : Option (List ℕ)) (first now left all : List ℕ) : Type 0 where
@@ -108,36 +109,28 @@ flow_parts ls ms ns = ap (λ (t : List ℕ). body_text ls ++ t) (sym (body_appen
 pub body_parts : (ls ms : List BodyLine) (end : List ℕ) → body_text ls ++ (body_text ms ++ end) ≡ body_text (ls ++ ms) ++ end
 body_parts ls ms end = sym (append_assoc (body_text ls) (body_text ms) end) ∙ ap (λ (t : List ℕ). t ++ end) (sym (body_append ls ms))
 
--- What holds, holds where there is an error.
+-- The text of the lines of a kind, of which a flow has three.
+abbrev pub kind_text : LineKind → List (ℕ × ℕ) → List Amount → List ℕ
+kind_text kind pairs xs = body_text (amount_lines (line_at kind pairs) 0 xs)
 
--- The three parts of a flow.
-abbrev pub sources : List Amount → List ℕ
-sources xs = body_text (amount_lines (block_at Source) 0 xs)
-
-abbrev pub over_pairs : List (ℕ × ℕ) → List Amount → List ℕ
-over_pairs pairs xs = body_text (amount_lines (pair_at pairs) 0 xs)
-
-abbrev pub sinks : List Amount → List ℕ
-sinks xs = body_text (amount_lines (block_at Sink) 0 xs)
-
-flow_is : (pairs : List (ℕ × ℕ)) (flow : FlowView) (xs ys zs : List Amount) → xs ≡ flow.source → ys ≡ flow.rest → zs ≡ flow.sink → sources xs ++ (over_pairs pairs ys ++ sinks zs) ≡ body_text (flow_lines pairs flow)
+flow_is : (pairs : List (ℕ × ℕ)) (flow : FlowView) (xs ys zs : List Amount) → xs ≡ flow.source → ys ≡ flow.rest → zs ≡ flow.sink → kind_text Source pairs xs ++ (kind_text Rest pairs ys ++ kind_text Sink pairs zs) ≡ body_text (flow_lines pairs flow)
 flow_is pairs flow xs ys zs e f g =
-    ap (λ (us : List Amount). sources us ++ (over_pairs pairs ys ++ sinks zs)) e ∙ ap (λ (us : List Amount). sources flow.source ++ (over_pairs pairs us ++ sinks zs)) f ∙ ap (λ (us : List Amount). sources flow.source ++ (over_pairs pairs flow.rest ++ sinks us)) g
+    ap (λ (us : List Amount). kind_text Source pairs us ++ (kind_text Rest pairs ys ++ kind_text Sink pairs zs)) e ∙ ap (λ (us : List Amount). kind_text Source pairs flow.source ++ (kind_text Rest pairs us ++ kind_text Sink pairs zs)) f ∙ ap (λ (us : List Amount). kind_text Source pairs flow.source ++ (kind_text Rest pairs flow.rest ++ kind_text Sink pairs us)) g
     ∙ flow_parts (amount_lines (block_at Source) 0 flow.source) (amount_lines (pair_at pairs) 0 flow.rest) (amount_lines (block_at Sink) 0 flow.sink)
 
-pub flow_first_failed : (pairs : List (ℕ × ℕ)) (flow : FlowView) (xs : List Amount) (a b : Option (List ℕ)) (p : List ℕ) → xs ≡ flow.source → ReceivedPrefix a b (p ++ sources xs) → ReceivedPrefix a b (p ++ body_text (flow_lines pairs flow))
-flow_first_failed pairs flow xs a b p e h = first_failed a b p (sources xs) (over_pairs pairs flow.rest) (sinks flow.sink) _ (flow_is pairs flow xs flow.rest flow.sink e refl refl) h
+pub flow_first_failed : (pairs : List (ℕ × ℕ)) (flow : FlowView) (xs : List Amount) (a b : Option (List ℕ)) (p : List ℕ) → xs ≡ flow.source → ReceivedPrefix a b (p ++ kind_text Source pairs xs) → ReceivedPrefix a b (p ++ body_text (flow_lines pairs flow))
+flow_first_failed pairs flow xs a b p e h = first_failed a b p (kind_text Source pairs xs) (kind_text Rest pairs flow.rest) (kind_text Sink pairs flow.sink) _ (flow_is pairs flow xs flow.rest flow.sink e refl refl) h
 
-pub flow_second_failed : (pairs : List (ℕ × ℕ)) (flow : FlowView) (xs ys : List Amount) (a b c : Option (List ℕ)) (p q : List ℕ) → xs ≡ flow.source → ys ≡ flow.rest → SentOrHeld a b q (p ++ sources xs) → ReceivedPrefix b c (q ++ over_pairs pairs ys) → ReceivedPrefix a c (p ++ body_text (flow_lines pairs flow))
-flow_second_failed pairs flow xs ys a b c p q e f h i = second_failed a b c p q (sources xs) (over_pairs pairs ys) (sinks flow.sink) _ (flow_is pairs flow xs ys flow.sink e f refl) h i
+pub flow_second_failed : (pairs : List (ℕ × ℕ)) (flow : FlowView) (xs ys : List Amount) (a b c : Option (List ℕ)) (p q : List ℕ) → xs ≡ flow.source → ys ≡ flow.rest → SentOrHeld a b q (p ++ kind_text Source pairs xs) → ReceivedPrefix b c (q ++ kind_text Rest pairs ys) → ReceivedPrefix a c (p ++ body_text (flow_lines pairs flow))
+flow_second_failed pairs flow xs ys a b c p q e f h i = second_failed a b c p q (kind_text Source pairs xs) (kind_text Rest pairs ys) (kind_text Sink pairs flow.sink) _ (flow_is pairs flow xs ys flow.sink e f refl) h i
 
 pub flow_third_failed : (pairs : List (ℕ × ℕ)) (flow : FlowView) (xs ys zs : List Amount) (a b c d : Option (List ℕ)) (p q r : List ℕ) → xs ≡ flow.source → ys ≡ flow.rest → zs ≡ flow.sink
-    → SentOrHeld a b q (p ++ sources xs) → SentOrHeld b c r (q ++ over_pairs pairs ys) → ReceivedPrefix c d (r ++ sinks zs) → ReceivedPrefix a d (p ++ body_text (flow_lines pairs flow))
-flow_third_failed pairs flow xs ys zs a b c d p q r e f g h i j = third_failed a b c d p q r (sources xs) (over_pairs pairs ys) (sinks zs) _ (flow_is pairs flow xs ys zs e f g) h i j
+    → SentOrHeld a b q (p ++ kind_text Source pairs xs) → SentOrHeld b c r (q ++ kind_text Rest pairs ys) → ReceivedPrefix c d (r ++ kind_text Sink pairs zs) → ReceivedPrefix a d (p ++ body_text (flow_lines pairs flow))
+flow_third_failed pairs flow xs ys zs a b c d p q r e f g h i j = third_failed a b c d p q r (kind_text Source pairs xs) (kind_text Rest pairs ys) (kind_text Sink pairs zs) _ (flow_is pairs flow xs ys zs e f g) h i j
 
 pub flow_held : (pairs : List (ℕ × ℕ)) (flow : FlowView) (xs ys zs : List Amount) (a b c d : Option (List ℕ)) (p q r s : List ℕ) → xs ≡ flow.source → ys ≡ flow.rest → zs ≡ flow.sink
-    → SentOrHeld a b q (p ++ sources xs) → SentOrHeld b c r (q ++ over_pairs pairs ys) → SentOrHeld c d s (r ++ sinks zs) → SentOrHeld a d s (p ++ body_text (flow_lines pairs flow))
-flow_held pairs flow xs ys zs a b c d p q r s e f g h i j = three_held a b c d p q r s (sources xs) (over_pairs pairs ys) (sinks zs) _ (flow_is pairs flow xs ys zs e f g) h i j
+    → SentOrHeld a b q (p ++ kind_text Source pairs xs) → SentOrHeld b c r (q ++ kind_text Rest pairs ys) → SentOrHeld c d s (r ++ kind_text Sink pairs zs) → SentOrHeld a d s (p ++ body_text (flow_lines pairs flow))
+flow_held pairs flow xs ys zs a b c d p q r s e f g h i j = three_held a b c d p q r s (kind_text Source pairs xs) (kind_text Rest pairs ys) (kind_text Sink pairs zs) _ (flow_is pairs flow xs ys zs e f g) h i j
 
 -- A header before the rest.
 pub both_sent : (a b c d : Option (List ℕ)) (p q x y : List ℕ) → SentOrHeld a b p ([] ++ x) → SentOrHeld b c q (p ++ y) → Appends c d q → Appends a d (x ++ y)

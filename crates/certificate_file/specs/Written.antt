@@ -76,6 +76,15 @@ block_at kind b x = record { kind = kind; block = b; other = 0; worth = x.w; cou
 abbrev pub pair_at : List (ℕ × ℕ) → ℕ → Amount → BodyLine
 pair_at pairs k x = record { kind = Rest; block = (slice_index_or pairs k (0, 0)).0; other = (slice_index_or pairs k (0, 0)).1; worth = x.w; count = x.c }
 
+-- the blocks that the line of a kind names at a place: those of the pair there, or the one of that number
+abbrev pub blocks_named : LineKind → List (ℕ × ℕ) → ℕ → ℕ × ℕ
+blocks_named Rest pairs k = slice_index_or pairs k (0, 0)
+blocks_named kind pairs k = (k, 0)
+
+-- the line of a kind for the amount at a place
+abbrev pub line_at : LineKind → List (ℕ × ℕ) → ℕ → Amount → BodyLine
+line_at kind pairs k x = record { kind = kind; block = (blocks_named kind pairs k).0; other = (blocks_named kind pairs k).1; worth = x.w; count = x.c }
+
 -- the lines of amounts from place k on; a zero has none
 abbrev pub amount_lines : (ℕ → Amount → BodyLine) → ℕ → List Amount → List BodyLine
 amount_lines line k [] = []

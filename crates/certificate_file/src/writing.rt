@@ -8,7 +8,7 @@ ghost use Rattle.fixed_worth.specs.Device.{ReceivedPrefix, SentOrHeld};
 ghost use Rattle.ordered_group.specs.Group.{group_name};
 ghost use Rattle.ordered_group.specs.Sums.{amount_at};
 ghost use Rattle.certificate_file.specs.Written as spec;
-ghost use Rattle.certificate_file.specs.Written.{spaced, line_words, lines_text, header_words, body_text, end_text, amount_lines, block_at, pair_at, pit_at, flow_lines, value_lines, header_with, text_of};
+ghost use Rattle.certificate_file.specs.Written.{spaced, line_words, lines_text, header_words, body_text, end_text, amount_lines, line_at, pit_at, flow_lines, value_lines, header_with, text_of};
 ghost use Rattle.certificate_file.specs.Certificate.{Covers};
 ghost use Rattle.certificate_file.specs.ReadBack.{Writable, AreWritable, IsPrice, IsReadBack};
 
@@ -16,9 +16,9 @@ use crate::body_lines::{BodyLine, LineKind};
 use crate::certificate::Certificate;
 use crate::header::{Header, Price};
 use closure_net::{Carried, Flow, Pit};
-use fixed_worth::{CountedWrite, MOST_BLOCKS, Page, ShortLine, WriteFault};
+use fixed_worth::{CountedWrite, Page, ShortLine, WriteFault};
 use ordered_group::{Group, OrderedGroup, is_zero};
-use prec_file::{MOST_PAIRS, Rests};
+use prec_file::Rests;
 
 // Adds a number with its sign.
 fn push_signed(text: &mut ShortLine, number: i128)
@@ -139,29 +139,26 @@ fn can_be_written<G: OrderedGroup>(amount: G)
     let _numbers = amount.parts();
 }
 
-// The line of an amount at a block.
-fn block_line<G: OrderedGroup>(kind: LineKind, block: u32, amount: G) -> BodyLine
-    ensures { result ≡ block_at kind block (G.parts_of amount) }
+// The blocks that the line of a kind names at a place: those of the pair there, or the one of that number.
+fn blocks_named(kind: LineKind, rests: &Rests, place: u32) -> (u32, u32)
+    requires { kind ≡ LineKind.Rest → place < length rests.now.pairs }
+    ensures { result ≡ spec.blocks_named kind rests.now.pairs place }
 {
-    let (worth, count) = amount.parts();
-    BodyLine {
-        kind,
-        block,
-        other: 0,
-        worth,
-        count,
+    match kind {
+        LineKind::Rest => rests.pair(place),
+        _ => (place, 0),
     }
 }
 
-// The line of an amount over a pair.
-fn pair_line<G: OrderedGroup>(rests: &Rests, pair: u32, amount: G) -> BodyLine
-    requires { pair < length rests.now.pairs }
-    ensures { result ≡ pair_at rests.now.pairs pair (G.parts_of amount) }
+// The line of a kind for the amount at a place.
+fn amount_line<G: OrderedGroup>(kind: LineKind, rests: &Rests, place: u32, amount: G) -> BodyLine
+    requires { kind ≡ LineKind.Rest → place < length rests.now.pairs }
+    ensures { result ≡ line_at kind rests.now.pairs place (G.parts_of amount) }
 {
-    let (block, other) = rests.pair(pair);
+    let (block, other) = blocks_named(kind, rests, place);
     let (worth, count) = amount.parts();
     BodyLine {
-        kind: LineKind::Rest,
+        kind,
         block,
         other,
         worth,
@@ -206,46 +203,21 @@ fn put_pit<W: CountedWrite>(page: &mut Page, out: &mut W, pit: &Pit) -> Result<(
     Ok(())
 }
 
-// The SOURCE or SINK lines.
-fn put_blocks<G: OrderedGroup, W: CountedWrite>(
+// The SOURCE, REST or SINK lines.
+fn put_amounts<G: OrderedGroup, W: CountedWrite>(
     page: &mut Page,
     out: &mut W,
     kind: LineKind,
-    amounts: &Carried<G>,
-) -> Result<(), WriteFault>
-    requires few { length amounts.now ≤ MOST_BLOCKS }
-    requires room { W.failed out.old < 2 ^ 64 - 1 }
-    ensures held { OnOk result (SentOrHeld (W.contents out.old) (W.contents out.new) page.new (page.old ++ body_text (amount_lines (block_at kind) 0 amounts.now))) }
-    ensures writable { OnOk result ((k : ℕ) → k < length amounts.now → Writable G.counts (amount_at amounts.now k)) }
-    ensures kept { OnOk result (W.failed out.new ≡ W.failed out.old) }
-    ensures prefix { OnErr result (ReceivedPrefix (W.contents out.old) (W.contents out.new) (page.old ++ body_text (amount_lines (block_at kind) 0 amounts.now))) }
-    ensures counted { OnErr result (W.failed out.new ≡ W.failed out.old + 1) }
-{
-    for k in 0..amounts.len() {
-        let amount = amounts.at(k as u32);
-        // proof: every amount can be written
-        can_be_written(amount);
-        if !is_zero(amount) {
-            put_line(page, out, &block_line(kind, k as u32, amount))?;
-        }
-    }
-    Ok(())
-}
-
-// The REST lines.
-fn put_pairs<G: OrderedGroup, W: CountedWrite>(
-    page: &mut Page,
-    out: &mut W,
     rests: &Rests,
     amounts: &Carried<G>,
 ) -> Result<(), WriteFault>
-    requires few { length rests.now.pairs ≤ MOST_PAIRS }
-    requires fits { length amounts.now ≡ length rests.now.pairs }
+    requires few { length amounts.now < 2 ^ 32 }
+    requires fits { kind ≡ LineKind.Rest → length amounts.now ≡ length rests.now.pairs }
     requires room { W.failed out.old < 2 ^ 64 - 1 }
-    ensures held { OnOk result (SentOrHeld (W.contents out.old) (W.contents out.new) page.new (page.old ++ body_text (amount_lines (pair_at rests.now.pairs) 0 amounts.now))) }
+    ensures held { OnOk result (SentOrHeld (W.contents out.old) (W.contents out.new) page.new (page.old ++ body_text (amount_lines (line_at kind rests.now.pairs) 0 amounts.now))) }
     ensures writable { OnOk result ((k : ℕ) → k < length amounts.now → Writable G.counts (amount_at amounts.now k)) }
     ensures kept { OnOk result (W.failed out.new ≡ W.failed out.old) }
-    ensures prefix { OnErr result (ReceivedPrefix (W.contents out.old) (W.contents out.new) (page.old ++ body_text (amount_lines (pair_at rests.now.pairs) 0 amounts.now))) }
+    ensures prefix { OnErr result (ReceivedPrefix (W.contents out.old) (W.contents out.new) (page.old ++ body_text (amount_lines (line_at kind rests.now.pairs) 0 amounts.now))) }
     ensures counted { OnErr result (W.failed out.new ≡ W.failed out.old + 1) }
 {
     for k in 0..amounts.len() {
@@ -253,7 +225,7 @@ fn put_pairs<G: OrderedGroup, W: CountedWrite>(
         // proof: every amount can be written
         can_be_written(amount);
         if !is_zero(amount) {
-            put_line(page, out, &pair_line(rests, k as u32, amount))?;
+            put_line(page, out, &amount_line(kind, rests, k as u32, amount))?;
         }
     }
     Ok(())
@@ -276,9 +248,9 @@ fn put_flow<G: OrderedGroup, W: CountedWrite>(
 {
     // proof: a `Rests` is in order, with at most `MOST_PAIRS` pairs
     let _n = rests.len();
-    put_blocks(page, out, LineKind::Source, flow.source())?;
-    put_pairs(page, out, rests, flow.rest())?;
-    put_blocks(page, out, LineKind::Sink, flow.sink())
+    put_amounts(page, out, LineKind::Source, rests, flow.source())?;
+    put_amounts(page, out, LineKind::Rest, rests, flow.rest())?;
+    put_amounts(page, out, LineKind::Sink, rests, flow.sink())
 }
 
 // Everything behind the header.

@@ -177,6 +177,11 @@ pub line_given : {R A : Type 0} (remaining : R → Option (List ℕ)) (f : List 
 line_given remaining f before mid later count number text result read m h k t e p =
     given_by remaining f before mid later count result read m h (sym (e ∙ ap (λ (j : ℕ). in_line (j + 1) (f text)) k ∙ gives f mid.held text count (mid.number + 1) h t)) p
 
+-- What holds of a result by every i of a kind, case by case.
+pub each_case : {I A E : Type 0} (J : I → Type 0) (P : I → A → Type 0) (Q : I → E → Type 0) (r : Result A E) → ((i : I) → J i → MatchResult r (P i) (Q i)) → MatchResult r (λ x. (i : I) → J i → P i x) (λ e. (i : I) → J i → Q i e)
+each_case J P Q (Ok x) h = h
+each_case J P Q (Err e) h = h
+
 -- Whether a pair was found among the model's.
 pub found_or_not : (pairs : List (ℕ × ℕ)) (b p : ℕ) (o : Option ℕ) → MatchOption o (Contains pairs (b, p) → ⊥) (λ k. (k < length pairs) × (get_or pairs k (0, 0) ≡ (b, p))) → is_some o ≡ has_pair pairs b p
 found_or_not pairs b p (Some k) h = sym (present b p pairs k h.0 h.1)

@@ -94,6 +94,9 @@ heads_lack remaining f before mid later bytes ps k e h l bad =
       },
     )
 
+first_bad : (qs : List Piece) (x : CertFault) → read_line version_in 1 (piece_at qs 0) ≡ Err x → header_of qs ≡ Err x
+first_bad qs x h = rw h refl
+
 second_bad : (p : Piece) (v : Version) (qs : List Piece) (x : CertFault) → read_line version_in 1 p ≡ Ok v → read_line (blocks_in None) 2 (piece_at qs 0) ≡ Err x → header_of (p ∷ qs) ≡ Err x
 second_bad p v qs x e h = rw (e, h) refl
 
@@ -108,6 +111,9 @@ pub record Two {R : Type 0} (remaining : R → Option (List ℕ)) (s a b : LineV
   pub zero : s.number ≡ 0
   pub first : TakesLine remaining (read_line version_in) s a v
   pub second : TakesLine remaining (read_line (blocks_in None)) a b n
+
+pub lacks_first : {R : Type 0} (remaining : R → Option (List ℕ)) (s a : LineView R) (e : StreamFault) → s.number ≡ 0 → LacksLine remaining (read_line version_in) s a e → LacksHeader remaining s a e
+lacks_first remaining s a e z l = heads_lack remaining (read_line version_in) s s a [] [] 0 e (heads_at remaining s 0 z) l first_bad
 
 one_head : {R : Type 0} (remaining : R → Option (List ℕ)) (s a : LineView R) (v : Version) → s.number ≡ 0 → TakesLine remaining (read_line version_in) s a v → OneMore remaining (read_line version_in) s a [] 0 v
 one_head remaining s a v z t = heads_on remaining (read_line version_in) s s a [] [] 0 v (heads_at remaining s 0 z) t

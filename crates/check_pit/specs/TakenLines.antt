@@ -23,6 +23,10 @@ pub record PassesLine {R : Type 0} (remaining : R → Option (List ℕ)) (before
   pub taken : later.taken ≡ before.taken + length bytes
   pub number : later.number ≡ before.number + 1
 
+-- whatever may be given for a text is what f makes of it
+abbrev pub AlwaysGives : {A : Type 0} → (List ℕ → A → Type 0) → (List ℕ → A) → Type 0
+AlwaysGives {A = A} gives f = (text : List ℕ) (x : A) → gives text x → x ≡ f text
+
 -- a line was passed, of which f makes x
 abbrev pub TakesLine : {R A : Type 0} → (R → Option (List ℕ)) → (ℕ → Piece → Result A CertFault) → LineView R → LineView R → A → Type 0
 TakesLine remaining f before later x = (bytes : List ℕ) × (count : ℕ) × PassesLine remaining before later bytes count × (f (before.number + 1) (held_piece count (before.held ++ bytes)) ≡ Ok x)

@@ -1,20 +1,20 @@
 //! Reads the first four lines of a certificate from a device: the number of blocks, the price and the kind of
 //! amounts, or the first fault.
 
-ghost use Rattle.std.specs.Prelude.{◌≡◌, ◌+◌, ◌-◌, ◌^◌, ◌<◌, length, None, Ok, Err, IsErrOf, MatchResult};
+ghost use Rattle.std.specs.Prelude.{◌≡◌, ℕ, ◌+◌, ◌-◌, ◌^◌, ◌<◌, List, length, Result, Ok, Err, IsErrOf, MatchResult};
+ghost use Rattle.std.specs.Fn.{FnOnceReturnsAt};
 ghost use Rattle.check_pit.specs.declared.stream_fault.StreamFault.TheVariants as fault;
+ghost use Rattle.certificate_file.specs.declared.cert_fault.LineFault.{LineFault};
 ghost use Rattle.certificate_file.specs.Pieces.{read_line};
-ghost use Rattle.certificate_file.specs.Header as spec;
-ghost use Rattle.check_pit.specs.TakenLines.{GoesBehind, TakesLine, LacksLine};
+ghost use Rattle.check_pit.specs.TakenLines.{GoesBehind, AlwaysGives, TakesLine, LacksLine};
 ghost use Rattle.check_pit.specs.StreamHeaders.{GivesHeader, LacksHeader};
 
 use crate::stream_fault::StreamFault;
 use crate::stream_lines::StreamLines;
 use certificate_file::{
-    CertFault, Header, Price, Version, blocks_in, group_in, in_line, price_in, version_in,
+    CertFault, Header, LineFault, blocks_in, group_in, in_line, price_in, version_in,
 };
 use fixed_worth::CountedRead;
-use ordered_group::Group;
 
 // Goes behind the line of this length that was read, and not behind one with a fault.
 fn pass_read<R, T>(
@@ -36,51 +36,22 @@ fn pass_read<R, T>(
     }
 }
 
-fn read_version<R: CountedRead>(lines: &mut StreamLines<R>) -> Result<Version, StreamFault>
-    requires { R.failed lines.old.from < 2 ^ 64 - 1 }
-    ensures line { MatchResult result (λ x. TakesLine R.remaining (read_line spec.version_in) lines.old lines.new x) (λ e. LacksLine R.remaining (read_line spec.version_in) lines.old lines.new e) }
-    ensures device { IsErrOf result StreamFault.Device → R.failed lines.new.from ≡ R.failed lines.old.from + 1 }
-    ensures kept { ¬ IsErrOf result StreamFault.Device → R.failed lines.new.from ≡ R.failed lines.old.from }
-{
-    let count = lines.next_length()?;
-    let read = in_line(lines.number() + 1, version_in(lines.front(count)));
-    pass_read(lines, count, read)
-}
-
-fn read_blocks<R: CountedRead>(lines: &mut StreamLines<R>) -> Result<u32, StreamFault>
-    requires { R.failed lines.old.from < 2 ^ 64 - 1 }
-    ensures line { MatchResult result (λ x. TakesLine R.remaining (read_line (spec.blocks_in None)) lines.old lines.new x) (λ e. LacksLine R.remaining (read_line (spec.blocks_in None)) lines.old lines.new e) }
-    ensures device { IsErrOf result StreamFault.Device → R.failed lines.new.from ≡ R.failed lines.old.from + 1 }
-    ensures kept { ¬ IsErrOf result StreamFault.Device → R.failed lines.new.from ≡ R.failed lines.old.from }
-{
-    let count = lines.next_length()?;
-    let read = in_line(lines.number() + 1, blocks_in(None, lines.front(count)));
-    pass_read(lines, count, read)
-}
-
-fn read_price<R: CountedRead>(
+// Takes a line as `read` reads its text, or gives its fault.
+fn take_line<R: CountedRead, T, F: FnOnce(&[u8]) -> Result<T, LineFault> + Drop>(
     lines: &mut StreamLines<R>,
-    version: Version,
-) -> Result<Price, StreamFault>
-    requires { R.failed lines.old.from < 2 ^ 64 - 1 }
-    ensures line { MatchResult result (λ x. TakesLine R.remaining (read_line (spec.price_in version)) lines.old lines.new x) (λ e. LacksLine R.remaining (read_line (spec.price_in version)) lines.old lines.new e) }
+    read: F,
+) -> Result<T, StreamFault>
+    requires room { R.failed lines.old.from < 2 ^ 64 - 1 }
+    requires callable { F.IsAlwaysCallable read }
+    ensures line { MatchResult result
+        (λ x. (f : List ℕ → Result T LineFault) → AlwaysGives (FnOnceReturnsAt F.FnOnce read) f → TakesLine R.remaining (read_line f) lines.old lines.new x)
+        (λ e. (f : List ℕ → Result T LineFault) → AlwaysGives (FnOnceReturnsAt F.FnOnce read) f → LacksLine R.remaining (read_line f) lines.old lines.new e) }
     ensures device { IsErrOf result StreamFault.Device → R.failed lines.new.from ≡ R.failed lines.old.from + 1 }
     ensures kept { ¬ IsErrOf result StreamFault.Device → R.failed lines.new.from ≡ R.failed lines.old.from }
 {
     let count = lines.next_length()?;
-    let read = in_line(lines.number() + 1, price_in(version, lines.front(count)));
-    pass_read(lines, count, read)
-}
-
-fn read_group<R: CountedRead>(lines: &mut StreamLines<R>) -> Result<Group, StreamFault>
-    requires { R.failed lines.old.from < 2 ^ 64 - 1 }
-    ensures line { MatchResult result (λ x. TakesLine R.remaining (read_line (spec.group_in None)) lines.old lines.new x) (λ e. LacksLine R.remaining (read_line (spec.group_in None)) lines.old lines.new e) }
-    ensures device { IsErrOf result StreamFault.Device → R.failed lines.new.from ≡ R.failed lines.old.from + 1 }
-    ensures kept { ¬ IsErrOf result StreamFault.Device → R.failed lines.new.from ≡ R.failed lines.old.from }
-{
-    let count = lines.next_length()?;
-    let read = in_line(lines.number() + 1, group_in(None, lines.front(count)));
-    pass_read(lines, count, read)
+    let value = in_line(lines.number() + 1, read(lines.front(count)));
+    pass_read(lines, count, value)
 }
 
 /// The header.
@@ -95,10 +66,10 @@ pub fn read_header<R: CountedRead>(lines: &mut StreamLines<R>) -> Result<Header,
     ensures device { IsErrOf result StreamFault.Device → R.failed lines.new.from ≡ R.failed lines.old.from + 1 }
     ensures kept { ¬ IsErrOf result StreamFault.Device → R.failed lines.new.from ≡ R.failed lines.old.from }
 {
-    let version = read_version(lines)?;
-    let blocks = read_blocks(lines)?;
-    let price = read_price(lines, version)?;
-    let group = read_group(lines)?;
+    let version = take_line(lines, version_in)?;
+    let blocks = take_line(lines, |line: &[u8]| blocks_in(None, line))?;
+    let price = take_line(lines, |line: &[u8]| price_in(version, line))?;
+    let group = take_line(lines, |line: &[u8]| group_in(None, line))?;
     Ok(Header {
         blocks,
         price,

@@ -1,32 +1,41 @@
--- What a check can refuse of the flow that a run leaves.
-use Rattle.std.proofs.Common.{ℕ, subst, inr}
+-- What a check can refuse of a flow that solves its net: nothing but sums that don't fit.
+use Rattle.std.proofs.Common.{◌≡◌, ℕ, List, subst}
 use Rattle.closure_net.specs.Network.{NetView, FlowView, holds_of}
+use Rattle.closure_net.specs.Reached.{IsReached}
+use Rattle.machine_law.specs.Quiet.{IsSolved}
 use Rattle.workers.specs.Runs.{Settles}
-use Rattle.check_pit.specs.Checks.{ProvesPit, FaultStands}
-use Rattle.check_pit.specs.Tightness.{RefusedForSizeOnly}
+use Rattle.check_pit.specs.Checks.{IsOfNet, FaultStands}
 use Rattle.check_pit.specs.declared.pit_fault.PitFault.{PitFault}
+use Rattle.check_pit.specs.declared.pit_fault.PitFault.TheVariants.{TooLarge}
+use Rattle.check_pit.proofs.Tightness.{refused_for_size_only}
 use Rattle.engines.specs.Certifying.{IsRefusedFlow}
-use Rattle.engines.specs.Solving.{SomeNumberOverflows}
+use Rattle.engines.specs.Solving.{CheckOverflows}
 
--- nothing but a sum that doesn't fit
-pub refused_for_size : RefusedForSizeOnly → (net : NetView) (limit : ℕ) (flow : FlowView) (steps : ℕ) (fault : PitFault) → Settles net limit flow steps → IsRefusedFlow net flow fault → SomeNumberOverflows net limit
-refused_for_size law net limit flow steps fault settles refused =
-    let reached = refused.reached settles.amounts.fits in
-    let of_net = refused.of_net settles.amounts.fits in
+-- The check refused the flow, with the blocks that the source reaches in it, for a sum that doesn't fit.
+pub record IsRefusedForSize (net : NetView) (flow : FlowView) (fault : PitFault) : Type 0 where
+  pub pit : List ℕ
+  pub reached : IsReached net flow (holds_of pit)
+  pub of_net : IsOfNet net pit
+  pub stands : FaultStands net flow pit TooLarge
+  pub only : fault ≡ TooLarge
+
+pub refused_for_size : (net : NetView) (flow : FlowView) (fault : PitFault) → IsSolved net flow → IsRefusedFlow net flow fault → IsRefusedForSize net flow fault
+refused_for_size net flow fault solved refused =
+    let fits = solved.greatest.is_flow.fits in
+    let reached = refused.reached fits in
+    let of_net = refused.of_net fits in
     let e = holds_of refused.pit in
-    let proves : ProvesPit net flow refused.pit = record {
-      of_net = of_net;
-      is_flow = settles.solved.greatest.is_flow;
-      closed = settles.solved.closed e reached;
-      tight = settles.solved.tight e reached;
-    } in
-    let P : PitFault → Type 0 = λ f. FaultStands net flow refused.pit f in
-    inr (record {
-      flow = flow;
-      steps = steps;
-      settles = settles;
+    let only = refused_for_size_only net flow refused.pit fault (record { of_net = of_net; is_flow = solved.greatest.is_flow; closed = solved.closed e reached; tight = solved.tight e reached }) refused.stands.holds in
+    record {
       pit = refused.pit;
       reached = reached;
       of_net = of_net;
-      stands = subst P (law net flow refused.pit fault proves refused.stands.holds) refused.stands;
-    })
+      stands = subst (λ (f : PitFault). FaultStands net flow refused.pit f) only refused.stands;
+      only = only;
+    }
+
+-- and so of the flow that a settled run leaves
+pub check_overflows : (net : NetView) (limit : ℕ) (flow : FlowView) (steps : ℕ) (fault : PitFault) → Settles net limit flow steps → IsRefusedFlow net flow fault → CheckOverflows net limit
+check_overflows net limit flow steps fault settles refused =
+    let size = refused_for_size net flow fault settles.solved refused in
+    record { flow = flow; steps = steps; settles = settles; pit = size.pit; reached = size.reached; of_net = size.of_net; stands = size.stands }

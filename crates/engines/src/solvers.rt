@@ -8,7 +8,6 @@ ghost use Rattle.engines.specs.Solving.{UnsolvedStands, MachineStands};
 use crate::certify::{Solution, Uncertified, certified};
 use crate::effort::Effort;
 use crate::method::Method;
-use check_pit::laws;
 use closure_net::Net;
 use ordered_group::OrderedGroup;
 use pseudoflow::{Progress, PseudoflowFault};
@@ -95,8 +94,6 @@ where
         (λ s. IsSolution G.set_worth net.now s.flow s.pit s.count s.worth)
         (λ unsolved. MachineStands net.now effort.steps unsolved) }
 {
-    // proof: the check of a closed pit that its flow makes tight can fail for a sum that overflows alone
-    laws::tight_closed_pit_is_refused_for_size_only();
     let flow = match solve(rt, alloc, net, effort.workers, effort.steps, gate) {
         Ok(solved) => solved.flow,
         Err(fault) => return Err(Unsolved::from(fault)),

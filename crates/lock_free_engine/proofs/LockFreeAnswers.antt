@@ -1,15 +1,14 @@
 -- From a run without a lock to what is written of it.
 use Rattle.std.proofs.Common.{◌≡◌, ℕ, List, refl, sym, ◌∙◌, subst, Option, Result, Ok, Err, inl, inr}
 use Rattle.std.specs.Prelude.{MatchResult}
-use Rattle.closure_net.specs.Network.{NetView, FlowView, IsNet, holds_of}
+use Rattle.closure_net.specs.Network.{NetView, FlowView, IsNet}
 use Rattle.word_runner.specs.Openings.{AreNeitherOneNorTwo}
 use Rattle.word_runner.specs.Ends.{IsSolvedBy, SolveFaultStands}
 use Rattle.workers.specs.declared.solving.SolveFault.{SolveFault}
 use Rattle.workers.specs.declared.solving.SolveFault.TheVariants as run
-use Rattle.check_pit.specs.Checks.{IsSound, FaultStands}
+use Rattle.check_pit.specs.Checks.{IsSound}
 use Rattle.check_pit.specs.declared.pit_fault.PitFault.{PitFault}
 use Rattle.certificate_file.specs.declared.header.Price.{Price}
-use Rattle.check_pit.proofs.Tightness.{refused_for_size_only}
 use Rattle.engines.specs.declared.judgement.Verdict.{Verdict}
 use Rattle.mine_inputs.specs.declared.engine_fault.EngineFault.{EngineFault}
 use Rattle.engines.specs.declared.solvers.Unsolved.{Unsolved}
@@ -18,6 +17,7 @@ use Rattle.engines.specs.Solving.{unsolved_by}
 use Rattle.engines.specs.NetAnswers.{SendsCertificate, SendsLine, SendsNo, certificate_text, unsettled_line, too_large_line}
 use Rattle.engines.specs.Readings.{counts_by}
 use Rattle.engines.specs.Certifying.{IsRefusedFlow}
+use Rattle.engines.proofs.RefusedRuns.{refused_for_size}
 use Rattle.lock_free_engine.specs.Tightness.{RunsAreTight}
 use Rattle.lock_free_engine.specs.LockFreeRuns.{CheckOverflows, LockFreeStands}
 use Rattle.lock_free_engine.specs.LockFreeSolving.{IsNoWithoutLock, SolvesNetWithoutLock, lock_free_group}
@@ -25,20 +25,8 @@ use Rattle.lock_free_engine.specs.LockFreeSolving.{IsNoWithoutLock, SolvesNetWit
 -- what the source reaches in the flow of a run is refused for sums that overflow, and nothing else
 pub check_overflows : RunsAreTight → (net : NetView) (workers limit : ℕ) (flow : FlowView) (steps : ℕ) (fault : PitFault) → IsNet net → IsSolvedBy net workers limit flow steps → IsRefusedFlow net flow fault → CheckOverflows net workers limit
 check_overflows law net workers limit flow steps fault is solved refused =
-    let solves = law net workers limit flow steps is solved in
-    let fits = solves.greatest.is_flow.fits in
-    let reached = refused.reached fits in
-    let of_net = refused.of_net fits in
-    let e = refused_for_size_only net flow refused.pit fault (record { of_net = of_net; is_flow = solves.greatest.is_flow; closed = solves.closed (holds_of refused.pit) reached; tight = solves.tight (holds_of refused.pit) reached }) refused.stands.holds in
-    record {
-      flow = flow;
-      steps = steps;
-      solved = solved;
-      pit = refused.pit;
-      reached = reached;
-      of_net = of_net;
-      stands = subst (λ (f : PitFault). FaultStands net flow refused.pit f) e refused.stands;
-    }
+    let size = refused_for_size net flow fault (law net workers limit flow steps is solved) refused in
+    record { flow = flow; steps = steps; solved = solved; pit = size.pit; reached = size.reached; of_net = size.of_net; stands = size.stands }
 
 -- why a run gives no flow is why it proves no pit: there are one worker or two, and the words are the net's
 pub fault_stands : (net : NetView) (workers limit : ℕ) (fault : SolveFault) → ¬ AreNeitherOneNorTwo workers → SolveFaultStands net workers fault → LockFreeStands net workers limit (unsolved_by fault)

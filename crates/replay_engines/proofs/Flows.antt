@@ -6,13 +6,14 @@ use Rattle.ordered_group.specs.declared.groups.Group.{Group}
 use Rattle.closure_net.specs.Network.{NetView, FlowView, holds_of}
 use Rattle.closure_net.specs.Mine.{IsNetOf}
 use Rattle.machine_law.specs.Quiet.{IsSolved}
-use Rattle.check_pit.specs.Tightness.{RefusedForSizeOnly}
+use Rattle.check_pit.specs.Checks.{FaultStands}
 use Rattle.check_pit.specs.declared.pit_fault.PitFault.{PitFault}
 use Rattle.engines.specs.Certifying.{IsSolution, IsRefusedFlow}
 use Rattle.engines.specs.declared.judgement.Judgement.TheVariants.{Accepted}
 use Rattle.mine_inputs.specs.Mines.{MineTexts, mine_of}
 use Rattle.engines.specs.Readings.{IsGroupNamed}
 use Rattle.engines.specs.Solving.{IsNetBy}
+use Rattle.engines.proofs.RefusedRuns.{refused_for_size}
 use Rattle.engines.proofs.Told.{size_told, worth_told}
 use Rattle.replay_engines.specs.Outcomes.{IsFlowJudged, IsFlowRefused}
 
@@ -35,15 +36,7 @@ flow_accepted block counts texts name net flow pit by named set_worth tells grou
     )
 
 -- it refused the flow of a run that ended: a sum doesn't fit
-pub flow_refused : RefusedForSizeOnly → (net : NetView) (flow : FlowView) (fault : PitFault) → IsSolved net flow → IsRefusedFlow net flow fault → IsFlowRefused net flow fault
-flow_refused law net flow fault solved refused =
-    let fits = solved.greatest.is_flow.fits in
-    let reached = refused.reached fits in
-    let of_net = refused.of_net fits in
-    record {
-      pit = refused.pit;
-      reached = reached;
-      of_net = of_net;
-      stands = refused.stands;
-      only = law net flow refused.pit fault (record { of_net = of_net; is_flow = solved.greatest.is_flow; closed = solved.closed (holds_of refused.pit) reached; tight = solved.tight (holds_of refused.pit) reached }) refused.stands.holds;
-    }
+pub flow_refused : (net : NetView) (flow : FlowView) (fault : PitFault) → IsSolved net flow → IsRefusedFlow net flow fault → IsFlowRefused net flow fault
+flow_refused net flow fault solved refused =
+    let size = refused_for_size net flow fault solved refused in
+    record { pit = size.pit; reached = size.reached; of_net = size.of_net; stands = subst (λ (f : PitFault). FaultStands net flow size.pit f) (sym size.only) size.stands; only = size.only }

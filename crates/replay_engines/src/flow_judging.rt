@@ -7,7 +7,6 @@ ghost use Rattle.engines.specs.Readings.{IsGroupNamed};
 ghost use Rattle.engines.specs.Solving.{IsNetBy};
 ghost use Rattle.replay_engines.specs.Outcomes.{IsFlowJudged};
 
-use check_pit::laws;
 use closure_net::{Flow, Net};
 use engines::Judgement;
 use engines::certify::{Uncertified, certified};
@@ -27,8 +26,6 @@ pub fn judge_flow<G: OrderedGroup>(
         → IsGroupNamed G.name G.block_parts G.counts
         → IsFlowJudged texts G.name net.now flow judgement) }
 {
-    // proof: the check of a closed pit that its flow makes tight can fail for a sum that overflows alone
-    laws::tight_closed_pit_is_refused_for_size_only();
     match certified(alloc, net, flow) {
         Ok(solution) => Ok(Judgement::Accepted {
             group: G::group(),

@@ -19,4 +19,4 @@ returns-in-Ok g c = λ texts solved by named.
 pub returns-in-Err-Refused : goal.returns-in-Err-Refused
 returns-in-Err-Refused g c = λ texts solved by named.
     let refused = subst (λ (u : Uncertified). UncertifiedStands c.args.net.now c.args.flow u) c.in-Err-Refused.field-0-is c.in-Err-Refused.ensures.answer in
-    flow_refused c.tight_closed_pit_is_refused_for_size_only.ensures c.args.net.now c.args.flow c.in-Err-Refused.fault solved refused
+    flow_refused c.args.net.now c.args.flow c.in-Err-Refused.fault solved refused
