@@ -14,9 +14,6 @@ loop-k-init g c = record {
   kept = refl;
 }
 
-pub amount_line-requires : goal.amount_line-requires
-amount_line-requires g c = λ is. omega (arith, c.requires.fits is)
-
 pub returns-in_err-put_line-clause-prefix : goal.returns-in_err-put_line-clause-prefix
 returns-in_err-put_line-clause-prefix g c =
     let f = g.G.OrderedGroup.parts_of in
