@@ -8,9 +8,11 @@
 
 mod room_word;
 mod traced_asked;
+mod traced_outputs;
 mod traced_solving;
 pub mod tracing;
 
 pub use room_word::room_named;
 pub use traced_asked::TracedAsked;
+pub use traced_outputs::TracedOutputs;
 pub use traced_solving::solve_traced_engine;

@@ -9,7 +9,8 @@ ghost use Rattle.mine_inputs.specs.Mines.{MineTexts, price_wanted};
 ghost use Rattle.audit_engines.specs.Tracing.{Traces};
 
 use crate::traced_asked::TracedAsked;
-use crate::tracing::trace_net;
+use crate::traced_outputs::TracedOutputs;
+use crate::tracing::{RunAsked, trace_net};
 use closure_net::{Net, laws};
 use engines::{EngineFault, MineInputs, Outcome, Verdict};
 use fixed_worth::{CountedRead, CountedWrite};
@@ -25,7 +26,7 @@ use workers::{Audited, Gate, Locked, Shared};
 ///
 /// The run is that of the effort's workers and steps, whatever its method. Its trace has the whole history: all steps in
 /// their order, at most as many as there is room for and never more than 2^24. It is written right after the run and before anything is
-/// written to `out`.
+/// written to `outputs.out`.
 ///
 /// `Done` where it wrote a certificate, as `engines::solve_engine` says; its flow is the one to which a replay of the
 /// trace leads. `No` where it wrote a line that says why there is none:
@@ -52,23 +53,22 @@ pub fn solve_traced_engine<
     inputs: &mut MineInputs<D>,
     asked: TracedAsked,
     gate: &T,
-    trace: &mut V,
-    out: &mut W,
+    outputs: &mut TracedOutputs<V, W>,
 ) -> Result<Verdict, EngineFault>
     requires inputs_room { CanCount inputs.old D.failed }
-    requires trace_room { V.failed trace.old < 2 ^ 64 - 1 }
-    requires out_room { W.failed out.old < 2 ^ 64 - 1 }
+    requires trace_room { V.failed outputs.old.trace < 2 ^ 64 - 1 }
+    requires out_room { W.failed outputs.old.out < 2 ^ 64 - 1 }
 
     // What it answers and writes, where the readers tell their bytes.
     ensures answer { ForTexts inputs.old D.remaining asked.factor (λ texts.
-        Traces texts asked.group asked.effort.steps asked.room (V.contents trace.old) (V.contents trace.new) (W.contents out.old) (W.contents out.new) result) }
+        Traces texts asked.group asked.effort.steps asked.room (V.contents outputs.old.trace) (V.contents outputs.new.trace) (W.contents outputs.old.out) (W.contents outputs.new.out) result) }
 
     // A device is named exactly where one failed.
-    ensures device { IsErrOf result EngineFault.Device → OneFailed inputs.old inputs.new D.failed (V.failed trace.old + W.failed out.old) (V.failed trace.new + W.failed out.new) }
-    ensures kept { ¬ IsErrOf result EngineFault.Device → NoneFailed inputs.old inputs.new D.failed × (V.failed trace.new ≡ V.failed trace.old) × (W.failed out.new ≡ W.failed out.old) }
+    ensures device { IsErrOf result EngineFault.Device → OneFailed inputs.old inputs.new D.failed (V.failed outputs.old.trace + W.failed outputs.old.out) (V.failed outputs.new.trace + W.failed outputs.new.out) }
+    ensures kept { ¬ IsErrOf result EngineFault.Device → NoneFailed inputs.old inputs.new D.failed × (V.failed outputs.new.trace ≡ V.failed outputs.old.trace) × (W.failed outputs.new.out ≡ W.failed outputs.old.out) }
 {
     let mine = mine_to_solve(rt, alloc, inputs, asked.factor)?;
-    trace_mine(rt, alloc, mine, asked, gate, trace, out)
+    trace_mine(rt, alloc, mine, asked, gate, outputs)
 }
 
 // The same once the mine is read: the certificate names its price.
@@ -78,29 +78,24 @@ fn trace_mine<R: Threads + Wait + Sync, T: Gate + Outcome, V: CountedWrite, W: C
     mine: MineToSolve,
     asked: TracedAsked,
     gate: &T,
-    trace: &mut V,
-    out: &mut W,
+    outputs: &mut TracedOutputs<V, W>,
 ) -> Result<Verdict, EngineFault>
     requires price { IsPrice mine.price }
-    requires trace_room { V.failed trace.old < 2 ^ 64 - 1 }
-    requires out_room { W.failed out.old < 2 ^ 64 - 1 }
+    requires trace_room { V.failed outputs.old.trace < 2 ^ 64 - 1 }
+    requires out_room { W.failed outputs.old.out < 2 ^ 64 - 1 }
     ensures answer { (texts : MineTexts) → AreRead texts mine.nanos.items mine.rests → mine.price ≡ price_wanted texts
-        → Traces texts asked.group asked.effort.steps asked.room (V.contents trace.old) (V.contents trace.new) (W.contents out.old) (W.contents out.new) result }
-    ensures device { IsErrOf result EngineFault.Device → V.failed trace.new + W.failed out.new ≡ V.failed trace.old + W.failed out.old + 1 }
-    ensures kept { ¬ IsErrOf result EngineFault.Device → (V.failed trace.new ≡ V.failed trace.old) × (W.failed out.new ≡ W.failed out.old) }
+        → Traces texts asked.group asked.effort.steps asked.room (V.contents outputs.old.trace) (V.contents outputs.new.trace) (W.contents outputs.old.out) (W.contents outputs.new.out) result }
+    ensures device { IsErrOf result EngineFault.Device → V.failed outputs.new.trace + W.failed outputs.new.out ≡ V.failed outputs.old.trace + W.failed outputs.old.out + 1 }
+    ensures kept { ¬ IsErrOf result EngineFault.Device → (V.failed outputs.new.trace ≡ V.failed outputs.old.trace) × (W.failed outputs.new.out ≡ W.failed outputs.old.out) }
 {
     // proof: a greatest set of the net is a pit that is worth most, and of amounts with sizes the best one
     laws::greatest_set_is_richest_pit();
     laws::greatest_set_is_best_pit::<WorthSize>();
     laws::greatest_set_is_best_pit::<Scaled>();
     match asked.group {
-        Group::Worth => { trace_by::<Worth, R, T, V, W>(rt, alloc, mine, asked, gate, trace, out) }
-        Group::Pair => {
-            trace_by::<WorthSize, R, T, V, W>(rt, alloc, mine, asked, gate, trace, out)
-        }
-        Group::Scaled => {
-            trace_by::<Scaled, R, T, V, W>(rt, alloc, mine, asked, gate, trace, out)
-        }
+        Group::Worth => trace_by::<Worth, R, T, V, W>(rt, alloc, mine, asked, gate, outputs),
+        Group::Pair => trace_by::<WorthSize, R, T, V, W>(rt, alloc, mine, asked, gate, outputs),
+        Group::Scaled => trace_by::<Scaled, R, T, V, W>(rt, alloc, mine, asked, gate, outputs),
     }
 }
 
@@ -117,33 +112,27 @@ fn trace_by<
     mine: MineToSolve,
     asked: TracedAsked,
     gate: &T,
-    trace: &mut V,
-    out: &mut W,
+    outputs: &mut TracedOutputs<V, W>,
 ) -> Result<Verdict, EngineFault>
 where
     Locked<Audited<G>>: Shared,
     requires price { IsPrice mine.price }
-    requires trace_room { V.failed trace.old < 2 ^ 64 - 1 }
-    requires out_room { W.failed out.old < 2 ^ 64 - 1 }
+    requires trace_room { V.failed outputs.old.trace < 2 ^ 64 - 1 }
+    requires out_room { W.failed outputs.old.out < 2 ^ 64 - 1 }
     ensures answer { (texts : MineTexts) → AreRead texts mine.nanos.items mine.rests → mine.price ≡ price_wanted texts → IsGroupNamed G.name G.block_parts G.counts
-        → Traces texts G.name asked.effort.steps asked.room (V.contents trace.old) (V.contents trace.new) (W.contents out.old) (W.contents out.new) result }
-    ensures device { IsErrOf result EngineFault.Device → V.failed trace.new + W.failed out.new ≡ V.failed trace.old + W.failed out.old + 1 }
-    ensures kept { ¬ IsErrOf result EngineFault.Device → (V.failed trace.new ≡ V.failed trace.old) × (W.failed out.new ≡ W.failed out.old) }
+        → Traces texts G.name asked.effort.steps asked.room (V.contents outputs.old.trace) (V.contents outputs.new.trace) (W.contents outputs.old.out) (W.contents outputs.new.out) result }
+    ensures device { IsErrOf result EngineFault.Device → V.failed outputs.new.trace + W.failed outputs.new.out ≡ V.failed outputs.old.trace + W.failed outputs.old.out + 1 }
+    ensures kept { ¬ IsErrOf result EngineFault.Device → (V.failed outputs.new.trace ≡ V.failed outputs.old.trace) × (W.failed outputs.new.out ≡ W.failed outputs.old.out) }
 {
     let price = mine.price;
     let net = Net::<G>::of_worths(alloc, mine.rests, mine.nanos.as_slice())?;
     drop(mine.nanos);
     // proof: what is known of every net, that its pairs are of its blocks and in order
     let _worths = net.worths();
-    trace_net(
-        rt,
-        alloc,
-        &net,
+    let run = RunAsked {
         price,
-        asked.effort,
-        asked.room,
-        gate,
-        trace,
-        out,
-    )
+        effort: asked.effort,
+        room: asked.room,
+    };
+    trace_net(rt, alloc, &net, run, gate, outputs)
 }

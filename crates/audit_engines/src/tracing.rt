@@ -11,6 +11,7 @@ ghost use Rattle.trace_file.specs.Written.{trace_text};
 ghost use Rattle.audit_engines.specs.Tracing.{TellsRun, TracesNet};
 ghost use Rattle.audit_engines.specs.Sending.{SendsBoth};
 
+use crate::traced_outputs::TracedOutputs;
 use async_step::Event;
 use check_pit::Price;
 use closure_net::{Flow, Net};
@@ -25,9 +26,20 @@ use std::thread::Threads;
 use trace_file::write_trace;
 use workers::{AuditEnd, AuditFault, Audited, Gate, Locked, Shared, SolveFault, solve_audited};
 
-/// Makes a run over a net by the effort's workers, with room for this many events in its history, and
-/// writes the history to `trace`. Then writes to `out` the certificate of the flow that the run leaves,
-/// once a check has accepted it, or a line that says why there is none.
+/// What a run over a net with a trace is asked for.
+#[derive(Clone, Copy)]
+pub struct RunAsked {
+    /// The price that the certificate names.
+    pub price: Price,
+    /// The workers of the run and its most steps, whatever its method.
+    pub effort: Effort,
+    /// The most steps of the trace.
+    pub room: u32,
+}
+
+/// Makes a run over a net by the effort's workers, with room for so many events in its history, and writes the history to
+/// the output of the trace. Then writes to `outputs.out` the certificate of the flow that the run leaves, once a check has
+/// accepted it, or a line that says why there is none.
 ///
 /// # Errors
 /// `Memory`, `Thread` and `Stranger` from the run: nothing was written. `Memory` from the check: the trace is complete. `Device`
@@ -42,38 +54,40 @@ pub fn trace_net<
     rt: &R,
     alloc: Global,
     net: &Net<G>,
-    price: Price,
-    effort: Effort,
-    room: u32,
+    asked: RunAsked,
     gate: &T,
-    trace: &mut V,
-    out: &mut W,
+    outputs: &mut TracedOutputs<V, W>,
 ) -> Result<Verdict, EngineFault>
 where
     Locked<Audited<G>>: Shared,
-    requires price { IsPrice price }
-    requires trace_room { V.failed trace.old < 2 ^ 64 - 1 }
-    requires out_room { W.failed out.old < 2 ^ 64 - 1 }
-    ensures answer { TracesNet G.counts G.name price net.now effort.steps room (V.contents trace.old) (V.contents trace.new) (W.contents out.old) (W.contents out.new) result }
-    ensures device { IsErrOf result EngineFault.Device → V.failed trace.new + W.failed out.new ≡ V.failed trace.old + W.failed out.old + 1 }
-    ensures kept { ¬ IsErrOf result EngineFault.Device → (V.failed trace.new ≡ V.failed trace.old) × (W.failed out.new ≡ W.failed out.old) }
+    requires price { IsPrice asked.price }
+    requires trace_room { V.failed outputs.old.trace < 2 ^ 64 - 1 }
+    requires out_room { W.failed outputs.old.out < 2 ^ 64 - 1 }
+    ensures answer { TracesNet G.counts G.name asked.price net.now asked.effort.steps asked.room (V.contents outputs.old.trace) (V.contents outputs.new.trace) (W.contents outputs.old.out) (W.contents outputs.new.out) result }
+    ensures device { IsErrOf result EngineFault.Device → V.failed outputs.new.trace + W.failed outputs.new.out ≡ V.failed outputs.old.trace + W.failed outputs.old.out + 1 }
+    ensures kept { ¬ IsErrOf result EngineFault.Device → (V.failed outputs.new.trace ≡ V.failed outputs.old.trace) × (W.failed outputs.new.out ≡ W.failed outputs.old.out) }
 {
+    let RunAsked {
+        price,
+        effort,
+        room,
+    } = asked;
     let run = solve_audited(rt, alloc, net, effort.workers, effort.steps, room, gate);
     let AuditFault { fault, history } = match run {
         Ok(audit) => {
-            write_trace(audit.history.as_slice(), trace)?;
-            return tell_flow(alloc, net, price, audit.flow, gate, out);
+            write_trace(audit.history.as_slice(), &mut outputs.trace)?;
+            return tell_flow(alloc, net, price, audit.flow, gate, &mut outputs.out);
         }
         Err(ended) => ended,
     };
     let events = history.as_slice();
     let why = match fault {
-        AuditEnd::HistoryFull => return tell_no(events, b"HISTORYFULL\n", trace, out),
+        AuditEnd::HistoryFull => return tell_no(events, b"HISTORYFULL\n", outputs),
         AuditEnd::NoFlow(why) => why,
     };
     match why {
-        SolveFault::Unsettled => tell_no(events, b"UNSETTLED\n", trace, out),
-        SolveFault::TooLarge => tell_no(events, b"REFUSED TooLarge\n", trace, out),
+        SolveFault::Unsettled => tell_no(events, b"UNSETTLED\n", outputs),
+        SolveFault::TooLarge => tell_no(events, b"REFUSED TooLarge\n", outputs),
         SolveFault::NoMemory => Err(EngineFault::Memory),
         SolveFault::NoThread => Err(EngineFault::Thread),
         SolveFault::StrangerNet | SolveFault::BadWorkers => Err(EngineFault::Stranger),
@@ -84,18 +98,17 @@ where
 fn tell_no<V: CountedWrite, W: CountedWrite>(
     events: &[Event],
     line: &[u8],
-    trace: &mut V,
-    out: &mut W,
+    outputs: &mut TracedOutputs<V, W>,
 ) -> Result<Verdict, EngineFault>
     requires few { length events.now ≤ MOST_EVENTS }
-    requires trace_room { V.failed trace.old < 2 ^ 64 - 1 }
-    requires out_room { W.failed out.old < 2 ^ 64 - 1 }
-    ensures answer { SendsBoth (trace_text events.now) line.now (V.contents trace.old) (V.contents trace.new) (W.contents out.old) (W.contents out.new) result }
-    ensures device { IsErrOf result EngineFault.Device → V.failed trace.new + W.failed out.new ≡ V.failed trace.old + W.failed out.old + 1 }
-    ensures kept { ¬ IsErrOf result EngineFault.Device → (V.failed trace.new ≡ V.failed trace.old) × (W.failed out.new ≡ W.failed out.old) }
+    requires trace_room { V.failed outputs.old.trace < 2 ^ 64 - 1 }
+    requires out_room { W.failed outputs.old.out < 2 ^ 64 - 1 }
+    ensures answer { SendsBoth (trace_text events.now) line.now (V.contents outputs.old.trace) (V.contents outputs.new.trace) (W.contents outputs.old.out) (W.contents outputs.new.out) result }
+    ensures device { IsErrOf result EngineFault.Device → V.failed outputs.new.trace + W.failed outputs.new.out ≡ V.failed outputs.old.trace + W.failed outputs.old.out + 1 }
+    ensures kept { ¬ IsErrOf result EngineFault.Device → (V.failed outputs.new.trace ≡ V.failed outputs.old.trace) × (W.failed outputs.new.out ≡ W.failed outputs.old.out) }
 {
-    write_trace(events, trace)?;
-    write_no(line, out)
+    write_trace(events, &mut outputs.trace)?;
+    write_no(line, &mut outputs.out)
 }
 
 // Writes the certificate of the flow that a run leaves, or that a sum of its check doesn't fit.

@@ -4,7 +4,7 @@ ghost use Rattle.std.specs.Prelude.{◌≡◌, ◌++◌, ◌+◌, ◌-◌, ◌^�
 ghost use Rattle.std.specs.Io.KnownBytes.{Appends};
 ghost use Rattle.csv.specs.Writing.{default_writer, row_text};
 ghost use Rattle.fixed_worth.specs.Device.{ReceivedPrefix};
-ghost use Rattle.bench_report.specs.Written.{IsReady, written, line_of, row_line, table_text};
+ghost use Rattle.bench_report.specs.Written.{IsReady, written, row_line, table_text};
 
 use crate::bench_row::BenchRow;
 use crate::write_fault::ReportWriteFault;
@@ -24,20 +24,19 @@ pub(crate) fn put_fields(wtr: &mut Writer<Vec<u8>>, fields: &[&[u8]]) -> Result<
     }
 }
 
-// Writes the record of these numbers.
-fn put_numbers(
-    alloc: Global,
-    wtr: &mut Writer<Vec<u8>>,
-    z: i32,
-    shell: u32,
-    blocks: u32,
-    tonnes: i128,
-    worth: i128,
-) -> Result<(), AllocError>
+// Writes a row.
+fn put_row(alloc: Global, wtr: &mut Writer<Vec<u8>>, row: &BenchRow) -> Result<(), AllocError>
     requires ready { IsReady wtr.old }
     ensures ready { OnOk result (IsReady wtr.new) }
-    ensures text { OnOk result (written wtr.new ≡ written wtr.old ++ line_of z shell blocks tonnes worth) }
+    ensures text { OnOk result (written wtr.new ≡ written wtr.old ++ row_line row.now) }
 {
+    let BenchRow {
+        z,
+        shell,
+        blocks,
+        tonnes,
+        worth,
+    } = *row;
     let z = format!(in alloc; "{z}")?;
     let shell = format!(in alloc; "{shell}")?;
     let blocks = format!(in alloc; "{blocks}")?;
@@ -52,17 +51,6 @@ fn put_numbers(
             tonnes.as_bytes(),
             worth.as_bytes(),
         ],
-    )
-}
-
-// Writes a row.
-fn put_row(alloc: Global, wtr: &mut Writer<Vec<u8>>, row: &BenchRow) -> Result<(), AllocError>
-    requires ready { IsReady wtr.old }
-    ensures ready { OnOk result (IsReady wtr.new) }
-    ensures text { OnOk result (written wtr.new ≡ written wtr.old ++ row_line row.now) }
-{
-    put_numbers(
-        alloc, wtr, row.z, row.shell, row.blocks, row.tonnes, row.worth,
     )
 }
 

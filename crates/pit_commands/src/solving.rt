@@ -1,7 +1,7 @@
 //! Runs the engines of `solve` on files: opens all files before any is read, and gives the engine's
 //! answer.
 
-use audit_engines::{TracedAsked, solve_traced_engine};
+use audit_engines::{TracedAsked, TracedOutputs, solve_traced_engine};
 use command_line::SolveArgs;
 use engines::{EngineFault, Outcome, SolveAsked, Verdict, solve_engine};
 use fixed_worth::Counted;
@@ -92,15 +92,9 @@ fn trace_files<
     watch: &T,
 ) -> Result<Verdict, EngineFault> {
     let mut mine = open_mine(rt, args.verbose, args.prec, args.model)?;
-    let mut trace = make_file(rt, args.verbose, file)?;
-    let mut out = Counted::new(output(rt, args.verbose, Some(advice_to_solve(args))));
-    solve_traced_engine(
-        rt,
-        rt.alloc(),
-        &mut mine,
-        asked,
-        watch,
-        &mut trace,
-        &mut out,
-    )
+    let mut outputs = TracedOutputs {
+        trace: make_file(rt, args.verbose, file)?,
+        out: Counted::new(output(rt, args.verbose, Some(advice_to_solve(args)))),
+    };
+    solve_traced_engine(rt, rt.alloc(), &mut mine, asked, watch, &mut outputs)
 }

@@ -11,7 +11,7 @@ ghost use Rattle.settings_file.specs.Settings.{said_at, has_mill, cost_in, setti
 
 use crate::arrays::{factors_in, offsets_in};
 use crate::keys::{Key, is_key};
-use crate::settings::Settings;
+use crate::settings::{Columns, Settings};
 use crate::settings_fault::SettingsFault;
 use crate::values::{MOST_COLUMN, number_at};
 use fixed_worth::MOST_FACTOR;
@@ -111,9 +111,14 @@ fn settings_of(alloc: Global, table: &Table) -> Result<Settings, SettingsFault>
     let offsets = offsets_at(alloc, table)?;
     let processing = number_at(table, Key::Processing, MOST_COLUMN)?;
     let mining = number_at(table, Key::Mining, MOST_COLUMN)?;
-    Ok(Settings::of(
-        revenue, cost, tonnes, factors, report, offsets, processing, mining,
-    ))
+    let columns = Columns {
+        revenue,
+        cost,
+        tonnes,
+        processing,
+        mining,
+    };
+    Ok(Settings::of(columns, factors, report, offsets))
 }
 
 /// What a text says as settings.

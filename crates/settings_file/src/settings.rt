@@ -9,6 +9,16 @@ use crate::keys::Key;
 use fixed_worth::MOST_FACTOR;
 use std::marker::Model;
 
+// The columns that settings name, each where its key is there.
+#[derive(Clone, Copy)]
+pub(crate) struct Columns {
+    pub(crate) revenue: Option<u32>,
+    pub(crate) cost: Option<u32>,
+    pub(crate) tonnes: Option<u32>,
+    pub(crate) processing: Option<u32>,
+    pub(crate) mining: Option<u32>,
+}
+
 /// What settings say: the value of each key, where the text has the key.
 #[derive(Drop)]
 pub struct Settings {
@@ -35,24 +45,27 @@ impl Model for Settings {
 
 impl Settings {
     pub(crate) fn of(
-        revenue: Option<u32>,
-        cost: Option<u32>,
-        tonnes: Option<u32>,
+        columns: Columns,
         factors: Option<Vec<u32>>,
         report: Option<u32>,
         offsets: Option<Vec<(i32, i32, i32)>>,
-        processing: Option<u32>,
-        mining: Option<u32>,
     ) -> Settings
-        requires revenue { IfSome revenue (λ column. column ≤ 65535) }
-        requires cost { IfSome cost (λ column. column ≤ 65535) }
-        requires tonnes { IfSome tonnes (λ column. column ≤ 65535) }
+        requires revenue { IfSome columns.revenue (λ column. column ≤ 65535) }
+        requires cost { IfSome columns.cost (λ column. column ≤ 65535) }
+        requires tonnes { IfSome columns.tonnes (λ column. column ≤ 65535) }
         requires factors { IfSome factors (λ v. AreFactors v.items) }
         requires report { IfSome report (λ factor. factor ≤ MOST_FACTOR) }
-        requires processing { IfSome processing (λ column. column ≤ 65535) }
-        requires mining { IfSome mining (λ column. column ≤ 65535) }
-        ensures { result ≡ record { revenue = revenue; cost = cost; tonnes = tonnes; factors = option_map (λ v. v.items) factors; report = report; offsets = option_map (λ v. v.items) offsets; processing = processing; mining = mining } }
+        requires processing { IfSome columns.processing (λ column. column ≤ 65535) }
+        requires mining { IfSome columns.mining (λ column. column ≤ 65535) }
+        ensures { result ≡ record { revenue = columns.revenue; cost = columns.cost; tonnes = columns.tonnes; factors = option_map (λ v. v.items) factors; report = report; offsets = option_map (λ v. v.items) offsets; processing = columns.processing; mining = columns.mining } }
     {
+        let Columns {
+            revenue,
+            cost,
+            tonnes,
+            processing,
+            mining,
+        } = columns;
         Settings {
             revenue,
             cost,

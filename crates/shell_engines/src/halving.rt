@@ -2,16 +2,15 @@
 //! within it, and those of higher ones have it, so that each part is solved by itself.
 
 ghost use Rattle.std.specs.Prelude.{◌≡◌, ℕ, ◌<◌, ◌≤◌, ◌++◌, ◌∷◌, [], All, List, length, cond, nat_lt, IfOk, OnOk, IfSome};
-ghost use Rattle.settings_file.specs.Values.{AreFactors};
-ghost use Rattle.shells.specs.Prices.{PricesView, blocks_of};
+ghost use Rattle.shells.specs.Prices.{PricesView};
 ghost use Rattle.shell_engines.specs.PitsAtFactors.{IsProved};
 ghost use Rattle.shell_engines.specs.Parting.{ArePriced, AreHalved, IsLeft, IsLevel};
 
 use crate::best_pits::BestPit;
 use crate::mine_parts::{Halved, Part, solved_part, whole};
+use crate::series_inputs::SeriesMine;
 use crate::series_progress::SeriesProgress;
-use prec_file::Predecessors;
-use shells::{Factor, Prices};
+use engines::Effort;
 use std::alloc::{AllocError, Global};
 use std::sync::atomic::{AtomicU64, Ordering};
 use std::thread::{Threads, map_indices};
@@ -87,20 +86,17 @@ fn first_of(part: &Part, factors: usize) -> usize
 // What one thread finds: it takes the parts that no other one has taken, one after another.
 fn solved_by<T: SeriesProgress>(
     alloc: Global,
-    prices: &Prices,
-    rests: &Predecessors,
-    factors: &[Factor],
+    mine: &SeriesMine,
     parts: &[Part],
     taken: &AtomicU64,
     turns: u64,
     gate: &T,
 ) -> Result<Level, AllocError>
-    requires form { AreFactors factors.now }
-    requires blocks { rests.now.blocks ≡ blocks_of prices.now }
-    requires priced { ArePriced rests.now.pairs prices.now factors.now }
-    requires left { All (IsLeft rests.now.pairs prices.now factors.now) parts.now }
-    ensures { IfOk result (IsLevel rests.now.pairs prices.now factors.now) }
+    requires priced { ArePriced mine.now.rests.pairs mine.now.prices mine.now.factors.items }
+    requires left { All (IsLeft mine.now.rests.pairs mine.now.prices mine.now.factors.items) parts.now }
+    ensures { IfOk result (IsLevel mine.now.rests.pairs mine.now.prices mine.now.factors.items) }
 {
+    let factors = mine.factors.as_slice();
     let mut level = Level::new(alloc);
     for _ in 0..parts.len() {
         let Some(next) = next_place(parts.len(), taken) else {
@@ -108,7 +104,7 @@ fn solved_by<T: SeriesProgress>(
         };
         let part = &parts[next];
         let place = first_of(part, factors.len());
-        let halves = solved_part(alloc, prices, rests, factors, part, place, turns)?;
+        let halves = solved_part(alloc, mine, part, place, turns)?;
         if halves.best.is_some() {
             gate.settled(factors[place].get(), place as u32 + 1, factors.len() as u32);
         }
@@ -117,33 +113,30 @@ fn solved_by<T: SeriesProgress>(
     Ok(level)
 }
 
-// Solves each of these parts.
+// Solves each of these parts, by as many threads as the effort has workers, but by no more than there are parts.
 fn level_of<R: Threads + Sync, T: SeriesProgress + Sync>(
     rt: &R,
     alloc: Global,
-    prices: &Prices,
-    rests: &Predecessors,
-    factors: &[Factor],
+    mine: &SeriesMine,
     parts: &[Part],
-    threads: usize,
-    turns: u64,
+    effort: Effort,
     gate: &T,
 ) -> Result<Level, AllocError>
-    requires form { AreFactors factors.now }
-    requires blocks { rests.now.blocks ≡ blocks_of prices.now }
-    requires priced { ArePriced rests.now.pairs prices.now factors.now }
-    requires left { All (IsLeft rests.now.pairs prices.now factors.now) parts.now }
-    ensures { IfOk result (IsLevel rests.now.pairs prices.now factors.now) }
+    requires priced { ArePriced mine.now.rests.pairs mine.now.prices mine.now.factors.items }
+    requires left { All (IsLeft mine.now.rests.pairs mine.now.prices mine.now.factors.items) parts.now }
+    ensures { IfOk result (IsLevel mine.now.rests.pairs mine.now.prices mine.now.factors.items) }
 {
     let taken = AtomicU64::new(0);
+    let threads = effort.workers as usize;
+    let turns = effort.turns;
     let mut answers = map_indices(
         rt,
         alloc,
         threads.min(parts.len()),
         &|_thread: usize| -> Result<Level, AllocError>
-            requires { AreFactors factors.now × (rests.now.blocks ≡ blocks_of prices.now) × ArePriced rests.now.pairs prices.now factors.now × All (IsLeft rests.now.pairs prices.now factors.now) parts.now }
-            ensures { IfOk result (IsLevel rests.entry.now.pairs prices.entry.now factors.entry.now) }
-        { solved_by(alloc, prices, rests, factors, parts, &taken, turns, gate) },
+            requires { ArePriced mine.now.rests.pairs mine.now.prices mine.now.factors.items × All (IsLeft mine.now.rests.pairs mine.now.prices mine.now.factors.items) parts.now }
+            ensures { IfOk result (IsLevel mine.entry.now.rests.pairs mine.entry.now.prices mine.entry.now.factors.items) }
+        { solved_by(alloc, mine, parts, &taken, turns, gate) },
     )?;
     let mut all = Level::new(alloc);
     while let Some(answer) = answers.pop() {
@@ -154,46 +147,33 @@ fn level_of<R: Threads + Sync, T: SeriesProgress + Sync>(
     Ok(all)
 }
 
-/// The best pits at the factors that pseudoflow finds within its turns and a check accepts, in no order. They are found by so
-/// many threads, where these can be made.
+/// The best pits at a mine's factors that pseudoflow finds within its turns and a check accepts, in no order. They are found by
+/// as many threads as the effort has workers, where these can be made.
 ///
 /// # Errors
 /// Memory was refused.
 pub fn found_beside<R: Threads + Sync, T: SeriesProgress + Sync>(
     rt: &R,
     alloc: Global,
-    prices: &Prices,
-    rests: &Predecessors,
-    factors: &[Factor],
-    threads: usize,
-    turns: u64,
+    mine: &SeriesMine,
+    effort: Effort,
     gate: &T,
 ) -> Result<Vec<BestPit>, AllocError>
-    requires { AreFactors factors.now }
-    ensures { IfOk result (λ v. All (IsProved rests.now.pairs prices.now) v.items) }
+    ensures { IfOk result (λ v. All (IsProved mine.now.rests.pairs mine.now.prices) v.items) }
 {
     let mut found: Vec<BestPit> = Vec::new(alloc);
-    if rests.len() != prices.len() {
-        return Ok(found);
-    }
     let mut parts: Vec<Part> = Vec::new(alloc);
-    let all = whole(alloc, prices.len(), factors.len())?;
+    // proof: what is known of every list of predecessors, that its pairs are of its blocks and in order
+    let _resting = mine.rests.len();
+    let blocks = mine.prices.len();
+    let count = mine.factors.len();
+    let all = whole(alloc, blocks, count)?;
     parts.push(all)?;
-    for _ in 0..factors.len() {
+    for _ in 0..count {
         if parts.is_empty() {
             return Ok(found);
         }
-        let mut level = level_of(
-            rt,
-            alloc,
-            prices,
-            rests,
-            factors,
-            parts.as_slice(),
-            threads,
-            turns,
-            gate,
-        )?;
+        let mut level = level_of(rt, alloc, mine, parts.as_slice(), effort, gate)?;
         found.append(&mut level.found)?;
         parts = level.parts;
     }

@@ -6,13 +6,14 @@ ghost use Rattle.fixed_worth.specs.declared.limits.TheConstants.{MOST_BLOCKS};
 ghost use Rattle.ordered_group.specs.Block.{scaled_block};
 ghost use Rattle.prec_file.specs.Rests.{passing};
 ghost use Rattle.closure_net.specs.Network.{IsAscending};
-ghost use Rattle.shells.specs.Prices.{PricesView, blocks_of, worth_at};
+ghost use Rattle.shells.specs.Prices.{PricesView, worth_at};
 ghost use Rattle.sub_mines.specs.Parts.{every_block};
 ghost use Rattle.shell_engines.specs.PitsAtFactors.{IsBestOf};
 ghost use Rattle.shell_engines.specs.Parting.{ArePriced, IsPart, IsNetAmong, IsBestAmong, AreHalved};
 
 use crate::best_pits::{BestPit, best_of};
 use crate::lifted_pits::{at_others, at_places, best_with, merged};
+use crate::series_inputs::SeriesMine;
 use closure_net::{Net, NetFault, Pit};
 use engines::solvers::by_pseudoflow;
 use ordered_group::Scaled;
@@ -112,17 +113,17 @@ fn net_among(
 // ones have it. None where it isn't found.
 fn by_pit(
     alloc: Global,
-    prices: &Prices,
-    factors: &[Factor],
+    mine: &SeriesMine,
     part: &Part,
     place: usize,
     small: &Pit,
 ) -> Result<Option<Halved>, AllocError>
-    requires inside { place < length factors.now }
+    requires inside { place < length mine.now.factors.items }
     requires first { part.now.from ≤ place }
     requires last { place < part.now.to }
     requires few { length part.now.kept.items ≤ MOST_BLOCKS }
-    ensures { (pairs : List (ℕ × ℕ)) → ArePriced pairs prices.now factors.now → IsPart pairs prices.now factors.now part.now → IsBestAmong pairs prices.now part.now.kept.items (slice_index factors.now place) small.now → IfOk result (λ o. IfSome o (AreHalved pairs prices.now factors.now)) }
+    ensures { (pairs : List (ℕ × ℕ)) → ArePriced pairs mine.now.prices mine.now.factors.items → IsPart pairs mine.now.prices mine.now.factors.items part.now
+        → IsBestAmong pairs mine.now.prices part.now.kept.items (slice_index mine.now.factors.items place) small.now → IfOk result (λ o. IfSome o (AreHalved pairs mine.now.prices mine.now.factors.items)) }
 {
     let kept = part.kept.as_slice();
     let Some(inside) = at_places(alloc, kept, small.blocks())? else {
@@ -131,7 +132,7 @@ fn by_pit(
     let outside = at_others(alloc, kept, small)?;
     let blocks = merged(alloc, part.low.as_slice(), inside.as_slice())?;
     let above = Vec::from_slice(alloc, blocks.as_slice())?;
-    let Some(best) = best_with(prices, blocks, factors[place]) else {
+    let Some(best) = best_with(&mine.prices, blocks, mine.factors[place]) else {
         return Ok(None);
     };
     let lower = Part {
@@ -197,36 +198,33 @@ impl Part {
     }
 }
 
-/// Solves the part at the factor at this place.
+/// Solves the part of a mine at the factor at this place.
 ///
 /// # Errors
 /// Memory was refused.
 pub fn solved_part(
     alloc: Global,
-    prices: &Prices,
-    rests: &Predecessors,
-    factors: &[Factor],
+    mine: &SeriesMine,
     part: &Part,
     place: usize,
     turns: u64,
 ) -> Result<Halved, AllocError>
-    requires blocks { rests.now.blocks ≡ blocks_of prices.now }
-    requires priced { ArePriced rests.now.pairs prices.now factors.now }
-    requires part { IsPart rests.now.pairs prices.now factors.now part.now }
+    requires priced { ArePriced mine.now.rests.pairs mine.now.prices mine.now.factors.items }
+    requires part { IsPart mine.now.rests.pairs mine.now.prices mine.now.factors.items part.now }
     requires first { part.now.from ≤ place }
     requires last { place < part.now.to }
-    ensures { IfOk result (AreHalved rests.now.pairs prices.now factors.now) }
+    ensures { IfOk result (AreHalved mine.now.rests.pairs mine.now.prices mine.now.factors.items) }
 {
-    let factor = factors[place];
+    let factor = mine.factors[place];
     let next = place + 1;
     let kept = part.kept.as_slice();
-    let Some(net) = net_among(alloc, prices, rests, kept, factor)? else {
+    let Some(net) = net_among(alloc, &mine.prices, &mine.rests, kept, factor)? else {
         return part.unsolved(alloc, place, next);
     };
     let Some(small) = quick_best(alloc, &net, factor, turns)? else {
         return part.unsolved(alloc, place, next);
     };
-    let Some(found) = by_pit(alloc, prices, factors, part, place, &small.pit)? else {
+    let Some(found) = by_pit(alloc, mine, part, place, &small.pit)? else {
         return part.unsolved(alloc, place, next);
     };
     Ok(found)

@@ -18,9 +18,8 @@ use crate::solver_at::solution_at;
 use engines::Effort;
 use engines::solvers::Unsolved;
 use fixed_worth::MOST_FACTORS;
-use prec_file::{Predecessors, Rests};
 use pseudoflow::Progress;
-use shells::{Factor, Prices, Series, SeriesFault};
+use shells::{Factor, Series, SeriesFault};
 use std::alloc::{AllocError, Global};
 use std::sync::Wait;
 use std::thread::Threads;
@@ -50,20 +49,20 @@ impl Shells {
     }
 }
 
-// The best pit of a mine at a factor, looked for now: where the method ends with pseudoflow, that gave up on it.
+// The best pit of a series' mine at a factor, looked for now: where the method ends with pseudoflow, that gave up on it.
 fn best_at<R: Threads + Wait + Sync, T: Gate + Progress>(
     rt: &R,
     alloc: Global,
-    prices: &Prices,
-    rests: &Rests,
+    series: &Series,
     factor: Factor,
     effort: Effort,
     gate: &T,
 ) -> Result<BestPit, NoSeries>
-    ensures best { IfOk result (λ best. (best.row.factor ≡ factor) × IsProved rests.now.pairs prices.now best) }
-    ensures fault { IfErr result (λ e. (factors : List ℕ) → Contains factors factor → NoSeriesStands scaled_block rests.now prices.now factors effort e) }
+    ensures best { IfOk result (λ best. (best.row.factor ≡ factor) × IsProved series.now.pairs series.now.prices best) }
+    ensures fault { IfErr result (λ e. (factors : List ℕ) → Contains factors factor → NoSeriesStands scaled_block (rests_in series.now) series.now.prices factors effort e) }
 {
-    let net = net_at(rt, alloc, prices, rests.copy(alloc)?, factor)?;
+    let rests = series.rests().copy(alloc)?;
+    let net = net_at(rt, alloc, series.prices(), rests, factor)?;
     if effort.method.ends_with_pseudoflow(net.len()) {
         return Err(NoSeries::Unsolved(factor.get(), Unsolved::GaveUp));
     }
@@ -74,39 +73,39 @@ fn best_at<R: Threads + Wait + Sync, T: Gate + Progress>(
     Ok(best_of(factor, solution))
 }
 
+// The pits that are wanted: the factors, the pits that were found at some of them beside others, and how the rest are
+// looked for.
+#[derive(Drop)]
+struct WantedPits<'a> {
+    factors: &'a [Factor],
+    found: &'a [BestPit],
+    effort: Effort,
+}
+
 impl Shells {
-    // Adds the best pit at a factor: the one that was found beside others, or else one that is looked for now.
+    // Adds the best pit at the factor at this place: the one that was found beside others, or else one that is looked for now.
     fn settle_at<R: Threads + Wait + Sync, T: Gate + Progress + SeriesProgress>(
         &mut self,
         rt: &R,
         alloc: Global,
-        factors: &[Factor],
+        wanted: &WantedPits<'_>,
         place: usize,
-        found: &[BestPit],
-        effort: Effort,
         gate: &T,
     ) -> Result<(), NoSeries>
-        requires inside { place < length factors.now }
-        requires form { AreFactors factors.now }
-        requires found { All (IsProved self.old.series.pairs self.old.series.prices) found.now }
-        requires done { IsSettled self.old.series.pairs self.old.series.prices (take place factors.now) self.old.series self.old.rows.items }
-        ensures settled { OnOk result (IsSettled self.old.series.pairs self.old.series.prices (take (place + 1) factors.now) self.new.series self.new.rows.items) }
-        ensures fault { IfErr result (λ e. NoSeriesStands scaled_block (rests_in self.old.series) self.old.series.prices factors.now effort e) }
+        requires inside { place < length wanted.now.factors.now }
+        requires form { AreFactors wanted.now.factors.now }
+        requires found { All (IsProved self.old.series.pairs self.old.series.prices) wanted.now.found.now }
+        requires done { IsSettled self.old.series.pairs self.old.series.prices (take place wanted.now.factors.now) self.old.series self.old.rows.items }
+        ensures settled { OnOk result (IsSettled self.old.series.pairs self.old.series.prices (take (place + 1) wanted.now.factors.now) self.new.series self.new.rows.items) }
+        ensures fault { IfErr result (λ e. NoSeriesStands scaled_block (rests_in self.old.series) self.old.series.prices wanted.now.factors.now wanted.now.effort e) }
     {
+        let factors = wanted.factors;
         let factor = factors[place];
-        if let Some(best) = best_in(found, factor) {
+        if let Some(best) = best_in(wanted.found, factor) {
             return Ok(self.add(factor, best)?);
         }
         let series = &self.series;
-        let best = best_at(
-            rt,
-            alloc,
-            series.prices(),
-            series.rests(),
-            factor,
-            effort,
-            gate,
-        )?;
+        let best = best_at(rt, alloc, series, factor, wanted.effort, gate)?;
         self.add(factor, &best)?;
         gate.settled(factor.get(), place as u32 + 1, factors.len() as u32);
         Ok(())
@@ -118,29 +117,16 @@ impl Shells {
 fn found_first<R: Threads + Sync, T: SeriesProgress + Sync>(
     rt: &R,
     alloc: Global,
-    prices: &Prices,
-    rests: &Predecessors,
-    factors: &[Factor],
+    mine: &SeriesMine,
     effort: Effort,
     gate: &T,
 ) -> Result<Vec<BestPit>, AllocError>
-    requires { AreFactors factors.now }
-    ensures { IfOk result (λ v. All (IsProved rests.now.pairs prices.now) v.items) }
+    ensures { IfOk result (λ v. All (IsProved mine.now.rests.pairs mine.now.prices) v.items) }
 {
-    if !effort.method.begins_with_pseudoflow(prices.len()) {
+    if !effort.method.begins_with_pseudoflow(mine.prices.len()) {
         return Ok(Vec::new(alloc));
     }
-    let threads = factors.len().min(effort.workers as usize);
-    found_beside(
-        rt,
-        alloc,
-        prices,
-        rests,
-        factors,
-        threads,
-        effort.turns,
-        gate,
-    )
+    found_beside(rt, alloc, mine, effort, gate)
 }
 
 /// The shells of a mine at its factors: each factor's mine is solved, a check accepts its flow, and the pit is added to
@@ -165,12 +151,12 @@ pub fn settle<R: Threads + Wait + Sync, T: Gate + Progress + SeriesProgress>(
         (λ shells. IsSettled mine.rests.pairs mine.prices mine.factors.items shells.series shells.rows.items)
         (λ e. NoSeriesStands scaled_block mine.rests mine.prices mine.factors.items effort e) }
 {
+    let found = found_first(rt, alloc, &mine, effort, gate)?;
     let SeriesMine {
         prices,
         rests,
         factors,
     } = mine;
-    let found = found_first(rt, alloc, &prices, &rests, factors.as_slice(), effort, gate)?;
     let rests = rests.into_rests(alloc)?;
     let series = match Series::open(alloc, rests, prices) {
         Ok(series) => series,
@@ -181,16 +167,13 @@ pub fn settle<R: Threads + Wait + Sync, T: Gate + Progress + SeriesProgress>(
         series,
         rows: Vec::new(alloc),
     };
+    let wanted = WantedPits {
+        factors: factors.as_slice(),
+        found: found.as_slice(),
+        effort,
+    };
     for place in 0..factors.len() {
-        shells.settle_at(
-            rt,
-            alloc,
-            factors.as_slice(),
-            place,
-            found.as_slice(),
-            effort,
-            gate,
-        )?;
+        shells.settle_at(rt, alloc, &wanted, place, gate)?;
     }
     Ok(shells)
 }

@@ -13,16 +13,17 @@ use Rattle.shell_engines.proofs.halving.found_beside.Goals as goal
 
 pub loop-init : goal.loop-init
 loop-init g c =
-    let pairs = c.args.rests.now.pairs in
-    let prices = c.args.prices.now in
-    let factors = c.args.factors.now in
+    let m = c.args.mine.now in
+    let pairs = m.rests.pairs in
+    let prices = m.prices in
+    let factors = m.factors.items in
     let P : BestPit → Type 0 = IsProved pairs prices in
     let Q : Part → Type 0 = IsLeft pairs prices factors in
     let all = c.in_ok-all.all in
     let e = c.in_ok-all.ensures in
     let left : Q all = record {
-      lies = part_of pairs prices factors all 0 (length factors) [] (passing every_block (length prices.revenue)) (e.0, e.1, e.2, e.3 ∙ ap (passing every_block) c.len-3.ensures.is) (whole_part pairs prices factors);
-      some = omega (arith, e.0, e.1, c.requires.some);
+      lies = part_of pairs prices factors all 0 (length factors) [] (passing every_block (length prices.revenue)) (e.0, e.1 ∙ c.len-count.ensures ∙ m.factors.ok.0, e.2, e.3 ∙ ap (passing every_block) c.len-blocks.ensures.is) (whole_part pairs prices factors);
+      some = omega (arith, e.0, e.1, c.len-count.ensures, m.factors.ok.0, m.form.some);
     } in (
       subst (All P) (sym c.new-found.ensures.items) (all_nothing P),
       subst (All Q) (sym (c.in_ok-push.ensures.items ∙ ap (λ (xs : List Part). xs ++ all ∷ []) c.new-parts.ensures.items)) (all_one Q all left),
@@ -30,7 +31,7 @@ loop-init g c =
 
 pub loop-preserved : goal.loop-preserved
 loop-preserved g c =
-    let P : BestPit → Type 0 = IsProved c.args.rests.now.pairs c.args.prices.now in
+    let P : BestPit → Type 0 = IsProved c.args.mine.now.rests.pairs c.args.mine.now.prices in
     let level = c.in_ok-level.ensures in (
       subst (All P) (sym c.in_ok-append.ensures.items) (All-append P c.loop.found.items c.in_ok-level.level.found.items c.loop.invariant.0 level.found),
       level.left,

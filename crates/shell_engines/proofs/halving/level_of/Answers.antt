@@ -11,9 +11,9 @@ use Rattle.shell_engines.proofs.halving.level_of.Goals as goal
 
 pub loop-answer-preserved : goal.loop-answer-preserved
 loop-answer-preserved g c =
-    let pairs = c.args.rests.now.pairs in
-    let prices = c.args.prices.now in
-    let factors = c.args.factors.now in
+    let pairs = c.args.mine.now.rests.pairs in
+    let prices = c.args.mine.now.prices in
+    let factors = c.args.mine.now.factors.items in
     let P : BestPit → Type 0 = IsProved pairs prices in
     let Q : Part → Type 0 = IsLeft pairs prices factors in
     let A : Result Level AllocError → Type 0 = λ answer. IfOk answer (IsLevel pairs prices factors) in

@@ -1,5 +1,5 @@
 use Rattle.std.proofs.Common.{◌≡◌, ◌+◌, ◌<◌, ◌∙◌, ℕ, List, All, length, map, get_or, Vec, Global, Option, IfSome, sym, ap, subst}
-use Rattle.std.proofs.lemmas.List.{get_or_default}
+use Rattle.std.proofs.lemmas.List.{get_or_read}
 use Rattle.prec_file.specs.Rests.{passing}
 use Rattle.closure_net.specs.Network.{holds_of}
 use Rattle.closure_net.specs.Mine.{IsBest}
@@ -11,8 +11,8 @@ use Rattle.shell_engines.proofs.mine_parts.by_pit.Goals as goal
 
 pub returns : goal.returns
 returns c = λ pairs h part found.
-    let prices = c.args.prices.now in
-    let factors = c.args.factors.now in
+    let prices = c.args.mine.now.prices in
+    let factors = c.args.mine.now.factors.items in
     let from = c.args.part.now.from in
     let to = c.args.part.now.to in
     let place = c.args.place in
@@ -37,7 +37,7 @@ returns c = λ pairs h part found.
     ∙ ap (λ (xs : List ℕ). joined (holds_of low) (holds_of xs) b) (c.as_slice-2.ensures.value ∙ inside) in
     let above : c.in_ok-above.above.items ≡ blocks = c.in_ok-above.ensures.items ∙ c.as_slice-3.ensures.value in
     let again : c.in_ok-from_slice.field-0.items ≡ low = c.in_ok-from_slice.ensures.items ∙ c.as_slice-4.ensures.value in
-    let is_k : c.index-factors-place.result ≡ get_or factors place 0 = c.index-factors-place.is ∙ get_or_default factors place c.index-factors-place.result 0 c.requires.inside in
+    let is_k : c.index.result.now ≡ get_or factors place 0 = get_or_read factors place c.index.result.now c.requires.inside c.index.ensures 0 in
     let best = lifted_best pairs prices factors from to place low kept s h part first last rising places found blocks are in
     record {
       found = c.in-Some-best_with.ensures pairs (subst (λ f. IsBest (mine_at pairs prices f) (holds_of blocks)) (sym is_k) best);

@@ -1,5 +1,5 @@
 use Rattle.std.proofs.Common.{◌≡◌, ◌∙◌, ℕ, List, length, get_or, Option, IfSome, ap, subst, arith}
-use Rattle.std.proofs.lemmas.List.{get_or_default}
+use Rattle.std.proofs.lemmas.List.{get_or_read}
 use Rattle.ordered_group.specs.Block.{scaled_block}
 use Rattle.closure_net.specs.Network.{NetView}
 use Rattle.shells.specs.Prices.{blocks_of}
@@ -13,22 +13,22 @@ use Rattle.shell_engines.proofs.mine_parts.solved_part.Goals as goal
 pub net_among-requires-clause-size : goal.net_among-requires-clause-size
 net_among-requires-clause-size c =
     let part = c.requires.part in
-    let short = ascending_short c.args.part.now.kept.items (blocks_of c.args.prices.now) part.are_kept.ascending part.are_kept.below in
+    let short = ascending_short c.args.part.now.kept.items (blocks_of c.args.mine.now.prices) part.are_kept.ascending part.are_kept.below in
     let same = ap (λ (xs : List ℕ). length xs) c.as_slice-kept.ensures.value in
-    omega (arith, short, same, c.requires.blocks)
+    omega (arith, short, same, c.args.mine.now.sizes)
 
 pub returns : goal.returns
 returns c =
-    let pairs = c.args.rests.now.pairs in
-    let prices = c.args.prices.now in
+    let pairs = c.args.mine.now.rests.pairs in
+    let prices = c.args.mine.now.prices in
+    let factors = c.args.mine.now.factors.items in
     let kept = c.args.part.now.kept.items in
-    let k = c.index-factors-place.result in
+    let k = c.index-factor.result.now in
     let net : IsNetAmong scaled_block pairs prices c.as_slice-kept.result.now k c.in-Some.net = subst (λ (o : Option NetView). IfSome o (IsNetAmong scaled_block pairs prices c.as_slice-kept.result.now k)) c.in-Some.is c.in_ok-net.ensures in
     let of = subst (λ (xs : List ℕ). IsNetAmong scaled_block pairs prices xs k c.in-Some.net) c.as_slice-kept.ensures.value net in
     let small : IsBestOf scaled_block c.in-Some.net k c.in-Some-2.small = subst (λ (o : Option BestPit). IfSome o (IsBestOf scaled_block c.in-Some.net k)) c.in-Some-2.is c.in_ok-small.ensures in
     let best : IsBestAmong pairs prices kept k c.in-Some-2.small.pit = record { less = of.less; part = of.part; best = small.is_best (mine_among of.less prices kept k) of.of } in
-    let factors = c.args.factors.now in
     let part = c.requires.part in
-    let is_k : k ≡ get_or factors c.args.place 0 = c.index-factors-place.is ∙ get_or_default factors c.args.place k 0 (omega (arith, c.requires.last, part.inside)) in
+    let is_k : k ≡ get_or factors c.args.place 0 = get_or_read factors c.args.place k (omega (arith, c.requires.last, part.inside)) c.index-factor.ensures 0 in
     let here = subst (λ f. IsBestAmong pairs prices kept f c.in-Some-2.small.pit) is_k best in
-    subst (λ (o : Option Halved). IfSome o (AreHalved pairs prices c.args.factors.now)) c.in-Some-3.is (c.in_ok-found.ensures pairs c.requires.priced c.requires.part here)
+    subst (λ (o : Option Halved). IfSome o (AreHalved pairs prices factors)) c.in-Some-3.is (c.in_ok-found.ensures pairs c.requires.priced c.requires.part here)
