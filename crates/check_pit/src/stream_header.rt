@@ -66,7 +66,7 @@ pub fn read_header<R: CountedRead>(lines: &mut StreamLines<R>) -> Result<Header,
     ensures device { IsErrOf result StreamFault.Device → R.failed lines.new.from ≡ R.failed lines.old.from + 1 }
     ensures kept { ¬ IsErrOf result StreamFault.Device → R.failed lines.new.from ≡ R.failed lines.old.from }
 {
-    let version = take_line(lines, version_in)?;
+    let version = take_line(lines, |line: &[u8]| version_in(line))?;
     let blocks = take_line(lines, |line: &[u8]| blocks_in(None, line))?;
     let price = take_line(lines, |line: &[u8]| price_in(version, line))?;
     let group = take_line(lines, |line: &[u8]| group_in(None, line))?;
