@@ -13,7 +13,7 @@ use Rattle.certificate_file.specs.declared.body_lines.LineKind.TheVariants.{Rest
 use Rattle.certificate_file.specs.declared.body_lines.BodyLine.{BodyLine}
 use Rattle.certificate_file.specs.BodyLines.{is_of_model}
 use Rattle.certificate_file.specs.Certificate.{Covers, has_pair, amount_of}
-use Rattle.certificate_file.specs.Gathered.{Gathered, with_source, with_rest, with_sink, Adds}
+use Rattle.certificate_file.specs.Gathered.{Gathered, with_rest, Adds}
 
 -- Whether a pair is among the model's.
 tail_holds : (q : ℕ × ℕ) (qs : List (ℕ × ℕ)) (x : ℕ × ℕ) → Contains qs x → Contains (q ∷ qs) x

@@ -1,5 +1,5 @@
 -- A pit and a flow while their lines are read.
-use Rattle.std.specs.Prelude.{◌≡◌, ℕ, ◌<◌, List, [], ◌∷◌, ◌++◌, length, slice_index_or, slice_set}
+use Rattle.std.specs.Prelude.{◌≡◌, ℕ, ◌<◌, List, ◌++◌, length, slice_index_or, slice_set}
 use Rattle.ordered_group.specs.Amount.{Amount}
 use Rattle.ordered_group.specs.Sums.{amount_at}
 use Rattle.closure_net.specs.Network.{FlowView, flow_view}
@@ -11,21 +11,9 @@ pub record Gathered : Type 0 where
   pub pit : List ℕ
   pub flow : FlowView
 
--- one more block in the pit
-abbrev pub with_block : ℕ → Gathered → Gathered
-with_block b g = record { pit = g.pit ++ b ∷ []; flow = g.flow }
-
--- another amount from the source for b
-abbrev pub with_source : ℕ → Amount → Gathered → Gathered
-with_source b x g = record { pit = g.pit; flow = flow_view (slice_set g.flow.source b x) g.flow.rest g.flow.sink }
-
 -- another amount over pair k
 abbrev pub with_rest : ℕ → Amount → Gathered → Gathered
 with_rest k x g = record { pit = g.pit; flow = flow_view g.flow.source (slice_set g.flow.rest k x) g.flow.sink }
-
--- another amount to the sink for b
-abbrev pub with_sink : ℕ → Amount → Gathered → Gathered
-with_sink b x g = record { pit = g.pit; flow = flow_view g.flow.source g.flow.rest (slice_set g.flow.sink b x) }
 
 -- the lines are added to what was gathered before
 pub record Adds (n : ℕ) (pairs : List (ℕ × ℕ)) (lines : List BodyLine) (before later : Gathered) : Type 0 where

@@ -1,14 +1,14 @@
 //! Gathers the pit and the flow of a certificate line by line, and refuses an amount over a pair that the mine
 //! doesn't have.
 
-ghost use Rattle.std.specs.Prelude.{◌≡◌, ◌≢◌, ℕ, ◌<◌, Bool, true, false, ◌⊎◌, pos, [], ◌∷◌, length, IfOk, MatchOption, MatchResult};
+ghost use Rattle.std.specs.Prelude.{◌≡◌, ◌≢◌, ℕ, ◌<◌, Bool, true, false, ◌⊎◌, pos, [], ◌∷◌, length, slice_set, IfOk, MatchOption, MatchResult};
 ghost use Rattle.ordered_group.specs.Amount.{zero_amount};
 ghost use Rattle.ordered_group.specs.Sums.{amount_at};
 ghost use Rattle.prec_file.specs.Rests.{IsRests};
 ghost use Rattle.closure_net.specs.Network.{IsAscending};
 ghost use Rattle.certificate_file.specs.BodyLines.{is_end, is_of_model};
 ghost use Rattle.certificate_file.specs.Certificate.{Covers, UnlessMemory, amount_of, has_pair};
-ghost use Rattle.certificate_file.specs.Gathered.{Gathered, Adds, with_block, with_source, with_rest, with_sink};
+ghost use Rattle.certificate_file.specs.Gathered.{Gathered, Adds};
 
 use crate::body_lines::{BodyLine, LineKind};
 use crate::cert_fault::CertFault;
@@ -54,6 +54,14 @@ pub fn amount<G: OrderedGroup>(line: &BodyLine) -> G
     }
 }
 
+// Sets the amount at a place.
+fn set<G: OrderedGroup>(amounts: &mut Carried<G>, place: u32, amount: G) -> Result<(), CertFault>
+    requires { place < length amounts.old }
+    ensures { MatchResult result (λ _. amounts.new ≡ slice_set amounts.old place (G.parts_of amount)) (λ e. e ≡ CertFault.NoMemory) }
+{
+    amounts.set(place, amount).map_err(|_| CertFault::NoMemory)
+}
+
 impl<G: OrderedGroup> Parts<G> {
     /// No block, and amounts of zero for n blocks and m pairs.
     pub fn new(alloc: Global, n: u32, m: u32) -> Result<Parts<G>, AllocError>
@@ -74,37 +82,6 @@ impl<G: OrderedGroup> Parts<G> {
         })
     }
 
-    fn put_block(&mut self, block: u32) -> Result<(), CertFault>
-        ensures { MatchResult result (λ _. self.new ≡ with_block block self.old) (λ e. e ≡ CertFault.NoMemory) }
-    {
-        self.pit.push(block).map_err(|_| CertFault::NoMemory)
-    }
-
-    fn put_source(&mut self, block: u32, amount: G) -> Result<(), CertFault>
-        requires { block < length self.old.flow.source }
-        ensures { MatchResult result (λ _. self.new ≡ with_source block (G.parts_of amount) self.old) (λ e. e ≡ CertFault.NoMemory) }
-    {
-        self.source
-            .set(block, amount)
-            .map_err(|_| CertFault::NoMemory)
-    }
-
-    fn put_rest(&mut self, pair: u32, amount: G) -> Result<(), CertFault>
-        requires { pair < length self.old.flow.rest }
-        ensures { MatchResult result (λ _. self.new ≡ with_rest pair (G.parts_of amount) self.old) (λ e. e ≡ CertFault.NoMemory) }
-    {
-        self.rest.set(pair, amount).map_err(|_| CertFault::NoMemory)
-    }
-
-    fn put_sink(&mut self, block: u32, amount: G) -> Result<(), CertFault>
-        requires { block < length self.old.flow.sink }
-        ensures { MatchResult result (λ _. self.new ≡ with_sink block (G.parts_of amount) self.old) (λ e. e ≡ CertFault.NoMemory) }
-    {
-        self.sink
-            .set(block, amount)
-            .map_err(|_| CertFault::NoMemory)
-    }
-
     /// Adds what a line says: `UnknownPair` where the model doesn't have its pair.
     pub fn put(&mut self, rests: &Rests, line: &BodyLine, number: u64) -> Result<(), CertFault>
         requires rests { IsRests rests.now }
@@ -118,15 +95,15 @@ impl<G: OrderedGroup> Parts<G> {
             (λ e. UnlessMemory e ((e ≡ CertFault.UnknownPair number) × (is_of_model (has_pair rests.now.pairs) line.now.kind line.now ≡ false))) }
     {
         match line.kind {
-            LineKind::Pit => return self.put_block(line.block),
-            LineKind::Source => self.put_source(line.block, amount(line))?,
+            LineKind::Pit => self.pit.push(line.block).map_err(|_| CertFault::NoMemory)?,
+            LineKind::Source => set(&mut self.source, line.block, amount(line))?,
             LineKind::Rest => {
                 let pair = rests
                     .find(line.block, line.other)
                     .ok_or(CertFault::UnknownPair(number))?;
-                self.put_rest(pair, amount(line))?;
+                set(&mut self.rest, pair, amount(line))?;
             }
-            LineKind::Sink => self.put_sink(line.block, amount(line))?,
+            LineKind::Sink => set(&mut self.sink, line.block, amount(line))?,
             LineKind::End => {}
         }
         Ok(())
