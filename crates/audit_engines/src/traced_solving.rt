@@ -71,7 +71,7 @@ pub fn solve_traced_engine<
     trace_mine(rt, alloc, mine, asked, gate, outputs)
 }
 
-// The same once the mine is read: the certificate names its price.
+// Solves the mine that was read, and writes the trace and the certificate, which names the mine's price.
 fn trace_mine<R: Threads + Wait + Sync, T: Gate + Outcome, V: CountedWrite, W: CountedWrite>(
     rt: &R,
     alloc: Global,
@@ -99,7 +99,7 @@ fn trace_mine<R: Threads + Wait + Sync, T: Gate + Outcome, V: CountedWrite, W: C
     }
 }
 
-// The same, in amounts of the group G.
+// Solves the mine in amounts of the group G.
 fn trace_by<
     G: OrderedGroup,
     R: Threads + Wait + Sync,

@@ -94,7 +94,7 @@ pub fn model_options<'a>(alloc: Global) -> Result<Vec<Arg<'a>>, AllocError> {
     ]?)
 }
 
-/// The same, and the option that names the factor of a priced model.
+/// The options that name a model, of values or priced, where the option of the factor is beside them.
 pub fn model_at_factor_options<'a>(alloc: Global) -> Result<Vec<Arg<'a>>, AllocError> {
     let values = values_option(alloc)?.required_unless_present("factor")?;
     let blocks = blocks_at_factor(alloc)?;
@@ -121,7 +121,7 @@ fn blocks_option<'a>(alloc: Global) -> Result<Arg<'a>, AllocError> {
     priced_option(alloc, "blocks", PRICED_BLOCKS_HELP, "settings")
 }
 
-// The same, where a factor has to be named.
+// The blocks of a priced model whose factor has to be named.
 fn blocks_at_factor<'a>(alloc: Global) -> Result<Arg<'a>, AllocError> {
     blocks_option(alloc)?.requires_arg("factor")
 }
@@ -211,7 +211,7 @@ pub fn verbose_option<'a>(alloc: Global) -> Arg<'a> {
         .help("Reports on standard error which file failed, and the system's reason")
 }
 
-/// The same of a command that solves.
+/// That option, of a command that solves.
 pub fn verbose_solving_option<'a>(alloc: Global) -> Arg<'a> {
     verbose_option(alloc).help(
         "Reports on standard error which file failed, and the system's reason; after UNSETTLED, what to try",

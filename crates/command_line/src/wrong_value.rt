@@ -167,7 +167,7 @@ fn taken(command: Commanded, option: NamedOption<'_>) -> &'static str {
 // The methods that a command takes.
 fn methods(command: Commanded) -> &'static str {
     match command {
-        Commanded::Solve => "auto, pseudoflow, push-relabel or words",
+        Commanded::Solve => "auto, pseudoflow, push-relabel or lock-free",
         _ => "auto, pseudoflow or push-relabel",
     }
 }

@@ -20,10 +20,10 @@ use std::thread::Threads;
 /// Judges a design as [`value_engine`](crate::value_engine) does, and compares it with the pit of a certificate, where the
 /// blocks have prices at the factor that the certificate names.
 ///
-/// Where [`check_engine`](engines::check_engine) would accept the certificate a last line `BEST count worth GAP amount` comes
-/// behind the lines of the design: the pit of the certificate, and what it is worth more than the design, which is never
-/// negative where the design is a pit. `Done` where it is one, and else `No`. Where the certificate would be refused this line
-/// of a check stands alone: `No`.
+/// Where [`check_engine`](engines::check_engine) would accept the certificate, a last line `BEST count worth GAP amount` comes
+/// after the lines of the design. It has the certificate's pit, and by how much that is worth more than the design: never a
+/// negative amount where the design is a pit. `Done` where the design is a pit, and else `No`. Where the certificate would be
+/// refused, the line of that refusal is all that is written: `No`.
 ///
 /// The inputs are read in the order of the arguments, each to its end, except the certificate, which is read up to its
 /// first fault. Nothing is written before the answer is known.

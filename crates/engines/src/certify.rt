@@ -34,8 +34,8 @@ pub enum Uncertified {
 
 /// Checks a flow of any origin, with the pit of the blocks that the source reaches in it, and returns both.
 ///
-/// Nothing is asked of the flow: it may have wrong lengths, negative amounts, or prove nothing. So an engine that
-/// makes flows needs no proof of being right.
+/// Nothing is asked of the flow: it may have wrong lengths, negative amounts, or prove nothing. So a solver
+/// needs no proof of being right.
 ///
 /// # Errors
 /// `Refused` with the check's fault, which stands: `WrongSize` where the flow's lengths aren't the net's, before all else.

@@ -5,11 +5,11 @@ ghost use Rattle.workers.specs.declared.solving.TheConstants.{MOST_WORKERS};
 
 use crate::method::Method;
 
-/// The engine that makes the flow, the threads of the machine's run and the most steps that they make together, and the
-/// most turns of pseudoflow.
+/// The solver, the threads of the machine's run and the most steps that they make together, and the most turns of
+/// pseudoflow.
 #[derive(Clone, Copy)]
 pub struct Effort {
-    /// The engine.
+    /// Which solver, or which first.
     pub method: Method,
     /// The threads.
     pub workers: u32,

@@ -3,7 +3,7 @@
 ghost use Rattle.std.specs.Prelude.{◌≡◌};
 ghost use Rattle.engines.specs.Methods.{method_of, begins_with_pseudoflow, ends_with_pseudoflow, method_under};
 
-/// Which engine makes the flow of a mine. Whatever makes it, a check decides before anything is written.
+/// Which solver computes a mine's flow. Whichever does, a check decides before anything is written.
 #[derive(Clone, Copy, Debug, PartialEq, Eq)]
 pub enum Method {
     /// The push-relabel machine for a mine of at most 1,000 blocks, and pseudoflow where a number of its run doesn't fit;

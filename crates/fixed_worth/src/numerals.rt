@@ -63,7 +63,7 @@ pub(crate) fn value(text: &[u8]) -> Option<u128>
     }
 }
 
-// The same, for any number of digits.
+// The value of any number of digits, where it fits.
 fn long_value(text: &[u8]) -> Option<u128>
     requires { IsTrue (list_all is_digit text.now) }
     ensures { SomeIff result (value_of text.now < 2 ^ 128) (value_of text.now) }

@@ -102,7 +102,8 @@ pub fn rests_from<R: CountedRead>(alloc: Global, from: &mut R, n: u32) -> Result
     Ok(predecessors.into_rests(alloc)?)
 }
 
-/// The predecessors of each of n blocks, without what only those need who look for a flow.
+/// The predecessors of each of n blocks, without the pairs and the index by predecessor, which a solver needs and a check
+/// doesn't.
 ///
 /// # Errors
 /// Those of [`rests_from`].

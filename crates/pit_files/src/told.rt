@@ -9,9 +9,9 @@ use std::io;
 use std::io::{Printer, Read, Write};
 use std::rt::Files;
 
-/// A file or the output under its name. Where a call on it fails, it tells the system's reason on standard error, if that
-/// was asked for, and hands the failure on. It tells also of a file that begins with the mark of UTF-8. The output of a command
-/// that solves tells then, too, what to try where the line says that no pit is proved.
+/// A file, or standard output, under its name. It reports on standard error, where that was asked for: the system's reason for
+/// each call that fails, whose failure is handed on; a file that begins with the mark of UTF-8; and, for the output of a
+/// command that solves, what to try where the line says that no pit is proved.
 #[derive(Drop)]
 pub struct Told<'a, R, D> {
     rt: &'a R,

@@ -115,7 +115,8 @@ pub fn read_prec(alloc: Global, text: &[u8], n: u32) -> Result<Rests, PrecFault>
     listed.into_rests(alloc).map_err(|_| PrecFault::NoMemory)
 }
 
-/// The same pairs by block alone. The bytes are freed before pairs are put in order.
+/// Reads the text to each block's predecessors, without the pairs and their index by predecessor. The bytes are freed before
+/// pairs are put in order.
 ///
 /// Where the blocks of the records rise, as in most files, the pairs are never held but as the result holds them.
 /// Otherwise the text is read again.

@@ -49,10 +49,11 @@ pub(crate) fn small_worths<G: OrderedGroup>(
     Ok(Some(worths))
 }
 
-/// How worths become units: each is divided by the greatest number that divides all of them, taken one more time than there
-/// are blocks, and made less by one.
+/// How worths become units. With d the greatest common divisor of all worths and n the number of blocks, a worth w becomes
+/// (w / d) x (n + 1) - 1.
 ///
-/// Of two sets of the blocks that one has the lower sum of units which is worth less, or the same with more blocks.
+/// So of two sets of blocks the one that is worth less has the lower sum of units, and of two that are worth the same the one
+/// with more blocks.
 #[derive(Clone, Copy)]
 pub(crate) struct Scale {
     divisor: i64,

@@ -26,9 +26,9 @@ use sub_mines::rests_among;
 /// Some of the factors, and where their best pits lie.
 #[derive(Drop)]
 pub struct Part {
-    /// The places of its factors: from this one
+    /// The place of its lowest factor.
     pub from: usize,
-    /// to this one, which isn't among them.
+    /// The place after that of its highest factor.
     pub to: usize,
     /// The blocks that each of their best pits has, ascending.
     pub low: Vec<u32>,

@@ -132,10 +132,11 @@ fn found_first<R: Threads + Sync, T: SeriesProgress + Sync>(
 /// The shells of a mine at its factors: each factor's mine is solved, a check accepts its flow, and the pit is added to
 /// the series, in the order of the factors.
 ///
-/// Where pseudoflow begins, as many threads as the effort has workers take the factors one after another, each the next that
-/// no other has taken; what they find no proof for is looked for then, unless the method ends with pseudoflow. Otherwise, and then, the workers are those of the
-/// push-relabel machine, and one factor is solved after another: one worker or two run without a lock, and more under one.
-/// What pits come of it doesn't depend on the schedule: a mine has one best pit.
+/// Where the method begins with pseudoflow, `found_beside` solves the factors by halves: the blocks between two pits that are
+/// known make a smaller mine, and as many threads as the effort has workers share the smaller mines of a level. A factor at
+/// which that proves no pit is solved afterwards over the whole mine, unless the method ends with pseudoflow. There, and where
+/// the method begins with the push-relabel machine, one factor is solved after another, and the workers are the machine's: one
+/// or two run without a lock, and more under one. The pits don't depend on the schedule: a mine has one best pit at a factor.
 ///
 /// # Errors
 /// Of the first factor at which no pit is proved: `Unsolved` with the reason, `Model` where an amount of its net

@@ -54,7 +54,7 @@ pub(crate) fn read_record(text: &[u8], line: u64) -> Result<Record, UpitFault>
     }
 }
 
-// The same, of any line.
+// Reads any line, where `numbers_alone` doesn't know its form.
 #[cold]
 #[inline(never)]
 fn read_any_record(text: &[u8], line: u64) -> Result<Record, UpitFault>

@@ -11,7 +11,7 @@ use closure_net::{Net, Port, PortKind};
 use machine_law::Operation;
 use ordered_group::Scaled;
 
-/// The excess of block x.
+/// The index of the word with the excess of block x.
 pub fn excess_word(net: &Net<Scaled>, x: u32) -> usize
     requires { x < length net.now.worths }
     ensures { (result ≡ excess_at net.now x) × (result < width net.now) }
@@ -21,7 +21,7 @@ pub fn excess_word(net: &Net<Scaled>, x: u32) -> usize
     2 + x as usize
 }
 
-/// The label of block x.
+/// The index of the word with the label of block x.
 pub fn label_word(net: &Net<Scaled>, x: u32) -> usize
     requires { x < length net.now.worths }
     ensures { (result ≡ label_at net.now x) × (result < width net.now) }
@@ -30,7 +30,7 @@ pub fn label_word(net: &Net<Scaled>, x: u32) -> usize
     2 + n + x as usize
 }
 
-/// The source amount of block x.
+/// The index of the word with what block x has of the source.
 pub fn source_word(net: &Net<Scaled>, x: u32) -> usize
     requires { x < length net.now.worths }
     ensures { (result ≡ source_at net.now x) × (result < width net.now) }
@@ -39,7 +39,7 @@ pub fn source_word(net: &Net<Scaled>, x: u32) -> usize
     2 + n + n + x as usize
 }
 
-/// The room of block x at the sink.
+/// The index of the word with the room of block x at the sink.
 pub fn room_word(net: &Net<Scaled>, x: u32) -> usize
     requires { x < length net.now.worths }
     ensures { (result ≡ room_at net.now x) × (result < width net.now) }
@@ -48,7 +48,7 @@ pub fn room_word(net: &Net<Scaled>, x: u32) -> usize
     2 + n + n + n + x as usize
 }
 
-/// The flow of pair k.
+/// The index of the word with the flow of pair k.
 pub fn flow_word(net: &Net<Scaled>, k: u32) -> usize
     requires { k < length net.now.pairs }
     ensures { (result ≡ flow_at net.now k) × (result < width net.now) }

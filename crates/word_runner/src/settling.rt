@@ -105,7 +105,7 @@ fn join(words: &Words, left: WordSeat, right: WordSeat) -> Option<TableSeat>
     Some(place)
 }
 
-/// The same of two seats.
+/// The flow, where neither of the words' two seats has an operation and all has arrived.
 pub fn settle_two(
     alloc: Global,
     words: Words,

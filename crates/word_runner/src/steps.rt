@@ -7,7 +7,7 @@ ghost use Rattle.word_runner.specs.Seats.{IsSeat, IsNextAt, HasTurned, IsSame, R
 use crate::plays::Turned;
 use crate::table::{SharedWords, TableSeat};
 
-/// The step of block b that is next, where it reads the word `at`: what it read.
+/// Makes the next step of block b, which reads the word `at`. Returns what it read.
 pub fn load_next(words: &SharedWords, place: &mut TableSeat, _b: u32, at: usize) -> u64
     requires seat { IsSeat words.now place.old }
     requires next { IsNextAt place.old.me.0 _b at × Reads place.old.me.0.operation }
@@ -17,7 +17,7 @@ pub fn load_next(words: &SharedWords, place: &mut TableSeat, _b: u32, at: usize)
     words.load::<Turned>(place, at)
 }
 
-/// The same, where it adds k to the word: what the word was.
+/// Makes the next step of block b, which adds k to the word `at`. Returns what the word was before.
 pub fn add_next(words: &SharedWords, place: &mut TableSeat, _b: u32, at: usize, k: u64) -> u64
     requires seat { IsSeat words.now place.old }
     requires next { IsNextAt place.old.me.0 _b at × Adds place.old.me.0.operation k }
@@ -27,7 +27,7 @@ pub fn add_next(words: &SharedWords, place: &mut TableSeat, _b: u32, at: usize, 
     words.fetch_add::<Turned>(place, at, k)
 }
 
-/// The same, where it takes k from the word.
+/// Makes the next step of block b, which subtracts k from the word `at`. Returns what the word was before.
 pub fn subtract_next(words: &SharedWords, place: &mut TableSeat, _b: u32, at: usize, k: u64) -> u64
     requires seat { IsSeat words.now place.old }
     requires next { IsNextAt place.old.me.0 _b at × Subtracts place.old.me.0.operation k }
@@ -37,7 +37,7 @@ pub fn subtract_next(words: &SharedWords, place: &mut TableSeat, _b: u32, at: us
     words.fetch_sub::<Turned>(place, at, k)
 }
 
-/// The same, where it stores k in the word.
+/// Makes the next step of block b, which stores k in the word `at`.
 pub fn store_next(words: &SharedWords, place: &mut TableSeat, _b: u32, at: usize, k: u64)
     requires seat { IsSeat words.now place.old }
     requires next { IsNextAt place.old.me.0 _b at × Stores place.old.me.0.operation k }
