@@ -108,10 +108,11 @@ def has_all_work(crates):
 
 
 def weigh(crates):
-    """Gives each crate `functions`, and `chain`: its lines and those of the longest chain of crates that wait for it."""
+    """Gives each crate `functions`, and `chain`: its lines of code and those of the longest chain of crates that wait for it. A goal that
+    the prover has to find takes it longer than a proof that is written down, so lines of proofs don't count."""
     for crate in reversed(list(crates.values())):
         above = [it.chain for it in crates.values() if crate in it.uses]
-        crate.chain = crate.lines() + max(above, default=0)
+        crate.chain = crate.lines_of_code() + max(above, default=0)
         crate.functions = sum(len(FUNCTION.findall(file.read_bytes())) for file in crate.files() if file.suffix == ".rt")
 
 

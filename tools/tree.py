@@ -43,6 +43,9 @@ class Crate:
     def lines(self):
         return sum(file.read_bytes().count(b"\n") for file in self.files())
 
+    def lines_of_code(self):
+        return sum(file.read_bytes().count(b"\n") for file in self.files() if file.suffix == ".rt")
+
 
 def read_crates():
     """The crates of crates.txt by name, each after those that it stands on, with `below`: all of these.
