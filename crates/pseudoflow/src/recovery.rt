@@ -21,7 +21,8 @@ fn difference<G: OrderedGroup>(a: G, b: G) -> Result<G, PseudoflowFault> {
     a.try_sub(b).ok_or(PseudoflowFault::TooLarge)
 }
 
-// Sets what an arc carries that carries nothing so far: nothing is kept of an arc that carries nothing.
+// Sets the amount of an arc that was not set before. Only a positive one is stored, which saves memory: an arc that was
+// never set carries nothing.
 fn put<G: OrderedGroup>(
     carried: &mut Carried<G>,
     arc: u32,
@@ -70,8 +71,8 @@ impl<'a, G: OrderedGroup> Draft<'a, G> {
         })
     }
 
-    // Takes as much of an imbalance off the end of a block that brings it as that has, the arc of the source in a strong tree
-    // and else that of the sink: what is left of the imbalance.
+    // Sets both arcs of the block that brings an imbalance, and takes the imbalance off one of them, as far as it has as
+    // much: off its arc from the source in a strong tree, else off its arc to the sink. Returns what is left of it.
     fn cancel_at_end(&mut self, b: u32, is_strong: bool, imbalance: G) -> Result<G, PseudoflowFault>
         requires { b < length self.old.worths }
         ensures { self.new ≡ self.old }
