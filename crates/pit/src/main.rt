@@ -6,7 +6,7 @@
 
 mod progress;
 mod reasons;
-mod series_files;
+mod series_commands;
 
 use command_line::{
     Commanded, Declined, OffsetsArgs, ReplayArgs, Request, SeriesArgs, SlopesArgs, SolveArgs,
@@ -24,7 +24,7 @@ use pit_options::{
 };
 use progress::{Meter, PROGRESS_ALONE, Tells};
 use reasons::{advise_on_workers, tell_choice, tell_slope_reason};
-use series_files::series_files;
+use series_commands::series_files;
 use shells::Factor;
 use std::process::ExitCode;
 use std::rt::{Clock, Env, Files};

@@ -8,10 +8,10 @@ mod effort_args;
 mod series_args;
 mod slopes_args;
 mod solve_options;
-mod solving_asked;
+mod solving;
 
 pub use effort_args::effort_for_series;
 pub use series_args::table_over_an_input;
 pub use slopes_args::{pattern_asked, selection_asked, up_asked};
 pub use solve_options::{TraceAsked, factor_asked, replay_asked, value_factor_asked};
-pub use solving_asked::{SolvingAsked, solving_asked};
+pub use solving::{SolvingAsked, solving_asked};
