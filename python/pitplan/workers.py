@@ -13,7 +13,7 @@ from .program import MOST_FACTORS
 if TYPE_CHECKING:
     from .study import Study, Told, Verdict
 
-PER_BLOCK, PER_PAIR = 130, 22                # bytes of `pit solve`: a tenth more than mines take of which two thirds are in the pit (bench/RESULTS.md)
+PER_BLOCK, PER_PAIR = 350, 22                # bytes of `pit solve`: a tenth more than was measured at 84,000 blocks, 0.4 and 2.6 million pairs
 OWN = 40                                     # bytes a block of this process, for each pit at a time
 SHARE = 0.8                                  # of the free memory, that may be taken
 SECONDS_A_BLOCK, SECONDS_A_PAIR = 2.5e-6, 1.4e-7       # of `pit solve` and `pit check`, likewise
