@@ -16,11 +16,9 @@ use design_engines::{DesignProblem, ValueFault, write_problem};
 use engines::{EngineFault, Unwatched, Verdict, status, stored_check, write_fault};
 use fixed_worth::Counted;
 use pit_commands::{
-    check_files, listed_slopes_files, replay_files, slopes_file, solve_files, value_files,
-};
-use pit_options::{
-    SolvingAsked, effort_for_series, factor_asked, pattern_asked, replay_asked, solving_asked,
-    table_over_an_input, up_asked, value_factor_asked,
+    SolvingAsked, check_files, effort_for_series, factor_asked, listed_slopes_files, pattern_asked,
+    replay_asked, replay_files, slopes_file, solve_files, solving_asked, table_over_an_input,
+    up_asked, value_factor_asked, value_files,
 };
 use progress::{Meter, PROGRESS_ALONE, Tells};
 use reasons::{advise_on_workers, tell_choice, tell_slope_reason};

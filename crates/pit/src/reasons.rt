@@ -1,7 +1,7 @@
 //! What arguments and an answer leave open, told on standard error where that is asked for.
 
 use engines::{EngineFault, Method, SlopeProblem};
-use pit_options::SolvingAsked;
+use pit_commands::SolvingAsked;
 use slope::{PatternFault, SlopeFault};
 
 /// Tells that steps have chosen push-relabel, where no method is given beside them.

@@ -1,7 +1,7 @@
 //! Runs the engines of `shells` and `report` on files: opens all before any is read, and gives the engine's answer.
 
 ghost use Rattle.std.specs.Prelude.{◌≡◌, IfOk};
-ghost use Rattle.shell_engines.specs.Devices.{InputsCanCount, failures_in};
+ghost use Rattle.shell_engines.specs.Devices.{InputsCanCount, OutputsCanCount, failures_in};
 
 use command_line::{SeriesArgs, SeriesCommand};
 use engines::{Effort, EngineFault, Verdict};
@@ -10,6 +10,7 @@ use pit_files::{Replaced, Told, advice_for_series, make_file, open_file, open_se
 use pseudoflow::Progress;
 use report_engines::report_engine;
 use shell_engines::{SeriesInputs, SeriesOutputs, SeriesProgress, shells_engine};
+use std::io::Printer;
 use std::rt::Files;
 use std::sync::Wait;
 use std::thread::Threads;
@@ -21,20 +22,32 @@ pub fn series_files<
     R: Files + Print + Eprint + Threads + Wait + Sync + AllocGlobal,
     T: Gate + Progress + SeriesProgress,
 >(rt: &'a R, args: SeriesArgs<'a>, effort: Effort, watch: &T) -> Result<Verdict, EngineFault> {
-    let mut inputs = open_series(rt, args)?;
-    let mut outputs = SeriesOutputs {
-        by_block: make_file_if_named(rt, args.verbose, args.by_block)?,
-        out: Counted::new(output(rt, args.verbose, Some(advice_for_series(args)))),
-    };
-    let alloc = rt.alloc();
     match args.command {
-        SeriesCommand::Shells => {
-            shells_engine(rt, alloc, &mut inputs, effort, watch, &mut outputs)
-        }
-        SeriesCommand::Report => {
-            report_engine(rt, alloc, &mut inputs, effort, watch, &mut outputs)
-        }
+        SeriesCommand::Shells => shells_files(rt, args, effort, watch),
+        SeriesCommand::Report => report_files(rt, args, effort, watch),
     }
+}
+
+// Draws the shells.
+fn shells_files<
+    'a,
+    R: Files + Print + Eprint + Threads + Wait + Sync + AllocGlobal,
+    T: Gate + Progress + SeriesProgress,
+>(rt: &'a R, args: SeriesArgs<'a>, effort: Effort, watch: &T) -> Result<Verdict, EngineFault> {
+    let mut inputs = open_series(rt, args)?;
+    let mut outputs = make_outputs(rt, args)?;
+    shells_engine(rt, rt.alloc(), &mut inputs, effort, watch, &mut outputs)
+}
+
+// Makes the bench table.
+fn report_files<
+    'a,
+    R: Files + Print + Eprint + Threads + Wait + Sync + AllocGlobal,
+    T: Gate + Progress + SeriesProgress,
+>(rt: &'a R, args: SeriesArgs<'a>, effort: Effort, watch: &T) -> Result<Verdict, EngineFault> {
+    let mut inputs = open_series(rt, args)?;
+    let mut outputs = make_outputs(rt, args)?;
+    report_engine(rt, rt.alloc(), &mut inputs, effort, watch, &mut outputs)
 }
 
 // Opens the inputs, that of the predecessors first.
@@ -52,6 +65,21 @@ fn open_series<'a, R: Files + Eprint + AllocGlobal>(
         blocks,
         prec,
     })
+}
+
+// Makes the file of the table of blocks, where one is named, and the output.
+fn make_outputs<'a, R: Files + Print + Eprint>(
+    rt: &'a R,
+    args: SeriesArgs<'a>,
+) -> Result<
+    SeriesOutputs<Counted<Told<'a, R, Replaced<R::File>>>, Counted<Told<'a, R, Printer<'a, R>>>>,
+    EngineFault,
+>
+    ensures { IfOk result (λ outputs. OutputsCanCount outputs (λ device. device.failures) (λ device. device.failures)) }
+{
+    let by_block = make_file_if_named(rt, args.verbose, args.by_block)?;
+    let out = Counted::new(output(rt, args.verbose, Some(advice_for_series(args))));
+    Ok(SeriesOutputs { by_block, out })
 }
 
 // Makes a file, if one is named.

@@ -3,6 +3,7 @@
 
 ghost use Rattle.engines.specs.Slopes.{IsChoice};
 
+use crate::slopes_args::selection_asked;
 use command_line::{CheckArgs, ReplayArgs, SlopesArgs, ValueArgs};
 use design_engines::{ValueFault, compare_engine, value_engine};
 use engines::{
@@ -10,7 +11,6 @@ use engines::{
 };
 use fixed_worth::Counted;
 use pit_files::{offsets_of, open_blocks, open_file, open_mine, open_settings, output};
-use pit_options::selection_asked;
 use replay_engines::{ReplayAsked, replay_engine};
 use shells::Factor;
 use slope::Up;
@@ -56,27 +56,42 @@ pub fn value_files<'a, R: Files + Print + Eprint + Threads + Sync + AllocGlobal>
     args: ValueArgs<'a>,
     factor: Factor,
 ) -> Result<Verdict, ValueFault> {
+    match args.best {
+        Some(best) => design_beside_best(rt, args, best),
+        None => design_alone(rt, args, factor),
+    }
+}
+
+// Judges the design by itself.
+fn design_alone<'a, R: Files + Print + Eprint + Threads + Sync + AllocGlobal>(
+    rt: &'a R,
+    args: ValueArgs<'a>,
+    factor: Factor,
+) -> Result<Verdict, ValueFault> {
     let mut mine = open_mine(rt, args.verbose, args.prec, args.model)?;
     let mut design = open_file(rt, args.verbose, args.design)?;
-    let alloc = rt.alloc();
-    match args.best {
-        Some(best) => {
-            let mut certificate = open_file(rt, args.verbose, best)?;
-            let mut out = Counted::new(output(rt, args.verbose, None));
-            compare_engine(
-                rt,
-                alloc,
-                &mut mine,
-                &mut design,
-                &mut certificate,
-                &mut out,
-            )
-        }
-        None => {
-            let mut out = Counted::new(output(rt, args.verbose, None));
-            value_engine(rt, alloc, &mut mine, &mut design, factor, &mut out)
-        }
-    }
+    let mut out = Counted::new(output(rt, args.verbose, None));
+    value_engine(rt, rt.alloc(), &mut mine, &mut design, factor, &mut out)
+}
+
+// Judges the design beside the pit of the certificate in this file.
+fn design_beside_best<'a, R: Files + Print + Eprint + Threads + Sync + AllocGlobal>(
+    rt: &'a R,
+    args: ValueArgs<'a>,
+    best: &'a str,
+) -> Result<Verdict, ValueFault> {
+    let mut mine = open_mine(rt, args.verbose, args.prec, args.model)?;
+    let mut design = open_file(rt, args.verbose, args.design)?;
+    let mut certificate = open_file(rt, args.verbose, best)?;
+    let mut out = Counted::new(output(rt, args.verbose, None));
+    compare_engine(
+        rt,
+        rt.alloc(),
+        &mut mine,
+        &mut design,
+        &mut certificate,
+        &mut out,
+    )
 }
 
 /// Writes the predecessors of each block of a file, by a pattern.

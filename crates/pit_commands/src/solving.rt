@@ -1,13 +1,13 @@
 //! Runs the engines of `solve` on files: opens all files before any is read, and gives the engine's
 //! answer.
 
+use crate::solving_asked::SolvingAsked;
 use audit_engines::{TracedAsked, TracedOutputs, solve_traced_engine};
 use command_line::SolveArgs;
 use engines::{EngineFault, Outcome, SolveAsked, Verdict, solve_engine};
 use fixed_worth::Counted;
 use lock_free_engine::{LockFreeAsked, solve_lock_free_engine};
 use pit_files::{advice_to_solve, make_file, open_mine, output};
-use pit_options::SolvingAsked;
 use pseudoflow::Progress;
 use shells::Factor;
 use std::rt::Files;
