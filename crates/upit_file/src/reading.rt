@@ -1,7 +1,7 @@
 //! Reads a `.upit` text: first how many blocks it declares, and then its name and a value for each block, or its
 //! first fault.
 
-ghost use Rattle.std.specs.Prelude.{◌≡◌, ◌≤◌, Some, None, Err, MatchResult, IfOk};
+ghost use Rattle.std.specs.Prelude.{◌≡◌, ◌≤◌, Some, None, Err, unwrap_or, MatchResult, IfOk};
 ghost use Rattle.upit_file.specs.Header.{header_fault};
 ghost use Rattle.upit_file.specs.Records as spec;
 
@@ -35,9 +35,21 @@ pub fn read_upit(alloc: Global, text: &[u8], n: u32) -> Result<Upit, UpitFault>
         (λ e. spec.UnlessMemory e (spec.fault_of n text.now ≡ Some e)) }
     ensures header { (fault : UpitFault) → header_fault n (spec.lines_in text.now) ≡ Some fault → result ≡ Err fault }
 {
+    read_values(alloc, text, Some(n))
+}
+
+/// The name and the values of a text, as [`read_upit`] gives them for the wanted number of blocks, and where none is
+/// wanted for the number that the text itself declares.
+pub fn read_values(alloc: Global, text: &[u8], wanted: Option<u32>) -> Result<Upit, UpitFault>
+    ensures value { let n = unwrap_or wanted (spec.count_in (spec.lines_in text.now)) in MatchResult result
+        (λ upit. (spec.fault_of n text.now ≡ None) × spec.Denotes n text.now upit)
+        (λ e. spec.UnlessMemory e (spec.fault_of n text.now ≡ Some e)) }
+    ensures header { (fault : UpitFault) → header_fault (unwrap_or wanted (spec.count_in (spec.lines_in text.now))) (spec.lines_in text.now) ≡ Some fault
+        → result ≡ Err fault }
+{
     let mut lines = Lines::new(text);
-    let header = read_header(&mut lines, Some(n))?;
-    let values = read_body(alloc, &mut lines, n)?;
+    let header = read_header(&mut lines, wanted)?;
+    let values = read_body(alloc, &mut lines, header.blocks)?;
     let name = Vec::from_slice(alloc, header.name).map_err(|_| UpitFault::NoMemory)?;
-    Ok(Upit::of(name, values))
+    Ok(Upit { name, values })
 }

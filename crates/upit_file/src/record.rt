@@ -1,7 +1,7 @@
 //! Reads one line behind the header: gives its block and the block's value, or tells that the line is skipped,
 //! that it ends the text, or what is wrong with it.
 
-ghost use Rattle.std.specs.Prelude.{◌≡◌, ℕ, ◌≤◌, false, Some, length, IfSome, MatchResult};
+ghost use Rattle.std.specs.Prelude.{◌≡◌, ℕ, ◌≤◌, false, Some, length, MatchResult};
 ghost use Rattle.fixed_worth.specs.Text.{fields_of};
 ghost use Rattle.fixed_worth.specs.Record.{is_skipped};
 ghost use Rattle.upit_file.specs.Header as header;
@@ -22,25 +22,7 @@ pub(crate) enum Record {
     Value(u64, Micros),
 }
 
-// The record that a line of two fields is, which are numbers as nearly all are. Of another line there is none.
-fn numbers_alone(text: &[u8]) -> Option<Record>
-    requires { length text.now ≤ LINE_BYTES }
-    ensures { IfSome result (λ read. (line : ℕ) → IsRecord line (fields_of text.now) read) }
-{
-    let mut fields = Fields::new(text);
-    let Some(Ok(block)) = fields.next_whole() else {
-        return None;
-    };
-    let Some(Ok(value)) = fields.next_amount() else {
-        return None;
-    };
-    match fields.next_whole() {
-        None => Some(Record::Value(block, value)),
-        Some(_) => None,
-    }
-}
-
-// The record that a line is.
+// The record that a line is. Nearly all are two numbers, which are read as they are looked for.
 pub(crate) fn read_record(text: &[u8], line: u64) -> Result<Record, UpitFault>
     requires { length text.now ≤ LINE_BYTES }
     ensures { MatchResult result
@@ -48,13 +30,20 @@ pub(crate) fn read_record(text: &[u8], line: u64) -> Result<Record, UpitFault>
         (λ e. (is_skipped (fields_of text.now) ≡ false) × (header.is_end (fields_of text.now) ≡ false)
         × (spec.shape_fault line (fields_of text.now) ≡ Some e)) }
 {
-    match numbers_alone(text) {
-        Some(read) => Ok(read),
-        None => read_any_record(text, line),
+    let mut fields = Fields::new(text);
+    let Some(Ok(block)) = fields.next_whole() else {
+        return read_any_record(text, line);
+    };
+    let Some(Ok(value)) = fields.next_amount() else {
+        return read_any_record(text, line);
+    };
+    match fields.next_whole() {
+        None => Ok(Record::Value(block, value)),
+        Some(_) => read_any_record(text, line),
     }
 }
 
-// Reads any line, where `numbers_alone` doesn't know its form.
+// Reads any line, where it isn't two numbers.
 #[cold]
 #[inline(never)]
 fn read_any_record(text: &[u8], line: u64) -> Result<Record, UpitFault>

@@ -12,8 +12,8 @@ use std::marker::Model;
 /// A name, and the value of each block: what a `.upit` file holds.
 #[derive(Drop)]
 pub struct Upit {
-    name: Vec<u8>,
-    values: Vec<Micros>,
+    pub(crate) name: Vec<u8>,
+    pub(crate) values: Vec<Micros>,
 }
 
 impl Model for Upit {
@@ -56,14 +56,6 @@ impl Upit {
         } else {
             None
         }
-    }
-
-    pub(crate) fn of(name: Vec<u8>, values: Vec<Micros>) -> Upit
-        requires { IsTrue (spec.is_upit name.items values.items) }
-        ensures name { result.name ≡ name.items }
-        ensures values { result.values ≡ values.items }
-    {
-        Upit { name, values }
     }
 
     /// The number of blocks.
