@@ -45,12 +45,15 @@ never o f e g = let h : None ≡ Some f = sym e ∙ g in cc
 not_both : {A F : Type 0} (r : Result A F) (a : A) (f : F) → r ≡ Ok a → r ≡ Err f → ⊥
 not_both r a f e g = let h : Ok a ≡ Err f = sym e ∙ g in cc
 
-values_fault : (text : List ℕ) (n : ℕ) (fault : UpitFault) → ValuesRead text n → (upit.declared_of text ≡ Err fault) ⊎ ((k : ℕ) × (upit.declared_of text ≡ Ok k) × (upit.fault_of k text ≡ Some fault)) → ⊥
-values_fault text n fault r (inl e) = not_both _ _ _ r.declared e
-values_fault text n fault r (inr h) =
-    let same = ok_same _ _ _ r.declared h.1 in
+declared_is : (k n : ℕ) (fault : Option UpitFault) → upit.unless_fault k fault ≡ Ok n → k ≡ n
+declared_is k n None e = ok_same _ k n refl e
+declared_is k n (Some f) e = absurd (let h : Err f ≡ Ok n = e in cc)
+
+values_fault : (text : List ℕ) (n : ℕ) (fault : UpitFault) → ValuesRead text n → upit.fault_of (upit.count_in (upit.lines_in text)) text ≡ Some fault → ⊥
+values_fault text n fault r h =
+    let same = declared_is _ n _ r.declared in
     let P : ℕ → Type 0 = λ k. upit.fault_of k text ≡ None in
-    never _ _ (subst P same r.read) h.2
+    never _ _ (subst P (sym same) r.read) h
 
 values_stand : (texts : MineTexts) (n : ℕ) (q : Problem UpitFault) → WorthsRead texts n → ValuesFail texts q → ⊥
 values_stand (mine_texts u p) n problem.InputTooLong r h = let within = r.within in omega (arith, within, h)

@@ -15,10 +15,10 @@ use Rattle.mine_inputs.specs.Limits.{IsTooLong, IsWithinLimit}
 use Rattle.mine_inputs.specs.PricedTexts.{price_keys, SettingsFails, PricedBlocksFail, PricesFail}
 use Rattle.mine_inputs.specs.Mines.{MineTexts, mine_texts, priced_texts, precedence_of, worth_by, WorthsRead}
 
--- the values are no text of values: too long, or a fault of the header, or one by the number of blocks that it declares
+-- the values are no text of values: too long, or a fault where as many blocks are wanted as the text declares
 abbrev pub UpitFails : List ℕ → Problem UpitFault → Type 0
 UpitFails text problem.InputTooLong = IsTooLong text
-UpitFails text (problem.Fault fault) = IsWithinLimit text × ((upit.declared_of text ≡ Err fault) ⊎ ((n : ℕ) × (upit.declared_of text ≡ Ok n) × (upit.fault_of n text ≡ Some fault)))
+UpitFails text (problem.Fault fault) = IsWithinLimit text × (upit.fault_of (upit.count_in (upit.lines_in text)) text ≡ Some fault)
 
 abbrev pub PrecFails : ℕ → List ℕ → Problem PrecFault → Type 0
 PrecFails n text problem.InputTooLong = IsTooLong text

@@ -10,7 +10,7 @@ use blocks_file::{BlockModel, MOST_COLUMNS, read_blocks};
 use fixed_worth::{CountedRead, InputFault, MOST_BLOCKS, MOST_BYTES, read_whole};
 use prec_file::{Predecessors, Rests, read_predecessors};
 use std::alloc::Global;
-use upit_file::{Upit, declared_blocks, read_upit};
+use upit_file::{Upit, read_values};
 
 /// All bytes of an input.
 ///
@@ -63,8 +63,8 @@ pub fn blocks_from<R: CountedRead>(
 /// The values of the blocks, as many as the text declares.
 ///
 /// # Errors
-/// `Upit` for more than 2^32 bytes, for a fault of [`declared_blocks`], or else for one of [`read_upit`]. `Memory` where
-/// memory is refused, `Device` where a read fails.
+/// `Upit` for more than 2^32 bytes, or for a fault of [`read_values`]. `Memory` where memory is refused, `Device` where a read
+/// fails.
 pub fn upit_from<R: CountedRead>(alloc: Global, from: &mut R) -> Result<Upit, EngineFault>
     requires { R.failed from.old < 2 ^ 64 - 1 }
     ensures read { IfSome (R.remaining from.old) (λ text. MatchResult result (ReadsUpit text) (UpitReadFails text)) }
@@ -72,17 +72,7 @@ pub fn upit_from<R: CountedRead>(alloc: Global, from: &mut R) -> Result<Upit, En
     ensures kept { ¬ IsErrOf result EngineFault.Device → R.failed from.new ≡ R.failed from.old }
 {
     let text = text_from(alloc, from, EngineFault::Upit(Problem::InputTooLong))?;
-    upit_of(alloc, text.as_slice())
-}
-
-// The values that a text gives to the blocks that it declares.
-fn upit_of(alloc: Global, text: &[u8]) -> Result<Upit, EngineFault>
-    requires { IsWithinLimit text.now }
-    ensures read { MatchResult result (ReadsUpit text.now) (UpitReadFails text.now) }
-    ensures no_device { ¬ IsErrOf result EngineFault.Device }
-{
-    let blocks = declared_blocks(text)?;
-    Ok(read_upit(alloc, text, blocks)?)
+    Ok(read_values(alloc, text.as_slice(), None)?)
 }
 
 /// What rests on what among n blocks.

@@ -1,13 +1,13 @@
 //! Gives what each block of a mine is worth in billionths, at a factor or at the price that a certificate names,
 //! whether its texts give values or prices.
 
-ghost use Rattle.std.specs.Prelude.{◌≡◌, ◌≢◌, ◌≤◌, ◌*ℤ◌, ℕ, pos, IfOk, MatchOption};
+ghost use Rattle.std.specs.Prelude.{◌≡◌, ◌≢◌, ◌≤◌, ℕ, IfOk, MatchOption};
 ghost use Rattle.fixed_worth.specs.declared.limits.TheConstants.{MOST_FACTOR};
 ghost use Rattle.certificate_file.specs.ReadBack.{IsPrice};
-ghost use Rattle.mine_inputs.specs.Worths.{blocks_valued, nanos_at, price_at, billionths_of, factor_at};
+ghost use Rattle.mine_inputs.specs.Worths.{blocks_valued, nanos_at, price_at, factor_at};
 
 use certificate_file::Price;
-use fixed_worth::{MOST_BLOCKS, MOST_FACTOR, Micros};
+use fixed_worth::{MOST_BLOCKS, MOST_FACTOR};
 use shells::{Factor, Prices};
 use std::alloc::{AllocError, Global};
 use std::thread::Threads;
@@ -45,6 +45,21 @@ impl Worths {
         }
     }
 
+    /// The factor at which blocks are worth what a certificate's price says; none where that is a price of another kind of
+    /// model. Values have one price, and are the same at every factor.
+    pub fn factor_of(&self, price: Price) -> Option<Factor>
+        ensures { MatchOption result ((k : ℕ) → k ≤ MOST_FACTOR → price ≢ price_at self.now k)
+            (λ factor. (price ≡ price_at self.now factor) × (factor ≡ factor_at price)) }
+    {
+        match self {
+            Worths::Values(_) => match price {
+                Price::Objective => Factor::new(0),
+                Price::Factor(_) | Price::Mill(_) => None,
+            },
+            Worths::Prices(prices) => prices.factor_of(price),
+        }
+    }
+
     /// What each block is worth in billionths. Values are the same at every factor.
     ///
     /// # Errors
@@ -58,53 +73,14 @@ impl Worths {
         ensures { IfOk result (λ v. v.items ≡ nanos_at self.now factor) }
     {
         match self {
-            Worths::Values(upit) => nanos_of(alloc, upit),
+            Worths::Values(upit) => {
+                let mut nanos: Vec<i128> = Vec::new(alloc);
+                for b in 0..upit.len() {
+                    nanos.push(1000 * i128::from(upit.value(b).get()))?;
+                }
+                Ok(nanos)
+            }
             Worths::Prices(prices) => prices.worths_at(rt, alloc, factor),
         }
     }
-
-    /// What each block is worth in billionths at the price that a certificate names; none where that is a price of
-    /// another kind of model.
-    ///
-    /// # Errors
-    /// Memory was refused.
-    pub fn nanos_by<R: Threads + Sync>(
-        &self,
-        rt: &R,
-        alloc: Global,
-        price: Price,
-    ) -> Result<Option<Vec<i128>>, AllocError>
-        ensures { IfOk result (λ found. MatchOption found
-            ((k : ℕ) → k ≤ MOST_FACTOR → price ≢ price_at self.now k)
-            (λ nanos. (price ≡ price_at self.now (factor_at price)) × (nanos.items ≡ nanos_at self.now (factor_at price)))) }
-    {
-        match self {
-            Worths::Values(upit) => match price {
-                Price::Objective => Ok(Some(nanos_of(alloc, upit)?)),
-                Price::Factor(_) | Price::Mill(_) => Ok(None),
-            },
-            Worths::Prices(prices) => match prices.factor_of(price) {
-                Some(factor) => Ok(Some(prices.worths_at(rt, alloc, factor)?)),
-                None => Ok(None),
-            },
-        }
-    }
-}
-
-// The value of each block in billionths.
-fn nanos_of(alloc: Global, upit: &Upit) -> Result<Vec<i128>, AllocError>
-    ensures { IfOk result (λ v. v.items ≡ billionths_of upit.now.values) }
-{
-    let mut nanos: Vec<i128> = Vec::new(alloc);
-    for b in 0..upit.len() {
-        nanos.push(billionths(upit.value(b)))?;
-    }
-    Ok(nanos)
-}
-
-// The billionths of a value.
-fn billionths(value: Micros) -> i128
-    ensures { result ≡ pos 1000 *ℤ value }
-{
-    1000 * i128::from(value.get())
 }
