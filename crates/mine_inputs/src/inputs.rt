@@ -3,14 +3,13 @@
 ghost use Rattle.std.specs.Prelude.{◌≡◌, ◌+◌, ◌-◌, ◌^◌, ◌<◌, ◌≤◌, ◌↔◌, ℕ, ◌⊎◌, length, IfOk, IfSome, MatchResult, IsErrOf};
 ghost use Rattle.mine_inputs.specs.Limits.{IsWithinLimit};
 ghost use Rattle.mine_inputs.specs.BlockTexts.{ReadsBlocks, BlocksReadFails};
-ghost use Rattle.mine_inputs.specs.Inputs.{ReadsUpit, ReadsPrec, UpitReadFails, PrecReadFails, TextFails};
+ghost use Rattle.mine_inputs.specs.Inputs.{ReadsPrec, PrecReadFails, TextFails};
 
 use crate::engine_fault::{EngineFault, Problem};
 use blocks_file::{BlockModel, MOST_COLUMNS, read_blocks};
 use fixed_worth::{CountedRead, InputFault, MOST_BLOCKS, MOST_BYTES, read_whole};
 use prec_file::{Predecessors, Rests, read_predecessors};
 use std::alloc::Global;
-use upit_file::{Upit, read_values};
 
 /// All bytes of an input.
 ///
@@ -58,21 +57,6 @@ pub fn blocks_from<R: CountedRead>(
         Ok(model) => Ok(model),
         Err(fault) => Err(EngineFault::from(fault)),
     }
-}
-
-/// The values of the blocks, as many as the text declares.
-///
-/// # Errors
-/// `Upit` for more than 2^32 bytes, or for a fault of [`read_values`]. `Memory` where memory is refused, `Device` where a read
-/// fails.
-pub fn upit_from<R: CountedRead>(alloc: Global, from: &mut R) -> Result<Upit, EngineFault>
-    requires { R.failed from.old < 2 ^ 64 - 1 }
-    ensures read { IfSome (R.remaining from.old) (λ text. MatchResult result (ReadsUpit text) (UpitReadFails text)) }
-    ensures device { IsErrOf result EngineFault.Device ↔ (R.failed from.new ≡ R.failed from.old + 1) }
-    ensures kept { ¬ IsErrOf result EngineFault.Device → R.failed from.new ≡ R.failed from.old }
-{
-    let text = text_from(alloc, from, EngineFault::Upit(Problem::InputTooLong))?;
-    Ok(read_values(alloc, text.as_slice(), None)?)
 }
 
 /// What rests on what among n blocks.

@@ -8,8 +8,8 @@ ghost use Rattle.mine_inputs.specs.MineInputs.{ForTexts, ForWorths, CanCount, Wo
 ghost use Rattle.mine_inputs.specs.Mines.{priced_texts, price_wanted};
 ghost use Rattle.mine_inputs.specs.ReadMines.{AreRead, AreWorthsOf, IsMineRead};
 
-use crate::engine_fault::EngineFault;
-use crate::inputs::{predecessors_from, rests_from, upit_from};
+use crate::engine_fault::{EngineFault, Problem};
+use crate::inputs::{predecessors_from, rests_from, text_from};
 use crate::priced_inputs::{price_columns, prices_from, settings_from};
 use crate::worths::Worths;
 use certificate_file::Price;
@@ -18,6 +18,7 @@ use prec_file::{Predecessors, Rests};
 use shells::Factor;
 use std::alloc::Global;
 use std::thread::Threads;
+use upit_file::read_values;
 
 /// The inputs that say what the blocks of a mine are worth.
 #[derive(Drop)]
@@ -61,7 +62,10 @@ pub fn worths_from<D: CountedRead>(
     ensures kept { ¬ IsErrOf result EngineFault.Device → NoWorthsFailed inputs.old inputs.new D.failed }
 {
     match inputs {
-        WorthInputs::Values { upit } => Ok(Worths::Values(upit_from(alloc, upit)?)),
+        WorthInputs::Values { upit } => {
+            let text = text_from(alloc, upit, EngineFault::Upit(Problem::InputTooLong))?;
+            Ok(Worths::Values(read_values(alloc, text.as_slice(), None)?))
+        }
         WorthInputs::Prices { settings, blocks } => worths_by_prices(alloc, settings, blocks),
     }
 }

@@ -8,18 +8,6 @@ use Rattle.mine_inputs.specs.ReadMines.{AreWorthsOf}
 use Rattle.mine_inputs.proofs.MinesRead.{values_unread, values_read}
 use Rattle.mine_inputs.proofs.mines.worths_from.Goals as goal
 
-pub returns-in_err-upit_from-in-Values-clause-read : goal.returns-in_err-upit_from-in-Values-clause-read
-returns-in_err-upit_from-in-Values-clause-read g c = λ factor precedence.
-    let p = err_from_is_err_and c.from_residual.result c.from_residual.ensures.1 in
-    rw (p.1, p.2)
-    (subst (λ i. ForWorths i g.D.Read.remaining factor precedence (λ texts. MineFails texts c.in_err-upit_from-in-Values.field-0.0)) (sym c.in-Values.is)
-    (values_unread (g.D.Read.remaining c.in-Values.upit) precedence c.in_err-upit_from-in-Values.field-0.0 c.in_err-upit_from-in-Values.ensures.read))
-
-pub returns-in_ok-upit_from-in-Values-clause-read : goal.returns-in_ok-upit_from-in-Values-clause-read
-returns-in_ok-upit_from-in-Values-clause-read g c = λ factor precedence.
-    subst (λ i. ForWorths i g.D.Read.remaining factor precedence (λ texts. AreWorthsOf texts factor (Values c.in_ok-upit_from-in-Values.field-0))) (sym c.in-Values.is)
-    (values_read (g.D.Read.remaining c.in-Values.upit) precedence factor c.in_ok-upit_from-in-Values.field-0 c.in_ok-upit_from-in-Values.ensures.read)
-
 pub returns-in-Prices-clause-read : goal.returns-in-Prices-clause-read
 returns-in-Prices-clause-read g c = λ factor precedence.
     subst (λ i. ForWorths i g.D.Read.remaining factor precedence (λ texts. MatchResult c.worths_by_prices.result (AreWorthsOf texts factor) (MineFails texts))) (sym c.in-Prices.is) (c.worths_by_prices.ensures.read factor precedence)
