@@ -12,6 +12,8 @@ use Rattle.settings_file.specs.declared.keys.Key.{Key}
 use Rattle.settings_file.specs.declared.settings_fault.SettingsFault.TheVariants as settings_fault
 use Rattle.shells.specs.Prices.{PricesView, PricesFaultStands}
 use Rattle.mine_inputs.specs.declared.engine_fault.Problem.TheVariants as problem
+use Rattle.fixed_worth.specs.declared.whole_input.InputFault.{InputFault}
+use Rattle.fixed_worth.specs.declared.whole_input.InputFault.TheVariants as input
 use Rattle.mine_inputs.specs.declared.priced_inputs.ChargeColumns.{ChargeColumns}
 use Rattle.mine_inputs.specs.declared.priced_inputs.PriceColumns.{PriceColumns}
 use Rattle.mine_inputs.specs.Limits.{IsTooLong, IsWithinLimit}
@@ -19,6 +21,12 @@ use Rattle.mine_inputs.specs.PricedTexts.{price_keys, column_list, first_columns
 use Rattle.mine_inputs.specs.BlockTexts.{BlocksFails}
 use Rattle.mine_inputs.specs.Mines.{ValuesRead}
 use Rattle.mine_inputs.specs.FaultStands.{UpitFails, PrecFails}
+
+-- what is answered where an input can't be read to its end: this fault where it is too long
+abbrev pub unread : InputFault → EngineFault → EngineFault
+unread input.Device too_long = engine.Device
+unread input.InputTooLong too_long = too_long
+unread input.NoMemory too_long = engine.Memory
 
 -- why a text isn't read: for want of memory or by a failing device, or it is too long, which is told by a fault of its own
 abbrev pub TextFails : EngineFault → List ℕ → EngineFault → Type 0

@@ -3,13 +3,24 @@
 ghost use Rattle.std.specs.Prelude.{◌≡◌, ◌+◌, ◌-◌, ◌^◌, ◌<◌, ◌≤◌, ◌↔◌, ℕ, ◌⊎◌, length, IfOk, IfSome, MatchResult, IsErrOf};
 ghost use Rattle.mine_inputs.specs.Limits.{IsWithinLimit};
 ghost use Rattle.mine_inputs.specs.BlockTexts.{ReadsBlocks, BlocksReadFails};
-ghost use Rattle.mine_inputs.specs.Inputs.{ReadsPrec, PrecReadFails, TextFails};
+ghost use Rattle.mine_inputs.specs.Inputs.{ReadsPrec, PrecReadFails, TextFails, unread};
 
 use crate::engine_fault::{EngineFault, Problem};
 use blocks_file::{BlockModel, MOST_COLUMNS, read_blocks};
 use fixed_worth::{CountedRead, InputFault, MOST_BLOCKS, MOST_BYTES, read_whole};
 use prec_file::{Predecessors, Rests, read_predecessors};
 use std::alloc::Global;
+
+/// What is answered where an input can't be read to its end: this fault where it is too long.
+pub fn unread(fault: InputFault, too_long: EngineFault) -> EngineFault
+    ensures { result ≡ unread fault too_long }
+{
+    match fault {
+        InputFault::Device => EngineFault::Device,
+        InputFault::InputTooLong => too_long,
+        InputFault::NoMemory => EngineFault::Memory,
+    }
+}
 
 /// All bytes of an input.
 ///

@@ -9,11 +9,11 @@ ghost use Rattle.mine_inputs.specs.Mines.{priced_texts, price_wanted};
 ghost use Rattle.mine_inputs.specs.ReadMines.{AreRead, AreWorthsOf, IsMineRead};
 
 use crate::engine_fault::{EngineFault, Problem};
-use crate::inputs::{predecessors_from, rests_from, text_from};
+use crate::inputs::{predecessors_from, rests_from, unread};
 use crate::priced_inputs::{price_columns, prices_from, settings_from};
 use crate::worths::Worths;
 use certificate_file::Price;
-use fixed_worth::CountedRead;
+use fixed_worth::{CountedRead, MOST_BYTES, read_whole};
 use prec_file::{Predecessors, Rests};
 use shells::Factor;
 use std::alloc::Global;
@@ -63,7 +63,10 @@ pub fn worths_from<D: CountedRead>(
 {
     match inputs {
         WorthInputs::Values { upit } => {
-            let text = text_from(alloc, upit, EngineFault::Upit(Problem::InputTooLong))?;
+            let text = read_whole(alloc, upit, MOST_BYTES).map_err(|fault| unread(
+                fault,
+                EngineFault::Upit(Problem::InputTooLong),
+            ))?;
             Ok(Worths::Values(read_values(alloc, text.as_slice(), None)?))
         }
         WorthInputs::Prices { settings, blocks } => worths_by_prices(alloc, settings, blocks),
