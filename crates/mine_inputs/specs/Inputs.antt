@@ -28,10 +28,6 @@ unread input.Device too_long = engine.Device
 unread input.InputTooLong too_long = too_long
 unread input.NoMemory too_long = engine.Memory
 
--- why a text isn't read: for want of memory or by a failing device, or it is too long, which is told by a fault of its own
-abbrev pub TextFails : EngineFault → List ℕ → EngineFault → Type 0
-TextFails too_long text fault = (fault ≡ engine.Memory) ⊎ (fault ≡ engine.Device) ⊎ ((fault ≡ too_long) × IsTooLong text)
-
 -- the values are those of the text, for the blocks that it declares
 abbrev pub ReadsUpit : List ℕ → upit.UpitView → Type 0
 ReadsUpit text values = ValuesRead text (length values.values) × upit.Denotes (length values.values) text values

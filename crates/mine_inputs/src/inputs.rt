@@ -1,9 +1,8 @@
 //! Reads one input of a mine to its end, as blocks, values or predecessors, or says which input is at fault and why.
 
-ghost use Rattle.std.specs.Prelude.{◌≡◌, ◌+◌, ◌-◌, ◌^◌, ◌<◌, ◌≤◌, ◌↔◌, ℕ, ◌⊎◌, length, IfOk, IfSome, MatchResult, IsErrOf};
-ghost use Rattle.mine_inputs.specs.Limits.{IsWithinLimit};
+ghost use Rattle.std.specs.Prelude.{◌≡◌, ◌+◌, ◌-◌, ◌^◌, ◌<◌, ◌≤◌, ◌↔◌, length, IfOk, IfSome, MatchResult, IsErrOf};
 ghost use Rattle.mine_inputs.specs.BlockTexts.{ReadsBlocks, BlocksReadFails};
-ghost use Rattle.mine_inputs.specs.Inputs.{ReadsPrec, PrecReadFails, TextFails, unread};
+ghost use Rattle.mine_inputs.specs.Inputs.{ReadsPrec, PrecReadFails, unread};
 
 use crate::engine_fault::{EngineFault, Problem};
 use blocks_file::{BlockModel, MOST_COLUMNS, read_blocks};
@@ -19,30 +18,6 @@ pub fn unread(fault: InputFault, too_long: EngineFault) -> EngineFault
         InputFault::Device => EngineFault::Device,
         InputFault::InputTooLong => too_long,
         InputFault::NoMemory => EngineFault::Memory,
-    }
-}
-
-/// All bytes of an input.
-///
-/// # Errors
-/// `too_long` for more than 2^32 bytes, `Memory` where memory is refused, `Device` where a read fails.
-pub fn text_from<R: CountedRead>(
-    alloc: Global,
-    from: &mut R,
-    too_long: EngineFault,
-) -> Result<Vec<u8>, EngineFault>
-    requires room { R.failed from.old < 2 ^ 64 - 1 }
-    requires no_device { ¬ (too_long ≡ EngineFault.Device) }
-    ensures read { IfSome (R.remaining from.old) (λ text. MatchResult result (λ v. v.items ≡ text) (TextFails too_long text)) }
-    ensures within { IfOk result (λ v. IsWithinLimit v.items) }
-    ensures device { IsErrOf result EngineFault.Device ↔ (R.failed from.new ≡ R.failed from.old + 1) }
-    ensures kept { ¬ IsErrOf result EngineFault.Device → R.failed from.new ≡ R.failed from.old }
-{
-    match read_whole(alloc, from, MOST_BYTES) {
-        Ok(text) => Ok(text),
-        Err(InputFault::Device) => Err(EngineFault::Device),
-        Err(InputFault::InputTooLong) => Err(too_long),
-        Err(InputFault::NoMemory) => Err(EngineFault::Memory),
     }
 }
 
@@ -63,7 +38,8 @@ pub fn blocks_from<R: CountedRead>(
     ensures device { IsErrOf result EngineFault.Device ↔ (R.failed from.new ≡ R.failed from.old + 1) }
     ensures kept { ¬ IsErrOf result EngineFault.Device → R.failed from.new ≡ R.failed from.old }
 {
-    let text = text_from(alloc, from, EngineFault::Blocks(Problem::InputTooLong))?;
+    let too_long = EngineFault::Blocks(Problem::InputTooLong);
+    let text = read_whole(alloc, from, MOST_BYTES).map_err(|fault| unread(fault, too_long))?;
     match read_blocks(alloc, text.as_slice(), columns) {
         Ok(model) => Ok(model),
         Err(fault) => Err(EngineFault::from(fault)),
@@ -104,7 +80,8 @@ pub fn predecessors_from<R: CountedRead>(
     ensures device { IsErrOf result EngineFault.Device ↔ (R.failed from.new ≡ R.failed from.old + 1) }
     ensures kept { ¬ IsErrOf result EngineFault.Device → R.failed from.new ≡ R.failed from.old }
 {
-    let text = text_from(alloc, from, EngineFault::Prec(Problem::InputTooLong))?;
+    let too_long = EngineFault::Prec(Problem::InputTooLong);
+    let text = read_whole(alloc, from, MOST_BYTES).map_err(|fault| unread(fault, too_long))?;
     match read_predecessors(alloc, text, n) {
         Ok(predecessors) => Ok(predecessors),
         Err(fault) => Err(EngineFault::from(fault)),

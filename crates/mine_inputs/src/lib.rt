@@ -18,7 +18,7 @@ mod priced_inputs;
 mod worths;
 
 pub use engine_fault::{CertificateProblem, EngineFault, Problem, SlopeProblem};
-pub use inputs::{blocks_from, predecessors_from, rests_from, text_from};
+pub use inputs::{blocks_from, predecessors_from, rests_from, unread};
 pub use mines::{
     MineInputs, MineToCheck, MineToSolve, WorthInputs, mine_to_check, mine_to_solve, worths_from,
 };

@@ -63,9 +63,9 @@ pub fn worths_from<D: CountedRead>(
 {
     match inputs {
         WorthInputs::Values { upit } => {
+            let too_long = EngineFault::Upit(Problem::InputTooLong);
             let text = read_whole(alloc, upit, MOST_BYTES).map_err(|fault| unread(
-                fault,
-                EngineFault::Upit(Problem::InputTooLong),
+                fault, too_long,
             ))?;
             Ok(Worths::Values(read_values(alloc, text.as_slice(), None)?))
         }

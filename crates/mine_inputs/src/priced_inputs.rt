@@ -9,9 +9,9 @@ ghost use Rattle.mine_inputs.specs.BlockTexts.{ReadsBlocks, BlocksReadFails};
 ghost use Rattle.mine_inputs.specs.Inputs.{ReadsSettingsText, SettingsReadFails, IsMissing, ReadsPrices, PricesReadFail, ModelPricesFail};
 
 use crate::engine_fault::{EngineFault, Problem};
-use crate::inputs::{blocks_from, text_from};
+use crate::inputs::{blocks_from, unread};
 use blocks_file::BlockModel;
-use fixed_worth::{CountedRead, Micros};
+use fixed_worth::{CountedRead, MOST_BYTES, Micros, read_whole};
 use settings_file::{Key, Settings, SettingsFault, read_settings};
 use shells::Prices;
 use std::alloc::{AllocError, Global};
@@ -27,7 +27,8 @@ pub fn settings_from<R: CountedRead>(alloc: Global, from: &mut R) -> Result<Sett
     ensures device { IsErrOf result EngineFault.Device ↔ (R.failed from.new ≡ R.failed from.old + 1) }
     ensures kept { ¬ IsErrOf result EngineFault.Device → R.failed from.new ≡ R.failed from.old }
 {
-    let text = text_from(alloc, from, EngineFault::Settings(Problem::InputTooLong))?;
+    let too_long = EngineFault::Settings(Problem::InputTooLong);
+    let text = read_whole(alloc, from, MOST_BYTES).map_err(|fault| unread(fault, too_long))?;
     settings_in(alloc, text.as_slice())
 }
 

@@ -6,8 +6,8 @@ ghost use Rattle.replay_engines.specs.TraceTexts.{ReadsTrace, TraceReadFails};
 
 use async_step::Event;
 use engines::{EngineFault, Problem};
-use fixed_worth::CountedRead;
-use mine_inputs::text_from;
+use fixed_worth::{CountedRead, MOST_BYTES, read_whole};
+use mine_inputs::unread;
 use std::alloc::Global;
 use trace_file::read_trace;
 
@@ -22,7 +22,8 @@ pub fn events_from<E: CountedRead>(alloc: Global, from: &mut E) -> Result<Vec<Ev
     ensures device { IsErrOf result EngineFault.Device ↔ (E.failed from.new ≡ E.failed from.old + 1) }
     ensures kept { ¬ IsErrOf result EngineFault.Device → E.failed from.new ≡ E.failed from.old }
 {
-    let text = text_from(alloc, from, EngineFault::Trace(Problem::InputTooLong))?;
+    let too_long = EngineFault::Trace(Problem::InputTooLong);
+    let text = read_whole(alloc, from, MOST_BYTES).map_err(|fault| unread(fault, too_long))?;
     events_in(alloc, text.as_slice())
 }
 
