@@ -11,7 +11,7 @@ ghost use Rattle.machine_law.specs.States.{opening, IsQuiet};
 ghost use Rattle.machine_law.specs.Quiet.{IsFlowOf};
 ghost use Rattle.async_step.specs.Marks.{IsFirstRound};
 ghost use Rattle.async_step.specs.Views.{StateView, state_of, operation_at, IsSized};
-ghost use Rattle.async_step.specs.Scans.{seen_by, chosen_by};
+ghost use Rattle.async_step.specs.Scans.{after_capacity_by, after_label_by};
 ghost use Rattle.machine_law.specs.Reads.{IsScan};
 ghost use Rattle.async_step.specs.Answers.{IsStateOf, IsWaiting};
 
@@ -328,7 +328,7 @@ impl<G: OrderedGroup> State<G> {
         requires room { self.old.steps < MOST_STEPS }
         requires scan { IsScan ports ((state_of self.old).operation b) }
         ensures { let s = state_of self.old in self.new ≡ record self.old {
-          operation = slice_set self.old.operation b (seen_by ports (s.label b) (G.parts_of capacity) (s.operation b));
+          operation = slice_set self.old.operation b (after_capacity_by ports (s.label b) (G.parts_of capacity) (s.operation b));
           steps = self.old.steps + 1;
         } }
     {
@@ -350,7 +350,7 @@ impl<G: OrderedGroup> State<G> {
         requires room { self.old.steps < MOST_STEPS }
         requires scan { IsScan ports ((state_of self.old).operation b) }
         ensures { let s = state_of self.old in self.new ≡ record self.old {
-          operation = slice_set self.old.operation b (chosen_by ports (s.label b) port label (s.operation b));
+          operation = slice_set self.old.operation b (after_label_by ports (s.label b) port label (s.operation b));
           steps = self.old.steps + 1;
         } }
     {
