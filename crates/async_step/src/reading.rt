@@ -71,7 +71,7 @@ impl<G: OrderedGroup> State<G> {
             return Err(StepRefusal::TooManySteps);
         }
         let seen = self.capacity(net, block, port);
-        self.see(block, net.ports(block), seen);
+        self.see_capacity(block, net.ports(block), seen);
         Ok(Saw::Capacity(seen))
     }
 
@@ -113,7 +113,7 @@ impl<G: OrderedGroup> State<G> {
             return Err(StepRefusal::TooManySteps);
         }
         let label = self.label_beyond(net, block, port);
-        self.choose(block, net.ports(block), port, label);
+        self.choose_port(block, net.ports(block), port, label);
         Ok(Saw::Label(label))
     }
 

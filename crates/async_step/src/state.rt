@@ -323,7 +323,7 @@ impl<G: OrderedGroup> State<G> {
 
     // Gives a block the capacity of the port that it looks at, and counts a step. The operation is
     // changed in its place: to make it anew costs more than the rest of the step.
-    pub(crate) fn see(&mut self, b: u32, ports: u32, capacity: G)
+    pub(crate) fn see_capacity(&mut self, b: u32, ports: u32, capacity: G)
         requires block { b < length self.old.operation }
         requires room { self.old.steps < MOST_STEPS }
         requires scan { IsScan ports ((state_of self.old).operation b) }
@@ -345,7 +345,7 @@ impl<G: OrderedGroup> State<G> {
 
     // Gives a block the label beyond the port that it looks at, and counts a step. The block had an
     // operation and has one after, so no mark changes.
-    pub(crate) fn choose(&mut self, b: u32, ports: u32, port: Port, label: u64)
+    pub(crate) fn choose_port(&mut self, b: u32, ports: u32, port: Port, label: u64)
         requires block { b < length self.old.operation }
         requires room { self.old.steps < MOST_STEPS }
         requires scan { IsScan ports ((state_of self.old).operation b) }

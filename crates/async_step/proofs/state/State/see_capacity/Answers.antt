@@ -10,7 +10,7 @@ use Rattle.async_step.specs.Views.{StateView, view_of, IsState, operation_at, is
 use Rattle.async_step.specs.Scans.{after_capacity_by}
 use Rattle.async_step.proofs.Changes.{state_operation, state_works}
 use Rattle.async_step.proofs.Scanning.{scan_under, scan_works, place_is, place_changed}
-use Rattle.async_step.proofs.state.State.see.Goals as goal
+use Rattle.async_step.proofs.state.State.see_capacity.Goals as goal
 
 pub see-requires-after_bounds : goal.see-requires-after_bounds
 see-requires-after_bounds g c κs within =

@@ -9,7 +9,7 @@ use Rattle.async_step.specs.Scans.{after_label_by}
 use Rattle.machine_law.specs.Reads.{IsScan}
 use Rattle.async_step.proofs.Changes.{state_works}
 use Rattle.async_step.proofs.Scanning.{scan_under, scan_works, chosen_works, place_is, place_changed}
-use Rattle.async_step.proofs.state.State.choose.Goals as goal
+use Rattle.async_step.proofs.state.State.choose_port.Goals as goal
 
 pub choose-requires-after_bounds : goal.choose-requires-after_bounds
 choose-requires-after_bounds g c κs within =
