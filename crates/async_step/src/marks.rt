@@ -1,7 +1,7 @@
 //! A set of blocks that gives the first of its blocks at or after a given one, and passes over empty stretches at
 //! once.
 
-ghost use Rattle.std.specs.Prelude.{◌≡◌, ◌↔◌, ℕ, ◌+◌, ◌<◌, ◌≤◌, ◌^◌, true, false, IsTrue, IfOk, MatchOption, length, replicate, slice_set};
+ghost use Rattle.std.specs.Prelude.{◌≡◌, ◌↔◌, ◌+◌, ◌<◌, ◌≤◌, ◌^◌, true, false, IsTrue, IfOk, MatchOption, length, replicate, slice_set};
 ghost use Rattle.async_step.specs.Marks.{mark_at, count_after_shift, CanShift, NoneWithin, IsFirstWithin, IsFirstRound};
 
 use fixed_worth::MOST_BLOCKS;

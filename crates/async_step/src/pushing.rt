@@ -8,7 +8,7 @@ ghost use Rattle.machine_law.specs.declared.operations.Operation.TheVariants.{Id
 ghost use Rattle.machine_law.specs.Operations.{best_as};
 ghost use Rattle.machine_law.specs.Residual.{IsPortOf};
 ghost use Rattle.machine_law.specs.States.{put};
-ghost use Rattle.machine_law.specs.Steps.{becomes, after_push, after_push_by, after_take, after_give, after_give_by, after_raise, push_amount};
+ghost use Rattle.machine_law.specs.Steps.{becomes, after_push, after_push_by, after_take, after_give, after_raise, push_amount};
 ghost use Rattle.async_step.specs.Views.{state_of};
 ghost use Rattle.async_step.specs.Answers.{IsStateOf, Leads, LeadsTelling};
 ghost use Rattle.async_step.specs.declared.saw.Saw.TheVariants.{Moved, Raised};

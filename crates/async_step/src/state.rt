@@ -1,16 +1,14 @@
 //! The state of a push-relabel run over a net: excess, label and operation of each block, and the flow. Once no block
 //! has excess or an operation it gives a maximum flow.
 
-ghost use Rattle.std.specs.Prelude.{◌≡◌, ◌↔◌, ℕ, ◌+◌, ◌<◌, ◌≤◌, true, IsTrue, IfOk, MatchOption, MatchResult, length, map, slice_set, slice_index};
-ghost use Rattle.ordered_group.specs.Amount.{zero_amount};
-ghost use Rattle.ordered_group.specs.Sums.{amount_at};
-ghost use Rattle.closure_net.specs.Network.{NetView, flow_view};
+ghost use Rattle.std.specs.Prelude.{◌≡◌, ◌↔◌, ℕ, ◌+◌, ◌<◌, ◌≤◌, IsTrue, IfOk, MatchOption, MatchResult, length, slice_set};
+ghost use Rattle.closure_net.specs.Network.{NetView};
 ghost use Rattle.machine_law.specs.Operations.{operation_as};
 ghost use Rattle.machine_law.specs.declared.operations.Operation.TheVariants.{Idle};
 ghost use Rattle.machine_law.specs.States.{opening, IsQuiet};
 ghost use Rattle.machine_law.specs.Quiet.{IsFlowOf};
 ghost use Rattle.async_step.specs.Marks.{IsFirstRound};
-ghost use Rattle.async_step.specs.Views.{StateView, state_of, operation_at, IsSized};
+ghost use Rattle.async_step.specs.Views.{StateView, state_of, IsSized};
 ghost use Rattle.async_step.specs.Scans.{after_capacity_by, after_label_by};
 ghost use Rattle.machine_law.specs.Reads.{IsScan};
 ghost use Rattle.async_step.specs.Answers.{IsStateOf, IsWaiting};

@@ -22,8 +22,8 @@ use crate::operations::{push_kind, read_kind};
 use crate::refusals::StepRefusal;
 use crate::saw::Saw;
 use crate::state::State;
-use closure_net::{Net, PortKind};
-use machine_law::{Best, Event, Kind, Operation};
+use closure_net::Net;
+use machine_law::{Event, Kind, Operation};
 use ordered_group::OrderedGroup;
 
 impl<G: OrderedGroup> State<G> {

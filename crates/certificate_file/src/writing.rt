@@ -2,7 +2,7 @@
 //! takes no memory.
 
 ghost use Rattle.std.specs.Prelude.{◌≡◌, ℕ, ◌+◌, ◌-◌, ◌^◌, ◌<◌, ◌≤◌, ◌⊎◌, All, [], ◌∷◌, ◌++◌, length, map, OnOk, OnErr};
-ghost use Rattle.std.specs.Fmt.{decimal, signed_decimal};
+ghost use Rattle.std.specs.Fmt.{signed_decimal};
 ghost use Rattle.std.specs.Io.KnownBytes.{Appends};
 ghost use Rattle.fixed_worth.specs.Device.{ReceivedPrefix, SentOrHeld};
 ghost use Rattle.ordered_group.specs.Group.{group_name};

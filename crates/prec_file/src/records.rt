@@ -2,7 +2,7 @@
 
 ghost use Rattle.std.specs.Prelude.{◌≡◌, ℕ, ◌<◌, ◌≤◌, ◌+◌, ◌||◌, Bool, List, false, length, map, take, nat_le, MatchResult, MatchOption, IsTrue, vec_capacity};
 ghost use Rattle.std.specs.List.{list_all, list_any};
-ghost use Rattle.fixed_worth.specs.Text.{Run, fields_of};
+ghost use Rattle.fixed_worth.specs.Text.{fields_of};
 ghost use Rattle.fixed_worth.specs.Record.{reads, number_of, is_skipped};
 ghost use Rattle.prec_file.specs.Records.{predecessors_of, shape_fault, record_fault};
 ghost use Rattle.prec_file.specs.Indexes.{IsRecordOf, TellsFault};
