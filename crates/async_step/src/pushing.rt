@@ -154,7 +154,8 @@ impl<G: OrderedGroup> State<G> {
         requires over { IsStateOf net.now self.old }
         requires block { block < length net.now.worths }
         ensures { let s = state_of self.old in LeadsTelling G.parts_of net.now self.old
-            (after_take s block (G.parts_of amount) port) (Moved (G.parts_of amount)) self.new result }
+            (after_take s block (G.parts_of amount) port) (Moved (G.parts_of amount))
+            self.new result }
     {
         let less = self
             .excess(block)
@@ -238,7 +239,8 @@ impl<G: OrderedGroup> State<G> {
         requires block { block < length net.now.worths }
         requires port { IsPortOf net.now block port }
         ensures { let s = state_of self.old in LeadsTelling G.parts_of net.now self.old
-            (after_give s block (G.parts_of amount) port) (Moved (G.parts_of amount)) self.new result }
+            (after_give s block (G.parts_of amount) port) (Moved (G.parts_of amount))
+            self.new result }
     {
         self.give(net, block, amount, port)?;
         Ok(Saw::Moved(amount))
@@ -254,7 +256,8 @@ impl<G: OrderedGroup> State<G> {
         requires over { IsStateOf net.now self.old }
         requires block { block < length net.now.worths }
         ensures { let s = state_of self.old in LeadsTelling G.parts_of net.now self.old
-            (after_raise s block (best_as G.parts_of best)) (Raised (best.label + 1)) self.new result }
+            (after_raise s block (best_as G.parts_of best)) (Raised (best.label + 1))
+            self.new result }
     {
         let label = best.label.checked_add(1).ok_or(StepRefusal::TooLarge)?;
         self.make_step(net, block, Change::Label(label), Operation::Idle)?;

@@ -25,7 +25,8 @@ impl<G: OrderedGroup> State<G> {
         requires over { IsStateOf net.now self.old }
         requires block { block < length net.now.worths }
         ensures { let s = state_of self.old in LeadsTelling G.parts_of net.now self.old
-            (becomes s block (operation_begun_with (s.excess block))) (Excess (s.excess block)) self.new result }
+            (becomes s block (operation_begun_with (s.excess block))) (Excess (s.excess block))
+            self.new result }
     {
         let have = self.excess(block);
         self.make_step(net, block, Change::Nothing, operation_begun_with(have))?;
@@ -124,7 +125,8 @@ impl<G: OrderedGroup> State<G> {
         requires port { IsPortOf net.now block port }
         requires scan { IsScan (length (ports net.now block)) ((state_of self.old).operation block) }
         ensures { let s = state_of self.old in LeadsTelling G.parts_of net.now self.old
-            (becomes s block (operation_after_look net.now s block port port.kind (s.operation block)))
+            (becomes s block
+            (operation_after_look net.now s block port port.kind (s.operation block)))
             (answer_by net.now s block port port.kind) self.new result }
     {
         match port.kind {
