@@ -13,7 +13,7 @@ use Rattle.machine_law.proofs.Points.{put-same, put-other, put-each}
 use Rattle.async_step.specs.declared.limits.TheConstants.{MOST_STEPS}
 use Rattle.async_step.specs.Views.{StateView, state_of, operation_at, IsSized}
 use Rattle.async_step.specs.Answers.{Fits, IsStateOf, GoesTo, Stays}
-use Rattle.async_step.specs.Changes.{CanChange, changed, lists_changed}
+use Rattle.async_step.specs.Changes.{CanChange, after_change, lists_after_change}
 use Rattle.async_step.specs.declared.changing.Change.{Change}
 use Rattle.async_step.specs.declared.changing.Change.TheVariants.{Nothing, Excess, Label, Source, Sink, Flow, AtSource, AtSink}
 use Rattle.async_step.specs.declared.refusals.StepRefusal.{StepRefusal}
@@ -60,7 +60,7 @@ module _ (net : NetView) (v : StateView) (over : IsStateOf net v) (b : ℕ) (l :
   operation_set = places-set v.operation b o Idle (omega (arith, l, over.blocks))
 
   -- every number fits after a change that can be made
-  pub fits_changed : (change : Change Amount) → CanChange net b change → Fits net (changed (becomes (state_of v) b o) b change)
+  pub fits_changed : (change : Change Amount) → CanChange net b change → Fits net (after_change (becomes (state_of v) b o) b change)
   fits_changed Nothing can =
       let h = over.fits in
       record { excess = h.excess; label = h.label; source = h.source; sink = h.sink; room = h.room; flow = h.flow; at_source = h.at_source; at_sink = h.at_sink }
@@ -89,11 +89,11 @@ module _ (net : NetView) (v : StateView) (over : IsStateOf net v) (b : ℕ) (l :
   -- the lists after the change and the next operation
   abbrev pub gone_on : Change Amount → StateView
   gone_on change =
-      let w = lists_changed v b change in
+      let w = lists_after_change v b change in
       record w { operation = set w.operation b o; steps = w.steps + 1 }
 
   -- they show the state after both
-  shows : IsSized v → (change : Change Amount) → CanChange net b change → state_of (gone_on change) ≡ changed (becomes (state_of v) b o) b change
+  shows : IsSized v → (change : Change Amount) → CanChange net b change → state_of (gone_on change) ≡ after_change (becomes (state_of v) b o) b change
   shows sized Nothing can = λ i. record { excess = (state_of v).excess; label = (state_of v).label; source = (state_of v).source; sink = (state_of v).sink; flow = (state_of v).flow; operation = operation_set i; at_source = v.at_source; at_sink = v.at_sink; steps = v.steps + 1 }
   shows sized (Excess at x) can = λ i. record { excess = places-set v.excess at x zero_amount (omega (arith, can.0, over.blocks, sized.excess)) i; label = (state_of v).label; source = (state_of v).source; sink = (state_of v).sink; flow = (state_of v).flow; operation = operation_set i; at_source = v.at_source; at_sink = v.at_sink; steps = v.steps + 1 }
   shows sized (Label x) can = λ i. record { excess = (state_of v).excess; label = places-set v.label b x 0 (omega (arith, l, over.blocks, sized.label)) i; source = (state_of v).source; sink = (state_of v).sink; flow = (state_of v).flow; operation = operation_set i; at_source = v.at_source; at_sink = v.at_sink; steps = v.steps + 1 }
@@ -104,7 +104,7 @@ module _ (net : NetView) (v : StateView) (over : IsStateOf net v) (b : ℕ) (l :
   shows sized (AtSink x) can = λ i. record { excess = (state_of v).excess; label = (state_of v).label; source = (state_of v).source; sink = (state_of v).sink; flow = (state_of v).flow; operation = operation_set i; at_source = v.at_source; at_sink = x; steps = v.steps + 1 }
 
   -- as many blocks and pairs as before
-  same_blocks : (change : Change Amount) → (lists_changed v b change).operation ≡ v.operation
+  same_blocks : (change : Change Amount) → (lists_after_change v b change).operation ≡ v.operation
   same_blocks Nothing = refl
   same_blocks (Excess at x) = refl
   same_blocks (Label x) = refl
@@ -114,7 +114,7 @@ module _ (net : NetView) (v : StateView) (over : IsStateOf net v) (b : ℕ) (l :
   same_blocks (AtSource x) = refl
   same_blocks (AtSink x) = refl
 
-  same_pairs : (change : Change Amount) → length (lists_changed v b change).flow ≡ length v.flow
+  same_pairs : (change : Change Amount) → length (lists_after_change v b change).flow ≡ length v.flow
   same_pairs Nothing = refl
   same_pairs (Excess at x) = refl
   same_pairs (Label x) = refl
@@ -124,14 +124,14 @@ module _ (net : NetView) (v : StateView) (over : IsStateOf net v) (b : ℕ) (l :
   same_pairs (AtSource x) = refl
   same_pairs (AtSink x) = refl
 
-  pub goes : v.steps < MOST_STEPS → IsSized v → (change : Change Amount) → CanChange net b change → GoesTo net v (changed (becomes (state_of v) b o) b change) (gone_on change)
+  pub goes : v.steps < MOST_STEPS → IsSized v → (change : Change Amount) → CanChange net b change → GoesTo net v (after_change (becomes (state_of v) b o) b change) (gone_on change)
   goes few sized change can =
       let e = shows sized change can in
       record {
         state = e;
         counted = few;
         fits = subst (Fits net) (sym e) (fits_changed change can);
-        blocks = length-set (lists_changed v b change).operation b o ∙ ap length (same_blocks change);
+        blocks = length-set (lists_after_change v b change).operation b o ∙ ap length (same_blocks change);
         pairs = same_pairs change;
       }
 

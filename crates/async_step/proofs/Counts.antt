@@ -7,7 +7,7 @@ use Rattle.std.proofs.lemmas.List.{get_or_default}
 use Rattle.ordered_group.specs.Sets.{count_in}
 use Rattle.ordered_group.proofs.BlockSets.{count_in-same, count_in-most}
 use Rattle.async_step.specs.declared.marks.TheConstants.{SMALL, MIDDLE, LARGE}
-use Rattle.async_step.specs.Marks.{mark_at, run_count, IsCounted, IsMarks, shifted, CanShift}
+use Rattle.async_step.specs.Marks.{mark_at, run_count, IsCounted, IsMarks, count_after_shift, CanShift}
 
 -- one more number passes
 one_more : (e f : ℕ → Bool) (k n : ℕ) → k < n → e k ≡ false → f k ≡ true → ((j : ℕ) → (j ≡ k → ⊥) → f j ≡ e j) → count_in f n ≡ count_in e n + 1
@@ -83,7 +83,7 @@ module _ (marks : List Bool) (b : ℕ) (inside : b < length marks) where
   there : (v : Bool) (c : ℕ) → (c ≡ b → ⊥) → mark_at (set marks b v) c ≡ mark_at marks c
   there v c d = get_or-set_other marks b c v false d
 
-  pub run_shifted : (v : Bool) (from width : ℕ) → (mark_at marks b ≡ v → ⊥) → from ≤ b → b < from + width → shifted v (run_count marks from width) ≡ run_count (set marks b v) from width
+  pub run_shifted : (v : Bool) (from width : ℕ) → (mark_at marks b ≡ v → ⊥) → from ≤ b → b < from + width → count_after_shift v (run_count marks from width) ≡ run_count (set marks b v) from width
   run_shifted true from width d p q = sym (run_more marks (set marks b true) from width b p q ((opposite true (mark_at marks b) d).0 refl) (here true) (there true))
   run_shifted false from width d p q =
       let m = run_more (set marks b false) marks from width b p q (here false) ((opposite false (mark_at marks b) d).1 refl) (λ c n. sym (there false c n)) in
@@ -102,9 +102,9 @@ module _ (marks : List Bool) (b : ℕ) (inside : b < length marks) where
       let r = run_of width w in
       subst (CanShift v) (sym (h.at (b / width) (h.covers b (omega arith)))) (run_can_shift v (b / width * width) width d r.0 r.1 few)
 
-  pub counted_shifted : (v : Bool) (width : ℕ) (counts : List ℕ) → IsCounted marks width counts → 0 < width → (mark_at marks b ≡ v → ⊥) → IsCounted (set marks b v) width (set counts (b / width) (shifted v (get_or counts (b / width) 0)))
+  pub counted_shifted : (v : Bool) (width : ℕ) (counts : List ℕ) → IsCounted marks width counts → 0 < width → (mark_at marks b ≡ v → ⊥) → IsCounted (set marks b v) width (set counts (b / width) (count_after_shift v (get_or counts (b / width) 0)))
   counted_shifted v width counts h w d =
-      let x = shifted v (get_or counts (b / width) 0) in
+      let x = count_after_shift v (get_or counts (b / width) 0) in
       let k = h.covers b (omega arith) in
       record {
         covers = λ c l. (let m : c ≤ length marks = omega (arith, length-set marks b v) in omega (arith, h.covers c m, length-set counts (b / width) x));
@@ -112,7 +112,7 @@ module _ (marks : List Bool) (b : ℕ) (inside : b < length marks) where
           | inl e ↦
               let r = run_of width w in
               let P : ℕ → Type 0 = λ j. get_or (set counts (b / width) x) j 0 ≡ run_count (set marks b v) (j * width) width in
-              subst P (sym e) (get_or-set_same counts (b / width) x 0 k ∙ (ap (shifted v) (h.at (b / width) k) ∙ run_shifted v (b / width * width) width d r.0 r.1))
+              subst P (sym e) (get_or-set_same counts (b / width) x 0 k ∙ (ap (count_after_shift v) (h.at (b / width) k) ∙ run_shifted v (b / width * width) width d r.0 r.1))
           | inr n ↦
               get_or-set_other counts (b / width) i x 0 n ∙ (h.at i (omega (arith, length-set counts (b / width) x)) ∙
               sym (run_same marks (set marks b v) (i * width) width (λ c p q. there v c (λ e. n (sym (div-eq_of_lt-le width (subst (λ y. i * width ≤ y) e p) (subst (λ y. y < (i + 1) * width) e (grind arith))))))))
@@ -134,16 +134,16 @@ level_can_shift marks b t v width counts x l e d w few h r =
     let k = h.covers b (omega arith) in
     subst (CanShift v) (read_at counts (b / width) x k r) (counted_can_shift marks b l v width counts h w few (read_off marks b t v l e d))
 
-level_shifted : (marks : List Bool) (b : ℕ) (t v : Bool) (width : ℕ) (counts : List ℕ) (x y : ℕ) → b < length marks → t ≡ get_or marks b t → (t ≡ v → ⊥) → 0 < width → IsCounted marks width counts → x ≡ get_or counts (b / width) x → y ≡ shifted v x → IsCounted (set marks b v) width (set counts (b / width) y)
+level_shifted : (marks : List Bool) (b : ℕ) (t v : Bool) (width : ℕ) (counts : List ℕ) (x y : ℕ) → b < length marks → t ≡ get_or marks b t → (t ≡ v → ⊥) → 0 < width → IsCounted marks width counts → x ≡ get_or counts (b / width) x → y ≡ count_after_shift v x → IsCounted (set marks b v) width (set counts (b / width) y)
 level_shifted marks b t v width counts x y l e d w h r q =
     let k = h.covers b (omega arith) in
-    subst (λ z. IsCounted (set marks b v) width (set counts (b / width) z)) (ap (shifted v) (read_at counts (b / width) x k r) ∙ sym q) (counted_shifted marks b l v width counts h w (read_off marks b t v l e d))
+    subst (λ z. IsCounted (set marks b v) width (set counts (b / width) z)) (ap (count_after_shift v) (read_at counts (b / width) x k r) ∙ sym q) (counted_shifted marks b l v width counts h w (read_off marks b t v l e d))
 
 pub all_can_shift : (marks : List Bool) (b : ℕ) (t v : Bool) (count : ℕ) → b < length marks → t ≡ get_or marks b t → (t ≡ v → ⊥) → length marks < 1000000000 → count ≡ run_count marks 0 (length marks) → CanShift v count
 all_can_shift marks b t v count l e d few h = subst (CanShift v) (sym h) (run_can_shift marks b l v 0 (length marks) (read_off marks b t v l e d) (omega arith) (omega arith) few)
 
 pub marks_set : (marks : List Bool) (smalls middles larges : List ℕ) (count b : ℕ) (t v : Bool) (x y z x' y' z' held : ℕ) → IsMarks marks smalls middles larges count → b < length marks → t ≡ get_or marks b t → (t ≡ v → ⊥)
-    → x ≡ get_or smalls (b / SMALL) x → x' ≡ shifted v x → y ≡ get_or middles (b / MIDDLE) y → y' ≡ shifted v y → z ≡ get_or larges (b / LARGE) z → z' ≡ shifted v z → held ≡ shifted v count
+    → x ≡ get_or smalls (b / SMALL) x → x' ≡ count_after_shift v x → y ≡ get_or middles (b / MIDDLE) y → y' ≡ count_after_shift v y → z ≡ get_or larges (b / LARGE) z → z' ≡ count_after_shift v z → held ≡ count_after_shift v count
     → IsMarks (set marks b v) (set smalls (b / SMALL) x') (set middles (b / MIDDLE) y') (set larges (b / LARGE) z') held
 marks_set marks smalls middles larges count b t v x y z x' y' z' held h l e d rx qx ry qy rz qz q =
     let n = length-set marks b v in
@@ -152,7 +152,7 @@ marks_set marks smalls middles larges count b t v x y z x' y' z' held h l e d rx
       small = level_shifted marks b t v SMALL smalls x x' l e d (omega arith) h.small rx qx;
       middle = level_shifted marks b t v MIDDLE middles y y' l e d (omega arith) h.middle ry qy;
       large = level_shifted marks b t v LARGE larges z z' l e d (omega arith) h.large rz qz;
-      held = q ∙ (ap (shifted v) h.held ∙ (run_shifted marks b l v 0 (length marks) (read_off marks b t v l e d) (omega arith) (omega arith) ∙ ap (run_count (set marks b v) 0) (sym n)));
+      held = q ∙ (ap (count_after_shift v) h.held ∙ (run_shifted marks b l v 0 (length marks) (read_off marks b t v l e d) (omega arith) (omega arith) ∙ ap (run_count (set marks b v) 0) (sym n)));
     }
 
 -- two marks that the code finds to differ

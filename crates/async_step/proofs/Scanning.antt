@@ -8,9 +8,9 @@ use Rattle.machine_law.specs.declared.operations.Best.{Best}
 use Rattle.machine_law.specs.declared.operations.Operation.{Operation}
 use Rattle.machine_law.specs.declared.operations.Operation.TheVariants.{Idle, Scan, PushDue, TakeDue, GiveDue, RaiseDue}
 use Rattle.machine_law.specs.Operations.{operation_as, is_idle}
-use Rattle.machine_law.specs.Reads.{ended, passed, IsScan}
+use Rattle.machine_law.specs.Reads.{after_last_port, after_port, IsScan}
 use Rattle.async_step.specs.Views.{operation_at}
-use Rattle.async_step.specs.Scans.{chosen_by}
+use Rattle.async_step.specs.Scans.{after_label_by}
 
 -- the same under the amounts
 pub scan_under : {N M : Type 0} (f : N → M) (n : ℕ) (o : Operation N) → IsScan n (operation_as f o) → IsScan n o
@@ -34,13 +34,13 @@ either_works : {N : Type 0} (t : Bool) (o p : Operation N) → is_idle o ≡ fal
 either_works true o p h k = h
 either_works false o p h k = k
 
-ended_works : {N : Type 0} (label : ℕ) (have : N) (best : Best N) → is_idle (ended label have (Some best)) ≡ false
+ended_works : {N : Type 0} (label : ℕ) (have : N) (best : Best N) → is_idle (after_last_port label have (Some best)) ≡ false
 ended_works label have best = either_works (nat_lt best.label label) (PushDue have best) (RaiseDue have best) refl refl
 
-passed_works : {N : Type 0} (n label : ℕ) (have : N) (place : ℕ) (best : Best N) → is_idle (passed n label have place (Some best)) ≡ false
-passed_works n label have place best = either_works (nat_lt (place + 1) n) (Scan have (place + 1) None (Some best)) (ended label have (Some best)) refl (ended_works label have best)
+passed_works : {N : Type 0} (n label : ℕ) (have : N) (place : ℕ) (best : Best N) → is_idle (after_port n label have place (Some best)) ≡ false
+passed_works n label have place best = either_works (nat_lt (place + 1) n) (Scan have (place + 1) None (Some best)) (after_last_port label have (Some best)) refl (ended_works label have best)
 
-pub chosen_works : (n label : ℕ) (port : Port) (beyond : ℕ) (o : Operation Amount) → IsScan n o → is_idle (chosen_by n label port beyond o) ≡ false
+pub chosen_works : (n label : ℕ) (port : Port) (beyond : ℕ) (o : Operation Amount) → IsScan n o → is_idle (after_label_by n label port beyond o) ≡ false
 chosen_works n label port beyond Idle h = absurd h
 chosen_works n label port beyond (Scan have place read best) h = passed_works n label have place _
 chosen_works n label port beyond (PushDue have best) h = refl

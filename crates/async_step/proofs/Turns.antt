@@ -12,14 +12,14 @@ use Rattle.machine_law.specs.declared.operations.Best.{Best}
 use Rattle.machine_law.specs.declared.operations.Operation.{Operation}
 use Rattle.machine_law.specs.declared.operations.Operation.TheVariants.{Idle, Scan, PushDue, TakeDue, GiveDue, RaiseDue}
 use Rattle.machine_law.specs.Residual.{end_label, IsPortOf}
-use Rattle.machine_law.specs.Steps.{Step, becomes, weighed, looked, looked_by, next_kind, advance_by, advance}
+use Rattle.machine_law.specs.Steps.{Step, becomes, after_label_at, after_look, after_look_by, next_kind, advance_by, advance}
 use Rattle.machine_law.specs.Amounts.{HasAmounts, IsOperation}
 use Rattle.machine_law.proofs.Law.{runs_keep_law}
 use Rattle.machine_law.proofs.Runs.{run_more}
 use Rattle.async_step.specs.Views.{StateView, state_of}
-use Rattle.async_step.specs.Scans.{IsScanAt, chosen_by, looks_by}
+use Rattle.async_step.specs.Scans.{IsScanAt, after_label_by, operation_after_look}
 use Rattle.machine_law.specs.Reads.{IsScan}
-use Rattle.async_step.specs.Answers.{IsStateOf, LeadsTelling, told_of, told_at, told_by, told_beyond, told, saw_as, Stepped, IsRefused}
+use Rattle.async_step.specs.Answers.{IsStateOf, LeadsTelling, answer_of, answer_at, answer_by, answer_beyond, answer, saw_as, Stepped, IsRefused}
 use Rattle.async_step.specs.declared.saw.Saw.{Saw}
 use Rattle.async_step.specs.declared.saw.Saw.TheVariants.{Label}
 use Rattle.async_step.specs.declared.refusals.StepRefusal.{StepRefusal}
@@ -59,23 +59,23 @@ give_port net v b d port over e = (subst (IsOperation net (state_of v) b) (sym e
 
 -- ---- the step that is next
 module _ {N : Type 0} (f : N → Amount) (net : NetView) (v w : StateView) (b : ℕ) (r : Result (Saw N) StepRefusal) where
-  pub turn : (o : Operation Amount) → o ≡ (state_of v).operation b → LeadsTelling f net v (advance_by net (state_of v) b o) (told_of net (state_of v) b o) w r → LeadsTelling f net v (advance net (state_of v) b) (told net (state_of v) b) w r
-  turn o e h = subst (λ (x : Operation Amount). LeadsTelling f net v (advance_by net (state_of v) b x) (told_of net (state_of v) b x) w r) e h
+  pub turn : (o : Operation Amount) → o ≡ (state_of v).operation b → LeadsTelling f net v (advance_by net (state_of v) b o) (answer_of net (state_of v) b o) w r → LeadsTelling f net v (advance net (state_of v) b) (answer net (state_of v) b) w r
+  turn o e h = subst (λ (x : Operation Amount). LeadsTelling f net v (advance_by net (state_of v) b x) (answer_of net (state_of v) b x) w r) e h
 
   -- at the port at a place, whose capacity is read
   pub scan_reads : (place : ℕ) (port : Port) (o : Operation Amount) → IsScanAt place true o → slice_get (ports net b) place ≡ Some port
-      → LeadsTelling f net v (becomes (state_of v) b (chosen_by (length (ports net b)) ((state_of v).label b) port (end_label net (state_of v) port) o)) (Label (end_label net (state_of v) port)) w r
-      → LeadsTelling f net v (advance_by net (state_of v) b o) (told_of net (state_of v) b o) w r
+      → LeadsTelling f net v (becomes (state_of v) b (after_label_by (length (ports net b)) ((state_of v).label b) port (end_label net (state_of v) port) o)) (Label (end_label net (state_of v) port)) w r
+      → LeadsTelling f net v (advance_by net (state_of v) b o) (answer_of net (state_of v) b o) w r
   scan_reads place port Idle at p h = absurd at
   scan_reads place port (Scan have here None best) at p h = absurd (let q : false ≡ true = at.1 in cc)
   scan_reads place port (Scan have here (Some read) best) at p h =
-      subst (λ (q : Option Port). LeadsTelling f net v (becomes (state_of v) b (weighed net (state_of v) b have here best read q)) (told_beyond net (state_of v) q) w r) (sym (ap (slice_get (ports net b)) at.0 ∙ p)) h
+      subst (λ (q : Option Port). LeadsTelling f net v (becomes (state_of v) b (after_label_at net (state_of v) b have here best read q)) (answer_beyond net (state_of v) q) w r) (sym (ap (slice_get (ports net b)) at.0 ∙ p)) h
   scan_reads place port (PushDue have best) at p h = absurd at
   scan_reads place port (TakeDue amount over) at p h = absurd at
   scan_reads place port (GiveDue amount over) at p h = absurd at
   scan_reads place port (RaiseDue have best) at p h = absurd at
 
-  looks_as : (have : Amount) (place : ℕ) (best : Option (Best Amount)) (port : Port) (k : PortKind) → looks_by net (state_of v) b port k (Scan have place None best) ≡ looked_by net (state_of v) b have place best port k
+  looks_as : (have : Amount) (place : ℕ) (best : Option (Best Amount)) (port : Port) (k : PortKind) → operation_after_look net (state_of v) b port k (Scan have place None best) ≡ after_look_by net (state_of v) b have place best port k
   looks_as have place best port Sink = refl
   looks_as have place best port Forward = refl
   looks_as have place best port Backward = refl
@@ -83,12 +83,12 @@ module _ {N : Type 0} (f : N → Amount) (net : NetView) (v w : StateView) (b : 
 
   -- or isn't
   pub scan_looks : (place : ℕ) (port : Port) (o : Operation Amount) → IsScanAt place false o → slice_get (ports net b) place ≡ Some port
-      → LeadsTelling f net v (becomes (state_of v) b (looks_by net (state_of v) b port port.kind o)) (told_by net (state_of v) b port port.kind) w r
-      → LeadsTelling f net v (advance_by net (state_of v) b o) (told_of net (state_of v) b o) w r
+      → LeadsTelling f net v (becomes (state_of v) b (operation_after_look net (state_of v) b port port.kind o)) (answer_by net (state_of v) b port port.kind) w r
+      → LeadsTelling f net v (advance_by net (state_of v) b o) (answer_of net (state_of v) b o) w r
   scan_looks place port Idle at p h = absurd at
   scan_looks place port (Scan have here None best) at p h =
-      subst (λ (q : Option Port). LeadsTelling f net v (becomes (state_of v) b (looked net (state_of v) b have here best q)) (told_at net (state_of v) b q) w r) (sym (ap (slice_get (ports net b)) at.0 ∙ p))
-      (subst (λ (x : Operation Amount). LeadsTelling f net v (becomes (state_of v) b x) (told_by net (state_of v) b port port.kind) w r) (looks_as have here best port port.kind) h)
+      subst (λ (q : Option Port). LeadsTelling f net v (becomes (state_of v) b (after_look net (state_of v) b have here best q)) (answer_at net (state_of v) b q) w r) (sym (ap (slice_get (ports net b)) at.0 ∙ p))
+      (subst (λ (x : Operation Amount). LeadsTelling f net v (becomes (state_of v) b x) (answer_by net (state_of v) b port port.kind) w r) (looks_as have here best port port.kind) h)
   scan_looks place port (Scan have here (Some read) best) at p h = absurd (let q : true ≡ false = at.1 in cc)
   scan_looks place port (PushDue have best) at p h = absurd at
   scan_looks place port (TakeDue amount over) at p h = absurd at
@@ -97,7 +97,7 @@ module _ {N : Type 0} (f : N → Amount) (net : NetView) (v w : StateView) (b : 
 
 -- a step that is made, or refused
 pub stepped : {N : Type 0} (f : N → Amount) (net : NetView) (v w : StateView) (e : Event) (r : Result (Saw N) StepRefusal) → IsStateOf net v → e.block < length net.worths → next_kind net (state_of v) e.block ≡ e.kind
-    → LeadsTelling f net v (advance net (state_of v) e.block) (told net (state_of v) e.block) w r
+    → LeadsTelling f net v (advance net (state_of v) e.block) (answer net (state_of v) e.block) w r
     → MatchResult r (λ saw. Stepped net v e w (saw_as f saw)) (λ x. IsRefused net v e w x)
 stepped f net v w e (Ok saw) over l k h =
     let step : Step net (state_of v) e (state_of w) = record { block = l; kind = k; after = h.0.state } in

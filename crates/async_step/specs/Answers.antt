@@ -32,35 +32,35 @@ saw_as f (Moved amount) = Moved (f amount)
 saw_as f (Raised label) = Raised label
 
 -- at a port of this kind whose capacity isn't read: its capacity, or the label beyond a forward one
-abbrev pub told_by : NetView → State → ℕ → Port → PortKind → Saw Amount
-told_by net s b port Sink = Capacity (capacity net s b port)
-told_by net s b port Forward = Label (end_label net s port)
-told_by net s b port Backward = Capacity (capacity net s b port)
-told_by net s b port Source = Capacity (capacity net s b port)
+abbrev pub answer_by : NetView → State → ℕ → Port → PortKind → Saw Amount
+answer_by net s b port Sink = Capacity (capacity net s b port)
+answer_by net s b port Forward = Label (end_label net s port)
+answer_by net s b port Backward = Capacity (capacity net s b port)
+answer_by net s b port Source = Capacity (capacity net s b port)
 
 -- the same at a place of the list of ports
-abbrev pub told_at : NetView → State → ℕ → Option Port → Saw Amount
-told_at net s b None = Label 0
-told_at net s b (Some port) = told_by net s b port port.kind
+abbrev pub answer_at : NetView → State → ℕ → Option Port → Saw Amount
+answer_at net s b None = Label 0
+answer_at net s b (Some port) = answer_by net s b port port.kind
 
 -- the label beyond a port whose capacity was read
-abbrev pub told_beyond : NetView → State → Option Port → Saw Amount
-told_beyond net s None = Label 0
-told_beyond net s (Some port) = Label (end_label net s port)
+abbrev pub answer_beyond : NetView → State → Option Port → Saw Amount
+answer_beyond net s None = Label 0
+answer_beyond net s (Some port) = Label (end_label net s port)
 
 -- by the operation of b
-abbrev pub told_of : NetView → State → ℕ → Operation Amount → Saw Amount
-told_of net s b Idle = Excess (s.excess b)
-told_of net s b (Scan have place None best) = told_at net s b (slice_get (ports net b) place)
-told_of net s b (Scan have place (Some read) best) = told_beyond net s (slice_get (ports net b) place)
-told_of net s b (PushDue have best) = Moved (push_amount have best.port.kind best.capacity)
-told_of net s b (TakeDue amount port) = Moved amount
-told_of net s b (GiveDue amount port) = Moved amount
-told_of net s b (RaiseDue have best) = Raised (best.label + 1)
+abbrev pub answer_of : NetView → State → ℕ → Operation Amount → Saw Amount
+answer_of net s b Idle = Excess (s.excess b)
+answer_of net s b (Scan have place None best) = answer_at net s b (slice_get (ports net b) place)
+answer_of net s b (Scan have place (Some read) best) = answer_beyond net s (slice_get (ports net b) place)
+answer_of net s b (PushDue have best) = Moved (push_amount have best.port.kind best.capacity)
+answer_of net s b (TakeDue amount port) = Moved amount
+answer_of net s b (GiveDue amount port) = Moved amount
+answer_of net s b (RaiseDue have best) = Raised (best.label + 1)
 
 -- what the step that is next for b saw, moved or raised
-abbrev pub told : NetView → State → ℕ → Saw Amount
-told net s b = told_of net s b (s.operation b)
+abbrev pub answer : NetView → State → ℕ → Saw Amount
+answer net s b = answer_of net s b (s.operation b)
 
 -- ---- what fits
 
@@ -115,7 +115,7 @@ LeadsTelling f net old after tells new result = MatchResult result (λ saw. Goes
 -- one step was made, and this is what it saw, moved or raised
 pub record Stepped (net : NetView) (old : StateView) (event : Event) (new : StateView) (saw : Saw Amount) : Type 0 where
   pub step : Step net (state_of old) event (state_of new)
-  pub saw_is : saw ≡ told net (state_of old) event.block
+  pub saw_is : saw ≡ answer net (state_of old) event.block
   pub counted : old.steps < MOST_STEPS
   pub state : IsStateOf net new
 

@@ -20,26 +20,26 @@ change_as f (AtSource amount) = AtSource (f amount)
 change_as f (AtSink amount) = AtSink (f amount)
 
 -- a state after a change by block b
-abbrev pub changed : State → ℕ → Change Amount → State
-changed s b Nothing = s
-changed s b (Excess at amount) = record s { excess = put s.excess at amount }
-changed s b (Label label) = record s { label = put s.label b label }
-changed s b (Source amount) = record s { source = put s.source b amount }
-changed s b (Sink amount) = record s { sink = put s.sink b amount }
-changed s b (Flow pair amount) = record s { flow = put s.flow pair amount }
-changed s b (AtSource amount) = record s { at_source = amount }
-changed s b (AtSink amount) = record s { at_sink = amount }
+abbrev pub after_change : State → ℕ → Change Amount → State
+after_change s b Nothing = s
+after_change s b (Excess at amount) = record s { excess = put s.excess at amount }
+after_change s b (Label label) = record s { label = put s.label b label }
+after_change s b (Source amount) = record s { source = put s.source b amount }
+after_change s b (Sink amount) = record s { sink = put s.sink b amount }
+after_change s b (Flow pair amount) = record s { flow = put s.flow pair amount }
+after_change s b (AtSource amount) = record s { at_source = amount }
+after_change s b (AtSink amount) = record s { at_sink = amount }
 
 -- the same of a state's lists
-abbrev pub lists_changed : StateView → ℕ → Change Amount → StateView
-lists_changed v b Nothing = v
-lists_changed v b (Excess at amount) = record v { excess = slice_set v.excess at amount }
-lists_changed v b (Label label) = record v { label = slice_set v.label b label }
-lists_changed v b (Source amount) = record v { source = slice_set v.source b amount }
-lists_changed v b (Sink amount) = record v { sink = slice_set v.sink b amount }
-lists_changed v b (Flow pair amount) = record v { flow = slice_set v.flow pair amount }
-lists_changed v b (AtSource amount) = record v { at_source = amount }
-lists_changed v b (AtSink amount) = record v { at_sink = amount }
+abbrev pub lists_after_change : StateView → ℕ → Change Amount → StateView
+lists_after_change v b Nothing = v
+lists_after_change v b (Excess at amount) = record v { excess = slice_set v.excess at amount }
+lists_after_change v b (Label label) = record v { label = slice_set v.label b label }
+lists_after_change v b (Source amount) = record v { source = slice_set v.source b amount }
+lists_after_change v b (Sink amount) = record v { sink = slice_set v.sink b amount }
+lists_after_change v b (Flow pair amount) = record v { flow = slice_set v.flow pair amount }
+lists_after_change v b (AtSource amount) = record v { at_source = amount }
+lists_after_change v b (AtSink amount) = record v { at_sink = amount }
 
 -- what changes is there, and the number that it becomes fits its type, also what the block may still give the sink
 abbrev pub CanChange : NetView → ℕ → Change Amount → Type 0

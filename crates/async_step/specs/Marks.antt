@@ -26,9 +26,9 @@ pub record IsMarks (marks : List Bool) (smalls middles larges : List ℕ) (count
   pub held : count ≡ run_count marks 0 (length marks)
 
 -- a count of one more, or of one fewer
-abbrev pub shifted : Bool → ℕ → ℕ
-shifted true count = count + 1
-shifted false count = count - 1
+abbrev pub count_after_shift : Bool → ℕ → ℕ
+count_after_shift true count = count + 1
+count_after_shift false count = count - 1
 
 -- there is room for one more, or one to take away
 abbrev pub CanShift : Bool → ℕ → Type 0

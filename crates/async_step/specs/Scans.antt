@@ -10,7 +10,7 @@ use Rattle.machine_law.specs.States.{State}
 use Rattle.machine_law.specs.Residual.{capacity, end_label}
 use Rattle.machine_law.specs.declared.operations.Operation.{Operation}
 use Rattle.machine_law.specs.declared.operations.Operation.TheVariants.{Idle, Scan, PushDue, TakeDue, GiveDue, RaiseDue}
-use Rattle.machine_law.specs.Reads.{better, seen, passed_by}
+use Rattle.machine_law.specs.Reads.{better, after_capacity, after_port_by}
 
 -- whether a capacity was read
 abbrev pub has_read : {N : Type 0} → Option N → Bool
@@ -32,30 +32,30 @@ read_or_zero None = zero_amount
 read_or_zero (Some capacity) = capacity
 
 -- with one more port that may be the best
-abbrev pub weighed_by : Port → ℕ → Operation Amount → Operation Amount
-weighed_by port beyond Idle = Idle
-weighed_by port beyond (Scan have place read best) = Scan have place read (Some (better best (record { port = port; capacity = read_or_zero read; label = beyond })))
-weighed_by port beyond (PushDue have best) = PushDue have best
-weighed_by port beyond (TakeDue amount port₁) = TakeDue amount port₁
-weighed_by port beyond (GiveDue amount port₁) = GiveDue amount port₁
-weighed_by port beyond (RaiseDue have best) = RaiseDue have best
+abbrev pub with_candidate : Port → ℕ → Operation Amount → Operation Amount
+with_candidate port beyond Idle = Idle
+with_candidate port beyond (Scan have place read best) = Scan have place read (Some (better best (record { port = port; capacity = read_or_zero read; label = beyond })))
+with_candidate port beyond (PushDue have best) = PushDue have best
+with_candidate port beyond (TakeDue amount port₁) = TakeDue amount port₁
+with_candidate port beyond (GiveDue amount port₁) = GiveDue amount port₁
+with_candidate port beyond (RaiseDue have best) = RaiseDue have best
 
 -- after the capacity of the port is read
-abbrev pub seen_by : ℕ → ℕ → Amount → Operation Amount → Operation Amount
-seen_by count label capacity Idle = Idle
-seen_by count label capacity (Scan have place read best) = seen count label have place best capacity
-seen_by count label capacity (PushDue have best) = PushDue have best
-seen_by count label capacity (TakeDue amount port) = TakeDue amount port
-seen_by count label capacity (GiveDue amount port) = GiveDue amount port
-seen_by count label capacity (RaiseDue have best) = RaiseDue have best
+abbrev pub after_capacity_by : ℕ → ℕ → Amount → Operation Amount → Operation Amount
+after_capacity_by count label capacity Idle = Idle
+after_capacity_by count label capacity (Scan have place read best) = after_capacity count label have place best capacity
+after_capacity_by count label capacity (PushDue have best) = PushDue have best
+after_capacity_by count label capacity (TakeDue amount port) = TakeDue amount port
+after_capacity_by count label capacity (GiveDue amount port) = GiveDue amount port
+after_capacity_by count label capacity (RaiseDue have best) = RaiseDue have best
 
 -- after the label beyond the port is read
-abbrev pub chosen_by : ℕ → ℕ → Port → ℕ → Operation Amount → Operation Amount
-chosen_by count label port beyond o = passed_by count label (weighed_by port beyond o)
+abbrev pub after_label_by : ℕ → ℕ → Port → ℕ → Operation Amount → Operation Amount
+after_label_by count label port beyond o = after_port_by count label (with_candidate port beyond o)
 
 -- after a read at a port of this kind whose capacity isn't read: of its capacity, or of the label beyond a forward one
-abbrev pub looks_by : NetView → State → ℕ → Port → PortKind → Operation Amount → Operation Amount
-looks_by net s b port Sink o = seen_by (length (ports net b)) (s.label b) (capacity net s b port) o
-looks_by net s b port Forward o = chosen_by (length (ports net b)) (s.label b) port (end_label net s port) o
-looks_by net s b port Backward o = seen_by (length (ports net b)) (s.label b) (capacity net s b port) o
-looks_by net s b port Source o = seen_by (length (ports net b)) (s.label b) (capacity net s b port) o
+abbrev pub operation_after_look : NetView → State → ℕ → Port → PortKind → Operation Amount → Operation Amount
+operation_after_look net s b port Sink o = after_capacity_by (length (ports net b)) (s.label b) (capacity net s b port) o
+operation_after_look net s b port Forward o = after_label_by (length (ports net b)) (s.label b) port (end_label net s port) o
+operation_after_look net s b port Backward o = after_capacity_by (length (ports net b)) (s.label b) (capacity net s b port) o
+operation_after_look net s b port Source o = after_capacity_by (length (ports net b)) (s.label b) (capacity net s b port) o

@@ -6,7 +6,7 @@ ghost use Rattle.machine_law.specs.Operations.{operation_as};
 ghost use Rattle.machine_law.specs.Steps.{becomes};
 ghost use Rattle.async_step.specs.Views.{state_of};
 ghost use Rattle.async_step.specs.Answers.{IsStateOf, Leads};
-ghost use Rattle.async_step.specs.Changes.{CanChange, change_as, changed, lists_changed};
+ghost use Rattle.async_step.specs.Changes.{CanChange, change_as, after_change, lists_after_change};
 
 use crate::refusals::StepRefusal;
 use crate::state::State;
@@ -41,7 +41,7 @@ impl<G: OrderedGroup> State<G> {
         requires over { IsStateOf _net.now self.old }
         requires block { b < length _net.now.worths }
         requires can { CanChange _net.now b (change_as G.parts_of change) }
-        ensures { self.new ≡ lists_changed self.old b (change_as G.parts_of change) }
+        ensures { self.new ≡ lists_after_change self.old b (change_as G.parts_of change) }
     {
         match change {
             Change::Nothing => {}
@@ -66,7 +66,7 @@ impl<G: OrderedGroup> State<G> {
         requires over { IsStateOf net.now self.old }
         requires block { b < length net.now.worths }
         requires can { CanChange net.now b (change_as G.parts_of change) }
-        ensures { Leads net.now self.old (changed (becomes (state_of self.old) b (operation_as G.parts_of operation)) b (change_as G.parts_of change)) self.new result }
+        ensures { Leads net.now self.old (after_change (becomes (state_of self.old) b (operation_as G.parts_of operation)) b (change_as G.parts_of change)) self.new result }
     {
         // proof: the lists of a state are as long as its blocks
         let _sized = self.len();

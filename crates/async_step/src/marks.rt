@@ -1,8 +1,8 @@
 //! A set of blocks that gives the first of its blocks at or after a given one, and passes over empty stretches at
 //! once.
 
-ghost use Rattle.std.specs.Prelude.{◌≡◌, ◌↔◌, ℕ, ◌+◌, ◌<◌, ◌≤◌, ◌^◌, true, false, IsTrue, IfOk, MatchOption, length, replicate, slice_set};
-ghost use Rattle.async_step.specs.Marks.{mark_at, shifted, CanShift, NoneWithin, IsFirstWithin, IsFirstRound};
+ghost use Rattle.std.specs.Prelude.{◌≡◌, ◌↔◌, ◌+◌, ◌<◌, ◌≤◌, ◌^◌, true, false, IsTrue, IfOk, MatchOption, length, replicate, slice_set};
+ghost use Rattle.async_step.specs.Marks.{mark_at, count_after_shift, CanShift, NoneWithin, IsFirstWithin, IsFirstRound};
 
 use fixed_worth::MOST_BLOCKS;
 use std::alloc::{AllocError, Global};
@@ -38,9 +38,9 @@ impl Model for Marks {
 }
 
 // A count of one more, or of one fewer.
-fn shifted(count: u32, up: bool) -> u32
+fn count_after_shift(count: u32, up: bool) -> u32
     requires { CanShift up count }
-    ensures { result ≡ shifted up count }
+    ensures { result ≡ count_after_shift up count }
 {
     if up { count + 1 } else { count - 1 }
 }
@@ -78,10 +78,10 @@ impl Marks {
             return;
         }
         self.marks[at] = marked;
-        self.small[at / SMALL] = shifted(self.small[at / SMALL], marked);
-        self.middle[at / MIDDLE] = shifted(self.middle[at / MIDDLE], marked);
-        self.large[at / LARGE] = shifted(self.large[at / LARGE], marked);
-        self.held = shifted(self.held, marked);
+        self.small[at / SMALL] = count_after_shift(self.small[at / SMALL], marked);
+        self.middle[at / MIDDLE] = count_after_shift(self.middle[at / MIDDLE], marked);
+        self.large[at / LARGE] = count_after_shift(self.large[at / LARGE], marked);
+        self.held = count_after_shift(self.held, marked);
     }
 
     // A number of blocks from this one on that are not in the set: none exactly where this one is.

@@ -3,8 +3,8 @@
 
 ghost use Rattle.std.specs.Prelude.{◌≡◌};
 ghost use Rattle.machine_law.specs.Operations.{operation_as};
-ghost use Rattle.machine_law.specs.Reads.{begun, IsScan};
-ghost use Rattle.async_step.specs.Scans.{weighed_by, seen_by, chosen_by};
+ghost use Rattle.machine_law.specs.Reads.{operation_begun_with, IsScan};
+ghost use Rattle.async_step.specs.Scans.{with_candidate, after_capacity_by, after_label_by};
 ghost use Rattle.machine_law.specs.Steps.{read_kind, push_kind, push_amount};
 
 use crate::predicates::is_positive;
@@ -37,8 +37,8 @@ pub fn push_kind(port: Port) -> Kind
 }
 
 /// The operation of a block that has read its excess.
-pub fn begun<G: OrderedGroup>(have: G) -> Operation<G>
-    ensures { operation_as G.parts_of result ≡ begun (G.parts_of have) }
+pub fn operation_begun_with<G: OrderedGroup>(have: G) -> Operation<G>
+    ensures { operation_as G.parts_of result ≡ operation_begun_with (G.parts_of have) }
 {
     if is_positive(have) {
         Operation::Scan {
@@ -67,7 +67,7 @@ pub fn push_amount<G: OrderedGroup>(have: G, port: Port, capacity: G) -> G
 /// A block reads this capacity of the port that it looks at.
 pub fn see<G: OrderedGroup>(operation: &mut Operation<G>, ports: u32, label: u64, capacity: G)
     requires { IsScan ports operation.old }
-    ensures { operation_as G.parts_of operation.new ≡ seen_by ports label (G.parts_of capacity) (operation_as G.parts_of operation.old) }
+    ensures { operation_as G.parts_of operation.new ≡ after_capacity_by ports label (G.parts_of capacity) (operation_as G.parts_of operation.old) }
 {
     if !is_positive(capacity) {
         pass(operation, ports, label);
@@ -86,7 +86,7 @@ pub fn see<G: OrderedGroup>(operation: &mut Operation<G>, ports: u32, label: u64
 
 /// The port that a block looks at may be the best so far: the lower, and of two as low the earlier.
 pub fn weigh<G: OrderedGroup>(operation: &mut Operation<G>, port: Port, label: u64)
-    ensures { operation_as G.parts_of operation.new ≡ weighed_by port label (operation_as G.parts_of operation.old) }
+    ensures { operation_as G.parts_of operation.new ≡ with_candidate port label (operation_as G.parts_of operation.old) }
 {
     match operation {
         Operation::Scan {
@@ -119,7 +119,7 @@ pub fn choose<G: OrderedGroup>(
     label: u64,
 )
     requires { IsScan ports operation.old }
-    ensures { operation_as G.parts_of operation.new ≡ chosen_by ports own port label (operation_as G.parts_of operation.old) }
+    ensures { operation_as G.parts_of operation.new ≡ after_label_by ports own port label (operation_as G.parts_of operation.old) }
 {
     weigh(operation, port, label);
     pass(operation, ports, own);

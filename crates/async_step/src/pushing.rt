@@ -8,7 +8,7 @@ ghost use Rattle.machine_law.specs.declared.operations.Operation.TheVariants.{Id
 ghost use Rattle.machine_law.specs.Operations.{best_as};
 ghost use Rattle.machine_law.specs.Residual.{IsPortOf};
 ghost use Rattle.machine_law.specs.States.{put};
-ghost use Rattle.machine_law.specs.Steps.{becomes, pushed, pushed_by, taken, given, given_by, raised, push_amount};
+ghost use Rattle.machine_law.specs.Steps.{becomes, after_push, after_push_by, after_take, after_give, after_raise, push_amount};
 ghost use Rattle.async_step.specs.Views.{state_of};
 ghost use Rattle.async_step.specs.Answers.{IsStateOf, Leads, LeadsTelling};
 ghost use Rattle.async_step.specs.declared.saw.Saw.TheVariants.{Moved, Raised};
@@ -33,7 +33,7 @@ impl<G: OrderedGroup> State<G> {
     ) -> Result<(), StepRefusal>
         requires over { IsStateOf net.now self.old }
         requires block { block < length net.now.worths }
-        ensures { let s = state_of self.old in Leads net.now self.old (pushed_by s block (G.parts_of amount) port Sink) self.new result }
+        ensures { let s = state_of self.old in Leads net.now self.old (after_push_by s block (G.parts_of amount) port Sink) self.new result }
     {
         let more = self
             .sink(block)
@@ -58,7 +58,7 @@ impl<G: OrderedGroup> State<G> {
         requires over { IsStateOf net.now self.old }
         requires block { block < length net.now.worths }
         requires slot { port.slot < length net.now.pairs }
-        ensures { let s = state_of self.old in Leads net.now self.old (pushed_by s block (G.parts_of amount) port Forward) self.new result }
+        ensures { let s = state_of self.old in Leads net.now self.old (after_push_by s block (G.parts_of amount) port Forward) self.new result }
     {
         let more = self
             .flow(port.slot)
@@ -79,7 +79,7 @@ impl<G: OrderedGroup> State<G> {
         requires over { IsStateOf net.now self.old }
         requires block { block < length net.now.worths }
         requires slot { port.slot < length net.now.pairs }
-        ensures { let s = state_of self.old in Leads net.now self.old (pushed_by s block (G.parts_of amount) port Backward) self.new result }
+        ensures { let s = state_of self.old in Leads net.now self.old (after_push_by s block (G.parts_of amount) port Backward) self.new result }
     {
         let less = self
             .flow(port.slot)
@@ -99,7 +99,7 @@ impl<G: OrderedGroup> State<G> {
     ) -> Result<(), StepRefusal>
         requires over { IsStateOf net.now self.old }
         requires block { block < length net.now.worths }
-        ensures { let s = state_of self.old in Leads net.now self.old (pushed_by s block (G.parts_of amount) port Source) self.new result }
+        ensures { let s = state_of self.old in Leads net.now self.old (after_push_by s block (G.parts_of amount) port Source) self.new result }
     {
         let less = self
             .source(block)
@@ -114,7 +114,7 @@ impl<G: OrderedGroup> State<G> {
         requires over { IsStateOf net.now self.old }
         requires block { block < length net.now.worths }
         requires port { IsPortOf net.now block port }
-        ensures { let s = state_of self.old in Leads net.now self.old (pushed s block (G.parts_of amount) port) self.new result }
+        ensures { let s = state_of self.old in Leads net.now self.old (after_push s block (G.parts_of amount) port) self.new result }
     {
         match port.kind {
             PortKind::Sink => self.move_to_sink(net, block, amount, port),
@@ -136,7 +136,7 @@ impl<G: OrderedGroup> State<G> {
         requires block { block < length net.now.worths }
         requires port { IsPortOf net.now block best.port }
         ensures { let s = state_of self.old in let d = push_amount (G.parts_of have) best.port.kind (G.parts_of best.capacity) in LeadsTelling G.parts_of net.now self.old
-            (pushed s block d best.port) (Moved d) self.new result }
+            (after_push s block d best.port) (Moved d) self.new result }
     {
         let amount = push_amount(have, best.port, best.capacity);
         self.push(net, block, amount, best.port)?;
@@ -154,7 +154,8 @@ impl<G: OrderedGroup> State<G> {
         requires over { IsStateOf net.now self.old }
         requires block { block < length net.now.worths }
         ensures { let s = state_of self.old in LeadsTelling G.parts_of net.now self.old
-            (taken s block (G.parts_of amount) port) (Moved (G.parts_of amount)) self.new result }
+            (after_take s block (G.parts_of amount) port) (Moved (G.parts_of amount))
+            self.new result }
     {
         let less = self
             .excess(block)
@@ -213,7 +214,7 @@ impl<G: OrderedGroup> State<G> {
         requires over { IsStateOf net.now self.old }
         requires block { block < length net.now.worths }
         requires port { IsPortOf net.now block port }
-        ensures { let s = state_of self.old in Leads net.now self.old (given s block (G.parts_of amount) port) self.new result }
+        ensures { let s = state_of self.old in Leads net.now self.old (after_give s block (G.parts_of amount) port) self.new result }
     {
         let rests = net.rests();
         // proof: there are at most `MOST_BLOCKS` blocks and `MOST_PAIRS` pairs
@@ -238,7 +239,8 @@ impl<G: OrderedGroup> State<G> {
         requires block { block < length net.now.worths }
         requires port { IsPortOf net.now block port }
         ensures { let s = state_of self.old in LeadsTelling G.parts_of net.now self.old
-            (given s block (G.parts_of amount) port) (Moved (G.parts_of amount)) self.new result }
+            (after_give s block (G.parts_of amount) port) (Moved (G.parts_of amount))
+            self.new result }
     {
         self.give(net, block, amount, port)?;
         Ok(Saw::Moved(amount))
@@ -254,7 +256,8 @@ impl<G: OrderedGroup> State<G> {
         requires over { IsStateOf net.now self.old }
         requires block { block < length net.now.worths }
         ensures { let s = state_of self.old in LeadsTelling G.parts_of net.now self.old
-            (raised s block (best_as G.parts_of best)) (Raised (best.label + 1)) self.new result }
+            (after_raise s block (best_as G.parts_of best)) (Raised (best.label + 1))
+            self.new result }
     {
         let label = best.label.checked_add(1).ok_or(StepRefusal::TooLarge)?;
         self.make_step(net, block, Change::Label(label), Operation::Idle)?;

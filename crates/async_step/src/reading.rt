@@ -3,16 +3,16 @@
 
 ghost use Rattle.std.specs.Prelude.{◌≡◌, ◌<◌, length};
 ghost use Rattle.closure_net.specs.Ports.{ports};
-ghost use Rattle.machine_law.specs.Reads.{begun, IsScan};
+ghost use Rattle.machine_law.specs.Reads.{operation_begun_with, IsScan};
 ghost use Rattle.machine_law.specs.Residual.{capacity, end_label, IsPortOf};
 ghost use Rattle.machine_law.specs.Steps.{becomes, advance};
 ghost use Rattle.async_step.specs.Views.{state_of};
-ghost use Rattle.async_step.specs.Scans.{IsScanAt, seen_by, chosen_by, looks_by};
-ghost use Rattle.async_step.specs.Answers.{IsStateOf, LeadsTelling, told_by, told};
+ghost use Rattle.async_step.specs.Scans.{IsScanAt, after_capacity_by, after_label_by, operation_after_look};
+ghost use Rattle.async_step.specs.Answers.{IsStateOf, LeadsTelling, answer_by, answer};
 ghost use Rattle.async_step.specs.declared.saw.Saw.TheVariants.{Excess, Capacity, Label};
 
 use crate::changing::Change;
-use crate::operations::begun;
+use crate::operations::operation_begun_with;
 use crate::refusals::StepRefusal;
 use crate::saw::Saw;
 use crate::state::State;
@@ -25,10 +25,11 @@ impl<G: OrderedGroup> State<G> {
         requires over { IsStateOf net.now self.old }
         requires block { block < length net.now.worths }
         ensures { let s = state_of self.old in LeadsTelling G.parts_of net.now self.old
-            (becomes s block (begun (s.excess block))) (Excess (s.excess block)) self.new result }
+            (becomes s block (operation_begun_with (s.excess block))) (Excess (s.excess block))
+            self.new result }
     {
         let have = self.excess(block);
-        self.make_step(net, block, Change::Nothing, begun(have))?;
+        self.make_step(net, block, Change::Nothing, operation_begun_with(have))?;
         Ok(Saw::Excess(have))
     }
 
@@ -62,7 +63,7 @@ impl<G: OrderedGroup> State<G> {
         requires port { IsPortOf net.now block port }
         requires scan { IsScan (length (ports net.now block)) ((state_of self.old).operation block) }
         ensures { let s = state_of self.old in let c = capacity net.now s block port in LeadsTelling G.parts_of net.now self.old
-            (becomes s block (seen_by (length (ports net.now block)) (s.label block) c (s.operation block)))
+            (becomes s block (after_capacity_by (length (ports net.now block)) (s.label block) c (s.operation block)))
             (Capacity c) self.new result }
     {
         // proof: the lists of a state are as long as its blocks
@@ -71,7 +72,7 @@ impl<G: OrderedGroup> State<G> {
             return Err(StepRefusal::TooManySteps);
         }
         let seen = self.capacity(net, block, port);
-        self.see(block, net.ports(block), seen);
+        self.see_capacity(block, net.ports(block), seen);
         Ok(Saw::Capacity(seen))
     }
 
@@ -104,7 +105,7 @@ impl<G: OrderedGroup> State<G> {
         requires port { IsPortOf net.now block port }
         requires scan { IsScan (length (ports net.now block)) ((state_of self.old).operation block) }
         ensures { let s = state_of self.old in let h = end_label net.now s port in LeadsTelling G.parts_of net.now self.old
-            (becomes s block (chosen_by (length (ports net.now block)) (s.label block) port h (s.operation block)))
+            (becomes s block (after_label_by (length (ports net.now block)) (s.label block) port h (s.operation block)))
             (Label h) self.new result }
     {
         // proof: the lists of a state are as long as its blocks
@@ -113,7 +114,7 @@ impl<G: OrderedGroup> State<G> {
             return Err(StepRefusal::TooManySteps);
         }
         let label = self.label_beyond(net, block, port);
-        self.choose(block, net.ports(block), port, label);
+        self.choose_port(block, net.ports(block), port, label);
         Ok(Saw::Label(label))
     }
 
@@ -124,8 +125,9 @@ impl<G: OrderedGroup> State<G> {
         requires port { IsPortOf net.now block port }
         requires scan { IsScan (length (ports net.now block)) ((state_of self.old).operation block) }
         ensures { let s = state_of self.old in LeadsTelling G.parts_of net.now self.old
-            (becomes s block (looks_by net.now s block port port.kind (s.operation block)))
-            (told_by net.now s block port port.kind) self.new result }
+            (becomes s block
+            (operation_after_look net.now s block port port.kind (s.operation block)))
+            (answer_by net.now s block port port.kind) self.new result }
     {
         match port.kind {
             PortKind::Sink => self.read_capacity(net, block, port),
@@ -147,7 +149,7 @@ impl<G: OrderedGroup> State<G> {
         requires block { block < length net.now.worths }
         requires scan { IsScanAt place is_read ((state_of self.old).operation block) }
         ensures { let s = state_of self.old in LeadsTelling G.parts_of net.now self.old
-            (advance net.now s block) (told net.now s block) self.new result }
+            (advance net.now s block) (answer net.now s block) self.new result }
     {
         let port = net.port(block, place);
         if is_read {

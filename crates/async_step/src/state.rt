@@ -1,17 +1,15 @@
 //! The state of a push-relabel run over a net: excess, label and operation of each block, and the flow. Once no block
 //! has excess or an operation it gives a maximum flow.
 
-ghost use Rattle.std.specs.Prelude.{◌≡◌, ◌↔◌, ℕ, ◌+◌, ◌<◌, ◌≤◌, true, IsTrue, IfOk, MatchOption, MatchResult, length, map, slice_set, slice_index};
-ghost use Rattle.ordered_group.specs.Amount.{zero_amount};
-ghost use Rattle.ordered_group.specs.Sums.{amount_at};
-ghost use Rattle.closure_net.specs.Network.{NetView, flow_view};
+ghost use Rattle.std.specs.Prelude.{◌≡◌, ◌↔◌, ℕ, ◌+◌, ◌<◌, ◌≤◌, IsTrue, IfOk, MatchOption, MatchResult, length, slice_set};
+ghost use Rattle.closure_net.specs.Network.{NetView};
 ghost use Rattle.machine_law.specs.Operations.{operation_as};
 ghost use Rattle.machine_law.specs.declared.operations.Operation.TheVariants.{Idle};
 ghost use Rattle.machine_law.specs.States.{opening, IsQuiet};
 ghost use Rattle.machine_law.specs.Quiet.{IsFlowOf};
 ghost use Rattle.async_step.specs.Marks.{IsFirstRound};
-ghost use Rattle.async_step.specs.Views.{StateView, state_of, operation_at, IsSized};
-ghost use Rattle.async_step.specs.Scans.{seen_by, chosen_by};
+ghost use Rattle.async_step.specs.Views.{StateView, state_of, IsSized};
+ghost use Rattle.async_step.specs.Scans.{after_capacity_by, after_label_by};
 ghost use Rattle.machine_law.specs.Reads.{IsScan};
 ghost use Rattle.async_step.specs.Answers.{IsStateOf, IsWaiting};
 
@@ -323,12 +321,12 @@ impl<G: OrderedGroup> State<G> {
 
     // Gives a block the capacity of the port that it looks at, and counts a step. The operation is
     // changed in its place: to make it anew costs more than the rest of the step.
-    pub(crate) fn see(&mut self, b: u32, ports: u32, capacity: G)
+    pub(crate) fn see_capacity(&mut self, b: u32, ports: u32, capacity: G)
         requires block { b < length self.old.operation }
         requires room { self.old.steps < MOST_STEPS }
         requires scan { IsScan ports ((state_of self.old).operation b) }
         ensures { let s = state_of self.old in self.new ≡ record self.old {
-          operation = slice_set self.old.operation b (seen_by ports (s.label b) (G.parts_of capacity) (s.operation b));
+          operation = slice_set self.old.operation b (after_capacity_by ports (s.label b) (G.parts_of capacity) (s.operation b));
           steps = self.old.steps + 1;
         } }
     {
@@ -345,12 +343,12 @@ impl<G: OrderedGroup> State<G> {
 
     // Gives a block the label beyond the port that it looks at, and counts a step. The block had an
     // operation and has one after, so no mark changes.
-    pub(crate) fn choose(&mut self, b: u32, ports: u32, port: Port, label: u64)
+    pub(crate) fn choose_port(&mut self, b: u32, ports: u32, port: Port, label: u64)
         requires block { b < length self.old.operation }
         requires room { self.old.steps < MOST_STEPS }
         requires scan { IsScan ports ((state_of self.old).operation b) }
         ensures { let s = state_of self.old in self.new ≡ record self.old {
-          operation = slice_set self.old.operation b (chosen_by ports (s.label b) port label (s.operation b));
+          operation = slice_set self.old.operation b (after_label_by ports (s.label b) port label (s.operation b));
           steps = self.old.steps + 1;
         } }
     {

@@ -16,14 +16,14 @@
 ghost use Rattle.std.specs.Prelude.{◌≡◌, ◌<◌, length, MatchResult};
 ghost use Rattle.machine_law.specs.Steps.{next_kind, advance, next_event};
 ghost use Rattle.async_step.specs.Views.{state_of};
-ghost use Rattle.async_step.specs.Answers.{IsStateOf, LeadsTelling, Stepped, IsRefused, saw_as, told};
+ghost use Rattle.async_step.specs.Answers.{IsStateOf, LeadsTelling, Stepped, IsRefused, saw_as, answer};
 
 use crate::operations::{push_kind, read_kind};
 use crate::refusals::StepRefusal;
 use crate::saw::Saw;
 use crate::state::State;
-use closure_net::{Net, PortKind};
-use machine_law::{Best, Event, Kind, Operation};
+use closure_net::Net;
+use machine_law::{Event, Kind, Operation};
 use ordered_group::OrderedGroup;
 
 impl<G: OrderedGroup> State<G> {
@@ -56,7 +56,7 @@ impl<G: OrderedGroup> State<G> {
         requires over { IsStateOf net.now self.old }
         requires block { block < length net.now.worths }
         ensures { let s = state_of self.old in LeadsTelling G.parts_of net.now self.old
-            (advance net.now s block) (told net.now s block) self.new result }
+            (advance net.now s block) (answer net.now s block) self.new result }
     {
         match self.present(block) {
             Operation::Idle => self.read_excess(net, block),

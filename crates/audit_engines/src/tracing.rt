@@ -1,8 +1,7 @@
 //! Solves a net by a run that writes down its steps: writes the trace of the run, and then a certificate, or why
 //! there is none.
 
-ghost use Rattle.std.specs.Prelude.{◌≡◌, ◌+◌, ◌-◌, ◌^◌, ◌<◌, ◌≤◌, ◌↔◌, ℕ, List, length, MatchResult, IsErrOf};
-ghost use Rattle.std.specs.Io.KnownBytes.{Appends};
+ghost use Rattle.std.specs.Prelude.{◌≡◌, ◌+◌, ◌-◌, ◌^◌, ◌<◌, ◌≤◌, ◌↔◌, ℕ, List, length, IsErrOf};
 ghost use Rattle.machine_law.specs.declared.events.Event.{Event};
 ghost use Rattle.machine_law.specs.declared.events.TheConstants.{MOST_EVENTS};
 ghost use Rattle.certificate_file.specs.ReadBack.{IsPrice};

@@ -11,7 +11,7 @@ use Rattle.closure_net.specs.declared.port.PortKind.TheVariants.{Sink, Forward, 
 use Rattle.machine_law.specs.declared.operations.Operation.{Operation}
 use Rattle.machine_law.specs.declared.operations.Operation.TheVariants.{Idle, Scan, PushDue, TakeDue, GiveDue, RaiseDue}
 use Rattle.machine_law.specs.States.{State, put, IsQuiet}
-use Rattle.machine_law.specs.Steps.{push_amount, pushed_by, given_by, advance_by}
+use Rattle.machine_law.specs.Steps.{push_amount, after_push_by, after_give_by, advance_by}
 use Rattle.machine_law.proofs.Law.{runs_keep_law}
 use Rattle.machine_law.proofs.Points.{put-other}
 use Rattle.boards.specs.Boards.{BoardView, shown, blocks_of, IsBoard}
@@ -29,13 +29,13 @@ changes s t b o e k = record {
   counted = k;
 }
 
-pushed_changes : (s : State) (b : ℕ) (d : Amount) (port : Port) (kind : PortKind) → Changes s (pushed_by s b d port kind) b
+pushed_changes : (s : State) (b : ℕ) (d : Amount) (port : Port) (kind : PortKind) → Changes s (after_push_by s b d port kind) b
 pushed_changes s b d port Sink = changes s _ b _ refl refl
 pushed_changes s b d port Forward = changes s _ b _ refl refl
 pushed_changes s b d port Backward = changes s _ b _ refl refl
 pushed_changes s b d port Source = changes s _ b _ refl refl
 
-given_changes : (s : State) (b : ℕ) (d : Amount) (port : Port) (kind : PortKind) → Changes s (given_by s b d port kind) b
+given_changes : (s : State) (b : ℕ) (d : Amount) (port : Port) (kind : PortKind) → Changes s (after_give_by s b d port kind) b
 given_changes s b d port Sink = changes s _ b _ refl refl
 given_changes s b d port Forward = changes s _ b _ refl refl
 given_changes s b d port Backward = changes s _ b _ refl refl

@@ -1,7 +1,7 @@
 //! A push-relabel run over a net of its own, in which the caller names each step or has it picked. Once no
 //! block has excess or an operation it gives a maximum flow.
 
-ghost use Rattle.std.specs.Prelude.{◌≡◌, ◌↔◌, ◌<◌, IsTrue, length, IfOk, MatchOption, MatchResult};
+ghost use Rattle.std.specs.Prelude.{◌≡◌, ◌↔◌, ◌<◌, IsTrue, IfOk, MatchOption, MatchResult};
 ghost use Rattle.machine_law.specs.declared.operations.Operation.TheVariants.{Idle};
 ghost use Rattle.machine_law.specs.States.{IsQuiet};
 ghost use Rattle.machine_law.specs.Steps.{next_event};

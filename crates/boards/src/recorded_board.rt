@@ -4,7 +4,7 @@
 ghost use Rattle.std.specs.Prelude.{◌≡◌, ◌↔◌, ◌<◌, ◌≤◌, true, IsTrue, IfOk, vec_len, vec_capacity};
 ghost use Rattle.machine_law.specs.declared.operations.Operation.TheVariants.{Idle};
 ghost use Rattle.machine_law.specs.States.{IsQuiet};
-ghost use Rattle.boards.specs.Boards.{shown, blocks_of, IsTurnBoard, IsOpened};
+ghost use Rattle.boards.specs.Boards.{shown, blocks_of, IsTurnBoard};
 ghost use Rattle.boards.specs.Turns.{IsTurn};
 ghost use Rattle.boards.specs.Runs.{AreTurnsTo};
 ghost use Rattle.boards.specs.Records.{IsRecordOpened, written_by, Writes};

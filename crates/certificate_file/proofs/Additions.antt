@@ -1,14 +1,13 @@
 -- What a line adds to what is gathered.
-use Rattle.std.proofs.Common.{◌≡◌, ◌≢◌, ℕ, zero, suc, get_or, set, ◌<◌, Bool, true, false, cond, eqb, ltb, inl, inr, List, [], ◌∷◌, length, map, refl, sym, ap, ◌∙◌, subst, arith, append-nil, get_or-set_same, get_or-set_other}
+use Rattle.std.proofs.Common.{◌≡◌, ◌≢◌, ℕ, zero, suc, get_or, set, ◌<◌, Bool, true, false, cond, eqb, ltb, inl, inr, List, [], ◌∷◌, length, refl, sym, ap, ◌∙◌, subst, arith, append-nil, get_or-set_same, get_or-set_other}
 use Rattle.std.proofs.lemmas.Bool.{ltb-true}
 use Rattle.std.specs.Prelude.{Contains}
-use Rattle.std.proofs.lemmas.List.{map-set, length-set}
+use Rattle.std.proofs.lemmas.List.{length-set}
 use Rattle.std.proofs.lemmas.Bool.Decides.{nat_tests}
 use Rattle.ordered_group.specs.Amount.{Amount, zero_amount}
 use Rattle.ordered_group.specs.Sums.{amount_at}
 use Rattle.prec_file.specs.Rests.{IsRising}
 use Rattle.prec_file.proofs.Pairs.{is_pair, tells_pair, pair_told}
-use Rattle.closure_net.specs.Network.{flow_view}
 use Rattle.certificate_file.specs.declared.body_lines.LineKind.TheVariants.{Rest}
 use Rattle.certificate_file.specs.declared.body_lines.BodyLine.{BodyLine}
 use Rattle.certificate_file.specs.BodyLines.{is_of_model}

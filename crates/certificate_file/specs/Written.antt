@@ -113,3 +113,7 @@ header_with n price name = record { blocks = n; price = price; group = name }
 -- the text of a certificate
 abbrev pub text_of : Header → List (ℕ × ℕ) → List ℕ → FlowView → List ℕ
 text_of h pairs pit flow = lines_text (header_words h) ++ (body_text (value_lines pairs pit flow) ++ end_text)
+
+-- the text of a certificate by what it says
+abbrev pub certificate_bytes : Group → List (ℕ × ℕ) → ℕ → Price → List ℕ → FlowView → List ℕ
+certificate_bytes name pairs blocks price pit flow = text_of (header_with blocks price name) pairs pit flow

@@ -1,12 +1,12 @@
 //! Gathers the pit and the flow of a certificate line by line, and refuses an amount over a pair that the mine
 //! doesn't have.
 
-ghost use Rattle.std.specs.Prelude.{◌≡◌, ◌≢◌, ℕ, ◌<◌, Bool, true, false, ◌⊎◌, pos, [], ◌∷◌, length, slice_set, IfOk, MatchOption, MatchResult};
+ghost use Rattle.std.specs.Prelude.{◌≡◌, ◌≢◌, ℕ, ◌<◌, true, false, ◌⊎◌, pos, [], ◌∷◌, length, slice_set, IfOk, MatchOption, MatchResult};
 ghost use Rattle.ordered_group.specs.Amount.{zero_amount};
 ghost use Rattle.ordered_group.specs.Sums.{amount_at};
 ghost use Rattle.prec_file.specs.Rests.{IsRests};
 ghost use Rattle.closure_net.specs.Network.{IsAscending};
-ghost use Rattle.certificate_file.specs.BodyLines.{is_end, is_of_model};
+ghost use Rattle.certificate_file.specs.BodyLines.{is_of_model};
 ghost use Rattle.certificate_file.specs.Certificate.{Covers, UnlessMemory, amount_of, has_pair};
 ghost use Rattle.certificate_file.specs.Gathered.{Gathered, Adds};
 

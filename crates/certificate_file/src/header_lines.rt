@@ -1,10 +1,9 @@
 //! Reads the first four lines of a certificate one by one, and decides whether it is for the wanted number of blocks
 //! and kind of amounts.
 
-ghost use Rattle.std.specs.Prelude.{◌≡◌, ℕ, ◌+◌, List, drop, MatchOption, MatchResult, Some, None, Ok, Err};
-ghost use Rattle.std.specs.Str.{bytes_eq};
+ghost use Rattle.std.specs.Prelude.{◌≡◌, ◌+◌, drop, MatchOption, MatchResult, Some, None, Ok, Err};
 ghost use Rattle.certificate_file.specs.Pieces as pieces;
-ghost use Rattle.certificate_file.specs.Pieces.{Unread, Passed, words_of, piece_at, read_line};
+ghost use Rattle.certificate_file.specs.Pieces.{Passed, words_of, piece_at, read_line};
 ghost use Rattle.certificate_file.specs.Header as spec;
 
 use crate::cert_fault::{CertFault, LineFault};

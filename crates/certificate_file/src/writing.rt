@@ -2,13 +2,13 @@
 //! takes no memory.
 
 ghost use Rattle.std.specs.Prelude.{◌≡◌, ℕ, ◌+◌, ◌-◌, ◌^◌, ◌<◌, ◌≤◌, ◌⊎◌, All, [], ◌∷◌, ◌++◌, length, map, OnOk, OnErr};
-ghost use Rattle.std.specs.Fmt.{decimal, signed_decimal};
+ghost use Rattle.std.specs.Fmt.{signed_decimal};
 ghost use Rattle.std.specs.Io.KnownBytes.{Appends};
 ghost use Rattle.fixed_worth.specs.Device.{ReceivedPrefix, SentOrHeld};
 ghost use Rattle.ordered_group.specs.Group.{group_name};
 ghost use Rattle.ordered_group.specs.Sums.{amount_at};
 ghost use Rattle.certificate_file.specs.Written as spec;
-ghost use Rattle.certificate_file.specs.Written.{spaced, line_words, lines_text, header_words, body_text, end_text, amount_lines, line_at, pit_at, flow_lines, value_lines, header_with, text_of};
+ghost use Rattle.certificate_file.specs.Written.{spaced, line_words, lines_text, header_words, body_text, end_text, amount_lines, line_at, pit_at, flow_lines, value_lines, certificate_bytes};
 ghost use Rattle.certificate_file.specs.Certificate.{Covers};
 ghost use Rattle.certificate_file.specs.ReadBack.{Writable, AreWritable, IsPrice, IsReadBack};
 
@@ -288,11 +288,14 @@ pub fn write_certificate<G: OrderedGroup, W: CountedWrite>(
 ) -> Result<(), WriteFault>
     requires covers { Covers rests.now.blocks (length rests.now.pairs) certificate.now.flow }
     requires room { W.failed out.old < 2 ^ 64 - 1 }
-    ensures sent { OnOk result (Appends (W.contents out.old) (W.contents out.new) (text_of (header_with certificate.now.blocks certificate.now.price G.name) rests.now.pairs certificate.now.pit certificate.now.flow)) }
-    ensures read_back { OnOk result (certificate.now.blocks ≡ rests.now.blocks → IsPrice certificate.now.price → All (λ b. b < rests.now.blocks) certificate.now.pit
-        → IsReadBack G.counts G.name rests.now.blocks rests.now.pairs (text_of (header_with certificate.now.blocks certificate.now.price G.name) rests.now.pairs certificate.now.pit certificate.now.flow) certificate.now.price certificate.now.pit certificate.now.flow) }
+    ensures sent { OnOk result (let c = certificate.now in Appends (W.contents out.old) (W.contents out.new)
+        (certificate_bytes G.name rests.now.pairs c.blocks c.price c.pit c.flow)) }
+    ensures read_back { OnOk result (let c = certificate.now in let r = rests.now in
+        c.blocks ≡ r.blocks → IsPrice c.price → All (λ b. b < r.blocks) c.pit → IsReadBack G.counts G.name r.blocks r.pairs
+        (certificate_bytes G.name r.pairs c.blocks c.price c.pit c.flow) c.price c.pit c.flow) }
     ensures kept { OnOk result (W.failed out.new ≡ W.failed out.old) }
-    ensures prefix { OnErr result (ReceivedPrefix (W.contents out.old) (W.contents out.new) (text_of (header_with certificate.now.blocks certificate.now.price G.name) rests.now.pairs certificate.now.pit certificate.now.flow)) }
+    ensures prefix { OnErr result (let c = certificate.now in ReceivedPrefix (W.contents out.old) (W.contents out.new)
+        (certificate_bytes G.name rests.now.pairs c.blocks c.price c.pit c.flow)) }
     ensures counted { OnErr result (W.failed out.new ≡ W.failed out.old + 1) }
 {
     let header = Header {

@@ -1,7 +1,7 @@
 //! Decides whether a flow proves that a pit is a maximum closure of a net: gives the accepted pit with its worth, or
 //! the first fault.
 
-ghost use Rattle.std.specs.Prelude.{◌≡◌, ◌↔◌, ◌<◌, ℕ, IsTrue, length, All, MatchOption, MatchResult};
+ghost use Rattle.std.specs.Prelude.{◌≡◌, ◌↔◌, ◌<◌, IsTrue, length, All, MatchOption, MatchResult};
 ghost use Rattle.std.specs.Result.{IsOk};
 ghost use Rattle.ordered_group.specs.Amount.{zero_amount, minus, FitsPair};
 ghost use Rattle.prec_file.specs.Rests.{IsFirstNot};

@@ -12,7 +12,7 @@ ghost use Rattle.certificate_file.specs.declared.body_lines.BodyLine.{BodyLine a
 ghost use Rattle.certificate_file.specs.Certificate.{amount_of};
 ghost use Rattle.check_pit.specs.Closing.{IsFirstOpen};
 ghost use Rattle.check_pit.specs.LineSums.{keeps_by};
-ghost use Rattle.check_pit.specs.Rooms.{IsRoomFor, AreSumsOf, MayPut, WithLine, SumOverflowsWith, RefusedWhere, PutsLine, RefusesLine, with_balance, with_left, IsFirstUnbalanced, TellsTight};
+ghost use Rattle.check_pit.specs.Rooms.{AreSumsOf, MayPut, WithLine, SumOverflowsWith, RefusedWhere, PutsLine, RefusesLine, with_balance, with_left, IsFirstUnbalanced, TellsTight};
 
 use crate::marks::{first_open, mark};
 use crate::pit_fault::PitFault;

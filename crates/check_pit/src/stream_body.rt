@@ -5,8 +5,7 @@ ghost use Rattle.std.specs.Prelude.{◌≡◌, ◌+◌, ◌-◌, ◌^◌, ◌<�
 ghost use Rattle.fixed_worth.specs.declared.limits.TheConstants.{LINE_BYTES};
 ghost use Rattle.certificate_file.specs.BodyLines as spec;
 ghost use Rattle.certificate_file.specs.Certificate.{has_pair};
-ghost use Rattle.check_pit.specs.StreamLines.{IsLine};
-ghost use Rattle.check_pit.specs.TakenLines.{TakesLine, LacksLine, NoNextLine, held_piece};
+ghost use Rattle.check_pit.specs.TakenLines.{TakesLine, LacksLine};
 
 use crate::stream_fault::StreamFault;
 use crate::stream_lines::StreamLines;

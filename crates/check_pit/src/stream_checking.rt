@@ -1,9 +1,7 @@
 //! Checks all lines behind a certificate's header as they are read: decides whether the pit is closed, the flow
 //! balanced and the pit tight, or gives the first fault.
 
-ghost use Rattle.std.specs.Prelude.{◌≡◌, ℕ, ◌+◌, ◌-◌, ◌^◌, ◌<◌, ◌≤◌, ◌++◌, true, false, not, cond, List, length, IfOk, IsErrOf, MatchResult};
-ghost use Rattle.ordered_group.specs.Amount.{zero_amount};
-ghost use Rattle.ordered_group.specs.Sums.{amount_at};
+ghost use Rattle.std.specs.Prelude.{◌≡◌, ℕ, ◌+◌, ◌-◌, ◌^◌, ◌<◌, ◌≤◌, ◌++◌, true, false, List, length, IfOk, IsErrOf, MatchResult};
 ghost use Rattle.closure_net.specs.Network.{IsAscending, holds_of};
 ghost use Rattle.closure_net.specs.Closure.{IsGreatest, group_worth};
 ghost use Rattle.check_pit.specs.declared.stream_fault.StreamFault.TheVariants as fault;

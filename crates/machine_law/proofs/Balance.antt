@@ -13,12 +13,12 @@ use Rattle.machine_law.specs.declared.operations.Operation.{Operation}
 use Rattle.machine_law.specs.declared.operations.Operation.TheVariants.{Idle, PushDue, TakeDue, GiveDue, RaiseDue}
 use Rattle.machine_law.specs.States.{State, put}
 use Rattle.machine_law.specs.Residual.{IsEnd, IsPortOf}
-use Rattle.machine_law.specs.Steps.{becomes, pushed, pushed_by, taken, given, given_by, raised}
-use Rattle.machine_law.specs.Transit.{sum_on_way, lands_by, into_sink, into_source, coming_to_sink, coming_to_source, given_back, drained}
+use Rattle.machine_law.specs.Steps.{becomes, after_push, after_push_by, after_take, after_give, after_give_by, after_raise}
+use Rattle.machine_law.specs.Transit.{sum_on_way, lands_by, into_sink, into_source, amount_coming_to_sink, amount_coming_to_source, amount_given_back, amount_drained}
 use Rattle.machine_law.specs.Balances.{balance, supply, IsBalanced}
 use Rattle.machine_law.proofs.Numbers.{Same, same, equal}
 use Rattle.machine_law.proofs.Points.{where-put}
-use Rattle.machine_law.proofs.Sums.{inflow-plus, outflow-plus, inflow-minus, outflow-minus, sum_on_way-put, given_back-more, drained-more}
+use Rattle.machine_law.proofs.Sums.{inflow-plus, outflow-plus, inflow-minus, outflow-minus, sum_on_way-put, amount_given_back-more, amount_drained-more}
 use Rattle.machine_law.proofs.PortLists.{port_with}
 use Rattle.machine_law.proofs.Supply.{IsAtRest, way_rest, supply_rest, supply_pushed, supply_taken, supply_given}
 
@@ -31,11 +31,11 @@ module _ (net : NetView) (s : State) (b : ℕ) (l : b < length net.worths) (k : 
     at_sink = let h = same k.at_sink in let v = way_rest net s b l old new into_sink e r n in equal (record { w = omega (arith, ints, h, v); c = omega (arith, ints, h, v) });
   }
 
-  pub balanced_raised : (have : Amount) (best : Best Amount) → s.operation b ≡ RaiseDue have best → IsBalanced net (raised s b best)
+  pub balanced_raised : (have : Amount) (best : Best Amount) → s.operation b ≡ RaiseDue have best → IsBalanced net (after_raise s b best)
   balanced_raised have best e = let r = balanced_rest (RaiseDue have best) Idle e tt tt in record { blocks = r.blocks; at_source = r.at_source; at_sink = r.at_sink }
 
   -- ---- the capacity step
-  balance_pushed : (d : Amount) (kind : PortKind) (other slot x : ℕ) → IsEnd net b kind other slot → Same (balance net (pushed_by s b d (port_with kind other slot) kind) x) (minus (plus (balance net s x) (lands_by kind other x d)) (where_so (b == x) d))
+  balance_pushed : (d : Amount) (kind : PortKind) (other slot x : ℕ) → IsEnd net b kind other slot → Same (balance net (after_push_by s b d (port_with kind other slot) kind) x) (minus (plus (balance net s x) (lands_by kind other x d)) (where_so (b == x) d))
   balance_pushed d Sink other slot x q =
       let i = where-put (λ a. a) s.sink b (s.sink b) (plus (s.sink b) d) x refl in
       let m = same (where_so-plus (b == x) (s.sink b) d) in
@@ -59,7 +59,7 @@ module _ (net : NetView) (s : State) (b : ℕ) (l : b < length net.worths) (k : 
       record { w = omega (arith, ints, c); c = omega (arith, ints, c) }
 
   -- what the source has got back, and what the sink has got
-  source_pushed : (have : Amount) (best : Best Amount) (d : Amount) (kind : PortKind) (other slot : ℕ) → s.operation b ≡ PushDue have best → (let t : State = pushed_by s b d (port_with kind other slot) kind in Same (given_back net t.source) (plus t.at_source (coming_to_source net t)))
+  source_pushed : (have : Amount) (best : Best Amount) (d : Amount) (kind : PortKind) (other slot : ℕ) → s.operation b ≡ PushDue have best → (let t : State = after_push_by s b d (port_with kind other slot) kind in Same (amount_given_back net t.source) (plus t.at_source (amount_coming_to_source net t)))
   source_pushed have best d Sink other slot e =
       let h = same k.at_source in
       let v = way_pushed into_source have best d (port_with Sink other slot) e in
@@ -75,14 +75,14 @@ module _ (net : NetView) (s : State) (b : ℕ) (l : b < length net.worths) (k : 
   source_pushed have best d Source other slot e =
       let h = same k.at_source in
       let v = way_pushed into_source have best d (port_with Source other slot) e in
-      let g = given_back-more net s.source b d l in
+      let g = amount_given_back-more net s.source b d l in
       record { w = omega (arith, ints, h, v, g); c = omega (arith, ints, h, v, g) }
 
-  sink_pushed : (have : Amount) (best : Best Amount) (d : Amount) (kind : PortKind) (other slot : ℕ) → s.operation b ≡ PushDue have best → (let t : State = pushed_by s b d (port_with kind other slot) kind in Same (drained net t.sink) (plus t.at_sink (coming_to_sink net t)))
+  sink_pushed : (have : Amount) (best : Best Amount) (d : Amount) (kind : PortKind) (other slot : ℕ) → s.operation b ≡ PushDue have best → (let t : State = after_push_by s b d (port_with kind other slot) kind in Same (amount_drained net t.sink) (plus t.at_sink (amount_coming_to_sink net t)))
   sink_pushed have best d Sink other slot e =
       let h = same k.at_sink in
       let v = way_pushed into_sink have best d (port_with Sink other slot) e in
-      let g = drained-more net s.sink b d l in
+      let g = amount_drained-more net s.sink b d l in
       record { w = omega (arith, ints, h, v, g); c = omega (arith, ints, h, v, g) }
   sink_pushed have best d Forward other slot e =
       let h = same k.at_sink in
@@ -97,7 +97,7 @@ module _ (net : NetView) (s : State) (b : ℕ) (l : b < length net.worths) (k : 
       let v = way_pushed into_sink have best d (port_with Source other slot) e in
       record { w = omega (arith, ints, h, v); c = omega (arith, ints, h, v) }
 
-  balanced_pushed_by : (have : Amount) (best : Best Amount) (d : Amount) (kind : PortKind) (other slot : ℕ) → s.operation b ≡ PushDue have best → IsEnd net b kind other slot → IsBalanced net (pushed_by s b d (port_with kind other slot) kind)
+  balanced_pushed_by : (have : Amount) (best : Best Amount) (d : Amount) (kind : PortKind) (other slot : ℕ) → s.operation b ≡ PushDue have best → IsEnd net b kind other slot → IsBalanced net (after_push_by s b d (port_with kind other slot) kind)
   balanced_pushed_by have best d kind other slot e q = record {
     blocks = λ x.
         let h = same (k.blocks x) in
@@ -108,7 +108,7 @@ module _ (net : NetView) (s : State) (b : ℕ) (l : b < length net.worths) (k : 
     at_sink = equal (sink_pushed have best d kind other slot e);
   }
 
-  pub balanced_pushed : (have : Amount) (best : Best Amount) (d : Amount) (p : Port) → s.operation b ≡ PushDue have best → IsPortOf net b p → IsBalanced net (pushed s b d p)
+  pub balanced_pushed : (have : Amount) (best : Best Amount) (d : Amount) (p : Port) → s.operation b ≡ PushDue have best → IsPortOf net b p → IsBalanced net (after_push s b d p)
   balanced_pushed have best d p e q = balanced_pushed_by have best d p.kind p.other p.slot e q
 
   -- ---- the excess steps
@@ -117,7 +117,7 @@ module _ (net : NetView) (s : State) (b : ℕ) (l : b < length net.worths) (k : 
       let c = sum_on_way-put net f s.operation b (TakeDue d p) (GiveDue d p) l e in
       record { w = omega (arith, ints, c); c = omega (arith, ints, c) }
 
-  pub balanced_taken : (d : Amount) (p : Port) → s.operation b ≡ TakeDue d p → IsBalanced net (taken s b d p)
+  pub balanced_taken : (d : Amount) (p : Port) → s.operation b ≡ TakeDue d p → IsBalanced net (after_take s b d p)
   balanced_taken d p e = record {
     blocks = λ x. let h = same (k.blocks x) in let v = supply_taken net s b l x d p e in equal (record { w = omega (arith, ints, h, v); c = omega (arith, ints, h, v) });
     at_source = let h = same k.at_source in let v = way_taken into_source d p e in equal (record { w = omega (arith, ints, h, v); c = omega (arith, ints, h, v) });
@@ -129,7 +129,7 @@ module _ (net : NetView) (s : State) (b : ℕ) (l : b < length net.worths) (k : 
       let c = sum_on_way-put net f s.operation b (GiveDue d p) Idle l e in
       record { w = omega (arith, ints, c); c = omega (arith, ints, c) }
 
-  balanced_given_by : (d : Amount) (kind : PortKind) (other slot : ℕ) → s.operation b ≡ GiveDue d (port_with kind other slot) → ((x : ℕ) → balance net (given_by s b d (port_with kind other slot) kind) x ≡ supply net (given_by s b d (port_with kind other slot) kind) x) → IsBalanced net (given_by s b d (port_with kind other slot) kind)
+  balanced_given_by : (d : Amount) (kind : PortKind) (other slot : ℕ) → s.operation b ≡ GiveDue d (port_with kind other slot) → ((x : ℕ) → balance net (after_give_by s b d (port_with kind other slot) kind) x ≡ supply net (after_give_by s b d (port_with kind other slot) kind) x) → IsBalanced net (after_give_by s b d (port_with kind other slot) kind)
   balanced_given_by d Sink other slot e blocks =
       let h = same k.at_source in
       let i = same k.at_sink in
@@ -155,13 +155,13 @@ module _ (net : NetView) (s : State) (b : ℕ) (l : b < length net.worths) (k : 
       let v = way_given into_sink d (port_with Source other slot) e in
       record { blocks = blocks; at_source = equal (record { w = omega (arith, ints, h, u); c = omega (arith, ints, h, u) }); at_sink = equal (record { w = omega (arith, ints, i, v); c = omega (arith, ints, i, v) }) }
 
-  balance_given : (d : Amount) (p : Port) (kind : PortKind) (x : ℕ) → balance net (given_by s b d p kind) x ≡ balance net s x
+  balance_given : (d : Amount) (p : Port) (kind : PortKind) (x : ℕ) → balance net (after_give_by s b d p kind) x ≡ balance net s x
   balance_given d p Sink x = refl
   balance_given d p Forward x = refl
   balance_given d p Backward x = refl
   balance_given d p Source x = refl
 
-  pub balanced_given : (d : Amount) (p : Port) → s.operation b ≡ GiveDue d p → IsBalanced net (given s b d p)
+  pub balanced_given : (d : Amount) (p : Port) → s.operation b ≡ GiveDue d p → IsBalanced net (after_give s b d p)
   balanced_given d p e = balanced_given_by d p.kind p.other p.slot e (λ x.
       let h = same (k.blocks x) in
       let i = same (balance_given d p p.kind x) in

@@ -17,9 +17,9 @@ use Rattle.machine_law.specs.declared.operations.Operation.{Operation}
 use Rattle.machine_law.specs.declared.operations.Operation.TheVariants.{Idle, Scan, PushDue, TakeDue, GiveDue, RaiseDue}
 use Rattle.machine_law.specs.States.{State, opening}
 use Rattle.machine_law.specs.Residual.{capacity, end_label}
-use Rattle.machine_law.specs.Reads.{is_positive, begun, better, ended, passed, seen, chosen}
-use Rattle.machine_law.specs.Steps.{looked, looked_by, weighed, push_amount, advance, advance_by}
-use Rattle.machine_law.specs.Transit.{sum_on_way, lands, into_sink, into_source, inflow, outflow, given_back, drained}
+use Rattle.machine_law.specs.Reads.{is_positive, operation_begun_with, better, after_last_port, after_port, after_capacity, after_label}
+use Rattle.machine_law.specs.Steps.{after_look, after_look_by, after_label_at, push_amount, advance, advance_by}
+use Rattle.machine_law.specs.Transit.{sum_on_way, lands, into_sink, into_source, inflow, outflow, amount_given_back, amount_drained}
 use Rattle.machine_law.specs.Amounts.{HasAmounts, IsOperation}
 use Rattle.machine_law.specs.Balances.{IsBalanced}
 use Rattle.machine_law.proofs.Numbers.{same, equal}
@@ -30,46 +30,46 @@ use Rattle.machine_law.proofs.Balance.{balanced_rest, balanced_raised, balanced_
 pub rest_cond : (t : Bool) (x y : Operation Amount) → IsAtRest x → IsAtRest y → IsAtRest (cond t x y)
 rest_cond t x y h k = cond_both t x y IsAtRest (λ _. h) (λ _. k)
 
-rest_ended : (label : ℕ) (have : Amount) (best : Option (Best Amount)) → IsAtRest (ended label have best)
+rest_ended : (label : ℕ) (have : Amount) (best : Option (Best Amount)) → IsAtRest (after_last_port label have best)
 rest_ended label have None = tt
 rest_ended label have (Some best) = rest_cond (nat_lt best.label label) (PushDue have best) (RaiseDue have best) tt tt
 
-rest_passed : (count label : ℕ) (have : Amount) (place : ℕ) (best : Option (Best Amount)) → IsAtRest (passed count label have place best)
-rest_passed count label have place best = rest_cond (nat_lt (place + 1) count) (Scan have (place + 1) None best) (ended label have best) tt (rest_ended label have best)
+rest_passed : (count label : ℕ) (have : Amount) (place : ℕ) (best : Option (Best Amount)) → IsAtRest (after_port count label have place best)
+rest_passed count label have place best = rest_cond (nat_lt (place + 1) count) (Scan have (place + 1) None best) (after_last_port label have best) tt (rest_ended label have best)
 
-pub rest_begun : (excess : Amount) → IsAtRest (begun excess)
+pub rest_begun : (excess : Amount) → IsAtRest (operation_begun_with excess)
 rest_begun excess = rest_cond (is_positive excess) (Scan excess 0 None None) Idle tt tt
 
-rest_seen : (count label : ℕ) (have : Amount) (place : ℕ) (best : Option (Best Amount)) (read : Amount) → IsAtRest (seen count label have place best read)
-rest_seen count label have place best read = rest_cond (is_positive read) (Scan have place (Some read) best) (passed count label have place best) tt (rest_passed count label have place best)
+rest_seen : (count label : ℕ) (have : Amount) (place : ℕ) (best : Option (Best Amount)) (read : Amount) → IsAtRest (after_capacity count label have place best read)
+rest_seen count label have place best read = rest_cond (is_positive read) (Scan have place (Some read) best) (after_port count label have place best) tt (rest_passed count label have place best)
 
-rest_chosen : (count label : ℕ) (have : Amount) (place : ℕ) (best : Option (Best Amount)) (read : Amount) (p : Port) (beyond : ℕ) → IsAtRest (chosen count label have place best read p beyond)
+rest_chosen : (count label : ℕ) (have : Amount) (place : ℕ) (best : Option (Best Amount)) (read : Amount) (p : Port) (beyond : ℕ) → IsAtRest (after_label count label have place best read p beyond)
 rest_chosen count label have place best read p beyond = rest_passed count label have place (Some (better best (record { port = p; capacity = read; label = beyond })))
 
 module _ (net : NetView) (s : State) (b : ℕ) where
-  rest_looked_by : (have : Amount) (place : ℕ) (best : Option (Best Amount)) (p : Port) (kind : PortKind) → IsAtRest (looked_by net s b have place best p kind)
+  rest_looked_by : (have : Amount) (place : ℕ) (best : Option (Best Amount)) (p : Port) (kind : PortKind) → IsAtRest (after_look_by net s b have place best p kind)
   rest_looked_by have place best p Sink = rest_seen (length (ports net b)) (s.label b) have place best (capacity net s b p)
   rest_looked_by have place best p Forward = rest_chosen (length (ports net b)) (s.label b) have place best zero_amount p (end_label net s p)
   rest_looked_by have place best p Backward = rest_seen (length (ports net b)) (s.label b) have place best (capacity net s b p)
   rest_looked_by have place best p Source = rest_seen (length (ports net b)) (s.label b) have place best (capacity net s b p)
 
-  pub rest_looked : (have : Amount) (place : ℕ) (best : Option (Best Amount)) (q : Option Port) → IsAtRest (looked net s b have place best q)
+  pub rest_looked : (have : Amount) (place : ℕ) (best : Option (Best Amount)) (q : Option Port) → IsAtRest (after_look net s b have place best q)
   rest_looked have place best None = tt
   rest_looked have place best (Some p) = rest_looked_by have place best p p.kind
 
-  pub rest_weighed : (have : Amount) (place : ℕ) (best : Option (Best Amount)) (read : Amount) (q : Option Port) → IsAtRest (weighed net s b have place best read q)
+  pub rest_weighed : (have : Amount) (place : ℕ) (best : Option (Best Amount)) (read : Amount) (q : Option Port) → IsAtRest (after_label_at net s b have place best read q)
   rest_weighed have place best read None = tt
   rest_weighed have place best read (Some p) = rest_chosen (length (ports net b)) (s.label b) have place best read p (end_label net s p)
 
   -- ---- each step
   balanced_advance_by : (o : Operation Amount) → b < length net.worths → s.operation b ≡ o → IsOperation net s b o → IsBalanced net s → IsBalanced net (advance_by net s b o)
-  balanced_advance_by Idle l e h k = balanced_rest net s b l k Idle (begun (s.excess b)) e tt (rest_begun (s.excess b))
+  balanced_advance_by Idle l e h k = balanced_rest net s b l k Idle (operation_begun_with (s.excess b)) e tt (rest_begun (s.excess b))
   balanced_advance_by (Scan have place None best) l e h k =
       let q = slice_get (ports net b) place in
-      balanced_rest net s b l k (Scan have place None best) (looked net s b have place best q) e tt (rest_looked have place best q)
+      balanced_rest net s b l k (Scan have place None best) (after_look net s b have place best q) e tt (rest_looked have place best q)
   balanced_advance_by (Scan have place (Some read) best) l e h k =
       let q = slice_get (ports net b) place in
-      balanced_rest net s b l k (Scan have place (Some read) best) (weighed net s b have place best read q) e tt (rest_weighed have place best read q)
+      balanced_rest net s b l k (Scan have place (Some read) best) (after_label_at net s b have place best read q) e tt (rest_weighed have place best read q)
   balanced_advance_by (PushDue have best) l e h k = balanced_pushed net s b l k have best (push_amount have best.port.kind best.capacity) best.port e h.over.port
   balanced_advance_by (TakeDue d p) l e h k = balanced_taken net s b l k d p e
   balanced_advance_by (GiveDue d p) l e h k = balanced_given net s b l k d p e
@@ -92,12 +92,12 @@ module _ (net : NetView) where
   unfolding sum_on_way
   nothing_on_way f = total-zero (length net.worths)
 
-  nothing_given_back : given_back net (λ b. positive (amount_at net.worths b)) ≡ zero_amount
-  unfolding given_back
+  nothing_given_back : amount_given_back net (λ b. positive (amount_at net.worths b)) ≡ zero_amount
+  unfolding amount_given_back
   nothing_given_back = total-none _ (length net.worths) (λ b l. equal (record { w = omega (arith, ints); c = omega (arith, ints) }))
 
-  nothing_drained : drained net (λ b. zero_amount) ≡ zero_amount
-  unfolding drained
+  nothing_drained : amount_drained net (λ b. zero_amount) ≡ zero_amount
+  unfolding amount_drained
   nothing_drained = total-zero (length net.worths)
 
   pub balanced_opening : IsBalanced net (opening net)

@@ -15,7 +15,7 @@ use Rattle.closure_net.specs.declared.port.PortKind.TheVariants.{Sink, Forward, 
 use Rattle.machine_law.specs.declared.operations.Operation.{Operation}
 use Rattle.machine_law.specs.declared.operations.Operation.TheVariants.{Idle, Scan, PushDue, TakeDue, GiveDue, RaiseDue}
 use Rattle.machine_law.specs.States.{State}
-use Rattle.machine_law.specs.Transit.{owed, on_way, sum_on_way, lands, lands_by, coming, inflow, outflow}
+use Rattle.machine_law.specs.Transit.{amount_owed, on_way, sum_on_way, lands, lands_by, amount_coming, inflow, outflow}
 use Rattle.machine_law.specs.Amounts.{HasAmounts, IsOperation}
 use Rattle.machine_law.specs.Balances.{IsBalanced}
 use Rattle.machine_law.proofs.Numbers.{same, Below-absurd}
@@ -35,7 +35,7 @@ on_way_nonneg net s b x (TakeDue d p) h = lands_nonneg p.kind p.other x d (Below
 on_way_nonneg net s b x (GiveDue d p) h = lands_nonneg p.kind p.other x d (Below-most zero_amount d h.0)
 on_way_nonneg net s b x (RaiseDue have best) h = AtMost-refl zero_amount
 
-pub coming_nonneg : (net : NetView) (s : State) (x : ℕ) → HasAmounts net s → AtMost zero_amount (coming net s x)
+pub coming_nonneg : (net : NetView) (s : State) (x : ℕ) → HasAmounts net s → AtMost zero_amount (amount_coming net s x)
 unfolding sum_on_way
 coming_nonneg net s x k = total_nonneg (λ b. on_way (lands x) (s.operation b)) (length net.worths) (λ b _. on_way_nonneg net s b x (s.operation b) (k.operation b))
 
@@ -53,7 +53,7 @@ unfolding outflow
 outflow_nonneg net s b k = total_nonneg (λ i. where_so (from_at net.pairs i == b) (s.flow i)) (length net.pairs) (λ i _. where_nonneg (from_at net.pairs i == b) (s.flow i) (k.flow i))
 
 -- an idle block with excess has a port
-pub has_port : (net : NetView) (s : State) (b : ℕ) → owed (s.operation b) ≡ zero_amount → HasAmounts net s → IsBalanced net s → Below zero_amount (s.excess b) → 0 < length (ports net b)
+pub has_port : (net : NetView) (s : State) (b : ℕ) → amount_owed (s.operation b) ≡ zero_amount → HasAmounts net s → IsBalanced net s → Below zero_amount (s.excess b) → 0 < length (ports net b)
 has_port net s b e k h full = elim (cases_lt 0 (length (ports net b))) [
   | inl l ↦ l
   | inr z ↦ elim (sign_or (s.source b)) [

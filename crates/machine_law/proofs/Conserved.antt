@@ -17,11 +17,11 @@ use Rattle.machine_law.specs.declared.operations.Operation.{Operation}
 use Rattle.machine_law.specs.declared.operations.Operation.TheVariants.{Idle, Scan, PushDue, TakeDue, GiveDue, RaiseDue}
 use Rattle.machine_law.specs.States.{State, put, opening, IsQuiet}
 use Rattle.machine_law.specs.Residual.{IsEnd}
-use Rattle.machine_law.specs.Reads.{begun}
-use Rattle.machine_law.specs.Steps.{looked, weighed, push_amount, pushed_by, taken, given_by, advance_by, Run}
+use Rattle.machine_law.specs.Reads.{operation_begun_with}
+use Rattle.machine_law.specs.Steps.{after_look, after_label_at, push_amount, after_push_by, after_take, after_give_by, advance_by, Run}
 use Rattle.machine_law.specs.Amounts.{HasAmounts, IsOperation, IsHeld}
 use Rattle.machine_law.specs.Law.{IsLawful}
-use Rattle.machine_law.specs.Conservation.{all_given, standing, carried, aloft, IsConserved, IsWhole, RunsConserve}
+use Rattle.machine_law.specs.Conservation.{all_given, standing_excess, amount_carried, amount_aloft, IsConserved, IsWhole, RunsConserve}
 use Rattle.machine_law.proofs.Numbers.{Same, same, equal, Below-absurd}
 use Rattle.machine_law.proofs.Points.{total-put}
 use Rattle.machine_law.proofs.PortLists.{port_with}
@@ -30,15 +30,15 @@ use Rattle.machine_law.proofs.Balanced.{rest_begun, rest_looked, rest_weighed}
 use Rattle.machine_law.proofs.Law.{steps_keep_law, lawful_opening}
 
 -- ---- the sums after one change
-standing-put : (net : NetView) (f : ℕ → Amount) (k : ℕ) (v : Amount) → k < length net.worths → Same (plus (standing net (put f k v)) (f k)) (plus (standing net f) v)
-unfolding standing
-standing-put net f k v l = total-put (λ _ a. a) f k v (length net.worths) l
+standing_excess-put : (net : NetView) (f : ℕ → Amount) (k : ℕ) (v : Amount) → k < length net.worths → Same (plus (standing_excess net (put f k v)) (f k)) (plus (standing_excess net f) v)
+unfolding standing_excess
+standing_excess-put net f k v l = total-put (λ _ a. a) f k v (length net.worths) l
 
-aloft-put : (net : NetView) (f : ℕ → Operation Amount) (k : ℕ) (old new : Operation Amount) → k < length net.worths → f k ≡ old → Same (plus (aloft net (put f k new)) (carried old)) (plus (aloft net f) (carried new))
-unfolding aloft
-aloft-put net f k old new l e = rw (← e) (total-put (λ _ a. carried a) f k new (length net.worths) l)
+amount_aloft-put : (net : NetView) (f : ℕ → Operation Amount) (k : ℕ) (old new : Operation Amount) → k < length net.worths → f k ≡ old → Same (plus (amount_aloft net (put f k new)) (amount_carried old)) (plus (amount_aloft net f) (amount_carried new))
+unfolding amount_aloft
+amount_aloft-put net f k old new l e = rw (← e) (total-put (λ _ a. amount_carried a) f k new (length net.worths) l)
 
-rest_carried : (o : Operation Amount) → IsAtRest o → carried o ≡ zero_amount
+rest_carried : (o : Operation Amount) → IsAtRest o → amount_carried o ≡ zero_amount
 rest_carried Idle h = refl
 rest_carried (Scan have place read best) h = refl
 rest_carried (PushDue have best) h = refl
@@ -49,54 +49,54 @@ rest_carried (RaiseDue have best) h = refl
 -- ---- each step
 module _ (net : NetView) (known : All (IsKnown (length net.worths)) net.pairs) (s : State) (b : ℕ) (l : b < length net.worths) (k : IsConserved net s) where
   -- an operation that carries nothing goes on to one that carries nothing
-  stays : (old new : Operation Amount) → s.operation b ≡ old → carried old ≡ zero_amount → carried new ≡ zero_amount → plus (plus (standing net s.excess) (aloft net (put s.operation b new))) (plus s.at_source s.at_sink) ≡ all_given net
+  stays : (old new : Operation Amount) → s.operation b ≡ old → amount_carried old ≡ zero_amount → amount_carried new ≡ zero_amount → plus (plus (standing_excess net s.excess) (amount_aloft net (put s.operation b new))) (plus s.at_source s.at_sink) ≡ all_given net
   stays old new e x y =
-      let a = aloft-put net s.operation b old new l e in
+      let a = amount_aloft-put net s.operation b old new l e in
       let p = same x in
       let q = same y in
       let h = same k in
       equal (record { w = omega (arith, ints, a, p, q, h); c = omega (arith, ints, a, p, q, h) })
 
-  conserved_pushed : (have : Amount) (best : Best Amount) (d : Amount) (p : Port) (kind : PortKind) → s.operation b ≡ PushDue have best → IsConserved net (pushed_by s b d p kind)
+  conserved_pushed : (have : Amount) (best : Best Amount) (d : Amount) (p : Port) (kind : PortKind) → s.operation b ≡ PushDue have best → IsConserved net (after_push_by s b d p kind)
   conserved_pushed have best d p Sink e = stays (PushDue have best) (TakeDue d p) e refl refl
   conserved_pushed have best d p Forward e = stays (PushDue have best) (TakeDue d p) e refl refl
   conserved_pushed have best d p Backward e = stays (PushDue have best) (TakeDue d p) e refl refl
   conserved_pushed have best d p Source e = stays (PushDue have best) (TakeDue d p) e refl refl
 
-  conserved_taken : (d : Amount) (p : Port) → s.operation b ≡ TakeDue d p → IsConserved net (taken s b d p)
+  conserved_taken : (d : Amount) (p : Port) → s.operation b ≡ TakeDue d p → IsConserved net (after_take s b d p)
   conserved_taken d p e =
-      let a = aloft-put net s.operation b (TakeDue d p) (GiveDue d p) l e in
-      let x = standing-put net s.excess b (minus (s.excess b) d) l in
+      let a = amount_aloft-put net s.operation b (TakeDue d p) (GiveDue d p) l e in
+      let x = standing_excess-put net s.excess b (minus (s.excess b) d) l in
       let h = same k in
       equal (record { w = omega (arith, ints, a, x, h); c = omega (arith, ints, a, x, h) })
 
-  given_into : (d : Amount) (p : Port) (other : ℕ) → other < length net.worths → s.operation b ≡ GiveDue d p → plus (plus (standing net (put s.excess other (plus (s.excess other) d))) (aloft net (put s.operation b Idle))) (plus s.at_source s.at_sink) ≡ all_given net
+  given_into : (d : Amount) (p : Port) (other : ℕ) → other < length net.worths → s.operation b ≡ GiveDue d p → plus (plus (standing_excess net (put s.excess other (plus (s.excess other) d))) (amount_aloft net (put s.operation b Idle))) (plus s.at_source s.at_sink) ≡ all_given net
   given_into d p other i e =
-      let a = aloft-put net s.operation b (GiveDue d p) Idle l e in
-      let x = standing-put net s.excess other (plus (s.excess other) d) i in
+      let a = amount_aloft-put net s.operation b (GiveDue d p) Idle l e in
+      let x = standing_excess-put net s.excess other (plus (s.excess other) d) i in
       let h = same k in
       equal (record { w = omega (arith, ints, a, x, h); c = omega (arith, ints, a, x, h) })
 
-  conserved_given : (d : Amount) (kind : PortKind) (other slot : ℕ) → s.operation b ≡ GiveDue d (port_with kind other slot) → IsEnd net b kind other slot → IsConserved net (given_by s b d (port_with kind other slot) kind)
+  conserved_given : (d : Amount) (kind : PortKind) (other slot : ℕ) → s.operation b ≡ GiveDue d (port_with kind other slot) → IsEnd net b kind other slot → IsConserved net (after_give_by s b d (port_with kind other slot) kind)
   conserved_given d Sink other slot e q =
-      let a = aloft-put net s.operation b (GiveDue d (port_with Sink other slot)) Idle l e in
+      let a = amount_aloft-put net s.operation b (GiveDue d (port_with Sink other slot)) Idle l e in
       let h = same k in
       equal (record { w = omega (arith, ints, a, h); c = omega (arith, ints, a, h) })
   conserved_given d Forward other slot e q = given_into d (port_with Forward other slot) other (subst (λ (y : ℕ). y < length net.worths) q.2 (known slot (0, 0) q.0).1) e
   conserved_given d Backward other slot e q = given_into d (port_with Backward other slot) other (subst (λ (y : ℕ). y < length net.worths) q.2 (known slot (0, 0) q.0).0) e
   conserved_given d Source other slot e q =
-      let a = aloft-put net s.operation b (GiveDue d (port_with Source other slot)) Idle l e in
+      let a = amount_aloft-put net s.operation b (GiveDue d (port_with Source other slot)) Idle l e in
       let h = same k in
       equal (record { w = omega (arith, ints, a, h); c = omega (arith, ints, a, h) })
 
   conserved_by : (o : Operation Amount) → s.operation b ≡ o → IsOperation net s b o → IsConserved net (advance_by net s b o)
-  conserved_by Idle e h = stays Idle (begun (s.excess b)) e refl (rest_carried (begun (s.excess b)) (rest_begun (s.excess b)))
+  conserved_by Idle e h = stays Idle (operation_begun_with (s.excess b)) e refl (rest_carried (operation_begun_with (s.excess b)) (rest_begun (s.excess b)))
   conserved_by (Scan have place None best) e h =
       let q = slice_get (ports net b) place in
-      stays (Scan have place None best) (looked net s b have place best q) e refl (rest_carried (looked net s b have place best q) (rest_looked net s b have place best q))
+      stays (Scan have place None best) (after_look net s b have place best q) e refl (rest_carried (after_look net s b have place best q) (rest_looked net s b have place best q))
   conserved_by (Scan have place (Some read) best) e h =
       let q = slice_get (ports net b) place in
-      stays (Scan have place (Some read) best) (weighed net s b have place best read q) e refl (rest_carried (weighed net s b have place best read q) (rest_weighed net s b have place best read q))
+      stays (Scan have place (Some read) best) (after_label_at net s b have place best read q) e refl (rest_carried (after_label_at net s b have place best read q) (rest_weighed net s b have place best read q))
   conserved_by (PushDue have best) e h = conserved_pushed have best (push_amount have best.port.kind best.capacity) best.port best.port.kind e
   conserved_by (TakeDue d p) e h = conserved_taken d p e
   conserved_by (GiveDue d p) e h = conserved_given d p.kind p.other p.slot e h.1
@@ -104,7 +104,7 @@ module _ (net : NetView) (known : All (IsKnown (length net.worths)) net.pairs) (
 
 -- ---- the opening, and runs
 conserved_opening : (net : NetView) → IsConserved net (opening net)
-unfolding standing aloft all_given
+unfolding standing_excess amount_aloft all_given
 conserved_opening net =
     let z = same (total-zero (length net.worths)) in
     equal (record { w = omega (arith, ints, z); c = omega (arith, ints, z) })
@@ -118,7 +118,7 @@ conserved_run net s (e ∷ es) t known h k r =
 
 -- ---- what follows
 module _ (net : NetView) (s : State) (h : HasAmounts net s) (k : IsConserved net s) where
-  carried_nonneg : (b : ℕ) (o : Operation Amount) → IsOperation net s b o → AtMost zero_amount (carried o)
+  carried_nonneg : (b : ℕ) (o : Operation Amount) → IsOperation net s b o → AtMost zero_amount (amount_carried o)
   carried_nonneg b Idle i = AtMost-refl zero_amount
   carried_nonneg b (Scan have place read best) i = AtMost-refl zero_amount
   carried_nonneg b (PushDue have best) i = AtMost-refl zero_amount
@@ -126,32 +126,32 @@ module _ (net : NetView) (s : State) (h : HasAmounts net s) (k : IsConserved net
   carried_nonneg b (GiveDue d p) i = Below-most zero_amount d i.0
   carried_nonneg b (RaiseDue have best) i = AtMost-refl zero_amount
 
-  aloft_nonneg : AtMost zero_amount (aloft net s.operation)
-  unfolding aloft
-  aloft_nonneg = total_nonneg (λ b. carried (s.operation b)) (length net.worths) (λ b _. carried_nonneg b (s.operation b) (h.operation b))
+  aloft_nonneg : AtMost zero_amount (amount_aloft net s.operation)
+  unfolding amount_aloft
+  aloft_nonneg = total_nonneg (λ b. amount_carried (s.operation b)) (length net.worths) (λ b _. carried_nonneg b (s.operation b) (h.operation b))
 
-  standing_nonneg : AtMost zero_amount (standing net s.excess)
-  unfolding standing
+  standing_nonneg : AtMost zero_amount (standing_excess net s.excess)
+  unfolding standing_excess
   standing_nonneg = total_nonneg s.excess (length net.worths) (λ b _. h.excess b)
 
-  stands_most : (b : ℕ) → b < length net.worths → AtMost (s.excess b) (standing net s.excess)
-  unfolding standing
+  stands_most : (b : ℕ) → b < length net.worths → AtMost (s.excess b) (standing_excess net s.excess)
+  unfolding standing_excess
   stands_most b l = total_term s.excess b (length net.worths) l (λ i _. h.excess i)
 
   -- nothing stands and nothing is carried
-  none_stands : standing net s.excess ≡ zero_amount → (b : ℕ) → b < length net.worths → s.excess b ≡ zero_amount
-  unfolding standing
+  none_stands : standing_excess net s.excess ≡ zero_amount → (b : ℕ) → b < length net.worths → s.excess b ≡ zero_amount
+  unfolding standing_excess
   none_stands z = total_none_each s.excess (length net.worths) (λ b _. h.excess b) z
 
-  none_carried : aloft net s.operation ≡ zero_amount → (b : ℕ) → b < length net.worths → carried (s.operation b) ≡ zero_amount
-  unfolding aloft
-  none_carried z = total_none_each (λ b. carried (s.operation b)) (length net.worths) (λ b _. carried_nonneg b (s.operation b) (h.operation b)) z
+  none_carried : amount_aloft net s.operation ≡ zero_amount → (b : ℕ) → b < length net.worths → amount_carried (s.operation b) ≡ zero_amount
+  unfolding amount_aloft
+  none_carried z = total_none_each (λ b. amount_carried (s.operation b)) (length net.worths) (λ b _. carried_nonneg b (s.operation b) (h.operation b)) z
 
   -- a block that has no excess holds nothing
   holds_none : (b : ℕ) (d : Amount) {P : Type 0} → s.excess b ≡ zero_amount → IsHeld s b d → P
   holds_none b d e i = Below-absurd i.some (rw e at i.held)
 
-  idle_by : (b : ℕ) (o : Operation Amount) → IsOperation net s b o → s.excess b ≡ zero_amount → carried o ≡ zero_amount → o ≡ Idle
+  idle_by : (b : ℕ) (o : Operation Amount) → IsOperation net s b o → s.excess b ≡ zero_amount → amount_carried o ≡ zero_amount → o ≡ Idle
   idle_by b Idle i x c = refl
   idle_by b (Scan have place read best) i x c = holds_none b have x i.held
   idle_by b (PushDue have best) i x c = holds_none b have x i.held
@@ -165,20 +165,20 @@ module _ (net : NetView) (s : State) (h : HasAmounts net s) (k : IsConserved net
       let f = same full in
       let a = aloft_nonneg in
       let t = standing_nonneg in
-      let stands : standing net s.excess ≡ zero_amount = AtMost-both _ _ (record { worths = omega (arith, ints, g, f, a, t); counts = λ i. omega (arith, ints, g, f, a, t, i) }) t in
-      let carries : aloft net s.operation ≡ zero_amount = AtMost-both _ _ (record { worths = omega (arith, ints, g, f, a, t); counts = λ i. omega (arith, ints, g, f, a, t, i) }) a in
+      let stands : standing_excess net s.excess ≡ zero_amount = AtMost-both _ _ (record { worths = omega (arith, ints, g, f, a, t); counts = λ i. omega (arith, ints, g, f, a, t, i) }) t in
+      let carries : amount_aloft net s.operation ≡ zero_amount = AtMost-both _ _ (record { worths = omega (arith, ints, g, f, a, t); counts = λ i. omega (arith, ints, g, f, a, t, i) }) a in
       record {
         excess = none_stands stands;
         operation = λ b l. idle_by b (s.operation b) (h.operation b) (none_stands stands b l) (none_carried carries b l);
       }
 
-  stands_zero : IsQuiet net s → standing net s.excess ≡ zero_amount
-  unfolding standing
+  stands_zero : IsQuiet net s → standing_excess net s.excess ≡ zero_amount
+  unfolding standing_excess
   stands_zero q = total-none s.excess (length net.worths) q.excess
 
-  carries_zero : IsQuiet net s → aloft net s.operation ≡ zero_amount
-  unfolding aloft
-  carries_zero q = total-none (λ b. carried (s.operation b)) (length net.worths) (λ b l. ap carried (q.operation b l))
+  carries_zero : IsQuiet net s → amount_aloft net s.operation ≡ zero_amount
+  unfolding amount_aloft
+  carries_zero q = total-none (λ b. amount_carried (s.operation b)) (length net.worths) (λ b l. ap amount_carried (q.operation b l))
 
   pub whole : IsWhole net s
   whole =

@@ -19,9 +19,9 @@ use Rattle.machine_law.specs.declared.operations.Operation.{Operation}
 use Rattle.machine_law.specs.declared.operations.Operation.TheVariants.{Idle, Scan, PushDue, TakeDue, GiveDue, RaiseDue}
 use Rattle.machine_law.specs.States.{State, put, opening}
 use Rattle.machine_law.specs.Residual.{room, capacity, capacity_by, end_label, IsEnd, IsPortOf}
-use Rattle.machine_law.specs.Reads.{is_positive, begun, better, ended, passed, seen, chosen}
-use Rattle.machine_law.specs.Steps.{becomes, looked, looked_by, weighed, push_amount, pushed, pushed_by, taken, given_by, raised, advance, advance_by}
-use Rattle.machine_law.specs.Transit.{owed}
+use Rattle.machine_law.specs.Reads.{is_positive, operation_begun_with, better, after_last_port, after_port, after_capacity, after_label}
+use Rattle.machine_law.specs.Steps.{becomes, after_look, after_look_by, after_label_at, push_amount, after_push, after_push_by, after_take, after_give_by, after_raise, advance, advance_by}
+use Rattle.machine_law.specs.Transit.{amount_owed}
 use Rattle.machine_law.specs.Amounts.{HasAmounts, IsWithin, IsWithinBy, IsBest, IsBestIfAny, IsRead, IsHeld, IsDue, IsOperation}
 use Rattle.machine_law.specs.Balances.{IsBalanced}
 use Rattle.machine_law.proofs.Numbers.{shifted, joined, Below-least, positive-yes}
@@ -95,12 +95,12 @@ held_push net s b have kind slot read h w = record { some = push_some net s b ha
 
 module _ (net : NetView) (s : State) (b : ℕ) (k : HasAmounts net s) where
   -- ---- the capacity step
-  amounts_pushed_by : (have : Amount) (kind : PortKind) (other slot : ℕ) (read : Amount) → IsHeld s b have → IsEnd net b kind other slot → IsWithinBy net s b kind slot read → HasAmounts net (pushed_by s b (push_amount have kind read) (port_with kind other slot) kind)
+  amounts_pushed_by : (have : Amount) (kind : PortKind) (other slot : ℕ) (read : Amount) → IsHeld s b have → IsEnd net b kind other slot → IsWithinBy net s b kind slot read → HasAmounts net (after_push_by s b (push_amount have kind read) (port_with kind other slot) kind)
   amounts_pushed_by have Sink other slot read h q w =
       let d = push_amount have Sink read in
       let hd = held_push net s b have Sink slot read h w in
       let p = port_with Sink other slot in
-      let t = pushed_by s b d p Sink in
+      let t = after_push_by s b d p Sink in
       let new = NonNeg-plus (s.sink b) d (k.sink b) (Below-most zero_amount d hd.some) in
       let most : AtMost (plus (s.sink b) d) (negative (amount_at net.worths b)) = joined (least-right have read) w.1 (record { w = omega (arith, ints); c = omega (arith, ints) }) in
       record {
@@ -118,7 +118,7 @@ module _ (net : NetView) (s : State) (b : ℕ) (k : HasAmounts net s) where
       let d = push_amount have Forward read in
       let hd = held_push net s b have Forward slot read h w in
       let p = port_with Forward other slot in
-      let t = pushed_by s b d p Forward in
+      let t = after_push_by s b d p Forward in
       let dn = Below-most zero_amount d hd.some in
       let new = NonNeg-plus (s.flow slot) d (k.flow slot) dn in
       record {
@@ -136,7 +136,7 @@ module _ (net : NetView) (s : State) (b : ℕ) (k : HasAmounts net s) where
       let d = push_amount have Backward read in
       let hd = held_push net s b have Backward slot read h w in
       let p = port_with Backward other slot in
-      let t = pushed_by s b d p Backward in
+      let t = after_push_by s b d p Backward in
       let new : AtMost zero_amount (minus (s.flow slot) d) = joined (least-right have read) w.1 (record { w = omega (arith, ints); c = omega (arith, ints) }) in
       record {
         excess = k.excess;
@@ -153,7 +153,7 @@ module _ (net : NetView) (s : State) (b : ℕ) (k : HasAmounts net s) where
       let d = push_amount have Source read in
       let hd = held_push net s b have Source slot read h w in
       let p = port_with Source other slot in
-      let t = pushed_by s b d p Source in
+      let t = after_push_by s b d p Source in
       let new : AtMost zero_amount (minus (s.source b) d) = joined (least-right have read) w.1 (record { w = omega (arith, ints); c = omega (arith, ints) }) in
       let less : AtMost (minus (s.source b) d) (positive (amount_at net.worths b)) = joined (k.source_most b) (Below-most zero_amount d hd.some) (record { w = omega (arith, ints); c = omega (arith, ints) }) in
       record {
@@ -168,13 +168,13 @@ module _ (net : NetView) (s : State) (b : ℕ) (k : HasAmounts net s) where
         operation = put-each (λ i o. IsOperation net t i o) s.operation b (TakeDue d p) (record { some = hd.some; held = hd.held }, q) (λ i ne. operation_more net s t i (record { excess = AtMost-refl (s.excess i); sink = refl; source = put-other s.source b (minus (s.source b) d) i ne; flow = λ j e. AtMost-refl (s.flow j) }) (s.operation i) (k.operation i));
       }
 
-  amounts_pushed : (have : Amount) (p : Port) (read : Amount) → IsHeld s b have → IsPortOf net b p → IsWithin net s b p read → HasAmounts net (pushed s b (push_amount have p.kind read) p)
+  amounts_pushed : (have : Amount) (p : Port) (read : Amount) → IsHeld s b have → IsPortOf net b p → IsWithin net s b p read → HasAmounts net (after_push s b (push_amount have p.kind read) p)
   amounts_pushed have p read h q w = amounts_pushed_by have p.kind p.other p.slot read h q w
 
   -- ---- the excess steps
-  amounts_taken : (d : Amount) (p : Port) → IsHeld s b d → IsPortOf net b p → HasAmounts net (taken s b d p)
+  amounts_taken : (d : Amount) (p : Port) → IsHeld s b d → IsPortOf net b p → HasAmounts net (after_take s b d p)
   amounts_taken d p h q =
-      let t = taken s b d p in
+      let t = after_take s b d p in
       record {
         excess = put-each (λ _ a. AtMost zero_amount a) s.excess b (minus (s.excess b) d) (shifted h.held (record { w = omega (arith, ints); c = omega (arith, ints) })) (λ i ne. k.excess i);
         source = k.source;
@@ -207,31 +207,31 @@ module _ (net : NetView) (s : State) (b : ℕ) (k : HasAmounts net s) where
   more_excess : (other x : ℕ) (d : Amount) → AtMost zero_amount d → AtMost (s.excess x) (put s.excess other (plus (s.excess other) d) x)
   more_excess other x d h = put-each (λ n a. AtMost (s.excess n) a) s.excess other (plus (s.excess other) d) (AtMost-plus (s.excess other) d h) (λ n _. AtMost-refl (s.excess n)) x
 
-  amounts_given_by : (d : Amount) (p : Port) (kind : PortKind) → AtMost zero_amount d → HasAmounts net (given_by s b d p kind)
-  amounts_given_by d p Sink h = amounts_left (given_by s b d p Sink) Idle (λ x. record { excess = (nothing_less x).excess; sink = refl; source = refl; flow = (nothing_less x).flow }) refl refl refl refl k.at_source (NonNeg-plus s.at_sink d k.at_sink h) tt
-  amounts_given_by d p Forward h = amounts_left (given_by s b d p Forward) Idle (λ x. record { excess = more_excess p.other x d h; sink = refl; source = refl; flow = (nothing_less x).flow }) refl refl refl refl k.at_source k.at_sink tt
-  amounts_given_by d p Backward h = amounts_left (given_by s b d p Backward) Idle (λ x. record { excess = more_excess p.other x d h; sink = refl; source = refl; flow = (nothing_less x).flow }) refl refl refl refl k.at_source k.at_sink tt
-  amounts_given_by d p Source h = amounts_left (given_by s b d p Source) Idle (λ x. record { excess = (nothing_less x).excess; sink = refl; source = refl; flow = (nothing_less x).flow }) refl refl refl refl (NonNeg-plus s.at_source d k.at_source h) k.at_sink tt
+  amounts_given_by : (d : Amount) (p : Port) (kind : PortKind) → AtMost zero_amount d → HasAmounts net (after_give_by s b d p kind)
+  amounts_given_by d p Sink h = amounts_left (after_give_by s b d p Sink) Idle (λ x. record { excess = (nothing_less x).excess; sink = refl; source = refl; flow = (nothing_less x).flow }) refl refl refl refl k.at_source (NonNeg-plus s.at_sink d k.at_sink h) tt
+  amounts_given_by d p Forward h = amounts_left (after_give_by s b d p Forward) Idle (λ x. record { excess = more_excess p.other x d h; sink = refl; source = refl; flow = (nothing_less x).flow }) refl refl refl refl k.at_source k.at_sink tt
+  amounts_given_by d p Backward h = amounts_left (after_give_by s b d p Backward) Idle (λ x. record { excess = more_excess p.other x d h; sink = refl; source = refl; flow = (nothing_less x).flow }) refl refl refl refl k.at_source k.at_sink tt
+  amounts_given_by d p Source h = amounts_left (after_give_by s b d p Source) Idle (λ x. record { excess = (nothing_less x).excess; sink = refl; source = refl; flow = (nothing_less x).flow }) refl refl refl refl (NonNeg-plus s.at_source d k.at_source h) k.at_sink tt
 
   -- ---- reads and raises
   amounts_becomes : (o : Operation Amount) → IsOperation net s b o → HasAmounts net (becomes s b o)
   amounts_becomes o is = amounts_left (becomes s b o) o (λ x. record { excess = (nothing_less x).excess; sink = refl; source = refl; flow = (nothing_less x).flow }) refl refl refl refl k.at_source k.at_sink is
 
-  amounts_raised : (best : Best Amount) → HasAmounts net (raised s b best)
-  amounts_raised best = amounts_left (raised s b best) Idle (λ x. record { excess = (nothing_less x).excess; sink = refl; source = refl; flow = (nothing_less x).flow }) refl refl refl refl k.at_source k.at_sink tt
+  amounts_raised : (best : Best Amount) → HasAmounts net (after_raise s b best)
+  amounts_raised best = amounts_left (after_raise s b best) Idle (λ x. record { excess = (nothing_less x).excess; sink = refl; source = refl; flow = (nothing_less x).flow }) refl refl refl refl k.at_source k.at_sink tt
 
   -- ---- what an operation may rely on after a read
-  op_begun : (Below zero_amount (s.excess b) → 0 < length (ports net b)) → IsOperation net s b (begun (s.excess b))
+  op_begun : (Below zero_amount (s.excess b) → 0 < length (ports net b)) → IsOperation net s b (operation_begun_with (s.excess b))
   op_begun ported = cond_both (is_positive (s.excess b)) (Scan (s.excess b) 0 None None) Idle (IsOperation net s b)
       (λ e. let y = positive-yes (s.excess b) e in record { inside = ported y; held = record { some = y; held = AtMost-refl (s.excess b) }; passed = tt; present = tt })
       (λ e. tt)
 
-  op_ended : (label : ℕ) (have : Amount) (best : Option (Best Amount)) → IsHeld s b have → IsBestIfAny net s b best → IsOperation net s b (ended label have best)
+  op_ended : (label : ℕ) (have : Amount) (best : Option (Best Amount)) → IsHeld s b have → IsBestIfAny net s b best → IsOperation net s b (after_last_port label have best)
   op_ended label have None h i = tt
   op_ended label have (Some best) h i = cond_both (nat_lt best.label label) (PushDue have best) (RaiseDue have best) (IsOperation net s b) (λ e. record { held = h; over = i }) (λ e. record { held = h; over = i })
 
-  op_passed : (have : Amount) (place : ℕ) (best : Option (Best Amount)) → IsHeld s b have → IsBestIfAny net s b best → IsOperation net s b (passed (length (ports net b)) (s.label b) have place best)
-  op_passed have place best h i = cond_both (nat_lt (place + 1) (length (ports net b))) (Scan have (place + 1) None best) (ended (s.label b) have best) (IsOperation net s b)
+  op_passed : (have : Amount) (place : ℕ) (best : Option (Best Amount)) → IsHeld s b have → IsBestIfAny net s b best → IsOperation net s b (after_port (length (ports net b)) (s.label b) have place best)
+  op_passed have place best h i = cond_both (nat_lt (place + 1) (length (ports net b))) (Scan have (place + 1) None best) (after_last_port (s.label b) have best) (IsOperation net s b)
       (λ e. record { inside = ltb-true (place + 1) (length (ports net b)) e; held = h; passed = i; present = tt })
       (λ e. op_ended (s.label b) have best h i)
 
@@ -239,7 +239,7 @@ module _ (net : NetView) (s : State) (b : ℕ) (k : HasAmounts net s) where
   any_better None new i n = n
   any_better (Some best) new i n = cond_both (nat_lt new.label best.label) new best (IsBest net s b) (λ e. n) (λ e. i)
 
-  op_chosen : (have : Amount) (place : ℕ) (best : Option (Best Amount)) (read : Amount) (p : Port) → IsHeld s b have → IsBestIfAny net s b best → IsPortOf net b p → IsWithin net s b p read → IsOperation net s b (chosen (length (ports net b)) (s.label b) have place best read p (end_label net s p))
+  op_chosen : (have : Amount) (place : ℕ) (best : Option (Best Amount)) (read : Amount) (p : Port) → IsHeld s b have → IsBestIfAny net s b best → IsPortOf net b p → IsWithin net s b p read → IsOperation net s b (after_label (length (ports net b)) (s.label b) have place best read p (end_label net s p))
   op_chosen have place best read p h i q w =
       let new : Best Amount = record { port = p; capacity = read; label = end_label net s p } in
       op_passed have place (Some (better best new)) h (any_better best new i (record { port = q; within = w }))
@@ -251,35 +251,35 @@ module _ (net : NetView) (s : State) (b : ℕ) (k : HasAmounts net s) where
   within_now Backward slot y = (y, AtMost-refl (s.flow slot))
   within_now Source slot y = (y, AtMost-refl (s.source b))
 
-  op_seen : (have : Amount) (place : ℕ) (best : Option (Best Amount)) (p : Port) → slice_get (ports net b) place ≡ Some p → IsHeld s b have → IsBestIfAny net s b best → IsOperation net s b (seen (length (ports net b)) (s.label b) have place best (capacity net s b p))
+  op_seen : (have : Amount) (place : ℕ) (best : Option (Best Amount)) (p : Port) → slice_get (ports net b) place ≡ Some p → IsHeld s b have → IsBestIfAny net s b best → IsOperation net s b (after_capacity (length (ports net b)) (s.label b) have place best (capacity net s b p))
   op_seen have place best p e h i =
-      cond_both (is_positive (capacity net s b p)) (Scan have place (Some (capacity net s b p)) best) (passed (length (ports net b)) (s.label b) have place best) (IsOperation net s b)
+      cond_both (is_positive (capacity net s b p)) (Scan have place (Some (capacity net s b p)) best) (after_port (length (ports net b)) (s.label b) have place best) (IsOperation net s b)
       (λ y. record { inside = slice_get_within (ports net b) place p e; held = h; passed = i; present = rw e (within_now p.kind p.slot (positive-yes (capacity net s b p) y)) })
       (λ _. op_passed have place best h i)
 
-  op_looked_by : (have : Amount) (place : ℕ) (best : Option (Best Amount)) (kind : PortKind) (other slot : ℕ) → slice_get (ports net b) place ≡ Some (port_with kind other slot) → IsHeld s b have → IsBestIfAny net s b best → IsOperation net s b (looked_by net s b have place best (port_with kind other slot) kind)
+  op_looked_by : (have : Amount) (place : ℕ) (best : Option (Best Amount)) (kind : PortKind) (other slot : ℕ) → slice_get (ports net b) place ≡ Some (port_with kind other slot) → IsHeld s b have → IsBestIfAny net s b best → IsOperation net s b (after_look_by net s b have place best (port_with kind other slot) kind)
   op_looked_by have place best Sink other slot e h i = op_seen have place best (port_with Sink other slot) e h i
   op_looked_by have place best Forward other slot e h i = op_chosen have place best zero_amount (port_with Forward other slot) h i (port-at net b place (port_with Forward other slot) e) tt
   op_looked_by have place best Backward other slot e h i = op_seen have place best (port_with Backward other slot) e h i
   op_looked_by have place best Source other slot e h i = op_seen have place best (port_with Source other slot) e h i
 
-  op_looked : (have : Amount) (place : ℕ) (best : Option (Best Amount)) (q : Option Port) → slice_get (ports net b) place ≡ q → IsHeld s b have → IsBestIfAny net s b best → IsOperation net s b (looked net s b have place best q)
+  op_looked : (have : Amount) (place : ℕ) (best : Option (Best Amount)) (q : Option Port) → slice_get (ports net b) place ≡ q → IsHeld s b have → IsBestIfAny net s b best → IsOperation net s b (after_look net s b have place best q)
   op_looked have place best None e h i = tt
   op_looked have place best (Some p) e h i = op_looked_by have place best p.kind p.other p.slot e h i
 
-  op_weighed : (have : Amount) (place : ℕ) (best : Option (Best Amount)) (read : Amount) (q : Option Port) → slice_get (ports net b) place ≡ q → IsHeld s b have → IsBestIfAny net s b best → IsRead net s b (Some read) q → IsOperation net s b (weighed net s b have place best read q)
+  op_weighed : (have : Amount) (place : ℕ) (best : Option (Best Amount)) (read : Amount) (q : Option Port) → slice_get (ports net b) place ≡ q → IsHeld s b have → IsBestIfAny net s b best → IsRead net s b (Some read) q → IsOperation net s b (after_label_at net s b have place best read q)
   op_weighed have place best read None e h i r = tt
   op_weighed have place best read (Some p) e h i r = op_chosen have place best read p h i (port-at net b place p e) r
 
   -- ---- each step
   amounts_advance_by : (o : Operation Amount) → s.operation b ≡ o → IsBalanced net s → IsOperation net s b o → HasAmounts net (advance_by net s b o)
-  amounts_advance_by Idle e l h = amounts_becomes (begun (s.excess b)) (op_begun (has_port net s b (ap owed e) k l))
+  amounts_advance_by Idle e l h = amounts_becomes (operation_begun_with (s.excess b)) (op_begun (has_port net s b (ap amount_owed e) k l))
   amounts_advance_by (Scan have place None best) e l h =
       let q = slice_get (ports net b) place in
-      amounts_becomes (looked net s b have place best q) (op_looked have place best q refl h.held h.passed)
+      amounts_becomes (after_look net s b have place best q) (op_looked have place best q refl h.held h.passed)
   amounts_advance_by (Scan have place (Some read) best) e l h =
       let q = slice_get (ports net b) place in
-      amounts_becomes (weighed net s b have place best read q) (op_weighed have place best read q refl h.held h.passed h.present)
+      amounts_becomes (after_label_at net s b have place best read q) (op_weighed have place best read q refl h.held h.passed h.present)
   amounts_advance_by (PushDue have best) e l h = amounts_pushed have best.port best.capacity h.held h.over.port h.over.within
   amounts_advance_by (TakeDue d p) e l h = amounts_taken d p h.0 h.1
   amounts_advance_by (GiveDue d p) e l h = amounts_given_by d p p.kind (Below-most zero_amount d h.0)

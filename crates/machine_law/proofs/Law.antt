@@ -19,9 +19,9 @@ use Rattle.machine_law.specs.declared.operations.Operation.{Operation}
 use Rattle.machine_law.specs.declared.operations.Operation.TheVariants.{Idle, Scan, PushDue, TakeDue, GiveDue, RaiseDue}
 use Rattle.machine_law.specs.States.{State, opening}
 use Rattle.machine_law.specs.Residual.{capacity, end_label}
-use Rattle.machine_law.specs.Reads.{is_positive, begun, better, ended, passed, seen, chosen}
-use Rattle.machine_law.specs.Steps.{looked, looked_by, weighed, advance, advance_by, Run}
-use Rattle.machine_law.specs.Transit.{owed, coming}
+use Rattle.machine_law.specs.Reads.{is_positive, operation_begun_with, better, after_last_port, after_port, after_capacity, after_label}
+use Rattle.machine_law.specs.Steps.{after_look, after_look_by, after_label_at, advance, advance_by, Run}
+use Rattle.machine_law.specs.Transit.{amount_owed, amount_coming}
 use Rattle.machine_law.specs.Amounts.{HasAmounts, IsOperation, IsWithinBy, IsRead}
 use Rattle.machine_law.specs.Labels.{steep, IsWalk, IsLevelled, HasLabels}
 use Rattle.machine_law.specs.Law.{IsLawful, StepsKeepLaw, RunsKeepLaw}
@@ -48,34 +48,34 @@ module _ (net : NetView) (s : State) (b : ℕ) (k : HasAmounts net s) (h : HasLa
   walk_at have place best p e w = subst (λ (r : List Port). IsWalk net s b have r best) (rest_at (ports net b) place p e) w
 
   -- ---- what the reads leave
-  levelled_begun : owed (s.operation b) ≡ zero_amount → IsLevelled net s b (begun (s.excess b))
+  levelled_begun : amount_owed (s.operation b) ≡ zero_amount → IsLevelled net s b (operation_begun_with (s.excess b))
   levelled_begun o = cond_both (is_positive (s.excess b)) (Scan (s.excess b) 0 None None) Idle (IsLevelled net s b) (λ _. walk_begun net s b k h o) (λ _. tt)
 
-  levelled_ended : (have : Amount) (best : Option (Best Amount)) → IsWalk net s b have [] best → IsLevelled net s b (ended (s.label b) have best)
+  levelled_ended : (have : Amount) (best : Option (Best Amount)) → IsWalk net s b have [] best → IsLevelled net s b (after_last_port (s.label b) have best)
   levelled_ended have None w = tt
   levelled_ended have (Some best) w = cond_both (nat_lt best.label (s.label b)) (PushDue have best) (RaiseDue have best) (IsLevelled net s b) (λ e. (w, ltb-true best.label (s.label b) e)) (λ e. (w, ltb-false best.label (s.label b) e))
 
-  levelled_passed : (have : Amount) (place : ℕ) (best : Option (Best Amount)) → IsWalk net s b have (drop (place + 1) (ports net b)) best → IsLevelled net s b (passed (length (ports net b)) (s.label b) have place best)
-  levelled_passed have place best w = cond_both (nat_lt (place + 1) (length (ports net b))) (Scan have (place + 1) None best) (ended (s.label b) have best) (IsLevelled net s b)
+  levelled_passed : (have : Amount) (place : ℕ) (best : Option (Best Amount)) → IsWalk net s b have (drop (place + 1) (ports net b)) best → IsLevelled net s b (after_port (length (ports net b)) (s.label b) have place best)
+  levelled_passed have place best w = cond_both (nat_lt (place + 1) (length (ports net b))) (Scan have (place + 1) None best) (after_last_port (s.label b) have best) (IsLevelled net s b)
       (λ e. w)
       (λ e. levelled_ended have best (subst (λ (r : List Port). IsWalk net s b have r best) (drop_of_length-le (ports net b) (ltb-false (place + 1) (length (ports net b)) e)) w))
 
-  levelled_seen : (have : Amount) (place : ℕ) (best : Option (Best Amount)) (p : Port) → slice_get (ports net b) place ≡ Some p → IsLimited p.kind → IsWalk net s b have (drop place (ports net b)) best → IsLevelled net s b (seen (length (ports net b)) (s.label b) have place best (capacity net s b p))
-  levelled_seen have place best p e c w = cond_both (is_positive (capacity net s b p)) (Scan have place (Some (capacity net s b p)) best) (passed (length (ports net b)) (s.label b) have place best) (IsLevelled net s b)
+  levelled_seen : (have : Amount) (place : ℕ) (best : Option (Best Amount)) (p : Port) → slice_get (ports net b) place ≡ Some p → IsLimited p.kind → IsWalk net s b have (drop place (ports net b)) best → IsLevelled net s b (after_capacity (length (ports net b)) (s.label b) have place best (capacity net s b p))
+  levelled_seen have place best p e c w = cond_both (is_positive (capacity net s b p)) (Scan have place (Some (capacity net s b p)) best) (after_port (length (ports net b)) (s.label b) have place best) (IsLevelled net s b)
       (λ y. w)
       (λ z. levelled_passed have place best (walk_pass net s b k h have p (drop (place + 1) (ports net b)) best c z (walk_at have place best p e w)))
 
-  levelled_chosen : (have : Amount) (place : ℕ) (best : Option (Best Amount)) (read : Amount) (p : Port) → slice_get (ports net b) place ≡ Some p → IsReady net s b p.kind → IsWalk net s b have (drop place (ports net b)) best → IsLevelled net s b (chosen (length (ports net b)) (s.label b) have place best read p (end_label net s p))
+  levelled_chosen : (have : Amount) (place : ℕ) (best : Option (Best Amount)) (read : Amount) (p : Port) → slice_get (ports net b) place ≡ Some p → IsReady net s b p.kind → IsWalk net s b have (drop place (ports net b)) best → IsLevelled net s b (after_label (length (ports net b)) (s.label b) have place best read p (end_label net s p))
   levelled_chosen have place best read p e r w = levelled_passed have place (Some (better best (record { port = p; capacity = read; label = end_label net s p })))
       (walk_choose net s b k h have read p (drop (place + 1) (ports net b)) best (port-at net b place p e) r (walk_at have place best p e w))
 
-  levelled_looked_by : (have : Amount) (place : ℕ) (best : Option (Best Amount)) (kind : PortKind) (other slot : ℕ) → slice_get (ports net b) place ≡ Some (port_with kind other slot) → IsWalk net s b have (drop place (ports net b)) best → IsLevelled net s b (looked_by net s b have place best (port_with kind other slot) kind)
+  levelled_looked_by : (have : Amount) (place : ℕ) (best : Option (Best Amount)) (kind : PortKind) (other slot : ℕ) → slice_get (ports net b) place ≡ Some (port_with kind other slot) → IsWalk net s b have (drop place (ports net b)) best → IsLevelled net s b (after_look_by net s b have place best (port_with kind other slot) kind)
   levelled_looked_by have place best Sink other slot e w = levelled_seen have place best (port_with Sink other slot) e tt w
   levelled_looked_by have place best Forward other slot e w = levelled_chosen have place best zero_amount (port_with Forward other slot) e tt w
   levelled_looked_by have place best Backward other slot e w = levelled_seen have place best (port_with Backward other slot) e tt w
   levelled_looked_by have place best Source other slot e w = levelled_seen have place best (port_with Source other slot) e tt w
 
-  levelled_looked : (have : Amount) (place : ℕ) (best : Option (Best Amount)) (q : Option Port) → slice_get (ports net b) place ≡ q → IsWalk net s b have (drop place (ports net b)) best → IsLevelled net s b (looked net s b have place best q)
+  levelled_looked : (have : Amount) (place : ℕ) (best : Option (Best Amount)) (q : Option Port) → slice_get (ports net b) place ≡ q → IsWalk net s b have (drop place (ports net b)) best → IsLevelled net s b (after_look net s b have place best q)
   levelled_looked have place best None e w = tt
   levelled_looked have place best (Some p) e w = levelled_looked_by have place best p.kind p.other p.slot e w
 
@@ -86,19 +86,19 @@ module _ (net : NetView) (s : State) (b : ℕ) (k : HasAmounts net s) (h : HasLa
   ready_read Backward slot read w = tt
   ready_read Source slot read w = Below-more w.0 w.1
 
-  levelled_weighed : (have : Amount) (place : ℕ) (best : Option (Best Amount)) (read : Amount) (q : Option Port) → slice_get (ports net b) place ≡ q → IsRead net s b (Some read) q → IsWalk net s b have (drop place (ports net b)) best → IsLevelled net s b (weighed net s b have place best read q)
+  levelled_weighed : (have : Amount) (place : ℕ) (best : Option (Best Amount)) (read : Amount) (q : Option Port) → slice_get (ports net b) place ≡ q → IsRead net s b (Some read) q → IsWalk net s b have (drop place (ports net b)) best → IsLevelled net s b (after_label_at net s b have place best read q)
   levelled_weighed have place best read None e r w = tt
   levelled_weighed have place best read (Some p) e r w = levelled_chosen have place best read p e (ready_read p.kind p.slot read r) w
 
   -- ---- each step
   labels_advance_by : (o : Operation Amount) → b < length net.worths → s.operation b ≡ o → IsOperation net s b o → IsLevelled net s b o → ((j : ℕ) → AtMost zero_amount ((advance_by net s b o).flow j)) → HasLabels net (advance_by net s b o)
-  labels_advance_by Idle l e i w a = labels_rest net s b k h l Idle (begun (s.excess b)) e tt (rest_begun (s.excess b)) (levelled_begun (ap owed e))
+  labels_advance_by Idle l e i w a = labels_rest net s b k h l Idle (operation_begun_with (s.excess b)) e tt (rest_begun (s.excess b)) (levelled_begun (ap amount_owed e))
   labels_advance_by (Scan have place None best) l e i w a =
       let q = slice_get (ports net b) place in
-      labels_rest net s b k h l (Scan have place None best) (looked net s b have place best q) e tt (rest_looked net s b have place best q) (levelled_looked have place best q refl w)
+      labels_rest net s b k h l (Scan have place None best) (after_look net s b have place best q) e tt (rest_looked net s b have place best q) (levelled_looked have place best q refl w)
   labels_advance_by (Scan have place (Some read) best) l e i w a =
       let q = slice_get (ports net b) place in
-      labels_rest net s b k h l (Scan have place (Some read) best) (weighed net s b have place best read q) e tt (rest_weighed net s b have place best read q) (levelled_weighed have place best read q refl i.present w)
+      labels_rest net s b k h l (Scan have place (Some read) best) (after_label_at net s b have place best read q) e tt (rest_weighed net s b have place best read q) (levelled_weighed have place best read q refl i.present w)
   labels_advance_by (PushDue have best) l e i w a = labels_pushed net s b l have best e i.held.some i.over.port i.over.within w.0 w.1 k h a
   labels_advance_by (TakeDue d p) l e i w a = labels_taken net s b k h l d p e
   labels_advance_by (GiveDue d p) l e i w a = labels_given net s b k h l d p e
@@ -118,11 +118,11 @@ pub steps_keep_law : StepsKeepLaw
 steps_keep_law net s e t h st = subst (IsLawful net) (sym st.after) (lawful_advance net s e.block st.block h)
 
 -- ---- the opening
-steep_opening : (net : NetView) (b : ℕ) → AtMost (steep net (opening net) b) (minus (plus (positive (amount_at net.worths b)) (coming net (opening net) b)) zero_amount)
+steep_opening : (net : NetView) (b : ℕ) → AtMost (steep net (opening net) b) (minus (plus (positive (amount_at net.worths b)) (amount_coming net (opening net) b)) zero_amount)
 steep_opening net b =
     let z = same (arcs-none net (λ j. nat_lt (0 + 1) 0) (λ j. zero_amount) b (λ j _ _ q. let l = ltb-true (0 + 1) 0 q in absurd (omega (arith, l)))) in
     let c = coming_nonneg net (opening net) b (amounts_opening net) in
-    shifted (NonNeg-plus (positive (amount_at net.worths b)) (coming net (opening net) b) ((amounts_opening net).source b) c) (record { w = omega (arith, ints, z); c = omega (arith, ints, z) })
+    shifted (NonNeg-plus (positive (amount_at net.worths b)) (amount_coming net (opening net) b) ((amounts_opening net).source b) c) (record { w = omega (arith, ints, z); c = omega (arith, ints, z) })
 
 labels_opening : (net : NetView) → HasLabels net (opening net)
 labels_opening net = record {

@@ -5,7 +5,7 @@ use Rattle.closure_net.specs.declared.port.Port.{Port}
 use Rattle.machine_law.specs.declared.operations.Best.{Best}
 use Rattle.machine_law.specs.declared.operations.Operation.TheVariants.{Scan, PushDue, RaiseDue}
 use Rattle.machine_law.specs.Operations.{best_as, operation_as}
-use Rattle.machine_law.specs.Reads.{better, ended, passed, chosen}
+use Rattle.machine_law.specs.Reads.{better, after_last_port, after_port, after_label}
 
 -- a choice, over other numbers
 cond_as : {X Y : Type 0} (g : X → Y) (t : Bool) (x y : X) → g (cond t x y) ≡ cond t (g x) (g y)
@@ -17,16 +17,16 @@ module _ {N M : Type 0} (f : N → M) where
   better-as None new = refl
   better-as (Some best) new = cond_as (best_as f) (nat_lt new.label best.label) new best
 
-  pub ended-as : (label : ℕ) (have : N) (best : Option (Best N)) → operation_as f (ended label have best) ≡ ended label (f have) (option_map (best_as f) best)
-  ended-as label have None = refl
-  ended-as label have (Some best) = cond_as (operation_as f) (nat_lt best.label label) (PushDue have best) (RaiseDue have best)
+  pub after_last_port-as : (label : ℕ) (have : N) (best : Option (Best N)) → operation_as f (after_last_port label have best) ≡ after_last_port label (f have) (option_map (best_as f) best)
+  after_last_port-as label have None = refl
+  after_last_port-as label have (Some best) = cond_as (operation_as f) (nat_lt best.label label) (PushDue have best) (RaiseDue have best)
 
-  pub passed-as : (count label : ℕ) (have : N) (place : ℕ) (best : Option (Best N)) → operation_as f (passed count label have place best) ≡ passed count label (f have) place (option_map (best_as f) best)
-  passed-as count label have place best =
-      cond_as (operation_as f) (nat_lt (place + 1) count) (Scan have (place + 1) None best) (ended label have best)
-      ∙ ap (cond (nat_lt (place + 1) count) (Scan (f have) (place + 1) None (option_map (best_as f) best))) (ended-as label have best)
+  pub after_port-as : (count label : ℕ) (have : N) (place : ℕ) (best : Option (Best N)) → operation_as f (after_port count label have place best) ≡ after_port count label (f have) place (option_map (best_as f) best)
+  after_port-as count label have place best =
+      cond_as (operation_as f) (nat_lt (place + 1) count) (Scan have (place + 1) None best) (after_last_port label have best)
+      ∙ ap (cond (nat_lt (place + 1) count) (Scan (f have) (place + 1) None (option_map (best_as f) best))) (after_last_port-as label have best)
 
-  pub chosen-as : (count label : ℕ) (have : N) (place : ℕ) (best : Option (Best N)) (capacity : N) (port : Port) (beyond : ℕ) → operation_as f (chosen count label have place best capacity port beyond) ≡ chosen count label (f have) place (option_map (best_as f) best) (f capacity) port beyond
-  chosen-as count label have place best capacity port beyond =
+  pub after_label-as : (count label : ℕ) (have : N) (place : ℕ) (best : Option (Best N)) (capacity : N) (port : Port) (beyond : ℕ) → operation_as f (after_label count label have place best capacity port beyond) ≡ after_label count label (f have) place (option_map (best_as f) best) (f capacity) port beyond
+  after_label-as count label have place best capacity port beyond =
       let new : Best N = record { port = port; capacity = capacity; label = beyond } in
-      passed-as count label have place (Some (better best new)) ∙ ap (λ b. passed count label (f have) place (Some b)) (better-as best new)
+      after_port-as count label have place (Some (better best new)) ∙ ap (λ b. after_port count label (f have) place (Some b)) (better-as best new)

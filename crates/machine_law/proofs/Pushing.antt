@@ -16,7 +16,7 @@ use Rattle.machine_law.specs.declared.operations.Operation.{Operation}
 use Rattle.machine_law.specs.declared.operations.Operation.TheVariants.{PushDue, TakeDue}
 use Rattle.machine_law.specs.States.{State, put}
 use Rattle.machine_law.specs.Residual.{room, IsEnd, IsPortOf}
-use Rattle.machine_law.specs.Steps.{pushed, pushed_by, push_amount}
+use Rattle.machine_law.specs.Steps.{after_push, after_push_by, push_amount}
 use Rattle.machine_law.specs.Transit.{lands_by}
 use Rattle.machine_law.specs.Amounts.{HasAmounts, IsWithin, IsWithinBy}
 use Rattle.machine_law.specs.Balances.{supply}
@@ -44,7 +44,7 @@ module _ (net : NetView) (s : State) (b : ℕ) (l : b < length net.worths) (have
   amount_of kind = push_amount have kind read
 
   abbrev after : PortKind → State
-  after kind = pushed_by s b (amount_of kind) (port_with kind other slot) kind
+  after kind = after_push_by s b (amount_of kind) (port_with kind other slot) kind
 
   -- the arcs of b that fall by more than one label
   abbrev is_steep : ℕ → Bool
@@ -197,6 +197,6 @@ module _ (net : NetView) (s : State) (b : ℕ) (l : b < length net.worths) (have
       (put-each (λ i c. (c ≡ positive (amount_at net.worths i)) ⊎ (length net.worths + 2 < s.label i)) s.source b (minus (s.source b) d) (inr (omega (arith, near.1, below))) (λ i ne. h.left i))
 
 pub labels_pushed : (net : NetView) (s : State) (b : ℕ) → b < length net.worths → (have : Amount) (best : Best Amount) → s.operation b ≡ PushDue have best → Below zero_amount have → IsPortOf net b best.port → IsWithin net s b best.port best.capacity → IsWalk net s b have [] (Some best) → best.label < s.label b → HasAmounts net s → HasLabels net s
-    → (let t : State = pushed s b (push_amount have best.port.kind best.capacity) best.port in ((j : ℕ) → AtMost zero_amount (t.flow j)) → HasLabels net t)
+    → (let t : State = after_push s b (push_amount have best.port.kind best.capacity) best.port in ((j : ℕ) → AtMost zero_amount (t.flow j)) → HasLabels net t)
 labels_pushed net s b l have best e some q w walk below k h a =
     labels_pushed_by net s b l have best.capacity best.label best.port.other best.port.slot some below k h best.port.kind e q w walk a

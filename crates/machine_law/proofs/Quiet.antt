@@ -19,7 +19,7 @@ use Rattle.machine_law.specs.declared.operations.Operation.{Operation}
 use Rattle.machine_law.specs.declared.operations.Operation.TheVariants.{Idle}
 use Rattle.machine_law.specs.States.{State, IsQuiet}
 use Rattle.machine_law.specs.Residual.{room}
-use Rattle.machine_law.specs.Transit.{owed, on_way, sum_on_way, lands, coming, inflow, outflow}
+use Rattle.machine_law.specs.Transit.{amount_owed, on_way, sum_on_way, lands, amount_coming, inflow, outflow}
 use Rattle.machine_law.specs.Labels.{steep}
 use Rattle.machine_law.specs.Law.{IsLawful}
 use Rattle.machine_law.specs.Quiet.{IsFlowOf, IsSolved, QuietSolves}
@@ -69,7 +69,7 @@ module _ (net : NetView) (s : State) (flow : FlowView) (known : PairsKnown net) 
   idle_on_way : (f : Port → Amount → Amount) (o : Operation Amount) → o ≡ Idle → on_way f o ≡ zero_amount
   idle_on_way f o e = ap (on_way f) e
 
-  nothing_coming : (b : ℕ) → coming net s b ≡ zero_amount
+  nothing_coming : (b : ℕ) → amount_coming net s b ≡ zero_amount
   unfolding sum_on_way
   nothing_coming b = total-none (λ c. on_way (lands b) (s.operation c)) (length net.worths) (λ c l. idle_on_way (lands b) (s.operation c) (q.operation c l))
 
@@ -86,11 +86,11 @@ module _ (net : NetView) (s : State) (flow : FlowView) (known : PairsKnown net) 
   outflow_is b = end_same (from_at net.pairs) b
 
   -- what the state owes, has, and is to get is zero
-  supply_zero : (b : ℕ) → b < length net.worths → minus (plus (s.excess b) (coming net s b)) (owed (s.operation b)) ≡ zero_amount
+  supply_zero : (b : ℕ) → b < length net.worths → minus (plus (s.excess b) (amount_coming net s b)) (amount_owed (s.operation b)) ≡ zero_amount
   supply_zero b l =
       let e = same (q.excess b l) in
       let c = same (nothing_coming b) in
-      let o = same (ap owed (q.operation b l)) in
+      let o = same (ap amount_owed (q.operation b l)) in
       equal (record { w = omega (arith, ints, e, c, o); c = omega (arith, ints, e, c, o) })
 
   pub quiet_flow : IsFlow net flow

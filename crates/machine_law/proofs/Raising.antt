@@ -12,7 +12,7 @@ use Rattle.machine_law.specs.declared.operations.Best.{Best}
 use Rattle.machine_law.specs.declared.operations.Operation.TheVariants.{Idle, RaiseDue}
 use Rattle.machine_law.specs.States.{State}
 use Rattle.machine_law.specs.Residual.{room}
-use Rattle.machine_law.specs.Steps.{raised}
+use Rattle.machine_law.specs.Steps.{after_raise}
 use Rattle.machine_law.specs.Amounts.{HasAmounts}
 use Rattle.machine_law.specs.Balances.{supply}
 use Rattle.machine_law.specs.Labels.{arcs, steep, IsWalk, IsLevelled, HasLabels}
@@ -23,15 +23,15 @@ use Rattle.machine_law.proofs.Supply.{supply_raised}
 use Rattle.machine_law.proofs.Staying.{same_arcs, same_supply}
 
 module _ (net : NetView) (s : State) (b : ℕ) (l : b < length net.worths) (have : Amount) (best : Best Amount) (e : s.operation b ≡ RaiseDue have best) (some : Below zero_amount have) (walk : IsWalk net s b have [] (Some best)) (up : s.label b ≤ best.label) (k : HasAmounts net s) (h : HasLabels net s) where
-  rises : (i : ℕ) → s.label i ≤ (raised s b best).label i
+  rises : (i : ℕ) → s.label i ≤ (after_raise s b best).label i
   rises = put-each (λ i n. s.label i ≤ n) s.label b (best.label + 1) (omega (arith, up)) (λ i ne. omega arith)
 
-  own : (raised s b best).label b ≡ best.label + 1
+  own : (after_raise s b best).label b ≡ best.label + 1
   own = put-same s.label b (best.label + 1)
 
-  steep_raised : AtMost (steep net (raised s b best) b) (supply net (raised s b best) b)
+  steep_raised : AtMost (steep net (after_raise s b best) b) (supply net (after_raise s b best) b)
   steep_raised =
-      let t = raised s b best in
+      let t = after_raise s b best in
       let f : ℕ → Bool = λ j. nat_lt (t.label (from_at net.pairs j) + 1) (t.label b) in
       let g : ℕ → Bool = λ j. not false && nat_lt (s.label (from_at net.pairs j)) best.label in
       let a : AtMost (arcs net f s.flow b) (arcs net g s.flow b) = arcs-most net f g s.flow s.flow b (λ j _ _ q.
@@ -43,7 +43,7 @@ module _ (net : NetView) (s : State) (b : ℕ) (l : b < length net.worths) (have
       let v = supply_raised net s b l b have best e in
       record { worths = omega (arith, ints, a, low_is, v, some); counts = λ i. omega (arith, ints, a, low_is, v, some, i) }
 
-  calm : (x : ℕ) → x ≢ b → IsCalm net s (raised s b best) x
+  calm : (x : ℕ) → x ≢ b → IsCalm net s (after_raise s b best) x
   calm x ne = record {
     own = put-other s.label b (best.label + 1) x ne;
     labels = rises;
@@ -51,12 +51,12 @@ module _ (net : NetView) (s : State) (b : ℕ) (l : b < length net.worths) (have
     sink = refl;
     gain = zero_amount;
     arcs_most = same_arcs net s x k;
-    supply_more = same_supply net s (raised s b best) x (supply_raised net s b l x have best e);
+    supply_more = same_supply net s (after_raise s b best) x (supply_raised net s b l x have best e);
   }
 
-  pub labels_raised : HasLabels net (raised s b best)
+  pub labels_raised : HasLabels net (after_raise s b best)
   labels_raised =
-      let t = raised s b best in
+      let t = after_raise s b best in
       record {
         forward = λ j i. elim (cases_eq (from_at net.pairs j) b) [
           | inl at ↦

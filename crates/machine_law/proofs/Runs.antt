@@ -9,7 +9,7 @@ use Rattle.machine_law.specs.declared.operations.Operation.{Operation}
 use Rattle.machine_law.specs.declared.operations.Operation.TheVariants.{Idle, Scan, PushDue, TakeDue, GiveDue, RaiseDue}
 use Rattle.machine_law.specs.declared.events.Event.{Event}
 use Rattle.machine_law.specs.States.{State}
-use Rattle.machine_law.specs.Steps.{push_amount, pushed_by, given_by, advance_by, Step, Run}
+use Rattle.machine_law.specs.Steps.{push_amount, after_push_by, after_give_by, advance_by, Step, Run}
 
 -- a step leads to one state only
 pub step_unique : (net : NetView) (s : State) (e : Event) (t u : State) → Step net s e t → Step net s e u → t ≡ u
@@ -21,13 +21,13 @@ run_unique net s [] t u h k = h ∙ sym k
 run_unique net s (e ∷ es) t u h k = run_unique net h.0 es t u h.2 (subst (λ (v : State). Run net v es u) (step_unique net s e k.0 h.0 k.1 h.1) k.2)
 
 -- ---- each step counts once
-steps_pushed : (s : State) (b : ℕ) (d : Amount) (p : Port) (kind : PortKind) → (pushed_by s b d p kind).steps ≡ s.steps + 1
+steps_pushed : (s : State) (b : ℕ) (d : Amount) (p : Port) (kind : PortKind) → (after_push_by s b d p kind).steps ≡ s.steps + 1
 steps_pushed s b d p Sink = refl
 steps_pushed s b d p Forward = refl
 steps_pushed s b d p Backward = refl
 steps_pushed s b d p Source = refl
 
-steps_given : (s : State) (b : ℕ) (d : Amount) (p : Port) (kind : PortKind) → (given_by s b d p kind).steps ≡ s.steps + 1
+steps_given : (s : State) (b : ℕ) (d : Amount) (p : Port) (kind : PortKind) → (after_give_by s b d p kind).steps ≡ s.steps + 1
 steps_given s b d p Sink = refl
 steps_given s b d p Forward = refl
 steps_given s b d p Backward = refl

@@ -11,7 +11,7 @@ use Rattle.closure_net.specs.declared.port.PortKind.TheVariants.{Sink, Forward, 
 use Rattle.machine_law.specs.declared.operations.Operation.{Operation}
 use Rattle.machine_law.specs.declared.operations.Operation.TheVariants.{Idle, TakeDue, GiveDue}
 use Rattle.machine_law.specs.States.{State, put}
-use Rattle.machine_law.specs.Steps.{becomes, taken, given, given_by}
+use Rattle.machine_law.specs.Steps.{becomes, after_take, after_give, after_give_by}
 use Rattle.machine_law.specs.Amounts.{HasAmounts}
 use Rattle.machine_law.specs.Balances.{supply}
 use Rattle.machine_law.specs.Labels.{arcs, IsLevelled, HasLabels}
@@ -54,14 +54,14 @@ module _ (net : NetView) (s : State) (b : ℕ) (k : HasAmounts net s) (h : HasLa
   pub labels_rest : b < length net.worths → (old new : Operation Amount) → s.operation b ≡ old → IsAtRest old → IsAtRest new → IsLevelled net s b new → HasLabels net (becomes s b new)
   labels_rest l old new e r n is = labels_stay (becomes s b new) new refl refl refl refl refl (λ x. supply_rest net s b l x old new e r n) is
 
-  pub labels_taken : b < length net.worths → (d : Amount) (p : Port) → s.operation b ≡ TakeDue d p → HasLabels net (taken s b d p)
-  labels_taken l d p e = labels_stay (taken s b d p) (GiveDue d p) refl refl refl refl refl (λ x. supply_taken net s b l x d p e) tt
+  pub labels_taken : b < length net.worths → (d : Amount) (p : Port) → s.operation b ≡ TakeDue d p → HasLabels net (after_take s b d p)
+  labels_taken l d p e = labels_stay (after_take s b d p) (GiveDue d p) refl refl refl refl refl (λ x. supply_taken net s b l x d p e) tt
 
-  labels_given_by : (d : Amount) (p : Port) (kind : PortKind) → ((x : ℕ) → Same (supply net (given_by s b d p kind) x) (supply net s x)) → HasLabels net (given_by s b d p kind)
-  labels_given_by d p Sink same = labels_stay (given_by s b d p Sink) Idle refl refl refl refl refl same tt
-  labels_given_by d p Forward same = labels_stay (given_by s b d p Forward) Idle refl refl refl refl refl same tt
-  labels_given_by d p Backward same = labels_stay (given_by s b d p Backward) Idle refl refl refl refl refl same tt
-  labels_given_by d p Source same = labels_stay (given_by s b d p Source) Idle refl refl refl refl refl same tt
+  labels_given_by : (d : Amount) (p : Port) (kind : PortKind) → ((x : ℕ) → Same (supply net (after_give_by s b d p kind) x) (supply net s x)) → HasLabels net (after_give_by s b d p kind)
+  labels_given_by d p Sink same = labels_stay (after_give_by s b d p Sink) Idle refl refl refl refl refl same tt
+  labels_given_by d p Forward same = labels_stay (after_give_by s b d p Forward) Idle refl refl refl refl refl same tt
+  labels_given_by d p Backward same = labels_stay (after_give_by s b d p Backward) Idle refl refl refl refl refl same tt
+  labels_given_by d p Source same = labels_stay (after_give_by s b d p Source) Idle refl refl refl refl refl same tt
 
-  pub labels_given : b < length net.worths → (d : Amount) (p : Port) → s.operation b ≡ GiveDue d p → HasLabels net (given s b d p)
+  pub labels_given : b < length net.worths → (d : Amount) (p : Port) → s.operation b ≡ GiveDue d p → HasLabels net (after_give s b d p)
   labels_given l d p e = labels_given_by d p p.kind (λ x. supply_given net s b l x d p e)

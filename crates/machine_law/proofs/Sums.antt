@@ -9,7 +9,7 @@ use Rattle.closure_net.specs.Network.{NetView}
 use Rattle.closure_net.specs.declared.port.Port.{Port}
 use Rattle.machine_law.specs.declared.operations.Operation.{Operation}
 use Rattle.machine_law.specs.States.{put}
-use Rattle.machine_law.specs.Transit.{on_way, sum_on_way, inflow, outflow, given_back, drained}
+use Rattle.machine_law.specs.Transit.{on_way, sum_on_way, inflow, outflow, amount_given_back, amount_drained}
 use Rattle.machine_law.proofs.Numbers.{Same, same}
 use Rattle.machine_law.proofs.Points.{total-put}
 
@@ -49,14 +49,14 @@ unfolding sum_on_way
 sum_on_way-put net f operation b old new l e = rw (← e) (total-put (λ _ a. on_way f a) operation b new (length net.worths) l)
 
 -- ---- a block gives back to the source, or gives to the sink
-pub given_back-more : (net : NetView) (source : ℕ → Amount) (b : ℕ) (d : Amount) → b < length net.worths → Same (given_back net (put source b (minus (source b) d))) (plus (given_back net source) d)
-unfolding given_back
-given_back-more net source b d l =
+pub amount_given_back-more : (net : NetView) (source : ℕ → Amount) (b : ℕ) (d : Amount) → b < length net.worths → Same (amount_given_back net (put source b (minus (source b) d))) (plus (amount_given_back net source) d)
+unfolding amount_given_back
+amount_given_back-more net source b d l =
     let t = total-put (λ i a. minus (positive (amount_at net.worths i)) a) source b (minus (source b) d) (length net.worths) l in
     record { w = omega (arith, ints, t); c = omega (arith, ints, t) }
 
-pub drained-more : (net : NetView) (sink : ℕ → Amount) (b : ℕ) (d : Amount) → b < length net.worths → Same (drained net (put sink b (plus (sink b) d))) (plus (drained net sink) d)
-unfolding drained
-drained-more net sink b d l =
+pub amount_drained-more : (net : NetView) (sink : ℕ → Amount) (b : ℕ) (d : Amount) → b < length net.worths → Same (amount_drained net (put sink b (plus (sink b) d))) (plus (amount_drained net sink) d)
+unfolding amount_drained
+amount_drained-more net sink b d l =
     let t = total-put (λ i a. a) sink b (plus (sink b) d) (length net.worths) l in
     record { w = omega (arith, ints, t); c = omega (arith, ints, t) }

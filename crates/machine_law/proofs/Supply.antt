@@ -12,8 +12,8 @@ use Rattle.machine_law.specs.declared.operations.Best.{Best}
 use Rattle.machine_law.specs.declared.operations.Operation.{Operation}
 use Rattle.machine_law.specs.declared.operations.Operation.TheVariants.{Idle, Scan, PushDue, TakeDue, GiveDue, RaiseDue}
 use Rattle.machine_law.specs.States.{State, put}
-use Rattle.machine_law.specs.Steps.{becomes, pushed_by, taken, given, given_by, raised}
-use Rattle.machine_law.specs.Transit.{owed, on_way, sum_on_way, lands}
+use Rattle.machine_law.specs.Steps.{becomes, after_push_by, after_take, after_give, after_give_by, after_raise}
+use Rattle.machine_law.specs.Transit.{amount_owed, on_way, sum_on_way, lands}
 use Rattle.machine_law.specs.Balances.{supply}
 use Rattle.machine_law.proofs.Numbers.{Same, same}
 use Rattle.machine_law.proofs.Points.{where-put}
@@ -28,7 +28,7 @@ IsAtRest (TakeDue d p) = ⊥
 IsAtRest (GiveDue d p) = ⊥
 IsAtRest (RaiseDue have best) = Unit {0}
 
-pub rest_owed : (o : Operation Amount) → IsAtRest o → owed o ≡ zero_amount
+pub rest_owed : (o : Operation Amount) → IsAtRest o → amount_owed o ≡ zero_amount
 rest_owed Idle h = refl
 rest_owed (Scan have place read best) h = refl
 rest_owed (PushDue have best) h = refl
@@ -49,7 +49,7 @@ where_nothing t a e = rw e (where_so-zero t)
 
 -- the supply of x by these excesses and operations
 abbrev on_hand : NetView → (ℕ → Amount) → (ℕ → Operation Amount) → ℕ → Amount
-on_hand net excess operation x = minus (plus (excess x) (sum_on_way net (lands x) operation)) (owed (operation x))
+on_hand net excess operation x = minus (plus (excess x) (sum_on_way net (lands x) operation)) (amount_owed (operation x))
 
 module _ (net : NetView) (s : State) (b : ℕ) (l : b < length net.worths) where
   -- what is on its way to one end, where nothing was and nothing is of this operation
@@ -64,41 +64,41 @@ module _ (net : NetView) (s : State) (b : ℕ) (l : b < length net.worths) where
     hand_rest : (old new : Operation Amount) → s.operation b ≡ old → IsAtRest old → IsAtRest new → Same (on_hand net s.excess (put s.operation b new) x) (on_hand net s.excess s.operation x)
     hand_rest old new e r n =
         let c = way_rest old new (lands x) e r n in
-        let o = where-put owed s.operation b old new x e in
-        let was = same (where_nothing (b == x) (owed old) (rest_owed old r)) in
-        let is = same (where_nothing (b == x) (owed new) (rest_owed new n)) in
+        let o = where-put amount_owed s.operation b old new x e in
+        let was = same (where_nothing (b == x) (amount_owed old) (rest_owed old r)) in
+        let is = same (where_nothing (b == x) (amount_owed new) (rest_owed new n)) in
         record { w = omega (arith, ints, c, o, was, is); c = omega (arith, ints, c, o, was, is) }
 
     hand_pushed : (have : Amount) (best : Best Amount) (d : Amount) (p : Port) → s.operation b ≡ PushDue have best → Same (on_hand net s.excess (put s.operation b (TakeDue d p)) x) (minus (plus (on_hand net s.excess s.operation x) (lands x p d)) (where_so (b == x) d))
     hand_pushed have best d p e =
         let c = sum_on_way-put net (lands x) s.operation b (PushDue have best) (TakeDue d p) l e in
-        let o = where-put owed s.operation b (PushDue have best) (TakeDue d p) x e in
+        let o = where-put amount_owed s.operation b (PushDue have best) (TakeDue d p) x e in
         let none = same (where_so-zero (b == x)) in
         record { w = omega (arith, ints, c, o, none); c = omega (arith, ints, c, o, none) }
 
     hand_given : (d : Amount) (p : Port) → s.operation b ≡ GiveDue d p → Same (plus (on_hand net s.excess (put s.operation b Idle) x) (lands x p d)) (on_hand net s.excess s.operation x)
     hand_given d p e =
         let c = sum_on_way-put net (lands x) s.operation b (GiveDue d p) Idle l e in
-        let o = where-put owed s.operation b (GiveDue d p) Idle x e in
+        let o = where-put amount_owed s.operation b (GiveDue d p) Idle x e in
         record { w = omega (arith, ints, c, o); c = omega (arith, ints, c, o) }
 
     -- ---- the steps
     pub supply_rest : (old new : Operation Amount) → s.operation b ≡ old → IsAtRest old → IsAtRest new → Same (supply net (becomes s b new) x) (supply net s x)
     supply_rest old new e r n = hand_rest old new e r n
 
-    pub supply_raised : (have : Amount) (best : Best Amount) → s.operation b ≡ RaiseDue have best → Same (supply net (raised s b best) x) (supply net s x)
+    pub supply_raised : (have : Amount) (best : Best Amount) → s.operation b ≡ RaiseDue have best → Same (supply net (after_raise s b best) x) (supply net s x)
     supply_raised have best e = hand_rest (RaiseDue have best) Idle e tt tt
 
-    pub supply_pushed : (have : Amount) (best : Best Amount) (d : Amount) (p : Port) (kind : PortKind) → s.operation b ≡ PushDue have best → Same (supply net (pushed_by s b d p kind) x) (minus (plus (supply net s x) (lands x p d)) (where_so (b == x) d))
+    pub supply_pushed : (have : Amount) (best : Best Amount) (d : Amount) (p : Port) (kind : PortKind) → s.operation b ≡ PushDue have best → Same (supply net (after_push_by s b d p kind) x) (minus (plus (supply net s x) (lands x p d)) (where_so (b == x) d))
     supply_pushed have best d p Sink e = hand_pushed have best d p e
     supply_pushed have best d p Forward e = hand_pushed have best d p e
     supply_pushed have best d p Backward e = hand_pushed have best d p e
     supply_pushed have best d p Source e = hand_pushed have best d p e
 
-    pub supply_taken : (d : Amount) (p : Port) → s.operation b ≡ TakeDue d p → Same (supply net (taken s b d p) x) (supply net s x)
+    pub supply_taken : (d : Amount) (p : Port) → s.operation b ≡ TakeDue d p → Same (supply net (after_take s b d p) x) (supply net s x)
     supply_taken d p e =
         let c = sum_on_way-put net (lands x) s.operation b (TakeDue d p) (GiveDue d p) l e in
-        let o = where-put owed s.operation b (TakeDue d p) (GiveDue d p) x e in
+        let o = where-put amount_owed s.operation b (TakeDue d p) (GiveDue d p) x e in
         let i = where-put (λ a. a) s.excess b (s.excess b) (minus (s.excess b) d) x refl in
         let m = same (where_so-minus (b == x) (s.excess b) d) in
         let none = same (where_so-zero (b == x)) in
@@ -118,11 +118,11 @@ module _ (net : NetView) (s : State) (b : ℕ) (l : b < length net.worths) where
         let v = same q in
         record { w = omega (arith, ints, h, v); c = omega (arith, ints, h, v) }
 
-    supply_given_by : (d : Amount) (kind : PortKind) (other slot : ℕ) → (let p : Port = record { kind = kind; other = other; slot = slot } in s.operation b ≡ GiveDue d p → Same (supply net (given_by s b d p kind) x) (supply net s x))
+    supply_given_by : (d : Amount) (kind : PortKind) (other slot : ℕ) → (let p : Port = record { kind = kind; other = other; slot = slot } in s.operation b ≡ GiveDue d p → Same (supply net (after_give_by s b d p kind) x) (supply net s x))
     supply_given_by d Sink other slot e = given_out d _ e refl
     supply_given_by d Forward other slot e = given_into d other slot _ e refl
     supply_given_by d Backward other slot e = given_into d other slot _ e refl
     supply_given_by d Source other slot e = given_out d _ e refl
 
-    pub supply_given : (d : Amount) (p : Port) → s.operation b ≡ GiveDue d p → Same (supply net (given s b d p) x) (supply net s x)
+    pub supply_given : (d : Amount) (p : Port) → s.operation b ≡ GiveDue d p → Same (supply net (after_give s b d p) x) (supply net s x)
     supply_given d p e = supply_given_by d p.kind p.other p.slot e

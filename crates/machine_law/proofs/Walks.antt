@@ -14,7 +14,7 @@ use Rattle.machine_law.specs.declared.operations.Best.{Best}
 use Rattle.machine_law.specs.States.{State}
 use Rattle.machine_law.specs.Residual.{room, capacity, capacity_by, end_label, label_beyond, IsEnd, IsPortOf}
 use Rattle.machine_law.specs.Reads.{is_positive, better}
-use Rattle.machine_law.specs.Transit.{owed}
+use Rattle.machine_law.specs.Transit.{amount_owed}
 use Rattle.machine_law.specs.Amounts.{HasAmounts}
 use Rattle.machine_law.specs.Balances.{supply}
 use Rattle.machine_law.specs.Labels.{arcs, steep, high, label_by, same_by, same_port, has, is_under, IsOpenBy, IsAbove, IsNear, IsLevel, IsLevelIfAny, IsWalk, HasLabels}
@@ -106,7 +106,7 @@ module _ (net : NetView) (s : State) (b : ℕ) (k : HasAmounts net s) (h : HasLa
   high_better (Some best) new i n = cond_both (nat_lt new.label best.label) new best (λ x. AtMost (high net s b (Some x)) (supply net s b)) (λ e. n) (λ e. i)
 
   -- ---- an operation begins
-  pub walk_begun : owed (s.operation b) ≡ zero_amount → IsWalk net s b (s.excess b) (ports net b) None
+  pub walk_begun : amount_owed (s.operation b) ≡ zero_amount → IsWalk net s b (s.excess b) (ports net b) None
   walk_begun e = record {
     level = tt;
     low_most =

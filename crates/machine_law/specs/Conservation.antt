@@ -15,25 +15,25 @@ unfoldable pub all_given : NetView → Amount
 all_given net = total (λ b. positive (amount_at net.worths b)) (length net.worths)
 
 -- what stands as excess, over all blocks
-unfoldable pub standing : NetView → (ℕ → Amount) → Amount
-standing net excess = total excess (length net.worths)
+unfoldable pub standing_excess : NetView → (ℕ → Amount) → Amount
+standing_excess net excess = total excess (length net.worths)
 
 -- what an operation has taken out of an excess and not yet given
-abbrev pub carried : Operation Amount → Amount
-carried Idle = zero_amount
-carried (Scan have place read best) = zero_amount
-carried (PushDue have best) = zero_amount
-carried (TakeDue d port) = zero_amount
-carried (GiveDue d port) = d
-carried (RaiseDue have best) = zero_amount
+abbrev pub amount_carried : Operation Amount → Amount
+amount_carried Idle = zero_amount
+amount_carried (Scan have place read best) = zero_amount
+amount_carried (PushDue have best) = zero_amount
+amount_carried (TakeDue d port) = zero_amount
+amount_carried (GiveDue d port) = d
+amount_carried (RaiseDue have best) = zero_amount
 
 -- the same, over the operations of all blocks
-unfoldable pub aloft : NetView → (ℕ → Operation Amount) → Amount
-aloft net operation = total (λ b. carried (operation b)) (length net.worths)
+unfoldable pub amount_aloft : NetView → (ℕ → Operation Amount) → Amount
+amount_aloft net operation = total (λ b. amount_carried (operation b)) (length net.worths)
 
 -- nothing is lost
 abbrev pub IsConserved : NetView → State → Type 0
-IsConserved net s = plus (plus (standing net s.excess) (aloft net s.operation)) (plus s.at_source s.at_sink) ≡ all_given net
+IsConserved net s = plus (plus (standing_excess net s.excess) (amount_aloft net s.operation)) (plus s.at_source s.at_sink) ≡ all_given net
 
 -- So no excess and no arrival is more than that, and all of it has arrived exactly when the state is quiet.
 pub record IsWhole (net : NetView) (s : State) : Type 0 where

@@ -12,8 +12,8 @@ abbrev pub is_positive : Amount → Bool
 is_positive x = is_below zero_amount x
 
 -- after its excess is read: where it is positive, the block looks at its ports from the first on
-abbrev pub begun : Amount → Operation Amount
-begun excess = if is_positive excess then Scan excess 0 None None else Idle
+abbrev pub operation_begun_with : Amount → Operation Amount
+operation_begun_with excess = if is_positive excess then Scan excess 0 None None else Idle
 
 -- The best port, with one more: that with the lesser label, and the earlier one where the labels are equal.
 abbrev pub better : {N : Type 0} → Option (Best N) → Best N → Best N
@@ -22,21 +22,21 @@ better (Some best) new = if nat_lt new.label best.label then new else best
 
 -- After the last port is passed: a push is due where the block stands above the best port, and otherwise a raise. Where no
 -- port was best, the operation ends.
-abbrev pub ended : {N : Type 0} → ℕ → N → Option (Best N) → Operation N
-ended label have None = Idle
-ended label have (Some best) = if nat_lt best.label label then PushDue have best else RaiseDue have best
+abbrev pub after_last_port : {N : Type 0} → ℕ → N → Option (Best N) → Operation N
+after_last_port label have None = Idle
+after_last_port label have (Some best) = if nat_lt best.label label then PushDue have best else RaiseDue have best
 
 -- after the port at this place of so many is passed, where the block has this label
-abbrev pub passed : {N : Type 0} → ℕ → ℕ → N → ℕ → Option (Best N) → Operation N
-passed count label have place best = if nat_lt (place + 1) count then Scan have (place + 1) None best else ended label have best
+abbrev pub after_port : {N : Type 0} → ℕ → ℕ → N → ℕ → Option (Best N) → Operation N
+after_port count label have place best = if nat_lt (place + 1) count then Scan have (place + 1) None best else after_last_port label have best
 
 -- after the capacity of the port at this place is read: where it is zero, the port is passed
-abbrev pub seen : ℕ → ℕ → Amount → ℕ → Option (Best Amount) → Amount → Operation Amount
-seen count label have place best capacity = if is_positive capacity then Scan have place (Some capacity) best else passed count label have place best
+abbrev pub after_capacity : ℕ → ℕ → Amount → ℕ → Option (Best Amount) → Amount → Operation Amount
+after_capacity count label have place best capacity = if is_positive capacity then Scan have place (Some capacity) best else after_port count label have place best
 
 -- after the label beyond the port at this place is read: the port may become the best one, and it is passed
-abbrev pub chosen : {N : Type 0} → ℕ → ℕ → N → ℕ → Option (Best N) → N → Port → ℕ → Operation N
-chosen count label have place best capacity port beyond = passed count label have place (Some (better best (record { port = port; capacity = capacity; label = beyond })))
+abbrev pub after_label : {N : Type 0} → ℕ → ℕ → N → ℕ → Option (Best N) → N → Port → ℕ → Operation N
+after_label count label have place best capacity port beyond = after_port count label have place (Some (better best (record { port = port; capacity = capacity; label = beyond })))
 
 -- ---- the same as changes of an operation
 
@@ -50,10 +50,10 @@ IsScan count (GiveDue amount port) = ⊥
 IsScan count (RaiseDue have best) = ⊥
 
 -- after the port that the operation looks at is passed
-abbrev pub passed_by : {N : Type 0} → ℕ → ℕ → Operation N → Operation N
-passed_by count label Idle = Idle
-passed_by count label (Scan have place read best) = passed count label have place best
-passed_by count label (PushDue have best) = PushDue have best
-passed_by count label (TakeDue amount port) = TakeDue amount port
-passed_by count label (GiveDue amount port) = GiveDue amount port
-passed_by count label (RaiseDue have best) = RaiseDue have best
+abbrev pub after_port_by : {N : Type 0} → ℕ → ℕ → Operation N → Operation N
+after_port_by count label Idle = Idle
+after_port_by count label (Scan have place read best) = after_port count label have place best
+after_port_by count label (PushDue have best) = PushDue have best
+after_port_by count label (TakeDue amount port) = TakeDue amount port
+after_port_by count label (GiveDue amount port) = GiveDue amount port
+after_port_by count label (RaiseDue have best) = RaiseDue have best

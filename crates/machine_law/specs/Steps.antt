@@ -14,7 +14,7 @@ use Rattle.machine_law.specs.declared.operations.Operation.{Operation}
 use Rattle.machine_law.specs.declared.operations.Operation.TheVariants.{Idle, Scan, PushDue, TakeDue, GiveDue, RaiseDue}
 use Rattle.machine_law.specs.States.{State, put, opening}
 use Rattle.machine_law.specs.Residual.{capacity, end_label}
-use Rattle.machine_law.specs.Reads.{begun, seen, chosen}
+use Rattle.machine_law.specs.Reads.{operation_begun_with, after_capacity, after_label}
 
 -- ---- which kind of step is next
 
@@ -62,21 +62,21 @@ abbrev pub becomes : State → ℕ → Operation Amount → State
 becomes s b operation = record s { operation = put s.operation b operation; steps = s.steps + 1 }
 
 -- the operation after a read at a port whose capacity isn't read: of its capacity, or of the label beyond a forward one
-abbrev pub looked_by : NetView → State → ℕ → Amount → ℕ → Option (Best Amount) → Port → PortKind → Operation Amount
-looked_by net s b have place best port Sink = seen (length (ports net b)) (s.label b) have place best (capacity net s b port)
-looked_by net s b have place best port Forward = chosen (length (ports net b)) (s.label b) have place best zero_amount port (end_label net s port)
-looked_by net s b have place best port Backward = seen (length (ports net b)) (s.label b) have place best (capacity net s b port)
-looked_by net s b have place best port Source = seen (length (ports net b)) (s.label b) have place best (capacity net s b port)
+abbrev pub after_look_by : NetView → State → ℕ → Amount → ℕ → Option (Best Amount) → Port → PortKind → Operation Amount
+after_look_by net s b have place best port Sink = after_capacity (length (ports net b)) (s.label b) have place best (capacity net s b port)
+after_look_by net s b have place best port Forward = after_label (length (ports net b)) (s.label b) have place best zero_amount port (end_label net s port)
+after_look_by net s b have place best port Backward = after_capacity (length (ports net b)) (s.label b) have place best (capacity net s b port)
+after_look_by net s b have place best port Source = after_capacity (length (ports net b)) (s.label b) have place best (capacity net s b port)
 
 -- the same at a place of the list of ports
-abbrev pub looked : NetView → State → ℕ → Amount → ℕ → Option (Best Amount) → Option Port → Operation Amount
-looked net s b have place best None = Idle
-looked net s b have place best (Some port) = looked_by net s b have place best port port.kind
+abbrev pub after_look : NetView → State → ℕ → Amount → ℕ → Option (Best Amount) → Option Port → Operation Amount
+after_look net s b have place best None = Idle
+after_look net s b have place best (Some port) = after_look_by net s b have place best port port.kind
 
 -- the operation after a read of the label beyond a port whose capacity was read
-abbrev pub weighed : NetView → State → ℕ → Amount → ℕ → Option (Best Amount) → Amount → Option Port → Operation Amount
-weighed net s b have place best read None = Idle
-weighed net s b have place best read (Some port) = chosen (length (ports net b)) (s.label b) have place best read port (end_label net s port)
+abbrev pub after_label_at : NetView → State → ℕ → Amount → ℕ → Option (Best Amount) → Amount → Option Port → Operation Amount
+after_label_at net s b have place best read None = Idle
+after_label_at net s b have place best read (Some port) = after_label (length (ports net b)) (s.label b) have place best read port (end_label net s port)
 
 -- the amount of a push over a port of this kind: what there is, at most the capacity that was read
 abbrev pub push_amount : Amount → PortKind → Amount → Amount
@@ -86,49 +86,49 @@ push_amount have Backward read = least have read
 push_amount have Source read = least have read
 
 -- the capacity step of a push of d over a port of this kind
-abbrev pub pushed_by : State → ℕ → Amount → Port → PortKind → State
-pushed_by s b d port Sink = record (becomes s b (TakeDue d port)) { sink = put s.sink b (plus (s.sink b) d) }
-pushed_by s b d port Forward = record (becomes s b (TakeDue d port)) { flow = put s.flow port.slot (plus (s.flow port.slot) d) }
-pushed_by s b d port Backward = record (becomes s b (TakeDue d port)) { flow = put s.flow port.slot (minus (s.flow port.slot) d) }
-pushed_by s b d port Source = record (becomes s b (TakeDue d port)) { source = put s.source b (minus (s.source b) d) }
+abbrev pub after_push_by : State → ℕ → Amount → Port → PortKind → State
+after_push_by s b d port Sink = record (becomes s b (TakeDue d port)) { sink = put s.sink b (plus (s.sink b) d) }
+after_push_by s b d port Forward = record (becomes s b (TakeDue d port)) { flow = put s.flow port.slot (plus (s.flow port.slot) d) }
+after_push_by s b d port Backward = record (becomes s b (TakeDue d port)) { flow = put s.flow port.slot (minus (s.flow port.slot) d) }
+after_push_by s b d port Source = record (becomes s b (TakeDue d port)) { source = put s.source b (minus (s.source b) d) }
 
-abbrev pub pushed : State → ℕ → Amount → Port → State
-pushed s b d port = pushed_by s b d port port.kind
+abbrev pub after_push : State → ℕ → Amount → Port → State
+after_push s b d port = after_push_by s b d port port.kind
 
 -- d is taken out of the excess of b
-abbrev pub taken : State → ℕ → Amount → Port → State
-taken s b d port = record (becomes s b (GiveDue d port)) { excess = put s.excess b (minus (s.excess b) d) }
+abbrev pub after_take : State → ℕ → Amount → Port → State
+after_take s b d port = record (becomes s b (GiveDue d port)) { excess = put s.excess b (minus (s.excess b) d) }
 
 -- d arrives over a port of this kind
-abbrev pub given_by : State → ℕ → Amount → Port → PortKind → State
-given_by s b d port Sink = record (becomes s b Idle) { at_sink = plus s.at_sink d }
-given_by s b d port Forward = record (becomes s b Idle) { excess = put s.excess port.other (plus (s.excess port.other) d) }
-given_by s b d port Backward = record (becomes s b Idle) { excess = put s.excess port.other (plus (s.excess port.other) d) }
-given_by s b d port Source = record (becomes s b Idle) { at_source = plus s.at_source d }
+abbrev pub after_give_by : State → ℕ → Amount → Port → PortKind → State
+after_give_by s b d port Sink = record (becomes s b Idle) { at_sink = plus s.at_sink d }
+after_give_by s b d port Forward = record (becomes s b Idle) { excess = put s.excess port.other (plus (s.excess port.other) d) }
+after_give_by s b d port Backward = record (becomes s b Idle) { excess = put s.excess port.other (plus (s.excess port.other) d) }
+after_give_by s b d port Source = record (becomes s b Idle) { at_source = plus s.at_source d }
 
-abbrev pub given : State → ℕ → Amount → Port → State
-given s b d port = given_by s b d port port.kind
+abbrev pub after_give : State → ℕ → Amount → Port → State
+after_give s b d port = after_give_by s b d port port.kind
 
 -- b rises to one above the label that was read at the best port
-abbrev pub raised : State → ℕ → Best Amount → State
-raised s b best = record (becomes s b Idle) { label = put s.label b (best.label + 1) }
+abbrev pub after_raise : State → ℕ → Best Amount → State
+after_raise s b best = record (becomes s b Idle) { label = put s.label b (best.label + 1) }
 
 -- the state after the step that is next for b, which has this operation
 abbrev pub advance_by : NetView → State → ℕ → Operation Amount → State
 -- ReadExcess
-advance_by net s b Idle = becomes s b (begun (s.excess b))
+advance_by net s b Idle = becomes s b (operation_begun_with (s.excess b))
 -- ReadCapacity, or ReadLabel beyond a forward port
-advance_by net s b (Scan have place None best) = becomes s b (looked net s b have place best (slice_get (ports net b) place))
+advance_by net s b (Scan have place None best) = becomes s b (after_look net s b have place best (slice_get (ports net b) place))
 -- ReadLabel
-advance_by net s b (Scan have place (Some read) best) = becomes s b (weighed net s b have place best read (slice_get (ports net b) place))
+advance_by net s b (Scan have place (Some read) best) = becomes s b (after_label_at net s b have place best read (slice_get (ports net b) place))
 -- TakeCapacity or GiveCapacity
-advance_by net s b (PushDue have best) = pushed s b (push_amount have best.port.kind best.capacity) best.port
+advance_by net s b (PushDue have best) = after_push s b (push_amount have best.port.kind best.capacity) best.port
 -- TakeExcess
-advance_by net s b (TakeDue d port) = taken s b d port
+advance_by net s b (TakeDue d port) = after_take s b d port
 -- GiveExcess
-advance_by net s b (GiveDue d port) = given s b d port
+advance_by net s b (GiveDue d port) = after_give s b d port
 -- RaiseLabel
-advance_by net s b (RaiseDue have best) = raised s b best
+advance_by net s b (RaiseDue have best) = after_raise s b best
 
 -- the state after the step that is next for b
 abbrev pub advance : NetView → State → ℕ → State

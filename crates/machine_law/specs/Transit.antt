@@ -12,13 +12,13 @@ use Rattle.machine_law.specs.declared.operations.Operation.TheVariants.{Idle, Sc
 use Rattle.machine_law.specs.States.{State}
 
 -- what a block's own push has yet to take out of its excess
-abbrev pub owed : Operation Amount → Amount
-owed Idle = zero_amount
-owed (Scan have place read best) = zero_amount
-owed (PushDue have best) = zero_amount
-owed (TakeDue d port) = d
-owed (GiveDue d port) = zero_amount
-owed (RaiseDue have best) = zero_amount
+abbrev pub amount_owed : Operation Amount → Amount
+amount_owed Idle = zero_amount
+amount_owed (Scan have place read best) = zero_amount
+amount_owed (PushDue have best) = zero_amount
+amount_owed (TakeDue d port) = d
+amount_owed (GiveDue d port) = zero_amount
+amount_owed (RaiseDue have best) = zero_amount
 
 -- what counts of a push that has made its capacity step and has not arrived, where f says what counts of an amount over a port
 abbrev pub on_way : (Port → Amount → Amount) → Operation Amount → Amount
@@ -63,15 +63,15 @@ abbrev pub into_source : Port → Amount → Amount
 into_source port d = into_source_by port.kind d
 
 -- the amounts of all pushes into x that have made their capacity step and have not arrived
-abbrev pub coming : NetView → State → ℕ → Amount
-coming net s x = sum_on_way net (lands x) s.operation
+abbrev pub amount_coming : NetView → State → ℕ → Amount
+amount_coming net s x = sum_on_way net (lands x) s.operation
 
 -- those of the pushes to the sink, and back to the source
-abbrev pub coming_to_sink : NetView → State → Amount
-coming_to_sink net s = sum_on_way net into_sink s.operation
+abbrev pub amount_coming_to_sink : NetView → State → Amount
+amount_coming_to_sink net s = sum_on_way net into_sink s.operation
 
-abbrev pub coming_to_source : NetView → State → Amount
-coming_to_source net s = sum_on_way net into_source s.operation
+abbrev pub amount_coming_to_source : NetView → State → Amount
+amount_coming_to_source net s = sum_on_way net into_source s.operation
 
 -- what comes into block b over pairs, and what goes out of it
 unfoldable pub inflow : NetView → (ℕ → Amount) → ℕ → Amount
@@ -81,9 +81,9 @@ unfoldable pub outflow : NetView → (ℕ → Amount) → ℕ → Amount
 outflow net flow b = at_end (from_at net.pairs) flow (length net.pairs) b
 
 -- what all blocks gave back to the source
-unfoldable pub given_back : NetView → (ℕ → Amount) → Amount
-given_back net source = total (λ b. minus (positive (amount_at net.worths b)) (source b)) (length net.worths)
+unfoldable pub amount_given_back : NetView → (ℕ → Amount) → Amount
+amount_given_back net source = total (λ b. minus (positive (amount_at net.worths b)) (source b)) (length net.worths)
 
 -- what all blocks gave the sink
-unfoldable pub drained : NetView → (ℕ → Amount) → Amount
-drained net sink = total sink (length net.worths)
+unfoldable pub amount_drained : NetView → (ℕ → Amount) → Amount
+amount_drained net sink = total sink (length net.worths)

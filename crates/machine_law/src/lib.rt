@@ -22,4 +22,4 @@ mod reads;
 
 pub use events::{Event, Kind, MOST_EVENTS};
 pub use operations::{Best, Operation};
-pub use reads::{better, ended, pass};
+pub use reads::{after_last_port, better, pass};

@@ -2,7 +2,7 @@
 //! better, and whether it goes on looking, pushes or raises its label.
 
 ghost use Rattle.std.specs.Prelude.{◌≡◌, Some};
-ghost use Rattle.machine_law.specs.Reads.{better, ended, passed_by, IsScan};
+ghost use Rattle.machine_law.specs.Reads.{better, after_last_port, after_port_by, IsScan};
 
 use crate::operations::{Best, Operation};
 
@@ -20,8 +20,8 @@ pub fn better<N: Copy>(best: &mut Option<Best<N>>, new: Best<N>)
 }
 
 /// The operation of a block of this label once all its ports are passed.
-pub fn ended<N: Copy>(label: u64, have: N, best: Option<Best<N>>) -> Operation<N>
-    ensures { result ≡ ended label have best }
+pub fn after_last_port<N: Copy>(label: u64, have: N, best: Option<Best<N>>) -> Operation<N>
+    ensures { result ≡ after_last_port label have best }
 {
     match best {
         Some(best) => {
@@ -38,7 +38,7 @@ pub fn ended<N: Copy>(label: u64, have: N, best: Option<Best<N>>) -> Operation<N
 /// A block of so many ports and this label passes the port that it looks at.
 pub fn pass<N: Copy>(operation: &mut Operation<N>, ports: u32, label: u64)
     requires { IsScan ports operation.old }
-    ensures { operation.new ≡ passed_by ports label operation.old }
+    ensures { operation.new ≡ after_port_by ports label operation.old }
 {
     let next = match operation {
         Operation::Scan {
@@ -52,7 +52,7 @@ pub fn pass<N: Copy>(operation: &mut Operation<N>, ports: u32, label: u64)
                 *read = None;
                 return;
             }
-            ended(label, *have, *best)
+            after_last_port(label, *have, *best)
         }
         _ => return,
     };

@@ -2,7 +2,7 @@
 
 ghost use Rattle.std.specs.Prelude.{◌≡◌, ℕ, ◌<◌, ◌≤◌, ◌+◌, ◌||◌, Bool, List, false, length, map, take, nat_le, MatchResult, MatchOption, IsTrue, vec_capacity};
 ghost use Rattle.std.specs.List.{list_all, list_any};
-ghost use Rattle.fixed_worth.specs.Text.{Run, fields_of};
+ghost use Rattle.fixed_worth.specs.Text.{fields_of};
 ghost use Rattle.fixed_worth.specs.Record.{reads, number_of, is_skipped};
 ghost use Rattle.prec_file.specs.Records.{predecessors_of, shape_fault, record_fault};
 ghost use Rattle.prec_file.specs.Indexes.{IsRecordOf, TellsFault};
@@ -23,7 +23,7 @@ pub(crate) struct Record {
 
 // The predecessors of a record.
 #[derive(Clone, Copy)]
-struct Predecessors {
+struct RowFound {
     found: u64,
     // the record's block or one of these isn't known
     unknown: bool,
@@ -31,13 +31,13 @@ struct Predecessors {
 
 // Reads a block's predecessors. A field that is no number comes before an unknown block, so the fields are read to the
 // end.
-fn read_predecessors(
+fn read_row(
     row: &mut Vec<u32>,
     mut fields: Fields,
     block: u64,
     n: u32,
     line: u64,
-) -> Result<Predecessors, PrecFault>
+) -> Result<RowFound, PrecFault>
     requires few { length fields ≤ LINE_BYTES }
     requires room { LINE_BYTES ≤ vec_capacity row.old }
     ensures { MatchResult result
@@ -62,7 +62,7 @@ fn read_predecessors(
         }
         found += 1;
     }
-    Ok(Predecessors { found, unknown })
+    Ok(RowFound { found, unknown })
 }
 
 // What is wrong with a line whose first field is no number, unless it is a remark: a second field that is missing comes
@@ -115,7 +115,7 @@ pub(crate) fn read_record(
     let Ok(count) = second else {
         return Err(PrecFault::Number(line));
     };
-    let listed = read_predecessors(row, fields, block, n, line)?;
+    let listed = read_row(row, fields, block, n, line)?;
     if listed.unknown {
         return Err(PrecFault::UnknownBlock(line));
     }

@@ -23,7 +23,7 @@ struct Rising {
 }
 
 // Reads a line and lists its row, or answers false where its block isn't behind those of the lines before.
-fn read_line(
+fn read_rising_line(
     alloc: Global,
     to: &mut Rising,
     text: &[u8],
@@ -83,7 +83,7 @@ pub(crate) fn read_rising(
         match lines.next_line() {
             Ok(Some(line)) => {
                 let number = lines.number();
-                if !read_line(alloc, &mut to, line, n, number)? {
+                if !read_rising_line(alloc, &mut to, line, n, number)? {
                     return Ok(None);
                 }
             }

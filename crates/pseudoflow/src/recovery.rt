@@ -1,6 +1,6 @@
 //! The flow of a finished forest, in the net's own amounts.
 
-ghost use Rattle.std.specs.Prelude.{◌≡◌, ◌<◌, length, IfOk, IfSome};
+ghost use Rattle.std.specs.Prelude.{◌≡◌, ◌<◌, length, IfOk};
 ghost use Rattle.closure_net.specs.Network.{FlowFits};
 
 use crate::branches::Branch;

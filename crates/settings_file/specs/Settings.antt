@@ -21,6 +21,19 @@ pub record SettingsView : Type 0 where
   pub processing : Option ℕ
   pub mining : Option ℕ
 
+-- what the type shows, by the values of the keys
+abbrev pub settings_view : (revenue cost tonnes : Option ℕ) (factors : Option (List ℕ)) (report : Option ℕ) (offsets : Option (List (ℤ × ℤ × ℤ))) (processing mining : Option ℕ) → SettingsView
+settings_view revenue cost tonnes factors report offsets processing mining = record {
+  revenue = revenue;
+  cost = cost;
+  tonnes = tonnes;
+  factors = factors;
+  report = report;
+  offsets = offsets;
+  processing = processing;
+  mining = mining;
+}
+
 -- What is known of settings that were read: columns are numbered from 0 to 65,535, and factors are from 0 to 10,000.
 pub record IsSettings (s : SettingsView) : Type 0 where
   pub revenue : IfSome s.revenue (λ column. column ≤ 65535)

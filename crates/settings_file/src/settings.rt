@@ -3,7 +3,7 @@
 
 ghost use Rattle.std.specs.Prelude.{◌≡◌, ◌≤◌, IfSome, option_map};
 ghost use Rattle.settings_file.specs.Values.{AreFactors};
-ghost use Rattle.settings_file.specs.Settings.{SettingsView, IsSettings, is_said, names_mill};
+ghost use Rattle.settings_file.specs.Settings.{SettingsView, settings_view, IsSettings, is_said, names_mill};
 
 use crate::keys::Key;
 use fixed_worth::MOST_FACTOR;
@@ -34,13 +34,13 @@ pub struct Settings {
 
 impl Model for Settings {
     ghost use Rattle.std.specs.Prelude.{option_map};
-    ghost use Rattle.settings_file.specs.Settings.{SettingsView, IsSettings};
+    ghost use Rattle.settings_file.specs.Settings.{SettingsView, settings_view, IsSettings};
 
     ghost Value = { SettingsView };
 
-    ghost view = { λ s. record { revenue = s.revenue; cost = s.cost; tonnes = s.tonnes; factors = option_map (λ v. v.items) s.factors; report = s.report; offsets = option_map (λ v. v.items) s.offsets; processing = s.processing; mining = s.mining } };
+    ghost view = { λ s. settings_view s.revenue s.cost s.tonnes (option_map (λ v. v.items) s.factors) s.report (option_map (λ v. v.items) s.offsets) s.processing s.mining };
 
-    ghost invariant = { λ s. IsSettings (record { revenue = s.revenue; cost = s.cost; tonnes = s.tonnes; factors = option_map (λ v. v.items) s.factors; report = s.report; offsets = option_map (λ v. v.items) s.offsets; processing = s.processing; mining = s.mining }) };
+    ghost invariant = { λ s. IsSettings (settings_view s.revenue s.cost s.tonnes (option_map (λ v. v.items) s.factors) s.report (option_map (λ v. v.items) s.offsets) s.processing s.mining) };
 }
 
 impl Settings {
@@ -57,7 +57,7 @@ impl Settings {
         requires report { IfSome report (λ factor. factor ≤ MOST_FACTOR) }
         requires processing { IfSome columns.processing (λ column. column ≤ 65535) }
         requires mining { IfSome columns.mining (λ column. column ≤ 65535) }
-        ensures { result ≡ record { revenue = columns.revenue; cost = columns.cost; tonnes = columns.tonnes; factors = option_map (λ v. v.items) factors; report = report; offsets = option_map (λ v. v.items) offsets; processing = columns.processing; mining = columns.mining } }
+        ensures { result ≡ settings_view columns.revenue columns.cost columns.tonnes (option_map (λ v. v.items) factors) report (option_map (λ v. v.items) offsets) columns.processing columns.mining }
     {
         let Columns {
             revenue,

@@ -1,12 +1,11 @@
 //! Makes the net of a mine at a factor, and gives the best pit that its solution proves, with its count and worth.
 
-ghost use Rattle.std.specs.Prelude.{◌≡◌, ◌<◌, All, Contains, length, IfOk, IfSome, MatchResult};
+ghost use Rattle.std.specs.Prelude.{◌≡◌, ◌<◌, Contains, IfSome, MatchResult};
 ghost use Rattle.ordered_group.specs.Block.{scaled_block};
-ghost use Rattle.settings_file.specs.Values.{AreFactors};
 ghost use Rattle.closure_net.specs.Network.{NetView};
 ghost use Rattle.engines.specs.Certifying.{IsSolution};
 ghost use Rattle.shell_engines.specs.Settling.{IsNetAt};
-ghost use Rattle.shell_engines.specs.PitsAtFactors.{NoNetStands, IsBestOf, IsProved};
+ghost use Rattle.shell_engines.specs.PitsAtFactors.{NoNetStands, IsBestOf};
 
 use crate::no_series::NoSeries;
 use crate::shell_rows::ShellRow;

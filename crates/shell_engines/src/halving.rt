@@ -1,7 +1,7 @@
 //! The best pits of a mine at its factors, by halves: the best pit at a factor parts the blocks. Those of lower factors lie
 //! within it, and those of higher ones have it, so that each part is solved by itself.
 
-ghost use Rattle.std.specs.Prelude.{◌≡◌, ℕ, ◌<◌, ◌≤◌, ◌++◌, ◌∷◌, [], All, List, length, cond, nat_lt, IfOk, OnOk, IfSome};
+ghost use Rattle.std.specs.Prelude.{◌≡◌, ℕ, ◌<◌, ◌≤◌, ◌++◌, ◌∷◌, [], All, List, cond, nat_lt, IfOk, OnOk, IfSome};
 ghost use Rattle.shells.specs.Prices.{PricesView};
 ghost use Rattle.shell_engines.specs.PitsAtFactors.{IsProved};
 ghost use Rattle.shell_engines.specs.Parting.{ArePriced, AreHalved, IsLeft, IsLevel};

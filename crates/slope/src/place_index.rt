@@ -3,7 +3,7 @@
 
 ghost use Rattle.std.specs.Prelude.{◌≡◌, IfOk, MatchOption, MatchResult, map};
 ghost use Rattle.blocks_file.specs.Denotes.{BlocksView};
-ghost use Rattle.slope.specs.Gathering.{Entry, place_key, AreEntries, AreEntriesOf, AreInOrder, HaveNoRepeat, IsEarlierRepeat, IsEarliestRepeat, IsIndex, IndexFaultStands};
+ghost use Rattle.slope.specs.Gathering.{place_key, AreEntries, AreEntriesOf, AreInOrder, HaveNoRepeat, IsEarlierRepeat, IsEarliestRepeat, IsIndex, IndexFaultStands};
 
 use crate::SlopeFault;
 use blocks_file::{BlockModel, Place};

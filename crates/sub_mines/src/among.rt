@@ -1,7 +1,6 @@
 //! Gives the pairs among some of a mine's blocks, with these blocks numbered anew by their places in a list.
 
-ghost use Rattle.std.specs.Prelude.{◌≡◌, ℕ, ◌<◌, ◌≤◌, ◌+◌, All, IfOk, OnOk, length};
-ghost use Rattle.prec_file.specs.Rests.{IsKnown};
+ghost use Rattle.std.specs.Prelude.{◌≡◌, ◌<◌, ◌≤◌, ◌+◌, All, IfOk, OnOk, length};
 ghost use Rattle.closure_net.specs.Network.{IsAscending};
 ghost use Rattle.sub_mines.specs.Kept.{IsPartPairs};
 ghost use Rattle.sub_mines.specs.Among.{ArePlaces, AreRows};

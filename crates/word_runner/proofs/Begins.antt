@@ -21,7 +21,7 @@ use Rattle.machine_law.specs.States as law
 use Rattle.word_runner.specs.declared.view.View.{View}
 use Rattle.word_runner.specs.Layout.{count, units, Cells, excess_at, label_at, source_at, room_at, flow_at}
 use Rattle.word_runner.specs.Views.{of_block, Ruled, Sees, IsOwn, first_view, start_words, IsStart, IsMadeBy}
-use Rattle.word_runner.specs.Halves.{IsSole, IsHalf, half, left_half, right_half, joined, spent_view}
+use Rattle.word_runner.specs.Halves.{IsSole, IsHalf, half, left_half, right_half, joined_view, spent_view}
 use Rattle.word_runner.proofs.SeatViews.{free_operation, seats_set, append_none}
 
 past : (xs ys : List ℕ) (n i x : ℕ) → length xs ≡ n → i ≡ n + x → get_or (xs ++ ys) i 0 ≡ get_or ys x 0
@@ -162,11 +162,11 @@ splits key id v q s r at =
           (at_end (set s.views id (left_half v)) (right_half v) w j e);
     }
 
-pub joins : (key : NetView) (id o : ℕ) (v w : View) → IsHalf 0 v → IsHalf 1 w → Joins (Ruled key) id v o w (joined v w) spent_view
+pub joins : (key : NetView) (id o : ℕ) (v w : View) → IsHalf 0 v → IsHalf 1 w → Joins (Ruled key) id v o w (joined_view v w) spent_view
 joins key id o v w q p s r at ne at' =
     let net = key in
     let mine = r.seats id v at in
-    let both = joined v w in
+    let both = joined_view v w in
     let views = set s.views id both in
     let there : get_elem? s.views o ≡ some w = ⊎_elim (λ (t : (o ≡ id) × (both ≡ w)). absurd (ne t.0)) (λ (t : (o ≢ id) × (get_elem? s.views o ≡ some w)). t.1) (at_set s.views id o both w at') in
     let yours = r.seats o w there in

@@ -15,7 +15,7 @@ use Rattle.word_runner.specs.Layout.{units}
 use Rattle.word_runner.specs.Seats.{Own, WordsView}
 use Rattle.word_runner.specs.CutNets.{IsCutNet}
 use Rattle.word_runner.specs.Openings.{AreNeitherOneNorTwo}
-use Rattle.word_runner.specs.Runs.{made_by, SomeIsBusy, IsQuietRunOf, IsOpenRunOf, IsSettled, SettleFaultStands}
+use Rattle.word_runner.specs.Runs.{steps_made_by, SomeIsBusy, IsQuietRunOf, IsOpenRunOf, IsSettled, SettleFaultStands}
 use Rattle.word_runner.specs.Ends.{IsQuietEnd, EndFaultStands, RunFaultStands, SolveFaultStands, IsSolvedBy}
 
 -- what follows on either side of a result
@@ -40,7 +40,7 @@ last_two xs ys zs s t e f l =
     e ∙ ap (λ (z : List Own). z ++ t ∷ []) (last_one ys zs s f (omega (arith, a, b, c, d, l)))
 
 -- ---- what closing the words says of the seats that were handed in
-module _ (w : WordsView) (xs : List Own) (m : List Event) (Busy : Type 0) (is : m ≡ made_by xs) (busy : Busy → SomeIsBusy xs) where
+module _ (w : WordsView) (xs : List Own) (m : List Event) (Busy : Type 0) (is : m ≡ steps_made_by xs) (busy : Busy → SomeIsBusy xs) where
   settled : (flow : FlowView) → IsQuietEnd w.cut m flow → IsSettled w xs flow
   settled flow h = record { quiet = subst (λ (z : List Event). IsQuietRunOf w.cut z flow) is h.quiet; greatest = h.greatest }
 

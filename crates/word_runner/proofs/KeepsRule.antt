@@ -25,9 +25,9 @@ use Rattle.machine_law.proofs.Runs.{run_more}
 use Rattle.machine_law.proofs.Conserved.{runs_conserve}
 use Rattle.word_runner.specs.declared.view.View.{View}
 use Rattle.word_runner.specs.Layout.{units, count, Cells, flow_at}
-use Rattle.word_runner.specs.StepWords.{word_of, written, after, capacity_word, push_units, push_written}
+use Rattle.word_runner.specs.StepWords.{word_of, word_after, after, capacity_word, push_units, word_after_push}
 use Rattle.word_runner.specs.Views.{Ruled, Sees, IsOwn}
-use Rattle.word_runner.specs.Turns.{Sat, stopped_after, event_of, turned, turned_so, IsPlaced, CanTurn, overfull, RaisesTooFar, SomeFlowIsTooLarge, SomeLabelIsTooLarge, IsLargeBy}
+use Rattle.word_runner.specs.Turns.{Sat, stopped_after, event_of, view_after_turn, TurnsSeat, IsPlaced, CanTurn, overfull, RaisesTooFar, SomeFlowIsTooLarge, SomeLabelIsTooLarge, IsLargeBy}
 use Rattle.word_runner.proofs.Units.{units_above}
 use Rattle.word_runner.proofs.Shows.{operation_shown, labels_shown, labels_else}
 use Rattle.word_runner.proofs.Writes.{Fits, fits, placed, cells_shown, flow_shown}
@@ -82,27 +82,27 @@ module _ (s : State (Unit {0}) View) (id b : ℕ) (v : View) (q : CanTurn v b) (
   operation_is : u.operation ≡ put t.operation b (operation_as units (after net b (get_or v.labels b 0) o x))
   operation_is = operation_shown net known t s.words r.cells b q.block o ∙ ap (λ (l : ℕ). put t.operation b (operation_as units (after net b l o x))) (mine.label b q.block q.own q.runs)
 
-  pub placed_after : IsPlaced net b (turned b v x).operation
-  placed_after = placed net u b (turned b v x).operation
+  pub placed_after : IsPlaced net b (view_after_turn b v x).operation
+  placed_after = placed net u b (view_after_turn b v x).operation
       (subst (IsOperation net u b) (ap (λ (f : ℕ → _). f b) operation_is ∙ put-same t.operation b _) ((runs_keep_law net (r.events ++ e ∷ []) u runs).amounts.operation b))
 
   apart : (j : ℕ) (y : View) → j ≢ id → get_elem? s.views j ≡ some y → (c : ℕ) → c < count net → IsOwn y c → c ≢ b
   apart j y ne at' c l own is = ne (sym ((r.seats j y at').owns c l own) ∙ ap r.owner is ∙ mine.owns b q.block q.own)
 
-  sees_mine : Sees net u r.owner (set s.words i (written o x)) id (turned b v x)
+  sees_mine : Sees net u r.owner (set s.words i (word_after o x)) id (view_after_turn b v x)
   sees_mine = record {
     owns = λ c l own. mine.owns c l (record { live = own.live; serves = own.serves });
     operation = λ c l own. elim (cases_eq c b) [
-      | inl is ↦ ap (λ (f : ℕ → _). f c) operation_is ∙ ap (put t.operation b _) is ∙ put-same t.operation b _ ∙ ap (operation_as units) (sym (operation_here (turned b v x) c (sym is)))
+      | inl is ↦ ap (λ (f : ℕ → _). f c) operation_is ∙ ap (put t.operation b _) is ∙ put-same t.operation b _ ∙ ap (operation_as units) (sym (operation_here (view_after_turn b v x) c (sym is)))
       | inr ne ↦
           ap (λ (f : ℕ → _). f c) operation_is ∙ put-other t.operation b _ c ne ∙ mine.operation c l (record { live = own.live; serves = own.serves })
-          ∙ ap (operation_as units) (shown_else v b c q ne ∙ sym (operation_else (turned b v x) c (λ h. ne (sym h))))
+          ∙ ap (operation_as units) (shown_else v b c q ne ∙ sym (operation_else (view_after_turn b v x) c (λ h. ne (sym h))))
     ];
     label = λ c l own run. labels_shown net known t s.words r.cells b q.block o v.labels (let w = q.wide in let lb = q.block in omega (arith, w, lb)) c (mine.label c l (record { live = own.live; serves = own.serves }) q.runs);
     flow = λ k l own run. flow_shown net known t s.words r.cells b q.block o (placed net t b o lawful) k l (inl run) (mine.flow k l (record { live = own.live; serves = own.serves }) q.runs);
   }
 
-  sees_other : (j : ℕ) (y : View) → j ≢ id → get_elem? s.views j ≡ some y → Sees net u r.owner (set s.words i (written o x)) j y
+  sees_other : (j : ℕ) (y : View) → j ≢ id → get_elem? s.views j ≡ some y → Sees net u r.owner (set s.words i (word_after o x)) j y
   sees_other j y ne at' =
       let old = r.seats j y at' in
       record {
@@ -112,7 +112,7 @@ module _ (s : State (Unit {0}) View) (id b : ℕ) (v : View) (q : CanTurn v b) (
         flow = λ k l own run. flow_shown net known t s.words r.cells b q.block o (placed net t b o lawful) k l (inr (apart j y ne at' (from_at net.pairs k) (known k (0, 0) l).0 own)) (old.flow k l own run);
       }
 
-  pub keeps_rule : (homes : List _) → Ruled net (record { words = set s.words i (written o x); homes = homes; views = set s.views id (turned b v x) })
+  pub keeps_rule : (homes : List _) → Ruled net (record { words = set s.words i (word_after o x); homes = homes; views = set s.views id (view_after_turn b v x) })
   keeps_rule homes = record {
     events = r.events ++ e ∷ [];
     machine = u;
@@ -120,14 +120,14 @@ module _ (s : State (Unit {0}) View) (id b : ℕ) (v : View) (q : CanTurn v b) (
     is_net = r.is_net;
     small = r.small;
     run = runs;
-    made = made_more net r.events e s.views id v (turned b v x) r.made at (λ j y ne at' c l own. apart j y ne at' c l own) refl q.own (λ c. (λ own. record { live = own.live; serves = own.serves }, λ own. record { live = own.live; serves = own.serves }));
+    made = made_more net r.events e s.views id v (view_after_turn b v x) r.made at (λ j y ne at' c l own. apart j y ne at' c l own) refl q.own (λ c. (λ own. record { live = own.live; serves = own.serves }, λ own. record { live = own.live; serves = own.serves }));
     cells = cells_shown net known t s.words r.cells b q.block o (placed net t b o lawful) fit;
-    seats = seats_set (λ j y. Sees net u r.owner (set s.words i (written o x)) j y) s.views id (turned b v x) sees_mine sees_other;
+    seats = seats_set (λ j y. Sees net u r.owner (set s.words i (word_after o x)) j y) s.views id (view_after_turn b v x) sees_mine sees_other;
   }
 
   -- the state after the step, where its numbers are too large
   pushed_far : (have : ℕ) (p : Port) (kind : PortKind) (k : ℕ) → IsEnd net b kind p.other p.slot → overfull kind have (get_or s.words (capacity_word net b kind p.slot) 0) ≡ true → (v' : law.State) → Run net (opening net) (r.events ++ e ∷ []) v'
-      → Cells net v' (set s.words (capacity_word net b kind p.slot) (push_written kind (push_units have kind k) (get_or s.words (capacity_word net b kind p.slot) 0))) → SomeFlowIsTooLarge net
+      → Cells net v' (set s.words (capacity_word net b kind p.slot) (word_after_push kind (push_units have kind k) (get_or s.words (capacity_word net b kind p.slot) 0))) → SomeFlowIsTooLarge net
   pushed_far have p Sink k h f v' run c = absurd cc
   pushed_far have p Forward k h f v' run c =
       let i = flow_at net p.slot in
@@ -144,7 +144,7 @@ module _ (s : State (Unit {0}) View) (id b : ℕ) (v : View) (q : CanTurn v b) (
   flow_far Idle is h f = absurd cc
   flow_far (Scan have place read best) is h f = absurd cc
   flow_far (PushDue have best) is h f =
-      pushed_far have best.port best.port.kind best.capacity h f u runs (subst (λ (z : Operation ℕ). Cells net u (set s.words (word_of net b z) (written z (get_or s.words (word_of net b z) 0)))) is (cells_shown net known t s.words r.cells b q.block o (placed net t b o lawful) fit))
+      pushed_far have best.port best.port.kind best.capacity h f u runs (subst (λ (z : Operation ℕ). Cells net u (set s.words (word_of net b z) (word_after z (get_or s.words (word_of net b z) 0)))) is (cells_shown net known t s.words r.cells b q.block o (placed net t b o lawful) fit))
   flow_far (TakeDue d p) is h f = absurd cc
   flow_far (GiveDue d p) is h f = absurd cc
   flow_far (RaiseDue have best) is h f = absurd cc
@@ -157,24 +157,24 @@ module _ (s : State (Unit {0}) View) (id b : ℕ) (v : View) (q : CanTurn v b) (
   label_far (GiveDue d p) is h = absurd h
   label_far (RaiseDue have best) is h = record { events = r.events ++ e ∷ []; machine = u; run = runs; block = b; known = q.block; have = units have; best = best_as units best; next = is; label = h }
 
-  pub large_by : IsLargeBy net (turned b v x).stopped (turned b v x).operation
+  pub large_by : IsLargeBy net (view_after_turn b v x).stopped (view_after_turn b v x).operation
   large_by = record {
     flow = flow_far o refl (placed net t b o lawful);
-    label = label_far (turned b v x).operation (ap (λ (f : ℕ → _). f b) operation_is ∙ put-same t.operation b _);
+    label = label_far (view_after_turn b v x).operation (ap (λ (f : ℕ → _). f b) operation_is ∙ put-same t.operation b _);
   }
 
 -- any operation on the word that writes what the step writes
-pub turns : (slots id a b : ℕ) (me : Sat) (f : ℕ → ℕ) → CanTurn me.0 b → ((x : ℕ) → x < 2 ^ 64 → Fits me.0.operation x → f x ≡ written me.0.operation x)
-    → Allows (Ruled me.0.net) slots id me (word_of me.0.net b me.0.operation) f (turned_so (step slots (word_of me.0.net b me.0.operation) a 0 none) me)
+pub turns : (slots id a b : ℕ) (me : Sat) (f : ℕ → ℕ) → CanTurn me.0 b → ((x : ℕ) → x < 2 ^ 64 → Fits me.0.operation x → f x ≡ word_after me.0.operation x)
+    → Allows (Ruled me.0.net) slots id me (word_of me.0.net b me.0.operation) f (TurnsSeat (step slots (word_of me.0.net b me.0.operation) a 0 none) me)
 turns slots id a b me f q writes s r _ at small =
     let v = me.0 in
     let i = word_of v.net b v.operation in
     let x : ℕ = get_or s.words i 0 in
-    let is : f x ≡ written v.operation x = writes x small (fit s id b v q r at) in
+    let is : f x ≡ word_after v.operation x = writes x small (fit s id b v q r at) in
     let block = block_is v b q in (
-      turned b v x,
+      view_after_turn b v x,
       keeps,
       tt,
-      subst (λ (z : ℕ). Ruled v.net (stepped s i z id me.1 (turned b v x) keeps)) (sym is) (keeps_rule s id b v q r at s.homes),
-      (ap (λ (c : ℕ). turned c v x) (sym block), subst (λ (c : ℕ). IsPlaced v.net c (turned b v x).operation) (sym block) (placed_after s id b v q r at), refl, large_by s id b v q r at),
+      subst (λ (z : ℕ). Ruled v.net (stepped s i z id me.1 (view_after_turn b v x) keeps)) (sym is) (keeps_rule s id b v q r at s.homes),
+      (ap (λ (c : ℕ). view_after_turn c v x) (sym block), subst (λ (c : ℕ). IsPlaced v.net c (view_after_turn b v x).operation) (sym block) (placed_after s id b v q r at), refl, large_by s id b v q r at),
     )

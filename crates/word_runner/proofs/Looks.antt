@@ -12,7 +12,7 @@ use Rattle.machine_law.proofs.Conserved.{runs_conserve}
 use Rattle.word_runner.specs.declared.view.View.{View}
 use Rattle.word_runner.specs.Views.{Ruled, Sees, IsOwn, IsMadeBy}
 use Rattle.word_runner.specs.Turns.{Sat}
-use Rattle.word_runner.specs.Halves.{looked_up}
+use Rattle.word_runner.specs.Halves.{LooksUp}
 use Rattle.word_runner.proofs.SeatViews.{seats_set}
 use Rattle.word_runner.proofs.Units.{fits_in}
 
@@ -46,7 +46,7 @@ loaded_more net s id v l r at =
           (λ j x ne e. r.seats j x e);
     }
 
-pub looks_up : (net : NetView) (slots id i : ℕ) (me : Sat) → Allows (Ruled net) slots id me i (λ n. n) (looked_up (step slots i 0 0 none) me)
+pub looks_up : (net : NetView) (slots id i : ℕ) (me : Sat) → Allows (Ruled net) slots id me i (λ n. n) (LooksUp (step slots i 0 0 none) me)
 looks_up net slots id i me s r _ at _ =
     let l = me.0.loaded ++ (i, get_or s.words i 0) ∷ [] in (
       record me.0 { loaded = l },

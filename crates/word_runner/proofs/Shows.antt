@@ -18,31 +18,31 @@ use Rattle.machine_law.specs.Operations.{best_as, operation_as}
 use Rattle.machine_law.specs.States as law
 use Rattle.machine_law.specs.States.{put}
 use Rattle.machine_law.specs.Residual.{IsEnd, label_beyond}
-use Rattle.machine_law.specs.Reads.{begun, passed, seen, chosen}
-use Rattle.machine_law.specs.Steps.{looked, looked_by, weighed, push_amount, pushed_by, given_by, advance_by}
+use Rattle.machine_law.specs.Reads.{operation_begun_with, after_port, after_capacity, after_label}
+use Rattle.machine_law.specs.Steps.{after_look, after_look_by, after_label_at, push_amount, after_push_by, after_give_by, advance_by}
 use Rattle.machine_law.proofs.Points.{put-same, put-other}
-use Rattle.machine_law.proofs.Naturality.{passed-as, chosen-as}
+use Rattle.machine_law.proofs.Naturality.{after_port-as, after_label-as}
 use Rattle.machine_law.proofs.PortLists.{port_with, port-at}
 use Rattle.word_runner.specs.Layout.{units, count, Cells}
-use Rattle.word_runner.specs.StepWords.{look_word, look_word_at, label_word_at, word_of, begun_at, seen_at, looked_at, looked_if, weighed_if, after, push_units}
+use Rattle.word_runner.specs.StepWords.{look_word, look_word_at, label_word_at, word_of, operation_begun_by_word, after_capacity_word, after_look_word, after_look_word_if, after_label_word_if, after, push_units}
 use Rattle.word_runner.specs.Turns.{labels_after}
 use Rattle.word_runner.proofs.Units.{positive_units, least_units}
 
 -- ---- reads over units
-begun_units : (x : ℕ) → begun (units x) ≡ operation_as units (begun_at x)
+begun_units : (x : ℕ) → operation_begun_with (units x) ≡ operation_as units (operation_begun_by_word x)
 begun_units x = ap (λ z. cond z (Scan (units x) 0 None None) Idle) (positive_units x) ∙ pick (nat_lt 0 x)
   where
     pick : (z : Bool) → cond z (Scan (units x) 0 None None) Idle ≡ operation_as units (cond z (Scan x 0 None None) Idle)
     pick true = refl
     pick false = refl
 
-seen_units : (n label have place : ℕ) (best : Option (Best ℕ)) (x : ℕ) → seen n label (units have) place (option_map (best_as units) best) (units x) ≡ operation_as units (seen_at n label have place best x)
+seen_units : (n label have place : ℕ) (best : Option (Best ℕ)) (x : ℕ) → after_capacity n label (units have) place (option_map (best_as units) best) (units x) ≡ operation_as units (after_capacity_word n label have place best x)
 seen_units n label have place best x =
-    ap (λ z. cond z (Scan (units have) place (Some (units x)) (option_map (best_as units) best)) (passed n label (units have) place (option_map (best_as units) best))) (positive_units x)
-    ∙ ap (λ o. cond (nat_lt 0 x) (Scan (units have) place (Some (units x)) (option_map (best_as units) best)) o) (sym (passed-as units n label have place best))
+    ap (λ z. cond z (Scan (units have) place (Some (units x)) (option_map (best_as units) best)) (after_port n label (units have) place (option_map (best_as units) best))) (positive_units x)
+    ∙ ap (λ o. cond (nat_lt 0 x) (Scan (units have) place (Some (units x)) (option_map (best_as units) best)) o) (sym (after_port-as units n label have place best))
     ∙ pick (nat_lt 0 x)
   where
-    pick : (z : Bool) → cond z (Scan (units have) place (Some (units x)) (option_map (best_as units) best)) (operation_as units (passed n label have place best)) ≡ operation_as units (cond z (Scan have place (Some x) best) (passed n label have place best))
+    pick : (z : Bool) → cond z (Scan (units have) place (Some (units x)) (option_map (best_as units) best)) (operation_as units (after_port n label have place best)) ≡ operation_as units (cond z (Scan have place (Some x) best) (after_port n label have place best))
     pick true = refl
     pick false = refl
 
@@ -61,41 +61,41 @@ other_within net b Source other slot known lb q = let e = q.0 in omega (arith, e
 
 module _ (net : NetView) (known : All (IsKnown (count net)) net.pairs) (t : law.State) (ws : List ℕ) (c : Cells net t ws) (b : ℕ) (lb : b < count net) where
   looked_shown : (have place : ℕ) (best : Option (Best ℕ)) (kind : PortKind) (other slot : ℕ) → IsEnd net b kind other slot
-      → looked_by net t b (units have) place (option_map (best_as units) best) (port_with kind other slot) kind ≡ operation_as units (looked_at net b (t.label b) have place best (port_with kind other slot) kind (get_or ws (look_word net b kind other slot) 0))
-  looked_shown have place best Sink other slot q = ap (seen (length (ports net b)) (t.label b) (units have) place (option_map (best_as units) best)) (c.room b lb) ∙ seen_units (length (ports net b)) (t.label b) have place best _
+      → after_look_by net t b (units have) place (option_map (best_as units) best) (port_with kind other slot) kind ≡ operation_as units (after_look_word net b (t.label b) have place best (port_with kind other slot) kind (get_or ws (look_word net b kind other slot) 0))
+  looked_shown have place best Sink other slot q = ap (after_capacity (length (ports net b)) (t.label b) (units have) place (option_map (best_as units) best)) (c.room b lb) ∙ seen_units (length (ports net b)) (t.label b) have place best _
   looked_shown have place best Forward other slot q =
-      ap (chosen (length (ports net b)) (t.label b) (units have) place (option_map (best_as units) best) zero_amount (port_with Forward other slot)) (c.label other (other_within net b Forward other slot known lb q))
-      ∙ sym (chosen-as units (length (ports net b)) (t.label b) have place best 0 (port_with Forward other slot) _)
-  looked_shown have place best Backward other slot q = ap (seen (length (ports net b)) (t.label b) (units have) place (option_map (best_as units) best)) (c.flow slot q.0) ∙ seen_units (length (ports net b)) (t.label b) have place best _
-  looked_shown have place best Source other slot q = ap (seen (length (ports net b)) (t.label b) (units have) place (option_map (best_as units) best)) (c.source b lb) ∙ seen_units (length (ports net b)) (t.label b) have place best _
+      ap (after_label (length (ports net b)) (t.label b) (units have) place (option_map (best_as units) best) zero_amount (port_with Forward other slot)) (c.label other (other_within net b Forward other slot known lb q))
+      ∙ sym (after_label-as units (length (ports net b)) (t.label b) have place best 0 (port_with Forward other slot) _)
+  looked_shown have place best Backward other slot q = ap (after_capacity (length (ports net b)) (t.label b) (units have) place (option_map (best_as units) best)) (c.flow slot q.0) ∙ seen_units (length (ports net b)) (t.label b) have place best _
+  looked_shown have place best Source other slot q = ap (after_capacity (length (ports net b)) (t.label b) (units have) place (option_map (best_as units) best)) (c.source b lb) ∙ seen_units (length (ports net b)) (t.label b) have place best _
 
   looked_shown_if : (have place : ℕ) (best : Option (Best ℕ)) (q : Option Port) → slice_get (ports net b) place ≡ q
-      → looked net t b (units have) place (option_map (best_as units) best) q ≡ operation_as units (looked_if net b (t.label b) have place best q (get_or ws (look_word_at net b q) 0))
+      → after_look net t b (units have) place (option_map (best_as units) best) q ≡ operation_as units (after_look_word_if net b (t.label b) have place best q (get_or ws (look_word_at net b q) 0))
   looked_shown_if have place best None e = refl
   looked_shown_if have place best (Some p) e = looked_shown have place best p.kind p.other p.slot (port-at net b place p e)
 
   weighed_shown_if : (have place : ℕ) (best : Option (Best ℕ)) (read : ℕ) (q : Option Port) → slice_get (ports net b) place ≡ q
-      → weighed net t b (units have) place (option_map (best_as units) best) (units read) q ≡ operation_as units (weighed_if net b (t.label b) have place best read q (get_or ws (label_word_at net q) 0))
+      → after_label_at net t b (units have) place (option_map (best_as units) best) (units read) q ≡ operation_as units (after_label_word_if net b (t.label b) have place best read q (get_or ws (label_word_at net q) 0))
   weighed_shown_if have place best read None e = refl
   weighed_shown_if have place best read (Some p) e =
-      ap (λ h. chosen (length (ports net b)) (t.label b) (units have) place (option_map (best_as units) best) (units read) p (label_beyond net p.kind h)) (c.label p.other (other_within net b p.kind p.other p.slot known lb (port-at net b place p e)))
-      ∙ sym (chosen-as units (length (ports net b)) (t.label b) have place best read p _)
+      ap (λ h. after_label (length (ports net b)) (t.label b) (units have) place (option_map (best_as units) best) (units read) p (label_beyond net p.kind h)) (c.label p.other (other_within net b p.kind p.other p.slot known lb (port-at net b place p e)))
+      ∙ sym (after_label-as units (length (ports net b)) (t.label b) have place best read p _)
 
   -- a push, by the kind of port
-  pushed_operation : (d : Amount) (p : Port) (kind : PortKind) → (pushed_by t b d p kind).operation ≡ put t.operation b (TakeDue d p)
+  pushed_operation : (d : Amount) (p : Port) (kind : PortKind) → (after_push_by t b d p kind).operation ≡ put t.operation b (TakeDue d p)
   pushed_operation d p Sink = refl
   pushed_operation d p Forward = refl
   pushed_operation d p Backward = refl
   pushed_operation d p Source = refl
 
-  given_operation : (d : Amount) (p : Port) (kind : PortKind) → (given_by t b d p kind).operation ≡ put t.operation b Idle
+  given_operation : (d : Amount) (p : Port) (kind : PortKind) → (after_give_by t b d p kind).operation ≡ put t.operation b Idle
   given_operation d p Sink = refl
   given_operation d p Forward = refl
   given_operation d p Backward = refl
   given_operation d p Source = refl
 
   pub operation_shown : (o : Operation ℕ) → (advance_by net t b (operation_as units o)).operation ≡ put t.operation b (operation_as units (after net b (t.label b) o (get_or ws (word_of net b o) 0)))
-  operation_shown Idle = ap (λ a. put t.operation b (begun a)) (c.excess b lb) ∙ ap (put t.operation b) (begun_units _)
+  operation_shown Idle = ap (λ a. put t.operation b (operation_begun_with a)) (c.excess b lb) ∙ ap (put t.operation b) (begun_units _)
   operation_shown (Scan have place None best) = ap (put t.operation b) (looked_shown_if have place best (slice_get (ports net b) place) refl)
   operation_shown (Scan have place (Some read) best) = ap (put t.operation b) (weighed_shown_if have place best read (slice_get (ports net b) place) refl)
   operation_shown (PushDue have best) = pushed_operation (push_amount (units have) best.port.kind (units best.capacity)) best.port best.port.kind ∙ ap (λ a. put t.operation b (TakeDue a best.port)) (push_of_units have best.port.kind best.capacity)
@@ -104,13 +104,13 @@ module _ (net : NetView) (known : All (IsKnown (count net)) net.pairs) (t : law.
   operation_shown (RaiseDue have best) = refl
 
   -- ---- labels
-  pushed_label : (d : Amount) (p : Port) (kind : PortKind) → (pushed_by t b d p kind).label ≡ t.label
+  pushed_label : (d : Amount) (p : Port) (kind : PortKind) → (after_push_by t b d p kind).label ≡ t.label
   pushed_label d p Sink = refl
   pushed_label d p Forward = refl
   pushed_label d p Backward = refl
   pushed_label d p Source = refl
 
-  given_label : (d : Amount) (p : Port) (kind : PortKind) → (given_by t b d p kind).label ≡ t.label
+  given_label : (d : Amount) (p : Port) (kind : PortKind) → (after_give_by t b d p kind).label ≡ t.label
   given_label d p Sink = refl
   given_label d p Forward = refl
   given_label d p Backward = refl

@@ -21,12 +21,12 @@ use Rattle.machine_law.specs.States as law
 use Rattle.machine_law.specs.States.{put}
 use Rattle.machine_law.specs.Residual.{IsEnd}
 use Rattle.machine_law.specs.Amounts.{IsOperation, IsBestIfAny, IsWithinBy}
-use Rattle.machine_law.specs.Steps.{looked, weighed, pushed_by, given_by, advance_by}
-use Rattle.machine_law.specs.Reads.{begun}
+use Rattle.machine_law.specs.Steps.{after_look, after_label_at, after_push_by, after_give_by, advance_by}
+use Rattle.machine_law.specs.Reads.{operation_begun_with}
 use Rattle.machine_law.specs.Conservation.{all_given, IsWhole}
 use Rattle.machine_law.proofs.Points.{put-same}
 use Rattle.word_runner.specs.Layout.{units, count, Cells, excess_at, flow_at}
-use Rattle.word_runner.specs.StepWords.{capacity_word, landing_word, word_of, written, push_units, push_written}
+use Rattle.word_runner.specs.StepWords.{capacity_word, landing_word, word_of, word_after, push_units, word_after_push}
 use Rattle.word_runner.specs.Turns.{overfull, stopped_after, IsBestPlaced, IsPlaced}
 use Rattle.word_runner.proofs.Units.{units_most, units_minus, units_plus, less_room, fits_in, smaller_right}
 use Rattle.word_runner.proofs.Cells.{cells_op, cells_excess, cells_flow, cells_label, cells_source, cells_room, cells_at_source, cells_at_sink}
@@ -63,14 +63,14 @@ placed net t b (RaiseDue have best) h = h.over.port
 module _ (net : NetView) (known : All (IsKnown (count net)) net.pairs) (t : law.State) (ws : List ℕ) (c : Cells net t ws) (b : ℕ) (lb : b < count net) where
   -- ---- the words after
   pushed_cells : (d : ℕ) (p : Port) (kind : PortKind) → IsEnd net b kind p.other p.slot → push_fits kind d (get_or ws (capacity_word net b kind p.slot) 0)
-      → Cells net (pushed_by t b (units d) p kind) (set ws (capacity_word net b kind p.slot) (push_written kind d (get_or ws (capacity_word net b kind p.slot) 0)))
+      → Cells net (after_push_by t b (units d) p kind) (set ws (capacity_word net b kind p.slot) (word_after_push kind d (get_or ws (capacity_word net b kind p.slot) 0)))
   pushed_cells d p Sink q f = cells_room net t ws c (put t.operation b (TakeDue (units d) p)) (t.steps + 1) b _ (plus (t.sink b) (units d)) lb (less_room (negative (amount_at net.worths b)) (t.sink b) _ d (c.room b lb) f)
   pushed_cells d p Forward q f = cells_flow net t ws c (put t.operation b (TakeDue (units d) p)) (t.steps + 1) p.slot _ (plus (t.flow p.slot) (units d)) q.0 (units_plus _ d (t.flow p.slot) (c.flow p.slot q.0))
   pushed_cells d p Backward q f = cells_flow net t ws c (put t.operation b (TakeDue (units d) p)) (t.steps + 1) p.slot _ (minus (t.flow p.slot) (units d)) q.0 (units_minus _ d (t.flow p.slot) (c.flow p.slot q.0) f)
   pushed_cells d p Source q f = cells_source net t ws c (put t.operation b (TakeDue (units d) p)) (t.steps + 1) b _ (minus (t.source b) (units d)) lb (units_minus _ d (t.source b) (c.source b lb) f)
 
   given_cells : (d : ℕ) (p : Port) (kind : PortKind) → IsEnd net b kind p.other p.slot
-      → Cells net (given_by t b (units d) p kind) (set ws (landing_word net kind p.other) (get_or ws (landing_word net kind p.other) 0 + d))
+      → Cells net (after_give_by t b (units d) p kind) (set ws (landing_word net kind p.other) (get_or ws (landing_word net kind p.other) 0 + d))
   given_cells d p Sink q = cells_at_sink net t ws c (put t.operation b Idle) (t.steps + 1) _ (plus t.at_sink (units d)) (units_plus _ d t.at_sink c.at_sink)
   given_cells d p Forward q = let l = other_within net b Forward p.other p.slot known lb q in cells_excess net t ws c (put t.operation b Idle) (t.steps + 1) p.other _ (plus (t.excess p.other) (units d)) l (units_plus _ d (t.excess p.other) (c.excess p.other l))
   given_cells d p Backward q = let l = other_within net b Backward p.other p.slot known lb q in cells_excess net t ws c (put t.operation b Idle) (t.steps + 1) p.other _ (plus (t.excess p.other) (units d)) l (units_plus _ d (t.excess p.other) (c.excess p.other l))
@@ -80,15 +80,15 @@ module _ (net : NetView) (known : All (IsKnown (count net)) net.pairs) (t : law.
   read_cells : (o : Operation Amount) (i : ℕ) → Cells net (record t { operation = put t.operation b o; steps = t.steps + 1 }) (set ws i (get_or ws i 0))
   read_cells o i = subst (Cells net (record t { operation = put t.operation b o; steps = t.steps + 1 })) (sym (set-get_or ws i 0)) (cells_op net t ws c (put t.operation b o) (t.steps + 1))
 
-  pub cells_shown : (o : Operation ℕ) → IsPlaced net b o → Fits o (get_or ws (word_of net b o) 0) → Cells net (advance_by net t b (operation_as units o)) (set ws (word_of net b o) (written o (get_or ws (word_of net b o) 0)))
-  cells_shown Idle q f = read_cells (begun (t.excess b)) (excess_at net b)
-  cells_shown (Scan have place None best) q f = read_cells (looked net t b (units have) place (option_map (best_as units) best) (slice_get (ports net b) place)) (word_of net b (Scan have place None best))
-  cells_shown (Scan have place (Some read) best) q f = read_cells (weighed net t b (units have) place (option_map (best_as units) best) (units read) (slice_get (ports net b) place)) (word_of net b (Scan have place (Some read) best))
+  pub cells_shown : (o : Operation ℕ) → IsPlaced net b o → Fits o (get_or ws (word_of net b o) 0) → Cells net (advance_by net t b (operation_as units o)) (set ws (word_of net b o) (word_after o (get_or ws (word_of net b o) 0)))
+  cells_shown Idle q f = read_cells (operation_begun_with (t.excess b)) (excess_at net b)
+  cells_shown (Scan have place None best) q f = read_cells (after_look net t b (units have) place (option_map (best_as units) best) (slice_get (ports net b) place)) (word_of net b (Scan have place None best))
+  cells_shown (Scan have place (Some read) best) q f = read_cells (after_label_at net t b (units have) place (option_map (best_as units) best) (units read) (slice_get (ports net b) place)) (word_of net b (Scan have place (Some read) best))
   cells_shown (PushDue have best) q f =
       let k = best.port.kind in
       let i = capacity_word net b k best.port.slot in
       let d = push_units have k best.capacity in
-      subst (λ a. Cells net (pushed_by t b a best.port k) (set ws i (push_written k d (get_or ws i 0)))) (sym (push_of_units have k best.capacity)) (pushed_cells d best.port k q f)
+      subst (λ a. Cells net (after_push_by t b a best.port k) (set ws i (word_after_push k d (get_or ws i 0)))) (sym (push_of_units have k best.capacity)) (pushed_cells d best.port k q f)
   cells_shown (TakeDue d p) q f = cells_excess net t ws c (put t.operation b (GiveDue (units d) p)) (t.steps + 1) b _ (minus (t.excess b) (units d)) lb (units_minus _ d (t.excess b) (c.excess b lb) f)
   cells_shown (GiveDue d p) q f = given_cells d p p.kind q
   cells_shown (RaiseDue have best) q f = cells_label net t ws c (put t.operation b Idle) (t.steps + 1) b (best.label + 1) lb
@@ -102,7 +102,7 @@ module _ (net : NetView) (known : All (IsKnown (count net)) net.pairs) (t : law.
   push_most have read slot Source other q w f = let m = units_most read _ _ (c.source b lb) w.1 in let s = smaller_right have read in omega (arith, m, s)
 
   -- no excess and no arrival passes what is given in all, after the step
-  landed : (d : ℕ) (p : Port) (kind : PortKind) → IsEnd net b kind p.other p.slot → AtMost (all_given net) (units 9223372036854775807) → IsWhole net (given_by t b (units d) p kind) → get_or ws (landing_word net kind p.other) 0 + d < 2 ^ 63
+  landed : (d : ℕ) (p : Port) (kind : PortKind) → IsEnd net b kind p.other p.slot → AtMost (all_given net) (units 9223372036854775807) → IsWhole net (after_give_by t b (units d) p kind) → get_or ws (landing_word net kind p.other) 0 + d < 2 ^ 63
   landed d p Sink q m w = let l = fits_in 9223372036854775807 _ (plus t.at_sink (units d)) (all_given net) (units_plus _ d t.at_sink c.at_sink) w.sink_most m in omega (arith, l)
   landed d p Forward q m w =
       let lo = other_within net b Forward p.other p.slot known lb q in
@@ -147,7 +147,7 @@ module _ (net : NetView) (known : All (IsKnown (count net)) net.pairs) (t : law.
   Excused stopped k = (stopped ≡ false) ⊎ (from_at net.pairs k ≢ b)
 
   pushed_flow : (have read : ℕ) (kind : PortKind) (other slot k : ℕ) → IsEnd net b kind other slot → k < length net.pairs → Excused (overfull kind have (get_or ws (capacity_word net b kind slot) 0)) k → get_or ws (flow_at net k) 0 < 2 ^ 63
-      → get_or (set ws (capacity_word net b kind slot) (push_written kind (push_units have kind read) (get_or ws (capacity_word net b kind slot) 0))) (flow_at net k) 0 < 2 ^ 63
+      → get_or (set ws (capacity_word net b kind slot) (word_after_push kind (push_units have kind read) (get_or ws (capacity_word net b kind slot) 0))) (flow_at net k) 0 < 2 ^ 63
   pushed_flow have read Sink other slot k q l x h = elsewhere _ _ k (λ e. omega (arith, e, lb)) h
   pushed_flow have read Forward other slot k q l x h = elim (cases_eq k slot) [
     | inl e ↦
@@ -171,7 +171,7 @@ module _ (net : NetView) (known : All (IsKnown (count net)) net.pairs) (t : law.
   given_flow d k Source other slot q h = elsewhere _ _ k (λ e. omega (arith, e)) h
 
   pub flow_shown : (o : Operation ℕ) → IsPlaced net b o → (k : ℕ) → k < length net.pairs → Excused (stopped_after o (get_or ws (word_of net b o) 0)) k → get_or ws (flow_at net k) 0 < 2 ^ 63
-      → get_or (set ws (word_of net b o) (written o (get_or ws (word_of net b o) 0))) (flow_at net k) 0 < 2 ^ 63
+      → get_or (set ws (word_of net b o) (word_after o (get_or ws (word_of net b o) 0))) (flow_at net k) 0 < 2 ^ 63
   flow_shown Idle q k l x h = same_flow _ k h
   flow_shown (Scan have place None best) q k l x h = same_flow _ k h
   flow_shown (Scan have place (Some read) best) q k l x h = same_flow _ k h

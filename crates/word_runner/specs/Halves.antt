@@ -5,8 +5,8 @@ use Rattle.machine_law.specs.declared.operations.Operation.TheVariants.{Idle}
 use Rattle.word_runner.specs.declared.view.View.{View}
 use Rattle.word_runner.specs.Turns.{Sat}
 
-abbrev pub looked_up : Step (Unit {0}) → Sat → ℕ → Sat → Type 0
-looked_up st m r m' = (m'.0 ≡ record m.0 { loaded = m.0.loaded ++ (st.word, r) ∷ [] }) × (m'.1 ≡ m.1) × (st.word < 2 → r < 2 ^ 63)
+abbrev pub LooksUp : Step (Unit {0}) → Sat → ℕ → Sat → Type 0
+LooksUp st m r m' = (m'.0 ≡ record m.0 { loaded = m.0.loaded ++ (st.word, r) ∷ [] }) × (m'.1 ≡ m.1) × (st.word < 2 → r < 2 ^ 63)
 
 -- ---- two seats
 abbrev pub half : ℕ → View → View
@@ -34,8 +34,8 @@ pub record IsHalf (k : ℕ) (v : View) : Type 0 where
   pub free : v.operation ≡ Idle
 
 -- a joined seat makes no step
-abbrev pub joined : View → View → View
-joined v w = record v { number = 0; workers = 1; stopped = true; made = v.made ++ w.made }
+abbrev pub joined_view : View → View → View
+joined_view v w = record v { number = 0; workers = 1; stopped = true; made = v.made ++ w.made }
 
 abbrev pub spent_view : View
 spent_view = record { net = record { pairs = []; worths = [] }; live = false; number = 0; workers = 0; labels = []; block = 0; operation = Idle; stopped = true; made = []; loaded = [] }

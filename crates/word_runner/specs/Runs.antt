@@ -36,9 +36,9 @@ pub record AreSeats (w : WordsView) (seats : List Own) : Type 0 where
   pub each : (k : ℕ) (s : Own) → get_elem? seats k ≡ some s → IsServed w.shared k w.workers s
 
 -- the steps that the seats made, those of one after those of the other
-abbrev pub made_by : List Own → List Event
-made_by [] = []
-made_by (s ∷ ss) = s.place.me.0.made ++ made_by ss
+abbrev pub steps_made_by : List Own → List Event
+steps_made_by [] = []
+steps_made_by (s ∷ ss) = s.place.me.0.made ++ steps_made_by ss
 
 -- a run of the machine over the net whose steps at each block are those that the seats made there
 pub record IsRunOf (net : NetView) (made : List Event) : Type 0 where
@@ -64,7 +64,7 @@ IsGreatestUncut cut flow = (net : NetView) → IsNet net → IsCutNet net cut �
 
 -- the run that the seats made is quiet, and this is its flow
 pub record IsSettled (w : WordsView) (seats : List Own) (flow : FlowView) : Type 0 where
-  pub quiet : IsQuietRunOf w.cut (made_by seats) flow
+  pub quiet : IsQuietRunOf w.cut (steps_made_by seats) flow
   pub greatest : IsGreatestUncut w.cut flow
 
 -- one of the seats has an operation
@@ -73,5 +73,5 @@ SomeIsBusy seats = (k : ℕ) × (s : Own) × (get_elem? seats k ≡ some s) × �
 
 -- why the words give no flow
 abbrev pub SettleFaultStands : WordsView → List Own → SettleFault → Type 0
-SettleFaultStands w seats unsettled.Unsettled = SomeIsBusy seats ⊎ IsOpenRunOf w.cut (made_by seats)
+SettleFaultStands w seats unsettled.Unsettled = SomeIsBusy seats ⊎ IsOpenRunOf w.cut (steps_made_by seats)
 SettleFaultStands w seats unsettled.NoMemory = Unit {0}

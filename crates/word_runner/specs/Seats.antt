@@ -17,7 +17,7 @@ use mathlib.Core.Option.{some}
 use Rattle.word_runner.specs.Layout.{units, source_at, flow_at, room_at, count, width}
 use Rattle.word_runner.specs.StepWords.{word_of, push_units}
 use Rattle.word_runner.specs.Views.{is_idle}
-use Rattle.word_runner.specs.Turns.{turned, RaisesTooFar, IsLargeBy, SomeFlowIsTooLarge, SomeLabelIsTooLarge, IsPlaced, CanTurn, event_of}
+use Rattle.word_runner.specs.Turns.{view_after_turn, RaisesTooFar, IsLargeBy, SomeFlowIsTooLarge, SomeLabelIsTooLarge, IsPlaced, CanTurn, event_of}
 
 -- the seat is of these words
 pub record IsSeat (w : Shared (Unit {0}) View NetView Rule) (s : Seat (Unit {0}) View) : Type 0 where
@@ -33,7 +33,7 @@ pub record IsNextAt (v : View) (b i : ℕ) : Type 0 where
 
 -- v became w by the step of b, where the word was x
 pub record HasTurned (b : ℕ) (v : View) (x : ℕ) (w : View) : Type 0 where
-  pub is : w ≡ turned b v x
+  pub is : w ≡ view_after_turn b v x
   pub placed : IsPlaced v.net b w.operation
   pub large : IsLargeBy v.net w.stopped w.operation
 

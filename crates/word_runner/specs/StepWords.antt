@@ -9,7 +9,7 @@ use Rattle.machine_law.specs.declared.operations.Best.{Best}
 use Rattle.machine_law.specs.declared.operations.Operation.{Operation}
 use Rattle.machine_law.specs.declared.operations.Operation.TheVariants.{Idle, Scan, PushDue, TakeDue, GiveDue, RaiseDue}
 use Rattle.machine_law.specs.Residual.{label_beyond}
-use Rattle.machine_law.specs.Reads.{passed, chosen}
+use Rattle.machine_law.specs.Reads.{after_port, after_label}
 use Rattle.word_runner.specs.Layout.{excess_at, label_at, source_at, room_at, flow_at}
 
 abbrev pub capacity_word : NetView → ℕ → PortKind → ℕ → ℕ
@@ -61,46 +61,46 @@ push_units have Forward read = have
 push_units have Backward read = smaller have read
 push_units have Source read = smaller have read
 
-abbrev pub push_written : PortKind → ℕ → ℕ → ℕ
-push_written Sink d x = x - d
-push_written Forward d x = x + d
-push_written Backward d x = x - d
-push_written Source d x = x - d
+abbrev pub word_after_push : PortKind → ℕ → ℕ → ℕ
+word_after_push Sink d x = x - d
+word_after_push Forward d x = x + d
+word_after_push Backward d x = x - d
+word_after_push Source d x = x - d
 
-abbrev pub written : Operation ℕ → ℕ → ℕ
-written Idle x = x
-written (Scan have place read best) x = x
-written (PushDue have best) x = push_written best.port.kind (push_units have best.port.kind best.capacity) x
-written (TakeDue d port) x = x - d
-written (GiveDue d port) x = x + d
-written (RaiseDue have best) x = best.label + 1
+abbrev pub word_after : Operation ℕ → ℕ → ℕ
+word_after Idle x = x
+word_after (Scan have place read best) x = x
+word_after (PushDue have best) x = word_after_push best.port.kind (push_units have best.port.kind best.capacity) x
+word_after (TakeDue d port) x = x - d
+word_after (GiveDue d port) x = x + d
+word_after (RaiseDue have best) x = best.label + 1
 
 -- ---- what the operation becomes, where the word was x
-abbrev pub begun_at : ℕ → Operation ℕ
-begun_at x = if nat_lt 0 x then Scan x 0 None None else Idle
+abbrev pub operation_begun_by_word : ℕ → Operation ℕ
+operation_begun_by_word x = if nat_lt 0 x then Scan x 0 None None else Idle
 
-abbrev pub seen_at : ℕ → ℕ → ℕ → ℕ → Option (Best ℕ) → ℕ → Operation ℕ
-seen_at ports label have place best x = if nat_lt 0 x then Scan have place (Some x) best else passed ports label have place best
+abbrev pub after_capacity_word : ℕ → ℕ → ℕ → ℕ → Option (Best ℕ) → ℕ → Operation ℕ
+after_capacity_word ports label have place best x = if nat_lt 0 x then Scan have place (Some x) best else after_port ports label have place best
 
-abbrev pub looked_at : NetView → ℕ → ℕ → ℕ → ℕ → Option (Best ℕ) → Port → PortKind → ℕ → Operation ℕ
-looked_at net b label have place best port Sink x = seen_at (length (ports net b)) label have place best x
-looked_at net b label have place best port Forward x = chosen (length (ports net b)) label have place best 0 port (label_beyond net Forward x)
-looked_at net b label have place best port Backward x = seen_at (length (ports net b)) label have place best x
-looked_at net b label have place best port Source x = seen_at (length (ports net b)) label have place best x
+abbrev pub after_look_word : NetView → ℕ → ℕ → ℕ → ℕ → Option (Best ℕ) → Port → PortKind → ℕ → Operation ℕ
+after_look_word net b label have place best port Sink x = after_capacity_word (length (ports net b)) label have place best x
+after_look_word net b label have place best port Forward x = after_label (length (ports net b)) label have place best 0 port (label_beyond net Forward x)
+after_look_word net b label have place best port Backward x = after_capacity_word (length (ports net b)) label have place best x
+after_look_word net b label have place best port Source x = after_capacity_word (length (ports net b)) label have place best x
 
-abbrev pub looked_if : NetView → ℕ → ℕ → ℕ → ℕ → Option (Best ℕ) → Option Port → ℕ → Operation ℕ
-looked_if net b label have place best None x = Idle
-looked_if net b label have place best (Some port) x = looked_at net b label have place best port port.kind x
+abbrev pub after_look_word_if : NetView → ℕ → ℕ → ℕ → ℕ → Option (Best ℕ) → Option Port → ℕ → Operation ℕ
+after_look_word_if net b label have place best None x = Idle
+after_look_word_if net b label have place best (Some port) x = after_look_word net b label have place best port port.kind x
 
-abbrev pub weighed_if : NetView → ℕ → ℕ → ℕ → ℕ → Option (Best ℕ) → ℕ → Option Port → ℕ → Operation ℕ
-weighed_if net b label have place best read None x = Idle
-weighed_if net b label have place best read (Some port) x = chosen (length (ports net b)) label have place best read port (label_beyond net port.kind x)
+abbrev pub after_label_word_if : NetView → ℕ → ℕ → ℕ → ℕ → Option (Best ℕ) → ℕ → Option Port → ℕ → Operation ℕ
+after_label_word_if net b label have place best read None x = Idle
+after_label_word_if net b label have place best read (Some port) x = after_label (length (ports net b)) label have place best read port (label_beyond net port.kind x)
 
 -- b has this label
 abbrev pub after : NetView → ℕ → ℕ → Operation ℕ → ℕ → Operation ℕ
-after net b label Idle x = begun_at x
-after net b label (Scan have place None best) x = looked_if net b label have place best (slice_get (ports net b) place) x
-after net b label (Scan have place (Some read) best) x = weighed_if net b label have place best read (slice_get (ports net b) place) x
+after net b label Idle x = operation_begun_by_word x
+after net b label (Scan have place None best) x = after_look_word_if net b label have place best (slice_get (ports net b) place) x
+after net b label (Scan have place (Some read) best) x = after_label_word_if net b label have place best read (slice_get (ports net b) place) x
 after net b label (PushDue have best) x = TakeDue (push_units have best.port.kind best.capacity) best.port
 after net b label (TakeDue d port) x = GiveDue d port
 after net b label (GiveDue d port) x = Idle

@@ -56,8 +56,8 @@ abbrev pub event_of : NetView → ℕ → Operation ℕ → Event
 event_of net b o = record { block = b; kind = next_of net b (operation_as units o) }
 
 -- v after its next step, at b, where the word was x
-abbrev pub turned : ℕ → View → ℕ → View
-turned b v x = record v {
+abbrev pub view_after_turn : ℕ → View → ℕ → View
+view_after_turn b v x = record v {
   labels = labels_after v.labels b v.operation;
   block = b;
   operation = after v.net b (slice_index v.labels b) v.operation x;
@@ -113,8 +113,8 @@ pub record IsLargeBy (net : NetView) (stopped : Bool) (o : Operation ℕ) : Type
   pub flow : stopped ≡ true → SomeFlowIsTooLarge net
   pub label : RaisesTooFar o → SomeLabelIsTooLarge net
 
-abbrev pub turned_so : Step (Unit {0}) → Sat → ℕ → Sat → Type 0
-turned_so st m r m' = (m'.0 ≡ turned (block_of m.0 st.word) m.0 r) × IsPlaced m.0.net (block_of m.0 st.word) m'.0.operation × (m'.1 ≡ m.1) × IsLargeBy m.0.net m'.0.stopped m'.0.operation
+abbrev pub TurnsSeat : Step (Unit {0}) → Sat → ℕ → Sat → Type 0
+TurnsSeat st m r m' = (m'.0 ≡ view_after_turn (block_of m.0 st.word) m.0 r) × IsPlaced m.0.net (block_of m.0 st.word) m'.0.operation × (m'.1 ≡ m.1) × IsLargeBy m.0.net m'.0.stopped m'.0.operation
 
 -- v may make the next step of b
 pub record CanTurn (v : View) (b : ℕ) : Type 0 where

@@ -3,18 +3,24 @@
 ghost use Rattle.std.specs.Prelude.{◌≡◌, ◌<◌, length};
 ghost use Rattle.closure_net.specs.Ports.{ports};
 ghost use Rattle.machine_law.specs.Residual.{label_beyond};
-ghost use Rattle.machine_law.specs.Reads.{passed as passed_by, chosen as chosen_by};
-ghost use Rattle.word_runner.specs.StepWords.{begun_at, seen_at, looked_at, smaller as smaller_of, push_units as units_of_push, after as after_step};
+ghost use Rattle.machine_law.specs.Reads.{after_port as operation_after_port, after_label as operation_after_label};
+ghost use Rattle.word_runner.specs.StepWords.{after_capacity_word, after_look_word, smaller as smaller_of, push_units as units_of_push, after as after_step};
 ghost use Rattle.word_runner.specs.Turns.{IsPlaced};
 
 use closure_net::{Net, Port, PortKind};
-use machine_law::{Best, Operation, better, ended};
+use machine_law::{Best, Operation, after_last_port, better};
 use ordered_group::Scaled;
 
 // The operation once the port at this place is passed.
-fn passed(count: u32, label: u64, have: u64, place: u32, best: Option<Best<u64>>) -> Operation<u64>
+fn after_port(
+    count: u32,
+    label: u64,
+    have: u64,
+    place: u32,
+    best: Option<Best<u64>>,
+) -> Operation<u64>
     requires { place < count }
-    ensures { result ≡ passed_by count label have place best }
+    ensures { result ≡ operation_after_port count label have place best }
 {
     if place + 1 < count {
         Operation::Scan {
@@ -24,12 +30,12 @@ fn passed(count: u32, label: u64, have: u64, place: u32, best: Option<Best<u64>>
             best,
         }
     } else {
-        ended(label, have, best)
+        after_last_port(label, have, best)
     }
 }
 
 // The operation once a capacity is read.
-fn seen(
+fn after_capacity(
     count: u32,
     label: u64,
     have: u64,
@@ -38,7 +44,7 @@ fn seen(
     x: u64,
 ) -> Operation<u64>
     requires { place < count }
-    ensures { result ≡ seen_at count label have place best x }
+    ensures { result ≡ after_capacity_word count label have place best x }
 {
     if x > 0 {
         Operation::Scan {
@@ -48,7 +54,7 @@ fn seen(
             best,
         }
     } else {
-        passed(count, label, have, place, best)
+        after_port(count, label, have, place, best)
     }
 }
 
@@ -65,7 +71,7 @@ fn beyond(net: &Net<Scaled>, kind: PortKind, x: u64) -> u64
 }
 
 // The operation once a label is read.
-fn chosen(
+fn after_label(
     count: u32,
     label: u64,
     have: u64,
@@ -76,7 +82,7 @@ fn chosen(
     beyond: u64,
 ) -> Operation<u64>
     requires { place < count }
-    ensures { result ≡ chosen_by count label have place best capacity port beyond }
+    ensures { result ≡ operation_after_label count label have place best capacity port beyond }
 {
     let new = Best {
         port,
@@ -85,11 +91,11 @@ fn chosen(
     };
     let mut lowest = best;
     better(&mut lowest, new);
-    passed(count, label, have, place, lowest)
+    after_port(count, label, have, place, lowest)
 }
 
 // The operation after the first read at a port.
-fn looked(
+fn after_look(
     net: &Net<Scaled>,
     b: u32,
     label: u64,
@@ -102,14 +108,14 @@ fn looked(
 ) -> Operation<u64>
     requires known { b < length net.now.worths }
     requires inside { place < length (ports net.now b) }
-    ensures { result ≡ looked_at net.now b label have place best port kind x }
+    ensures { result ≡ after_look_word net.now b label have place best port kind x }
 {
     let count = net.ports(b);
     match kind {
-        PortKind::Sink => seen(count, label, have, place, best, x),
-        PortKind::Forward => chosen(count, label, have, place, best, 0, port, x),
-        PortKind::Backward => seen(count, label, have, place, best, x),
-        PortKind::Source => seen(count, label, have, place, best, x),
+        PortKind::Sink => after_capacity(count, label, have, place, best, x),
+        PortKind::Forward => after_label(count, label, have, place, best, 0, port, x),
+        PortKind::Backward => after_capacity(count, label, have, place, best, x),
+        PortKind::Source => after_capacity(count, label, have, place, best, x),
     }
 }
 
@@ -164,11 +170,11 @@ pub fn after(
         } => {
             let port = net.port(b, place);
             match read {
-                None => looked(net, b, label, have, place, best, port, port.kind, x),
+                None => after_look(net, b, label, have, place, best, port, port.kind, x),
                 Some(capacity) => {
                     let count = net.ports(b);
                     let end = beyond(net, port.kind, x);
-                    chosen(count, label, have, place, best, capacity, port, end)
+                    after_label(count, label, have, place, best, capacity, port, end)
                 }
             }
         }

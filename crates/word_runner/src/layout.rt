@@ -7,7 +7,7 @@ ghost use Rattle.word_runner.specs.Layout.{width, excess_at, label_at, source_at
 ghost use Rattle.word_runner.specs.StepWords.{capacity_word, landing_word, look_word, word_of};
 ghost use Rattle.word_runner.specs.Turns.{IsPlaced};
 
-use closure_net::{Net, Port, PortKind};
+use closure_net::{Net, PortKind};
 use machine_law::Operation;
 use ordered_group::Scaled;
 

@@ -1,10 +1,10 @@
 //! A worker's private data and its next step: the operation of its block and the labels of its blocks. A step is one
 //! atomic operation on one shared word.
 
-ghost use Rattle.std.specs.Prelude.{◌≡◌, ◌<◌, ◌+◌, ◌⊎◌, ◌^◌, true, false, not, length};
+ghost use Rattle.std.specs.Prelude.{◌≡◌, ◌<◌, ◌+◌, ◌⊎◌, ◌^◌, true, length};
 ghost use Rattle.machine_law.specs.declared.operations.Operation.TheVariants.{Idle};
 ghost use Rattle.word_runner.specs.Views.{IsOwn, is_idle as is_free};
-ghost use Rattle.word_runner.specs.Turns.{IsPlaced, labels_after, RaisesTooFar};
+ghost use Rattle.word_runner.specs.Turns.{labels_after, RaisesTooFar};
 ghost use Rattle.word_runner.specs.Seats.{IsSeat, IsNextAt, HasTurned, HasLoaded, HasArrived, IsSame, IsTold, IsTurn};
 
 use crate::choices::{after, push_units};

@@ -2,7 +2,6 @@
 //! either worker is too large, or the turns are used up.
 
 ghost use Rattle.std.specs.Prelude.{◌≡◌, ◌<◌, ◌≤◌, ◌+◌, ◌^◌, length, MatchResult};
-ghost use Rattle.word_runner.specs.Seats.{IsServing};
 ghost use Rattle.word_runner.specs.Openings.{IsFirst};
 ghost use Rattle.word_runner.specs.Runs.{IsRound, HasServed};
 

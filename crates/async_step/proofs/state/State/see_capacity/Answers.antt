@@ -7,10 +7,10 @@ use Rattle.machine_law.specs.declared.operations.Operation.{Operation}
 use Rattle.machine_law.specs.Operations.{operation_as, is_idle}
 use Rattle.machine_law.specs.Reads.{is_positive, IsScan}
 use Rattle.async_step.specs.Views.{StateView, view_of, IsState, operation_at, is_waiting, is_busy}
-use Rattle.async_step.specs.Scans.{seen_by}
+use Rattle.async_step.specs.Scans.{after_capacity_by}
 use Rattle.async_step.proofs.Changes.{state_operation, state_works}
 use Rattle.async_step.proofs.Scanning.{scan_under, scan_works, place_is, place_changed}
-use Rattle.async_step.proofs.state.State.see.Goals as goal
+use Rattle.async_step.proofs.state.State.see_capacity.Goals as goal
 
 pub see-requires-after_bounds : goal.see-requires-after_bounds
 see-requires-after_bounds g c κs within =
@@ -33,9 +33,9 @@ invariant_of-self g c =
     let l : b < length v.operation = omega (arith, c.requires.block, ap (λ (w : StateView). length w.operation) c.self.view_is) in
     let k : b < length m.operation.items = omega (arith, l, length-map m.operation.items (operation_as f)) in
     let own : c.index-label.result.now ≡ slice_index v.label b = get_or_read m.label.items b c.index-label.result.now (omega (arith, l, c.self.invariant.sized.label)) c.index-label.ensures 0 in
-    let step : Operation Amount → Operation Amount = λ (o : Operation Amount). seen_by c.args.ports (slice_index v.label b) (f c.args.capacity) o in
+    let step : Operation Amount → Operation Amount = λ (o : Operation Amount). after_capacity_by c.args.ports (slice_index v.label b) (f c.args.capacity) o in
     let o : Operation Amount = step (operation_at v.operation b) in
-    let h : operation_as f c.see.new.operation ≡ step (operation_as f c.index_mut.result.now) = c.see.ensures ∙ ap (λ n. seen_by c.args.ports n (f c.args.capacity) (operation_as f c.index_mut.result.now)) own in
+    let h : operation_as f c.see.new.operation ≡ step (operation_as f c.index_mut.result.now) = c.see.ensures ∙ ap (λ n. after_capacity_by c.args.ports n (f c.args.capacity) (operation_as f c.index_mut.result.now)) own in
     let os : map (operation_as f) (set m.operation.items b c.see.new.operation) ≡ set v.operation b o = place_changed f m.operation.items b c.index_mut.result.now c.see.new.operation step c.index_mut.ensures.value k h in
     let now : c.is_idle.result ≡ is_idle o = c.is_idle.ensures ∙ (ap (λ x. is_idle (operation_as f x)) (c.index.ensures ∙ get_or-set_same m.operation.items b c.see.new.operation c.index.result.now k) ∙ ap is_idle (h ∙ ap step (place_is f m.operation.items b c.index_mut.result.now c.index_mut.ensures.value k))) in
     let i : true ≡ is_idle o = sym c.if-is_idle.true ∙ now in
@@ -56,9 +56,9 @@ invariant_of-self-else-is_idle g c =
     let l : b < length v.operation = omega (arith, c.requires.block, ap (λ (w : StateView). length w.operation) c.self.view_is) in
     let k : b < length m.operation.items = omega (arith, l, length-map m.operation.items (operation_as f)) in
     let own : c.index-label.result.now ≡ slice_index v.label b = get_or_read m.label.items b c.index-label.result.now (omega (arith, l, c.self.invariant.sized.label)) c.index-label.ensures 0 in
-    let step : Operation Amount → Operation Amount = λ (o : Operation Amount). seen_by c.args.ports (slice_index v.label b) (f c.args.capacity) o in
+    let step : Operation Amount → Operation Amount = λ (o : Operation Amount). after_capacity_by c.args.ports (slice_index v.label b) (f c.args.capacity) o in
     let o : Operation Amount = step (operation_at v.operation b) in
-    let h : operation_as f c.see.new.operation ≡ step (operation_as f c.index_mut.result.now) = c.see.ensures ∙ ap (λ n. seen_by c.args.ports n (f c.args.capacity) (operation_as f c.index_mut.result.now)) own in
+    let h : operation_as f c.see.new.operation ≡ step (operation_as f c.index_mut.result.now) = c.see.ensures ∙ ap (λ n. after_capacity_by c.args.ports n (f c.args.capacity) (operation_as f c.index_mut.result.now)) own in
     let os : map (operation_as f) (set m.operation.items b c.see.new.operation) ≡ set v.operation b o = place_changed f m.operation.items b c.index_mut.result.now c.see.new.operation step c.index_mut.ensures.value k h in
     let now : c.is_idle.result ≡ is_idle o = c.is_idle.ensures ∙ (ap (λ x. is_idle (operation_as f x)) (c.index.ensures ∙ get_or-set_same m.operation.items b c.see.new.operation c.index.result.now k) ∙ ap is_idle (h ∙ ap step (place_is f m.operation.items b c.index_mut.result.now c.index_mut.ensures.value k))) in
     let scan : IsScan c.args.ports (operation_at v.operation b) = subst (λ (w : StateView). IsScan c.args.ports (operation_at w.operation b)) (sym c.self.view_is) c.requires.scan in
@@ -74,12 +74,12 @@ returns-then-is_idle g c =
     let l : b < length v.operation = omega (arith, c.requires.block, ap (λ (w : StateView). length w.operation) c.self.view_is) in
     let k : b < length m.operation.items = omega (arith, l, length-map m.operation.items (operation_as f)) in
     let own : c.index-label.result.now ≡ slice_index v.label b = get_or_read m.label.items b c.index-label.result.now (omega (arith, l, c.self.invariant.sized.label)) c.index-label.ensures 0 in
-    let step : Operation Amount → Operation Amount = λ (o : Operation Amount). seen_by c.args.ports (slice_index v.label b) (f c.args.capacity) o in
+    let step : Operation Amount → Operation Amount = λ (o : Operation Amount). after_capacity_by c.args.ports (slice_index v.label b) (f c.args.capacity) o in
     let o : Operation Amount = step (operation_at v.operation b) in
-    let h : operation_as f c.see.new.operation ≡ step (operation_as f c.index_mut.result.now) = c.see.ensures ∙ ap (λ n. seen_by c.args.ports n (f c.args.capacity) (operation_as f c.index_mut.result.now)) own in
+    let h : operation_as f c.see.new.operation ≡ step (operation_as f c.index_mut.result.now) = c.see.ensures ∙ ap (λ n. after_capacity_by c.args.ports n (f c.args.capacity) (operation_as f c.index_mut.result.now)) own in
     let os : map (operation_as f) (set m.operation.items b c.see.new.operation) ≡ set v.operation b o = place_changed f m.operation.items b c.index_mut.result.now c.see.new.operation step c.index_mut.ensures.value k h in
     ap (λ (xs : List (Operation Amount)). record v { operation = xs; steps = m.steps + 1 }) os
-    ∙ ap (λ (w : StateView). record w { operation = set w.operation b (seen_by c.args.ports (slice_index w.label b) (f c.args.capacity) (operation_at w.operation b)); steps = w.steps + 1 }) c.self.view_is
+    ∙ ap (λ (w : StateView). record w { operation = set w.operation b (after_capacity_by c.args.ports (slice_index w.label b) (f c.args.capacity) (operation_at w.operation b)); steps = w.steps + 1 }) c.self.view_is
 
 pub returns-else-is_idle : goal.returns-else-is_idle
 returns-else-is_idle g c =
@@ -90,9 +90,9 @@ returns-else-is_idle g c =
     let l : b < length v.operation = omega (arith, c.requires.block, ap (λ (w : StateView). length w.operation) c.self.view_is) in
     let k : b < length m.operation.items = omega (arith, l, length-map m.operation.items (operation_as f)) in
     let own : c.index-label.result.now ≡ slice_index v.label b = get_or_read m.label.items b c.index-label.result.now (omega (arith, l, c.self.invariant.sized.label)) c.index-label.ensures 0 in
-    let step : Operation Amount → Operation Amount = λ (o : Operation Amount). seen_by c.args.ports (slice_index v.label b) (f c.args.capacity) o in
+    let step : Operation Amount → Operation Amount = λ (o : Operation Amount). after_capacity_by c.args.ports (slice_index v.label b) (f c.args.capacity) o in
     let o : Operation Amount = step (operation_at v.operation b) in
-    let h : operation_as f c.see.new.operation ≡ step (operation_as f c.index_mut.result.now) = c.see.ensures ∙ ap (λ n. seen_by c.args.ports n (f c.args.capacity) (operation_as f c.index_mut.result.now)) own in
+    let h : operation_as f c.see.new.operation ≡ step (operation_as f c.index_mut.result.now) = c.see.ensures ∙ ap (λ n. after_capacity_by c.args.ports n (f c.args.capacity) (operation_as f c.index_mut.result.now)) own in
     let os : map (operation_as f) (set m.operation.items b c.see.new.operation) ≡ set v.operation b o = place_changed f m.operation.items b c.index_mut.result.now c.see.new.operation step c.index_mut.ensures.value k h in
     ap (λ (xs : List (Operation Amount)). record v { operation = xs; steps = m.steps + 1 }) os
-    ∙ ap (λ (w : StateView). record w { operation = set w.operation b (seen_by c.args.ports (slice_index w.label b) (f c.args.capacity) (operation_at w.operation b)); steps = w.steps + 1 }) c.self.view_is
+    ∙ ap (λ (w : StateView). record w { operation = set w.operation b (after_capacity_by c.args.ports (slice_index w.label b) (f c.args.capacity) (operation_at w.operation b)); steps = w.steps + 1 }) c.self.view_is

@@ -3,7 +3,7 @@ use Rattle.std.specs.Prelude.{◌||◌, nat_le}
 use Rattle.std.specs.List.{list_all, list_any}
 use Rattle.fixed_worth.specs.declared.limits.TheConstants.{LINE_BYTES}
 use Rattle.fixed_worth.specs.Record.{reads, number_of}
-use Rattle.prec_file.proofs.records.read_predecessors.Given as goal
+use Rattle.prec_file.proofs.records.read_row.Given as goal
 
 -- what is found in what is read, with what is left, is what is found in all
 abbrev pub invariant-loop-read : goal.invariant-loop-read

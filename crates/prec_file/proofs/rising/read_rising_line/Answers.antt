@@ -4,7 +4,7 @@ use Rattle.fixed_worth.specs.Text.{fields_of}
 use Rattle.prec_file.specs.Rests.{RowsView}
 use Rattle.prec_file.proofs.History.{told}
 use Rattle.prec_file.proofs.RowReading.{predecessors_known, line_read}
-use Rattle.prec_file.proofs.rising.read_line.Goals as goal
+use Rattle.prec_file.proofs.rising.read_rising_line.Goals as goal
 
 pub returns-in_err-record : goal.returns-in_err-record
 returns-in_err-record c =
