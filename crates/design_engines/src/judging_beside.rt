@@ -127,12 +127,12 @@ fn judge_stream<R: Threads + Sync, C: CountedRead>(
         predecessors,
     } = mine;
     let header = header_for(stream, predecessors.len())?;
-    let found = worths.nanos_by(rt, alloc, header.price)?;
+    let Some(factor) = worths.factor_of(header.price) else {
+        return Err(ValueFault::Engine(EngineFault::Certificate(CertificateProblem::WrongPrice)));
+    };
+    let nanos = worths.nanos_at(rt, alloc, factor)?;
     drop(worths);
-    match found {
-        Some(nanos) => judge_priced(alloc, header.group, nanos, predecessors, marks, stream),
-        None => Err(ValueFault::Engine(EngineFault::Certificate(CertificateProblem::WrongPrice))),
-    }
+    judge_priced(alloc, header.group, nanos, predecessors, marks, stream)
 }
 
 // Judges the design and the stream behind its header, where the blocks are worth so many billionths at its price.

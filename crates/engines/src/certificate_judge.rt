@@ -88,35 +88,25 @@ fn judge_device<R: Threads + Sync, C: CountedRead>(
         mine,
         held,
     } = case;
-    let mut stream = CertStream::over(held, device);
-    let judgement = judge_stream(rt, alloc, mine, &mut stream);
-    (stream.into_device(), judgement)
-}
-
-fn judge_stream<R: Threads + Sync, C: CountedRead>(
-    rt: &R,
-    alloc: Global,
-    mine: MineToCheck,
-    stream: &mut CertStream<C>,
-) -> Result<Judgement, EngineFault>
-    requires count { C.failed stream.old.lines.from < 2 ^ 64 - 1 }
-    requires fresh { IsFresh stream.old }
-    ensures judged { IfSome (C.remaining stream.old.lines.from) (λ c. (texts : MineTexts)
-        → IsMineRead texts (factor_in c) mine.worths mine.predecessors → Judges texts c result) }
-    ensures device { IsErrOf result EngineFault.Device → C.failed stream.new.lines.from ≡ C.failed stream.old.lines.from + 1 }
-    ensures kept { ¬ IsErrOf result EngineFault.Device → C.failed stream.new.lines.from ≡ C.failed stream.old.lines.from }
-{
     let MineToCheck {
         worths,
         predecessors,
     } = mine;
-    let header = header_for(stream, predecessors.len())?;
-    let found = worths.nanos_by(rt, alloc, header.price)?;
+    let mut stream = CertStream::over(held, device);
+    let header = match header_for(&mut stream, predecessors.len()) {
+        Ok(header) => header,
+        Err(fault) => return (stream.into_device(), Err(fault)),
+    };
+    let Some(factor) = worths.factor_of(header.price) else {
+        let fault = EngineFault::Certificate(CertificateProblem::WrongPrice);
+        return (stream.into_device(), Err(fault));
+    };
+    let Ok(nanos) = worths.nanos_at(rt, alloc, factor) else {
+        return (stream.into_device(), Err(EngineFault::Memory));
+    };
     drop(worths);
-    match found {
-        Some(nanos) => judge_in(alloc, header.group, nanos, predecessors, stream),
-        None => Err(EngineFault::Certificate(CertificateProblem::WrongPrice)),
-    }
+    let judgement = judge_in(alloc, header.group, nanos, predecessors, &mut stream);
+    (stream.into_device(), judgement)
 }
 
 /// The header of a certificate for a mine of n blocks.
