@@ -3,7 +3,7 @@ use Rattle.mine_inputs.specs.declared.engine_fault.EngineFault.TheVariants as en
 use Rattle.mine_inputs.specs.declared.engine_fault.CertificateProblem.TheVariants as problem
 use Rattle.engines.proofs.StreamAnswers.{price_unjudged}
 use Rattle.design_engines.proofs.BesideStreams.{unjudged}
-use Rattle.design_engines.proofs.judging_beside.judge_stream.Goals as goal
+use Rattle.design_engines.proofs.judging_beside.beside_stream.Goals as goal
 
 pub returns-in_default-clause-judged : goal.returns-in_default-clause-judged
 returns-in_default-clause-judged g c =
