@@ -27,42 +27,20 @@ pub fn open_mine<'a, R: Files + Eprint + AllocGlobal>(
 ) -> Result<MineInputs<Counted<Told<'a, R, R::File>>>, EngineFault>
     ensures { IfOk result (λ mine. CanCount mine (λ device. device.failures)) }
 {
+    let prec = open_file(rt, verbose, prec)?;
     match model {
-        ModelArgs::Values { upit } => open_values(rt, verbose, prec, upit),
-        ModelArgs::Prices { settings, blocks } => open_prices(rt, verbose, prec, settings, blocks),
+        ModelArgs::Values { upit } => {
+            let upit = open_file(rt, verbose, upit)?;
+            let worths = WorthInputs::Values { upit };
+            Ok(MineInputs { worths, prec })
+        }
+        ModelArgs::Prices { settings, blocks } => {
+            let settings = open_settings(rt, verbose, settings, None)?;
+            let blocks = open_file(rt, verbose, blocks)?;
+            let worths = WorthInputs::Prices { settings, blocks };
+            Ok(MineInputs { worths, prec })
+        }
     }
-}
-
-// Opens the files of a mine of values.
-fn open_values<'a, R: Files + Eprint + AllocGlobal>(
-    rt: &'a R,
-    verbose: bool,
-    prec: &'a str,
-    upit: &'a str,
-) -> Result<MineInputs<Counted<Told<'a, R, R::File>>>, EngineFault>
-    ensures { IfOk result (λ mine. CanCount mine (λ device. device.failures)) }
-{
-    let prec = open_file(rt, verbose, prec)?;
-    let upit = open_file(rt, verbose, upit)?;
-    let worths = WorthInputs::Values { upit };
-    Ok(MineInputs { worths, prec })
-}
-
-// Opens the files of a mine of prices.
-fn open_prices<'a, R: Files + Eprint + AllocGlobal>(
-    rt: &'a R,
-    verbose: bool,
-    prec: &'a str,
-    settings: &'a str,
-    blocks: &'a str,
-) -> Result<MineInputs<Counted<Told<'a, R, R::File>>>, EngineFault>
-    ensures { IfOk result (λ mine. CanCount mine (λ device. device.failures)) }
-{
-    let prec = open_file(rt, verbose, prec)?;
-    let settings = open_settings(rt, verbose, settings, None)?;
-    let blocks = open_file(rt, verbose, blocks)?;
-    let worths = WorthInputs::Prices { settings, blocks };
-    Ok(MineInputs { worths, prec })
 }
 
 /// Opens a file to be read.
