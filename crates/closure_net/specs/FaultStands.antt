@@ -39,13 +39,7 @@ NetFaultStands n ws NoMemory = ⊥
 abbrev pub BlockOverflows : (ℤ → ℕ → Amount) → ℕ → List ℤ → Type 0
 BlockOverflows block n vs = (b : ℕ) × (b < length vs) × ¬ (FitsPair (block (slice_index_or vs b (pos 0)) n))
 
--- why there are no amounts of these blocks
-abbrev pub AmountsFaultStands : (ℤ → ℕ → Amount) → ℕ → List ℤ → NetFault → Type 0
-AmountsFaultStands block n vs WrongLength = ⊥
-AmountsFaultStands block n vs TooLarge = BlockOverflows block n vs
-AmountsFaultStands block n vs NoMemory = Unit {0}
-
--- the same where the worths are made of blocks' worths: one that doesn't fit is too large, too, and memory is wanted only where the lengths agree
+-- the same where the worths are given in billionths: one that doesn't fit is too large, too, and memory is wanted only where the lengths agree
 abbrev pub WorthsFaultStands : (ℤ → ℕ → Amount) → ℕ → List ℤ → NetFault → Type 0
 WorthsFaultStands block n vs WrongLength = n ≢ length vs
 WorthsFaultStands block n vs TooLarge = (n ≡ length vs) × (BlockOverflows block n vs ⊎ WorthsOverflow (map (λ v. block v n) vs))

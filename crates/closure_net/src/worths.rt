@@ -4,7 +4,7 @@
 ghost use Rattle.std.specs.Prelude.{◌≡◌, ◌<◌, length, map, MatchBool, MatchResult};
 ghost use Rattle.ordered_group.specs.Amount.{negative};
 ghost use Rattle.ordered_group.specs.Sums.{amount_at};
-ghost use Rattle.closure_net.specs.FaultStands.{OppositesFit, OppositeOverflows, PositivesFit, PositivesOverflow, WorthsFit, WorthsOverflow, AmountsFaultStands, WorthsFaultStands};
+ghost use Rattle.closure_net.specs.FaultStands.{OppositesFit, OppositeOverflows, PositivesFit, PositivesOverflow, WorthsFit, WorthsOverflow, WorthsFaultStands};
 
 use crate::net::NetFault;
 use ordered_group::{OrderedGroup, negative_part, positive_part};
@@ -44,24 +44,6 @@ pub(crate) fn worths_fit<G: OrderedGroup>(worths: &[G]) -> bool
     opposites_fit(worths) && positives_fit(worths)
 }
 
-// The amounts of the blocks of a model of n blocks, by their worths in billionths.
-fn amounts_of_blocks<G: OrderedGroup>(
-    alloc: Global,
-    nanos: &[i128],
-    n: u32,
-) -> Result<Vec<G>, NetFault>
-    ensures { MatchResult result
-        (λ v. map G.parts_of v.items ≡ map (λ x. G.block_parts x n) nanos.now)
-        (λ e. AmountsFaultStands G.block_parts n nanos.now e) }
-{
-    let mut amounts: Vec<G> = Vec::new(alloc);
-    for x in nanos {
-        let amount = G::of_block(*x, n).ok_or(NetFault::TooLarge)?;
-        amounts.push(amount).map_err(|_| NetFault::NoMemory)?;
-    }
-    Ok(amounts)
-}
-
 // The worths of a net of n blocks, by their worths in billionths.
 pub(crate) fn worths_of_blocks<G: OrderedGroup>(
     alloc: Global,
@@ -75,7 +57,11 @@ pub(crate) fn worths_of_blocks<G: OrderedGroup>(
     if n as usize != nanos.len() {
         return Err(NetFault::WrongLength);
     }
-    let worths = amounts_of_blocks(alloc, nanos, n)?;
+    let mut worths: Vec<G> = Vec::new(alloc);
+    for x in nanos {
+        let worth = G::of_block(*x, n).ok_or(NetFault::TooLarge)?;
+        worths.push(worth).map_err(|_| NetFault::NoMemory)?;
+    }
     if !worths_fit(&worths) {
         return Err(NetFault::TooLarge);
     }

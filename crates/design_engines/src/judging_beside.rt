@@ -58,19 +58,19 @@ pub(crate) fn judge_beside<R: Threads + Sync, C: CountedRead>(
     ensures kept { ¬ IsErrOf result (value.Engine engine.Device) → C.failed certificate.new ≡ C.failed certificate.old }
 {
     let held = StreamBytes::new(alloc)?;
-    let case = Case {
+    let case = BesideCase {
         rt,
         alloc,
         mine,
         marks,
         held,
     };
-    replace_with(certificate, case, judge_device)
+    replace_with(certificate, case, beside_device)
 }
 
 // A mine and a design of it that a certificate is judged beside, with memory for a line of the certificate.
 #[derive(Drop)]
-struct Case<'a, R> {
+struct BesideCase<'a, R> {
     rt: &'a R,
     alloc: Global,
     mine: MineToCheck,
@@ -79,9 +79,9 @@ struct Case<'a, R> {
 }
 
 // Judges the case over this device, which a stream holds meanwhile, and hands the device back.
-fn judge_device<R: Threads + Sync, C: CountedRead>(
+fn beside_device<R: Threads + Sync, C: CountedRead>(
     device: C,
-    case: Case<'_, R>,
+    case: BesideCase<'_, R>,
 ) -> (C, Result<Beside, ValueFault>)
     requires count { C.failed device < 2 ^ 64 - 1 }
     requires marks { length case.marks.items ≡ case.mine.predecessors.blocks }
@@ -94,7 +94,7 @@ fn judge_device<R: Threads + Sync, C: CountedRead>(
     ensures device { IsErrOf result.1 (value.Engine engine.Device) → C.failed result.0 ≡ C.failed device + 1 }
     ensures kept { ¬ IsErrOf result.1 (value.Engine engine.Device) → C.failed result.0 ≡ C.failed device }
 {
-    let Case {
+    let BesideCase {
         rt,
         alloc,
         mine,
@@ -102,11 +102,11 @@ fn judge_device<R: Threads + Sync, C: CountedRead>(
         held,
     } = case;
     let mut stream = CertStream::over(held, device);
-    let beside = judge_stream(rt, alloc, mine, marks, &mut stream);
+    let beside = beside_stream(rt, alloc, mine, marks, &mut stream);
     (stream.into_device(), beside)
 }
 
-fn judge_stream<R: Threads + Sync, C: CountedRead>(
+fn beside_stream<R: Threads + Sync, C: CountedRead>(
     rt: &R,
     alloc: Global,
     mine: MineToCheck,
@@ -127,12 +127,12 @@ fn judge_stream<R: Threads + Sync, C: CountedRead>(
         predecessors,
     } = mine;
     let header = header_for(stream, predecessors.len())?;
-    let found = worths.nanos_by(rt, alloc, header.price)?;
+    let Some(factor) = worths.factor_of(header.price) else {
+        return Err(ValueFault::Engine(EngineFault::Certificate(CertificateProblem::WrongPrice)));
+    };
+    let nanos = worths.nanos_at(rt, alloc, factor)?;
     drop(worths);
-    match found {
-        Some(nanos) => judge_priced(alloc, header.group, nanos, predecessors, marks, stream),
-        None => Err(ValueFault::Engine(EngineFault::Certificate(CertificateProblem::WrongPrice))),
-    }
+    judge_priced(alloc, header.group, nanos, predecessors, marks, stream)
 }
 
 // Judges the design and the stream behind its header, where the blocks are worth so many billionths at its price.

@@ -8,11 +8,10 @@ ghost use Rattle.certificate_file.specs.Header.{header_of};
 ghost use Rattle.closure_net.specs.Network.{holds_of, IsAscending};
 ghost use Rattle.ordered_group.specs.Amount.{FitsPair};
 ghost use Rattle.closure_net.specs.Closure.{group_worth, IsGreatest};
-ghost use Rattle.closure_net.specs.Mine.{IsNetOf};
 ghost use Rattle.check_pit.specs.CertStreams.{IsReadFor};
 ghost use Rattle.check_pit.specs.declared.pit_fault.PitFault.{PitFault};
 ghost use Rattle.check_pit.specs.declared.stream_fault.StreamFault.TheVariants as stream;
-ghost use Rattle.mine_inputs.specs.Mines.{MineTexts, DenoteMine, mine_of};
+ghost use Rattle.mine_inputs.specs.Mines.{MineTexts, DenoteMine};
 ghost use Rattle.engines.specs.Readings.{IsHeader, IsGroupNamed};
 ghost use Rattle.engines.specs.FaultStands.{Fails};
 ghost use Rattle.engines.specs.Judging.{Judges, IsFresh, IsOpen, StandsBehind, of_stream, factor_in};
@@ -23,7 +22,7 @@ use check_pit::{
     Accepted, AcceptedPit, CertFault, CertStream, Header, Room, StreamBytes, StreamFault,
     check_graph,
 };
-use closure_net::{Graph, GraphRef, laws};
+use closure_net::{Graph, laws};
 use core::mem::replace_with;
 use fixed_worth::CountedRead;
 use mine_inputs::{CertificateProblem, EngineFault, MineToCheck};
@@ -89,35 +88,25 @@ fn judge_device<R: Threads + Sync, C: CountedRead>(
         mine,
         held,
     } = case;
-    let mut stream = CertStream::over(held, device);
-    let judgement = judge_stream(rt, alloc, mine, &mut stream);
-    (stream.into_device(), judgement)
-}
-
-fn judge_stream<R: Threads + Sync, C: CountedRead>(
-    rt: &R,
-    alloc: Global,
-    mine: MineToCheck,
-    stream: &mut CertStream<C>,
-) -> Result<Judgement, EngineFault>
-    requires count { C.failed stream.old.lines.from < 2 ^ 64 - 1 }
-    requires fresh { IsFresh stream.old }
-    ensures judged { IfSome (C.remaining stream.old.lines.from) (λ c. (texts : MineTexts)
-        → IsMineRead texts (factor_in c) mine.worths mine.predecessors → Judges texts c result) }
-    ensures device { IsErrOf result EngineFault.Device → C.failed stream.new.lines.from ≡ C.failed stream.old.lines.from + 1 }
-    ensures kept { ¬ IsErrOf result EngineFault.Device → C.failed stream.new.lines.from ≡ C.failed stream.old.lines.from }
-{
     let MineToCheck {
         worths,
         predecessors,
     } = mine;
-    let header = header_for(stream, predecessors.len())?;
-    let found = worths.nanos_by(rt, alloc, header.price)?;
+    let mut stream = CertStream::over(held, device);
+    let header = match header_for(&mut stream, predecessors.len()) {
+        Ok(header) => header,
+        Err(fault) => return (stream.into_device(), Err(fault)),
+    };
+    let Some(factor) = worths.factor_of(header.price) else {
+        let fault = EngineFault::Certificate(CertificateProblem::WrongPrice);
+        return (stream.into_device(), Err(fault));
+    };
+    let Ok(nanos) = worths.nanos_at(rt, alloc, factor) else {
+        return (stream.into_device(), Err(EngineFault::Memory));
+    };
     drop(worths);
-    match found {
-        Some(nanos) => judge_in(alloc, header.group, nanos, predecessors, stream),
-        None => Err(EngineFault::Certificate(CertificateProblem::WrongPrice)),
-    }
+    let judgement = judge_in(alloc, header.group, nanos, predecessors, &mut stream);
+    (stream.into_device(), judgement)
 }
 
 /// The header of a certificate for a mine of n blocks.
@@ -218,26 +207,9 @@ fn judge_by<G: OrderedGroup, C: CountedRead>(
     ensures device { IsErrOf result EngineFault.Device → C.failed stream.new.lines.from ≡ C.failed stream.old.lines.from + 1 }
     ensures kept { ¬ IsErrOf result EngineFault.Device → C.failed stream.new.lines.from ≡ C.failed stream.old.lines.from }
 {
-    let net = Graph::<G>::of_worths(alloc, rests, &nanos)?;
+    let graph = Graph::<G>::of_worths(alloc, rests, &nanos)?;
     drop(nanos);
-    judge_for(alloc, net.as_ref(), stream)
-}
-
-// Judges the stream behind its header for the graph of the mine's net.
-fn judge_for<G: OrderedGroup, C: CountedRead>(
-    alloc: Global,
-    net: GraphRef<'_, G>,
-    stream: &mut CertStream<C>,
-) -> Result<Judgement, EngineFault>
-    requires count { C.failed stream.old.lines.from < 2 ^ 64 - 1 }
-    requires open { IsOpen stream.old }
-    requires header { IsReadFor (length net.worths) G.name stream.old.header stream.old.fault }
-    ensures judged { (texts : MineTexts) (c : List ℕ) → DenoteMine texts (length net.entry.worths) → IsGroupNamed G.name G.block_parts G.counts
-        → IsHeader texts c (length net.entry.worths) G.name → StandsBehind C.remaining c stream.old.lines
-        → IsNetOf G.block_parts (mine_of (length net.entry.worths) texts) net.entry → Judges texts c result }
-    ensures device { IsErrOf result EngineFault.Device → C.failed stream.new.lines.from ≡ C.failed stream.old.lines.from + 1 }
-    ensures kept { ¬ IsErrOf result EngineFault.Device → C.failed stream.new.lines.from ≡ C.failed stream.old.lines.from }
-{
+    let net = graph.as_ref();
     // proof: what is known of every net, that its pairs are of its blocks and in order
     let _worths = net.worths();
     let mut room = Room::of_blocks(alloc, net.len())?;

@@ -79,23 +79,13 @@ fn run<R: Files + Print + Eprint + Env + Clock + Threads + Wait + Sync + AllocGl
         return Ok(Ending::Answered(stored_check(rt, rt.alloc(), &mut out)?));
     }
     match request_of(rt.alloc(), args.as_slice()) {
-        Ok(request) => answer(rt, request),
+        Ok(Request::Check(args)) => Ok(Ending::Answered(check_files(rt, args)?)),
+        Ok(Request::Replay(args)) => replay(rt, args),
+        Ok(Request::Solve(args)) => solve(rt, args),
+        Ok(Request::Series(args)) => series(rt, args),
+        Ok(Request::Slopes(args)) => slopes(rt, args),
+        Ok(Request::Value(args)) => value(rt, args),
         Err(declined) => printed(rt, &declined),
-    }
-}
-
-// Does what was asked for.
-fn answer<R: Files + Print + Eprint + Clock + Threads + Wait + Sync + AllocGlobal>(
-    rt: &R,
-    request: Request<'_>,
-) -> Result<Ending, EngineFault> {
-    match request {
-        Request::Check(args) => Ok(Ending::Answered(check_files(rt, args)?)),
-        Request::Replay(args) => replay(rt, args),
-        Request::Solve(args) => solve(rt, args),
-        Request::Series(args) => series(rt, args),
-        Request::Slopes(args) => slopes(rt, args),
-        Request::Value(args) => value(rt, args),
     }
 }
 

@@ -6,12 +6,13 @@ ghost use Rattle.mine_inputs.specs.MineInputs.{CanCount};
 
 use crate::heard::Heard;
 use crate::pairs_bound::PairsBound;
-use crate::replaced::Replaced;
+use crate::replaced::{Replaced, open_replaced};
 use crate::settings_reasons::KeptText;
-use crate::told::{Told, made, opened, opened_and_heard};
+use crate::told::{Told, tell, told_by};
 use command_line::ModelArgs;
 use engines::{EngineFault, MineInputs, WorthInputs};
 use fixed_worth::Counted;
+use std::fs::File;
 use std::rt::Files;
 use std::sync::atomic::AtomicU64;
 
@@ -27,42 +28,20 @@ pub fn open_mine<'a, R: Files + Eprint + AllocGlobal>(
 ) -> Result<MineInputs<Counted<Told<'a, R, R::File>>>, EngineFault>
     ensures { IfOk result (λ mine. CanCount mine (λ device. device.failures)) }
 {
+    let prec = open_heard(rt, verbose, prec, None)?;
     match model {
-        ModelArgs::Values { upit } => open_values(rt, verbose, prec, upit),
-        ModelArgs::Prices { settings, blocks } => open_prices(rt, verbose, prec, settings, blocks),
+        ModelArgs::Values { upit } => {
+            let upit = open_heard(rt, verbose, upit, None)?;
+            let worths = WorthInputs::Values { upit };
+            Ok(MineInputs { worths, prec })
+        }
+        ModelArgs::Prices { settings, blocks } => {
+            let settings = open_settings(rt, verbose, settings, None)?;
+            let blocks = open_heard(rt, verbose, blocks, None)?;
+            let worths = WorthInputs::Prices { settings, blocks };
+            Ok(MineInputs { worths, prec })
+        }
     }
-}
-
-// Opens the files of a mine of values.
-fn open_values<'a, R: Files + Eprint + AllocGlobal>(
-    rt: &'a R,
-    verbose: bool,
-    prec: &'a str,
-    upit: &'a str,
-) -> Result<MineInputs<Counted<Told<'a, R, R::File>>>, EngineFault>
-    ensures { IfOk result (λ mine. CanCount mine (λ device. device.failures)) }
-{
-    let prec = open_file(rt, verbose, prec)?;
-    let upit = open_file(rt, verbose, upit)?;
-    let worths = WorthInputs::Values { upit };
-    Ok(MineInputs { worths, prec })
-}
-
-// Opens the files of a mine of prices.
-fn open_prices<'a, R: Files + Eprint + AllocGlobal>(
-    rt: &'a R,
-    verbose: bool,
-    prec: &'a str,
-    settings: &'a str,
-    blocks: &'a str,
-) -> Result<MineInputs<Counted<Told<'a, R, R::File>>>, EngineFault>
-    ensures { IfOk result (λ mine. CanCount mine (λ device. device.failures)) }
-{
-    let prec = open_file(rt, verbose, prec)?;
-    let settings = open_settings(rt, verbose, settings, None)?;
-    let blocks = open_file(rt, verbose, blocks)?;
-    let worths = WorthInputs::Prices { settings, blocks };
-    Ok(MineInputs { worths, prec })
 }
 
 /// Opens a file to be read.
@@ -76,10 +55,7 @@ pub fn open_file<'a, R: Files + Eprint>(
 ) -> Result<Counted<Told<'a, R, R::File>>, EngineFault>
     ensures { IfOk result (λ counted. counted.failures ≡ 0) }
 {
-    match opened(rt, verbose, name) {
-        Ok(file) => Ok(Counted::new(file)),
-        Err(_) => Err(EngineFault::Device),
-    }
+    open_heard(rt, verbose, name, None)
 }
 
 /// Opens a file of settings, of whose fault it is told at their end. There, too, the number of offsets that they list is put
@@ -96,7 +72,7 @@ pub fn open_settings<'a, R: Files + Eprint + AllocGlobal>(
     ensures { IfOk result (λ counted. counted.failures ≡ 0) }
 {
     let text = KeptText::new(rt.alloc(), offsets);
-    open_heard(rt, verbose, name, Heard::Settings(text))
+    open_heard(rt, verbose, name, Some(Heard::Settings(text)))
 }
 
 /// Opens a file of blocks, at whose end it is told how many pairs their slopes may give, by the number of offsets that is
@@ -113,21 +89,24 @@ pub fn open_blocks<'a, R: Files + Eprint>(
     ensures { IfOk result (λ counted. counted.failures ≡ 0) }
 {
     let bound = PairsBound::new(offsets);
-    open_heard(rt, verbose, name, Heard::Blocks(bound))
+    open_heard(rt, verbose, name, Some(Heard::Blocks(bound)))
 }
 
-// Opens a file to be read of which there is something to tell at its end.
+// Opens a file to be read, of which there may be something to tell at its end.
 fn open_heard<'a, R: Files + Eprint>(
     rt: &'a R,
     verbose: bool,
     name: &'a str,
-    heard: Heard<'a>,
+    heard: Option<Heard<'a>>,
 ) -> Result<Counted<Told<'a, R, R::File>>, EngineFault>
     ensures { IfOk result (λ counted. counted.failures ≡ 0) }
 {
-    match opened_and_heard(rt, verbose, name, heard) {
-        Ok(file) => Ok(Counted::new(file)),
-        Err(_) => Err(EngineFault::Device),
+    match File::open(rt, name) {
+        Ok(device) => Ok(Counted::new(told_by(rt, verbose, name, device, heard))),
+        Err(error) => {
+            tell(rt, verbose, "open", name, error);
+            Err(EngineFault::Device)
+        }
     }
 }
 
@@ -143,8 +122,11 @@ pub fn make_file<'a, R: Files + Eprint>(
 ) -> Result<Counted<Told<'a, R, Replaced<R::File>>>, EngineFault>
     ensures { IfOk result (λ counted. counted.failures ≡ 0) }
 {
-    match made(rt, verbose, name) {
-        Ok(file) => Ok(Counted::new(file)),
-        Err(_) => Err(EngineFault::Device),
+    match open_replaced(rt, name) {
+        Ok(device) => Ok(Counted::new(told_by(rt, verbose, name, device, None))),
+        Err(error) => {
+            tell(rt, verbose, "make", name, error);
+            Err(EngineFault::Device)
+        }
     }
 }

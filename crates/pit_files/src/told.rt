@@ -2,12 +2,9 @@
 
 use crate::advice::Advice;
 use crate::heard::Heard;
-use crate::replaced::{Replaced, open_replaced};
 use command_line::Escaped;
-use std::fs::File;
 use std::io;
 use std::io::{Printer, Read, Write};
-use std::rt::Files;
 
 /// A file, or standard output, under its name. It reports on standard error, where that was asked for: the system's reason for
 /// each call that fails, whose failure is handed on; a file that begins with the mark of UTF-8; and, for the output of a
@@ -28,71 +25,25 @@ pub struct Told<'a, R, D> {
 // What some programs put at the head of a text in UTF-8.
 const MARK: &[u8] = b"\xEF\xBB\xBF";
 
-/// Opens a file to be read.
-///
-/// # Errors
-/// That of the system, of which it tells.
-pub fn opened<'a, R: Files + Eprint>(
-    rt: &'a R,
-    verbose: bool,
-    name: &'a str,
-) -> io::Result<Told<'a, R, R::File>> {
-    match File::open(rt, name) {
-        Ok(device) => Ok(told_by(rt, verbose, name, device)),
-        Err(error) => {
-            tell(rt, verbose, "open", name, error);
-            Err(error)
-        }
-    }
-}
-
-/// Opens a file to be read of which there is something to tell at its end.
-///
-/// # Errors
-/// That of the system, of which it tells.
-pub fn opened_and_heard<'a, R: Files + Eprint>(
-    rt: &'a R,
-    verbose: bool,
-    name: &'a str,
-    heard: Heard<'a>,
-) -> io::Result<Told<'a, R, R::File>> {
-    let mut told = opened(rt, verbose, name)?;
-    if verbose {
-        told.heard = Some(heard);
-    }
-    Ok(told)
-}
-
-/// Opens a file to be replaced at the first write, or makes one.
-///
-/// # Errors
-/// That of the system, of which it tells.
-pub fn made<'a, R: Files + Eprint>(
-    rt: &'a R,
-    verbose: bool,
-    name: &'a str,
-) -> io::Result<Told<'a, R, Replaced<R::File>>> {
-    match open_replaced(rt, name) {
-        Ok(device) => Ok(told_by(rt, verbose, name, device)),
-        Err(error) => {
-            tell(rt, verbose, "make", name, error);
-            Err(error)
-        }
-    }
-}
-
 /// Standard output of a command that may be given advice.
 pub fn output<'a, R: Print + Eprint>(
     rt: &'a R,
     verbose: bool,
     advice: Option<Advice>,
 ) -> Told<'a, R, Printer<'a, R>> {
-    let mut told = told_by(rt, verbose, "standard output", io::writer(rt));
+    let mut told = told_by(rt, verbose, "standard output", io::writer(rt), None);
     told.advice = advice;
     told
 }
 
-fn told_by<'a, R, D>(rt: &'a R, verbose: bool, name: &'a str, device: D) -> Told<'a, R, D> {
+/// A device under its name, and what is told at the end of what is read of it.
+pub fn told_by<'a, R, D>(
+    rt: &'a R,
+    verbose: bool,
+    name: &'a str,
+    device: D,
+    heard: Option<Heard<'a>>,
+) -> Told<'a, R, D> {
     Told {
         rt,
         verbose,
@@ -100,7 +51,7 @@ fn told_by<'a, R, D>(rt: &'a R, verbose: bool, name: &'a str, device: D) -> Told
         advice: None,
         device,
         is_begun: false,
-        heard: None,
+        heard: if verbose { heard } else { None },
     }
 }
 
@@ -156,9 +107,9 @@ impl<R: Eprint, D: Write> Write for Told<'_, R, D> {
     }
 }
 
-// Tells what couldn't be done with what, and why. The engine answers by the failure itself, so nothing depends on whether
-// anybody can be told.
-fn tell<R: Eprint>(rt: &R, verbose: bool, what: &str, name: &str, why: io::Error) {
+/// Tells what couldn't be done with what, and why. The engine answers by the failure itself, so nothing depends on whether
+/// anybody can be told.
+pub fn tell<R: Eprint>(rt: &R, verbose: bool, what: &str, name: &str, why: io::Error) {
     if verbose {
         let name = Escaped { text: name };
         let _ = rt.eprintln(format_args!("reason: cannot {what} {name}: {why}"));

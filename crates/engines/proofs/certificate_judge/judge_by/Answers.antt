@@ -1,18 +1,52 @@
-use Rattle.std.proofs.Common.{ℤ, List, sym, ◌∙◌, subst}
+use Rattle.std.proofs.Common.{ℤ, List, refl, sym, ◌∙◌, subst, rules, FitsSigned}
+use Rattle.std.specs.Int.{w128}
+use Rattle.std.proofs.lemmas.Int.{to_z-of_z}
 use Rattle.std.proofs.lemmas.Result.{err_from_is_err_and}
 use Rattle.mine_inputs.specs.ReadMines.{AreRead}
-use Rattle.engines.proofs.Judged.{net_fails, net_known}
+use Rattle.engines.specs.Refusals.{flow_for}
+use Rattle.engines.proofs.Judged.{judged_accepted, net_fails, net_known}
+use Rattle.engines.proofs.Streamed.{IsAsked, stream_answered, stream_read, stream_proves, stream_short}
 use Rattle.engines.proofs.certificate_judge.judge_by.Goals as goal
 
-pub returns-in_err-net-clause-judged : goal.returns-in_err-net-clause-judged
-returns-in_err-net-clause-judged g c = λ texts text read named header stands.
+pub returns-in_err-graph-clause-judged : goal.returns-in_err-graph-clause-judged
+returns-in_err-graph-clause-judged g c = λ texts text read named header stands.
     let P : List ℤ → Type 0 = λ nanos. AreRead texts nanos c.args.rests in
     let p = err_from_is_err_and c.from_residual.result c.from_residual.ensures.1 in
     rw (p.1, p.2)
-    (net_fails g.G.OrderedGroup.name g.G.OrderedGroup.block_parts g.G.OrderedGroup.counts texts text c.args.rests c.deref.result.now c.in_err-net.field-0.0 (subst P (sym c.deref.ensures.value) read) named header c.in_err-net.ensures)
+    (net_fails g.G.OrderedGroup.name g.G.OrderedGroup.block_parts g.G.OrderedGroup.counts texts text c.args.rests c.deref.result.now c.in_err-graph.field-0.0 (subst P (sym c.deref.ensures.value) read) named header c.in_err-graph.ensures)
+
+pub returns-in-Ok-clause-judged : goal.returns-in-Ok-clause-judged
+returns-in-Ok-clause-judged g c = λ texts text read named header stands.
+    let name = g.G.OrderedGroup.name in
+    let block = g.G.OrderedGroup.block_parts in
+    let counts = g.G.OrderedGroup.counts in
+    let net = c.as_ref-net.result in
+    let P : List ℤ → Type 0 = λ nanos. AreRead texts nanos c.args.rests in
+    let known = net_known block texts text name c.args.rests c.deref.result.now net (subst P (sym c.deref.ensures.value) read) header (c.as_ref-net.ensures ∙ c.in_ok-graph.ensures.0) c.in_ok-graph.ensures.1 in
+    let asked : IsAsked name block counts texts text net = record { mine = known.mine; named = named; header = known.header; is_net = c.worths-worths.ensures.net; of_mine = known.of_mine } in
+    let checked = c.in-Ok.ensures.checked c.requires.open.fault c.requires.open.undone in
+    let before = c.args.stream.now.lines in
+    let later = c.check_graph.new.stream.lines in
+    let pit = c.in-Ok.accepted.pit in
+    let laws = g.met.G.OrderedGroup g.world.𝓛 g.world.𝓜 g.world.𝓡 ((λ s x. x), (λ x. x), (λ x. x), λ x. x) in
+    let fits : FitsSigned w128 c.worth_of_pit-worth.result = search rules in
+    judged_accepted name block counts texts text net pit (flow_for counts net text)
+    (stream_read name block counts texts text net asked g.C.Read.remaining before later stands checked.0 checked.1 pit checked.2.1)
+    (stream_short name block counts texts text net asked g.C.Read.remaining before later stands checked.0 checked.1 pit checked.2.1)
+    g.G.OrderedGroup.set_worth laws.tells_worth c.in-Ok.accepted.net pit checked.2.0 refl
+    (stream_proves name block counts texts text net asked g.C.Read.remaining before later stands checked.0 checked.1 pit checked.2.1)
+    c.worth_of_pit-worth.ensures.greatest
+    c.group.result c.size_of_pit-count.result c.worth_of_pit-worth.result _ c.group.ensures c.size_of_pit-count.ensures.size c.worth_of_pit-worth.ensures.worth (to_z-of_z w128 c.worth_of_pit-worth.result fits)
 
 pub returns-clause-judged : goal.returns-clause-judged
 returns-clause-judged g c = λ texts text read named header stands.
+    let name = g.G.OrderedGroup.name in
+    let block = g.G.OrderedGroup.block_parts in
+    let counts = g.G.OrderedGroup.counts in
+    let net = c.as_ref-net.result in
     let P : List ℤ → Type 0 = λ nanos. AreRead texts nanos c.args.rests in
-    let known = net_known g.G.OrderedGroup.block_parts texts text g.G.OrderedGroup.name c.args.rests c.deref.result.now c.as_ref.result (subst P (sym c.deref.ensures.value) read) header (c.as_ref.ensures ∙ c.in_ok-net.ensures.0) c.in_ok-net.ensures.1 in
-    c.judge_for.ensures.judged texts text known.mine named known.header stands known.of_mine
+    let known = net_known block texts text name c.args.rests c.deref.result.now net (subst P (sym c.deref.ensures.value) read) header (c.as_ref-net.ensures ∙ c.in_ok-graph.ensures.0) c.in_ok-graph.ensures.1 in
+    let asked : IsAsked name block counts texts text net = record { mine = known.mine; named = named; header = known.header; is_net = c.worths-worths.ensures.net; of_mine = known.of_mine } in
+    let checked = c.in-Err.ensures.checked c.requires.open.fault c.requires.open.undone in
+    rw (c.judgement_of.ensures)
+    (stream_answered name block counts texts text net asked g.C.Read.remaining c.args.stream.now.lines c.check_graph.new.stream.lines stands checked.0 checked.1 c.in-Err.fault checked.2)
