@@ -12,7 +12,7 @@ mod series_args;
 mod slopes_args;
 mod solve_options;
 mod solving;
-mod solving_asked;
+mod solving_args;
 
 pub use effort_args::effort_for_series;
 pub use files::{check_files, listed_slopes_files, replay_files, slopes_file, value_files};
@@ -20,4 +20,4 @@ pub use series_args::table_over_an_input;
 pub use slopes_args::{pattern_asked, up_asked};
 pub use solve_options::{factor_asked, replay_asked, value_factor_asked};
 pub use solving::solve_files;
-pub use solving_asked::{SolvingAsked, solving_asked};
+pub use solving_args::{SolvingAsked, solving_asked};

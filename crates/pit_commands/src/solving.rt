@@ -1,7 +1,7 @@
 //! Runs the engines of `solve` on files: opens all files before any is read, and gives the engine's
 //! answer.
 
-use crate::solving_asked::SolvingAsked;
+use crate::solving_args::SolvingAsked;
 use audit_engines::{TracedAsked, TracedOutputs, solve_traced_engine};
 use command_line::SolveArgs;
 use engines::{EngineFault, Outcome, SolveAsked, Verdict, solve_engine};
