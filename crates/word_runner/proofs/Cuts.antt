@@ -1,5 +1,5 @@
 -- A worth that is cut.
-use Rattle.std.proofs.Common.{inl, inr, ◌≡◌, ℕ, pos, ◌-ℤ◌, ◌<ℤ◌, ◌≤ℤ◌, ◌⊎◌, ◌+◌, ◌<◌, ◌^◌, List, [], ◌∷◌, ◌++◌, map, length, get_or, ap, ap₂, sym, ◌∙◌, subst, arith, ⊎_elim}
+use Rattle.std.proofs.Common.{inl, inr, ◌≡◌, ℕ, pos, ◌-ℤ◌, ◌+◌, ◌<◌, ◌^◌, List, [], ◌∷◌, ◌++◌, map, length, get_or, ap, ap₂, sym, ◌∙◌, subst, arith, ⊎_elim}
 use Rattle.std.proofs.lemmas.Int.{ints}
 use Rattle.std.specs.Prelude.{FitsSigned}
 use Rattle.std.specs.Int.{w128}

@@ -1,5 +1,5 @@
 -- An operation that is told to be idle.
-use Rattle.std.proofs.Common.{◌∷◌, ◌++◌, ◌⊎◌, ◌≡◌, ◌≢◌, ℕ, ◌+◌, ◌%◌, ◌<◌, ◌≤◌, true, refl, ◌∙◌}
+use Rattle.std.proofs.Common.{◌≡◌, ℕ, true, refl}
 use Rattle.machine_law.specs.declared.operations.Operation.{Operation}
 use Rattle.machine_law.specs.declared.operations.Operation.TheVariants.{Idle, Scan, PushDue, TakeDue, GiveDue, RaiseDue}
 use Rattle.word_runner.specs.Views.{is_idle}

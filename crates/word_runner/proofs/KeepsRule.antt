@@ -1,5 +1,5 @@
 -- A turn keeps the rule: one operation on one word is the step of the machine that is next for the block.
-use Rattle.std.proofs.Common.{inl, inr, ◌⊎◌, ◌≡◌, ◌≢◌, ℕ, ◌+◌, ◌<◌, ◌^◌, true, List, [], ◌∷◌, ◌++◌, All, length, get_or, set, get_or-set_same, refl, ap, sym, ◌∙◌, subst, arith}
+use Rattle.std.proofs.Common.{inl, inr, ◌≡◌, ◌≢◌, ℕ, ◌+◌, ◌<◌, ◌^◌, true, List, [], ◌∷◌, ◌++◌, All, length, get_or, set, get_or-set_same, refl, ap, sym, ◌∙◌, subst, arith}
 use Rattle.std.proofs.lemmas.Bool.{cases_eq, ltb-true}
 use mathlib.Core.Option.{none, some}
 use lib.ListN.{get_elem?}

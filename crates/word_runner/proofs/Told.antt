@@ -1,5 +1,5 @@
 -- What a seat's own numbers are after a turn.
-use Rattle.std.proofs.Common.{inl, ◌⊎◌, ◌≡◌, ℕ, zero, [], replicate, true≢false, ◌+◌, ◌<◌, Bool, true, false, List, length, get_or, refl, ap, sym, ◌∙◌, subst, length-set}
+use Rattle.std.proofs.Common.{inl, ◌≡◌, ℕ, zero, [], replicate, true≢false, ◌+◌, Bool, true, false, List, length, get_or, refl, ap, sym, ◌∙◌, subst, length-set}
 use Rattle.atomic_table.specs.declared.shared.Seat.{Seat}
 use Rattle.closure_net.specs.Network.{NetView}
 use Rattle.machine_law.specs.declared.operations.Operation.{Operation}

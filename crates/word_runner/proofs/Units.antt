@@ -1,5 +1,5 @@
 -- Amounts of units, and numbers.
-use Rattle.std.proofs.Common.{◌-ℤ◌, ◌+ℤ◌, ◌≡◌, ℕ, ◌+◌, ◌-◌, ◌≤◌, ◌<◌, inl, inr, Bool, true, false, nat_lt, if◌then◌else◌, refl, ◌∙◌, arith}
+use Rattle.std.proofs.Common.{◌≡◌, ℕ, ◌+◌, ◌-◌, ◌≤◌, inl, inr, Bool, true, false, nat_lt, if◌then◌else◌, refl, ◌∙◌, arith}
 use Rattle.std.proofs.lemmas.Int.{ints}
 use Rattle.std.proofs.lemmas.Bool.{ltb-true, ltb-false}
 use Rattle.ordered_group.specs.Amount.{Amount, plus, minus, AtMost, least}

@@ -1,5 +1,5 @@
 -- A load of an arrival, and one seat that becomes two.
-use Rattle.std.specs.Prelude.{◌≡◌, ℕ, ◌+◌, ◌<◌, ◌^◌, true, false, [], ◌∷◌, ◌++◌}
+use Rattle.std.specs.Prelude.{◌≡◌, ℕ, ◌<◌, ◌^◌, true, false, [], ◌∷◌, ◌++◌}
 use Rattle.atomic_table.specs.Table.{Step}
 use Rattle.machine_law.specs.declared.operations.Operation.TheVariants.{Idle}
 use Rattle.word_runner.specs.declared.view.View.{View}

@@ -1,5 +1,5 @@
 -- What a seat's view shows of the state, and the rule that holds between any two operations on the words.
-use Rattle.std.specs.Prelude.{◌≡◌, ℕ, ◌+◌, ◌<◌, ◌%◌, ◌^◌, ◌==◌, Bool, true, false, if◌then◌else◌, List, [], ◌∷◌, ◌++◌, length, replicate, slice_index}
+use Rattle.std.specs.Prelude.{◌≡◌, ℕ, ◌<◌, ◌%◌, ◌^◌, ◌==◌, Bool, true, false, if◌then◌else◌, List, [], ◌∷◌, ◌++◌, length, replicate, slice_index}
 use Rattle.std.specs.List.{filter}
 use mathlib.Core.Option.{some}
 use lib.ListN.{get_elem?}

@@ -1,4 +1,4 @@
-use Rattle.std.proofs.Common.{rules, ◌≡◌, ◌<◌, ◌≤◌}
+use Rattle.std.proofs.Common.{rules}
 use Rattle.word_runner.proofs.Gains.{too_much, too_much_at, all_gains}
 use Rattle.word_runner.proofs.amounts.gains.Goals as goal
 

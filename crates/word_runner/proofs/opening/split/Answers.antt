@@ -1,4 +1,4 @@
-use Rattle.std.proofs.Common.{◌≡◌, ◌<◌, ◌+◌, ◌∙◌, ap, sym, arith}
+use Rattle.std.proofs.Common.{◌∙◌, ap, sym, arith}
 use Rattle.word_runner.specs.Halves.{IsSole}
 use Rattle.word_runner.specs.Seats.{Own, WordsView}
 use Rattle.word_runner.proofs.Begins.{splits}

@@ -1,4 +1,4 @@
-use Rattle.std.proofs.Common.{rules, refl, replicate, ◌≡◌, ◌<◌, ◌+◌, ◌∙◌, ◌^◌, ℕ, List, [], length, ap, ap₂, sym, subst, arith}
+use Rattle.std.proofs.Common.{rules, refl, replicate, ◌≡◌, ◌∙◌, ℕ, List, [], length, ap, ap₂, sym, subst, arith}
 use Rattle.atomic_table.specs.Table.{opening}
 use Rattle.ordered_group.specs.Amount.{Amount, AtMost}
 use Rattle.word_runner.specs.Layout.{units, count, width}

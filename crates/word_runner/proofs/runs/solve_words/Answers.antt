@@ -1,4 +1,4 @@
-use Rattle.std.proofs.Common.{rules, ◌≡◌, ◌<◌, ◌+◌, ◌≤◌, ◌∙◌, ◌++◌, sym, arith}
+use Rattle.std.proofs.Common.{rules, ◌∙◌, ◌++◌, sym, arith}
 use Rattle.std.proofs.lemmas.List.{length-append}
 use Rattle.word_runner.specs.Openings.{AreNeitherOneNorTwo}
 use Rattle.word_runner.proofs.Ends.{on_sides, fault_ends, solved_ends}

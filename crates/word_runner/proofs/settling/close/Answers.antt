@@ -1,4 +1,4 @@
-use Rattle.std.proofs.Common.{rules, ◌≡◌, ◌<◌, ◌+◌, ◌∙◌, ap, subst}
+use Rattle.std.proofs.Common.{rules, ap, subst}
 use Rattle.closure_net.specs.Network.{NetView}
 use Rattle.word_runner.specs.Seats.{WordsView}
 use Rattle.word_runner.specs.Runs.{IsOpenRunOf}

@@ -1,4 +1,4 @@
-use Rattle.std.proofs.Common.{rules, ◌≡◌, ◌<◌, ◌+◌, ◌∙◌, true, ap, sym, arith}
+use Rattle.std.proofs.Common.{rules, ◌≡◌, ◌∙◌, true, ap, sym, arith}
 use Rattle.word_runner.specs.Views.{is_idle}
 use Rattle.word_runner.specs.Halves.{IsHalf}
 use Rattle.word_runner.specs.Seats.{Own, WordsView}

@@ -1,4 +1,4 @@
-use Rattle.std.proofs.Common.{rules, ◌≡◌, ◌<◌, ◌∙◌, ◌∷◌, length, ap, arith}
+use Rattle.std.proofs.Common.{rules, ◌≡◌, length, ap, arith}
 use Rattle.word_runner.specs.Seats.{WordsView}
 use Rattle.word_runner.proofs.SeatLists.{served_one, served_two}
 use Rattle.word_runner.proofs.Ends.{last_one, last_two, closed_one, closed_two}

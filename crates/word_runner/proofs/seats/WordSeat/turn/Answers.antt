@@ -1,4 +1,4 @@
-use Rattle.std.proofs.Common.{◌≡◌, ◌<◌, ◌∙◌, ℕ, get_or, ap, sym, arith}
+use Rattle.std.proofs.Common.{◌≡◌, ◌∙◌, ℕ, get_or, ap, sym, arith}
 use Rattle.std.proofs.lemmas.List.{get_or_read}
 use Rattle.closure_net.specs.Network.{NetView}
 use Rattle.word_runner.specs.Layout.{count}
