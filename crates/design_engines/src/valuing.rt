@@ -26,7 +26,7 @@ use std::thread::Threads;
 /// The inputs are read in the order of the arguments, each to its end, and nothing is written before the answer is known.
 ///
 /// # Errors
-/// Those of `mine_inputs::worths_from`, then `Prec`, then those of the design: `Design` with what is wrong with its
+/// Those of `mine_inputs::mine_to_check`, then those of the design: `Design` with what is wrong with its
 /// text, or `TooLarge`. `Memory` where memory is refused, `Device` where a read or a write fails: the writer has then received
 /// a prefix of the answer, and at every other fault nothing.
 ///

@@ -27,7 +27,7 @@ use std::thread::Threads;
 /// first fault.
 ///
 /// # Errors
-/// Those of [`worths_from`](mine_inputs::worths_from), then `Prec`, then those of [`judge`].
+/// Those of [`mine_to_check`], then those of [`judge`].
 ///
 /// Each device must have counted fewer than 2^64 - 1 failures, so that one more can be counted.
 pub fn check_engine<R: Threads + Sync, D: CountedRead, C: CountedRead, W: CountedWrite>(

@@ -39,7 +39,7 @@ use workers::{Gate, Locked, Shared, TurnBoard};
 /// known. Each worker of the machine passes the gate before each of its turns, and pseudoflow reports to it how far it is.
 ///
 /// # Errors
-/// Those of [`worths_from`](mine_inputs::worths_from), then `Prec`, then `Model` where the net's amounts don't
+/// Those of [`mine_to_check`](mine_inputs::mine_to_check), then `Model` where the net's amounts don't
 /// fit. `Memory` where memory is refused, `Thread` where a worker can't be started, `Stranger` where the
 /// board that the workers shared comes back as another's (see `workers::solve`), `Device` where a read or
 /// a write fails: the writer has then received a prefix of the answer, and at every other fault nothing.

@@ -151,6 +151,12 @@ module _ {D : Type 0} (mine : MineInputs D) (remaining : D → Option (List ℕ)
   pub memory_refused : ForTexts mine remaining factor (λ texts. MineFails texts engine.Memory)
   memory_refused = all_texts mine remaining factor (λ texts. MineFails texts engine.Memory) (λ texts. tt)
 
+  -- at a factor
+  pub mine_priced : (worths : Worths) (rests : RestsView) (nanos : List ℤ) (price : Price) → ForTexts mine remaining factor (λ texts. IsMineRead texts factor worths rests) → nanos ≡ nanos_at worths factor → price ≡ price_at worths factor
+      → ForTexts mine remaining factor (λ texts. AreRead texts nanos rests × (price ≡ price_wanted texts))
+  mine_priced worths rests nanos price h e f = for_texts mine remaining factor (λ texts. IsMineRead texts factor worths rests) (λ texts. AreRead texts nanos rests × (price ≡ price_wanted texts)) h (λ texts r.
+      (read_as texts (nanos_at worths factor) nanos rests e r.0, f ∙ r.1))
+
   module _ (worths : Worths) (n : ℕ) (size : n ≡ blocks_valued worths) (known : (p : List ℕ) → ForWorths mine.worths remaining factor p (λ texts. AreWorthsOf texts factor worths)) where
     pub prec_unread : (e : EngineFault) → IfSome (remaining mine.prec) (λ p. PrecReadFails n p e) → ForTexts mine remaining factor (λ texts. MineFails texts e)
     prec_unread e h = under (remaining mine.prec) (λ p. PrecReadFails n p e) (λ p. ForWorths mine.worths remaining factor p (λ texts. MineFails texts e)) h (λ p f.
@@ -159,8 +165,3 @@ module _ {D : Type 0} (mine : MineInputs D) (remaining : D → Option (List ℕ)
     pub mine_read : (rests : RestsView) → IfSome (remaining mine.prec) (λ p. ReadsPrec n p rests) → ForTexts mine remaining factor (λ texts. IsMineRead texts factor worths rests)
     mine_read rests h = under (remaining mine.prec) (λ p. ReadsPrec n p rests) (λ p. ForWorths mine.worths remaining factor p (λ texts. IsMineRead texts factor worths rests)) h (λ p b.
         for_worths mine.worths remaining factor p (λ texts. AreWorthsOf texts factor worths) (λ texts. IsMineRead texts factor worths rests) (known p) (λ texts same a. mine_known texts p factor n worths rests same size a b))
-
-    -- at a factor
-    pub mine_priced : (rests : RestsView) (nanos : List ℤ) (price : Price) → IfSome (remaining mine.prec) (λ p. ReadsPrec n p rests) → nanos ≡ nanos_at worths factor → price ≡ price_at worths factor → ForTexts mine remaining factor (λ texts. AreRead texts nanos rests × (price ≡ price_wanted texts))
-    mine_priced rests nanos price h e f = for_texts mine remaining factor (λ texts. IsMineRead texts factor worths rests) (λ texts. AreRead texts nanos rests × (price ≡ price_wanted texts)) (mine_read rests h) (λ texts r.
-        (read_as texts (nanos_at worths factor) nanos rests e r.0, f ∙ r.1))

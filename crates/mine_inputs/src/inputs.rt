@@ -7,7 +7,7 @@ ghost use Rattle.mine_inputs.specs.Inputs.{ReadsPrec, PrecReadFails, unread};
 use crate::engine_fault::{EngineFault, Problem};
 use blocks_file::{BlockModel, MOST_COLUMNS, read_blocks};
 use fixed_worth::{CountedRead, InputFault, MOST_BLOCKS, MOST_BYTES, read_whole};
-use prec_file::{Predecessors, Rests, read_predecessors};
+use prec_file::{Predecessors, read_predecessors};
 use std::alloc::Global;
 
 /// What is answered where an input can't be read to its end: this fault where it is too long.
@@ -46,28 +46,12 @@ pub fn blocks_from<R: CountedRead>(
     }
 }
 
-/// What rests on what among n blocks.
-///
-/// # Errors
-/// `Prec` for more than 2^32 bytes, or for a fault of [`read_predecessors`]. `Memory` where memory is refused, `Device` where
-/// a read fails.
-pub fn rests_from<R: CountedRead>(alloc: Global, from: &mut R, n: u32) -> Result<Rests, EngineFault>
-    requires blocks { n ≤ MOST_BLOCKS }
-    requires room { R.failed from.old < 2 ^ 64 - 1 }
-    ensures read { IfSome (R.remaining from.old) (λ text. MatchResult result (ReadsPrec n text) (PrecReadFails n text)) }
-    ensures size { IfOk result (λ rests. rests.blocks ≡ n) }
-    ensures device { IsErrOf result EngineFault.Device ↔ (R.failed from.new ≡ R.failed from.old + 1) }
-    ensures kept { ¬ IsErrOf result EngineFault.Device → R.failed from.new ≡ R.failed from.old }
-{
-    let predecessors = predecessors_from(alloc, from, n)?;
-    Ok(predecessors.into_rests(alloc)?)
-}
-
 /// The predecessors of each of n blocks, without the pairs and the index by predecessor, which a solver needs and a check
 /// doesn't.
 ///
 /// # Errors
-/// Those of [`rests_from`].
+/// `Prec` for more than 2^32 bytes, or for a fault of [`read_predecessors`]. `Memory` where memory is refused, `Device` where
+/// a read fails.
 pub fn predecessors_from<R: CountedRead>(
     alloc: Global,
     from: &mut R,

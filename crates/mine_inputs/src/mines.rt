@@ -9,7 +9,7 @@ ghost use Rattle.mine_inputs.specs.Mines.{priced_texts, price_wanted};
 ghost use Rattle.mine_inputs.specs.ReadMines.{AreRead, AreWorthsOf, IsMineRead};
 
 use crate::engine_fault::{EngineFault, Problem};
-use crate::inputs::{predecessors_from, rests_from, unread};
+use crate::inputs::{predecessors_from, unread};
 use crate::priced_inputs::{price_columns, prices_from, settings_from};
 use crate::worths::Worths;
 use certificate_file::Price;
@@ -44,33 +44,6 @@ pub struct MineInputs<D> {
     pub worths: WorthInputs<D>,
     /// What rests on what: MineLib's `.prec`.
     pub prec: D,
-}
-
-/// What the blocks of a mine are worth.
-///
-/// # Errors
-/// Of values: `Upit`. Of prices, in this order: `Settings` for a fault of this text or a missing key; `Blocks`; `Prices`
-/// for a negative revenue. `Memory` where memory is refused, `Device` where a read fails.
-pub fn worths_from<D: CountedRead>(
-    alloc: Global,
-    inputs: &mut WorthInputs<D>,
-) -> Result<Worths, EngineFault>
-    requires { WorthsCanCount inputs.old D.failed }
-    ensures read { (factor : ℕ) (precedence : List ℕ)
-        → ForWorths inputs.old D.remaining factor precedence (λ texts. MatchResult result (AreWorthsOf texts factor) (MineFails texts)) }
-    ensures device { IsErrOf result EngineFault.Device → OneWorthsFailed inputs.old inputs.new D.failed }
-    ensures kept { ¬ IsErrOf result EngineFault.Device → NoWorthsFailed inputs.old inputs.new D.failed }
-{
-    match inputs {
-        WorthInputs::Values { upit } => {
-            let too_long = EngineFault::Upit(Problem::InputTooLong);
-            let text = read_whole(alloc, upit, MOST_BYTES).map_err(|fault| unread(
-                fault, too_long,
-            ))?;
-            Ok(Worths::Values(read_values(alloc, text.as_slice(), None)?))
-        }
-        WorthInputs::Prices { settings, blocks } => worths_by_prices(alloc, settings, blocks),
-    }
 }
 
 // What blocks are worth by the columns of prices that settings name.
@@ -108,7 +81,8 @@ pub struct MineToCheck {
 /// The mine that its texts denote, as a check needs it. Which factor the prices count at is asked later.
 ///
 /// # Errors
-/// Those of [`worths_from`], then `Prec`.
+/// Of values: `Upit`. Of prices, in this order: `Settings` for a fault of this text or a missing key; `Blocks`; `Prices`
+/// for a negative revenue. Then `Prec`. `Memory` where memory is refused, `Device` where a read fails.
 pub fn mine_to_check<D: CountedRead>(
     alloc: Global,
     inputs: &mut MineInputs<D>,
@@ -119,7 +93,16 @@ pub fn mine_to_check<D: CountedRead>(
     ensures device { IsErrOf result EngineFault.Device → OneFailed inputs.old inputs.new D.failed 0 0 }
     ensures kept { ¬ IsErrOf result EngineFault.Device → NoneFailed inputs.old inputs.new D.failed }
 {
-    let worths = worths_from(alloc, &mut inputs.worths)?;
+    let worths = match &mut inputs.worths {
+        WorthInputs::Values { upit } => {
+            let too_long = EngineFault::Upit(Problem::InputTooLong);
+            let text = read_whole(alloc, upit, MOST_BYTES).map_err(|fault| unread(
+                fault, too_long,
+            ))?;
+            Worths::Values(read_values(alloc, text.as_slice(), None)?)
+        }
+        WorthInputs::Prices { settings, blocks } => worths_by_prices(alloc, settings, blocks)?,
+    };
     let predecessors = predecessors_from(alloc, &mut inputs.prec, worths.len())?;
     Ok(MineToCheck {
         worths,
@@ -141,7 +124,7 @@ pub struct MineToSolve {
 /// The mine that its texts denote, at a factor where its blocks have prices.
 ///
 /// # Errors
-/// Those of [`worths_from`], then `Prec`.
+/// Those of [`mine_to_check`].
 pub fn mine_to_solve<R: Threads + Sync, D: CountedRead>(
     rt: &R,
     alloc: Global,
@@ -155,8 +138,11 @@ pub fn mine_to_solve<R: Threads + Sync, D: CountedRead>(
     ensures device { IsErrOf result EngineFault.Device → OneFailed inputs.old inputs.new D.failed 0 0 }
     ensures kept { ¬ IsErrOf result EngineFault.Device → NoneFailed inputs.old inputs.new D.failed }
 {
-    let worths = worths_from(alloc, &mut inputs.worths)?;
-    let rests = rests_from(alloc, &mut inputs.prec, worths.len())?;
+    let MineToCheck {
+        worths,
+        predecessors,
+    } = mine_to_check(alloc, inputs)?;
+    let rests = predecessors.into_rests(alloc)?;
     let nanos = worths.nanos_at(rt, alloc, factor)?;
     let price = worths.price_at(factor);
     Ok(MineToSolve {

@@ -28,7 +28,7 @@ use std::thread::Threads;
 /// known.
 ///
 /// # Errors
-/// Those of `mine_inputs::worths_from`, then `Prec`, `Trace`, and `Model` where the net's amounts don't fit.
+/// Those of `mine_inputs::mine_to_check`, then `Trace`, and `Model` where the net's amounts don't fit.
 /// `Memory` where memory is refused, `Device` where a read or a write fails: the writer has then received a prefix of
 /// the answer, and at every other fault nothing.
 ///

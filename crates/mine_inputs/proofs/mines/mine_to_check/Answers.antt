@@ -1,37 +1,50 @@
-use Rattle.std.proofs.Common.{refl}
+use Rattle.std.proofs.Common.{rules, sym, subst, ap}
 use Rattle.std.proofs.lemmas.Result.{err_from_is_err_and}
-use Rattle.mine_inputs.proofs.Failed.{raised, stayed, went}
-use Rattle.mine_inputs.proofs.MineDevices.{worths_once, prec_once}
-use Rattle.mine_inputs.proofs.MinesRead.{worths_unread, prec_unread, mine_read}
+use Rattle.std.specs.Prelude.{IfSome}
+use Rattle.mine_inputs.specs.declared.worths.Worths.TheVariants.{Values}
+use Rattle.mine_inputs.specs.FaultStands.{MineFails}
+use Rattle.mine_inputs.specs.Inputs.{ReadsPrec, PrecReadFails}
+use Rattle.mine_inputs.specs.MineInputs.{ForWorths}
+use Rattle.mine_inputs.specs.ReadMines.{AreWorthsOf}
+use Rattle.mine_inputs.proofs.MinesRead.{worths_unread, values_read, prec_unread, mine_read}
+use Rattle.mine_inputs.proofs.mines.mine_to_check.Goals.{in-Values+in_ok-text-in-Values+in_ok-read_values-in-Values, in-Prices+in_ok-worths-in-Prices}
 use Rattle.mine_inputs.proofs.mines.mine_to_check.Goals as goal
 
-pub returns-in_err-worths-clause-read : goal.returns-in_err-worths-clause-read
-returns-in_err-worths-clause-read g c = λ factor.
-    let p = err_from_is_err_and c.from_residual.result c.from_residual.ensures.1 in
-    rw (p.1, p.2) (worths_unread c.args.inputs.now g.D.Read.remaining factor c.in_err-worths.field-0.0 (c.in_err-worths.ensures.read factor))
+pub returns-in_err-worths-in-Prices-clause-read : goal.returns-in_err-worths-in-Prices-clause-read
+returns-in_err-worths-in-Prices-clause-read g c = λ factor.
+    let e = c.in_err-worths-in-Prices.field-0.0 in
+    let p = err_from_is_err_and c.from_residual-in_err-worths-in-Prices.result c.from_residual-in_err-worths-in-Prices.ensures.1 in
+    rw (p.1, p.2) (worths_unread c.args.inputs.now g.D.Read.remaining factor e (λ q.
+    subst (λ i. ForWorths i g.D.Read.remaining factor q (λ texts. MineFails texts e)) (sym c.in-Prices.is) (c.in_err-worths-in-Prices.ensures.read factor q)))
 
 pub returns-in_err-predecessors-clause-read : goal.returns-in_err-predecessors-clause-read
 returns-in_err-predecessors-clause-read g c = λ factor.
+    let e = c.in_err-predecessors.field-0.0 in
     let p = err_from_is_err_and c.from_residual-in_err-predecessors.result c.from_residual-in_err-predecessors.ensures.1 in
-    rw (p.1, p.2) (prec_unread c.args.inputs.now g.D.Read.remaining factor c.in_ok-worths.worths c.len.result c.len.ensures.count (c.in_ok-worths.ensures.read factor) c.in_err-predecessors.field-0.0 c.in_err-predecessors.ensures.read)
+    rw (p.1, p.2) (elim c.match-inputs.branch [
+      | in-Values+in_ok-text-in-Values+in_ok-read_values-in-Values w ↦ prec_unread c.args.inputs.now g.D.Read.remaining factor c.match-inputs.worths c.len.result c.len.ensures.count (λ q.
+        subst (λ x. ForWorths c.args.inputs.now.worths g.D.Read.remaining factor q (λ texts. AreWorthsOf texts factor x)) (sym w.worths-is)
+        (subst (λ i. ForWorths i g.D.Read.remaining factor q (λ texts. AreWorthsOf texts factor (Values w.in_ok-read_values-in-Values.field-0))) (sym w.in-Values.is)
+        (values_read (g.D.Read.remaining w.in-Values.upit) q factor w.in_ok-read_values-in-Values.field-0 (search rules))))
+        e (subst (λ i. IfSome (g.D.Read.remaining i) (λ q. PrecReadFails c.len.result q e)) (ap (λ i. i.prec) w.inputs-is) c.in_err-predecessors.ensures.read)
+      | in-Prices+in_ok-worths-in-Prices w ↦ prec_unread c.args.inputs.now g.D.Read.remaining factor c.match-inputs.worths c.len.result c.len.ensures.count (λ q.
+        subst (λ x. ForWorths c.args.inputs.now.worths g.D.Read.remaining factor q (λ texts. AreWorthsOf texts factor x)) (sym w.worths-is)
+        (subst (λ i. ForWorths i g.D.Read.remaining factor q (λ texts. AreWorthsOf texts factor w.in_ok-worths-in-Prices.worths)) (sym w.in-Prices.is)
+        (w.in_ok-worths-in-Prices.ensures.read factor q)))
+        e (subst (λ i. IfSome (g.D.Read.remaining i) (λ q. PrecReadFails c.len.result q e)) (ap (λ i. i.prec) w.inputs-is) c.in_err-predecessors.ensures.read)
+    ])
 
 pub returns-clause-read : goal.returns-clause-read
 returns-clause-read g c = λ factor.
-    mine_read c.args.inputs.now g.D.Read.remaining factor c.in_ok-worths.worths c.len.result c.len.ensures.count (c.in_ok-worths.ensures.read factor) c.in_ok-predecessors.predecessors c.in_ok-predecessors.ensures.read
-
-pub returns-in_err-worths-clause-device : goal.returns-in_err-worths-clause-device
-returns-in_err-worths-clause-device g c = λ d.
-    worths_once c.args.inputs.now (record { worths = c.worths_from.new.inputs; prec = c.args.inputs.now.prec }) g.D.CountedRead.failed (raised c.from_residual.result c.in_err-worths.field-0.0 c.from_residual.ensures.1 c.in_err-worths.ensures.device d) refl
-
-pub returns-in_err-worths-clause-kept : goal.returns-in_err-worths-clause-kept
-returns-in_err-worths-clause-kept g c = λ n. (stayed c.from_residual.result c.in_err-worths.field-0.0 c.from_residual.ensures.1 c.in_err-worths.ensures.kept n, refl)
-
-pub returns-in_err-predecessors-clause-device : goal.returns-in_err-predecessors-clause-device
-returns-in_err-predecessors-clause-device g c = λ d.
-    prec_once c.args.inputs.now (record { worths = c.worths_from.new.inputs; prec = c.predecessors_from.new.from }) g.D.CountedRead.failed (went c.in_ok-worths.worths c.in_ok-worths.ensures.kept) (raised c.from_residual-in_err-predecessors.result c.in_err-predecessors.field-0.0 c.from_residual-in_err-predecessors.ensures.1 c.in_err-predecessors.ensures.device.0 d)
-
-pub returns-in_err-predecessors-clause-kept : goal.returns-in_err-predecessors-clause-kept
-returns-in_err-predecessors-clause-kept g c = λ n. (went c.in_ok-worths.worths c.in_ok-worths.ensures.kept, stayed c.from_residual-in_err-predecessors.result c.in_err-predecessors.field-0.0 c.from_residual-in_err-predecessors.ensures.1 c.in_err-predecessors.ensures.kept n)
-
-pub returns-clause-kept : goal.returns-clause-kept
-returns-clause-kept g c = λ n. (went c.in_ok-worths.worths c.in_ok-worths.ensures.kept, went c.in_ok-predecessors.predecessors c.in_ok-predecessors.ensures.kept)
+    elim c.match-inputs.branch [
+      | in-Values+in_ok-text-in-Values+in_ok-read_values-in-Values w ↦ mine_read c.args.inputs.now g.D.Read.remaining factor c.match-inputs.worths c.len.result c.len.ensures.count (λ q.
+        subst (λ x. ForWorths c.args.inputs.now.worths g.D.Read.remaining factor q (λ texts. AreWorthsOf texts factor x)) (sym w.worths-is)
+        (subst (λ i. ForWorths i g.D.Read.remaining factor q (λ texts. AreWorthsOf texts factor (Values w.in_ok-read_values-in-Values.field-0))) (sym w.in-Values.is)
+        (values_read (g.D.Read.remaining w.in-Values.upit) q factor w.in_ok-read_values-in-Values.field-0 (search rules))))
+        c.in_ok-predecessors.predecessors (subst (λ i. IfSome (g.D.Read.remaining i) (λ q. ReadsPrec c.len.result q c.in_ok-predecessors.predecessors)) (ap (λ i. i.prec) w.inputs-is) c.in_ok-predecessors.ensures.read)
+      | in-Prices+in_ok-worths-in-Prices w ↦ mine_read c.args.inputs.now g.D.Read.remaining factor c.match-inputs.worths c.len.result c.len.ensures.count (λ q.
+        subst (λ x. ForWorths c.args.inputs.now.worths g.D.Read.remaining factor q (λ texts. AreWorthsOf texts factor x)) (sym w.worths-is)
+        (subst (λ i. ForWorths i g.D.Read.remaining factor q (λ texts. AreWorthsOf texts factor w.in_ok-worths-in-Prices.worths)) (sym w.in-Prices.is)
+        (w.in_ok-worths-in-Prices.ensures.read factor q)))
+        c.in_ok-predecessors.predecessors (subst (λ i. IfSome (g.D.Read.remaining i) (λ q. ReadsPrec c.len.result q c.in_ok-predecessors.predecessors)) (ap (λ i. i.prec) w.inputs-is) c.in_ok-predecessors.ensures.read)
+    ]
