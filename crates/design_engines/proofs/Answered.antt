@@ -14,13 +14,13 @@ use Rattle.mine_inputs.specs.ReadMines.{AreRead, IsMineRead}
 use Rattle.mine_inputs.specs.Worths.{nanos_at}
 use Rattle.engines.proofs.Answered.{keeps_self}
 use Rattle.mine_inputs.proofs.MinesRead.{read_as}
-use Rattle.mine_inputs.proofs.MineDevices.{always, under, all_texts, for_texts}
+use Rattle.mine_inputs.proofs.MineDevices.{always, under, for_texts}
 use Rattle.design_engines.specs.declared.value_fault.DesignProblem.TheVariants as problem
 use Rattle.design_engines.specs.declared.value_fault.ValueFault.{ValueFault}
 use Rattle.design_engines.specs.declared.value_fault.ValueFault.TheVariants as value
 use Rattle.design_engines.specs.DesignTexts.{ReadsDesign, DesignReadFails}
 use Rattle.design_engines.specs.Designs.{DesignView, IsValued, design_text}
-use Rattle.design_engines.specs.Values.{NoValue, ValueAtFault, Values}
+use Rattle.design_engines.specs.Values.{ValueAtFault, Values}
 
 -- ---- faults, over texts
 
@@ -64,25 +64,6 @@ undrawn texts n d w (value.Engine (engine.Prices q)) m h = absurd h
 undrawn texts n d w (value.Engine engine.Thread) m h = absurd h
 undrawn texts n d w (value.Engine engine.Stranger) m h = absurd h
 
--- nothing is told of it
-pub unvalued : (texts : MineTexts) (d : List ℕ) (w : Option (List ℕ)) (e : ValueFault) → NoValue texts d e → Values texts d w w (Err e)
-unvalued texts d w (value.Design problem.InputTooLong) h = absurd h
-unvalued texts d w (value.Design (problem.Fault q)) h = absurd h
-unvalued texts d w (value.Design problem.TooLarge) h = (h, keeps_self w)
-unvalued texts d w (value.Engine engine.Memory) h = (tt, keeps_self w)
-unvalued texts d w (value.Engine engine.Device) h = absurd h
-unvalued texts d w (value.Engine (engine.Upit q)) h = absurd h
-unvalued texts d w (value.Engine (engine.Prec q)) h = absurd h
-unvalued texts d w (value.Engine (engine.Model q)) h = absurd h
-unvalued texts d w (value.Engine (engine.Certificate q)) h = absurd h
-unvalued texts d w (value.Engine (engine.Trace q)) h = absurd h
-unvalued texts d w (value.Engine (engine.Blocks q)) h = absurd h
-unvalued texts d w (value.Engine (engine.Slope q)) h = absurd h
-unvalued texts d w (value.Engine (engine.Settings q)) h = absurd h
-unvalued texts d w (value.Engine (engine.Prices q)) h = absurd h
-unvalued texts d w (value.Engine engine.Thread) h = absurd h
-unvalued texts d w (value.Engine engine.Stranger) h = absurd h
-
 -- its lines could not be written
 pub lines_failed : (texts : MineTexts) (d : List ℕ) (v : DesignView) (old new : Option (List ℕ)) (e : EngineFault) → IsValued texts d v → LineFails old new (design_text v) e → Values texts d old new (Err (value.Engine e))
 lines_failed texts d v old new engine.Memory h k = (tt, k)
@@ -108,10 +89,6 @@ module _ {D : Type 0} (inputs : MineInputs D) (remaining : D → Option (List �
   pub unread : (w : Option (List ℕ)) (e : EngineFault) → ((k : ℕ) → ForTexts inputs remaining k (λ texts. MineFails texts e)) → Answers (λ d texts. Values texts d w w (Err (value.Engine e)))
   unread w e h = always x (λ d. ForTexts inputs remaining factor (λ texts. Values texts d w w (Err (value.Engine e)))) (λ d.
       for_texts inputs remaining factor (λ texts. MineFails texts e) (λ texts. Values texts d w w (Err (value.Engine e))) (h factor) (λ texts f. unread_at texts d w e f))
-
-  pub unpriced : (w : Option (List ℕ)) → Answers (λ d texts. Values texts d w w (Err (value.Engine engine.Memory)))
-  unpriced w = always x (λ d. ForTexts inputs remaining factor (λ texts. Values texts d w w (Err (value.Engine engine.Memory)))) (λ d.
-      all_texts inputs remaining factor (λ texts. Values texts d w w (Err (value.Engine engine.Memory))) (λ texts. (tt, keeps_self w)))
 
   module _ (worths : Worths) (rests : RestsView) (n : ℕ) (size : n ≡ rests.blocks) (h : (k : ℕ) → ForTexts inputs remaining k (λ texts. IsMineRead texts k worths rests)) where
     pub design_unread : (w : Option (List ℕ)) (e : ValueFault) → IfSome x (λ d. DesignReadFails n d e) → Answers (λ d texts. Values texts d w w (Err e))

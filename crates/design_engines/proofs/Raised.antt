@@ -27,20 +27,6 @@ own : {V : Type 0} (r : Result V ValueFault) (f e : ValueFault) → IsErrAnd r (
 own (Ok v) f e h k = absurd h
 own (Err y) f e h k = cc
 
-owned : {V : Type 0} (r : Result V ValueFault) (f e : ValueFault) → IsErrAnd r (λ y. y ≡ f) → f ≡ e → IsErrOf r e
-owned (Ok v) f e h k = absurd h
-owned (Err y) f e h k = ap Err (h ∙ k)
-
-pub raised_own : {T V P : Type 0} (r : Result V ValueFault) (f : ValueFault) → IsErrAnd r (λ y. y ≡ f) → (IsErrOf {T = T} {E = ValueFault} (Err f) (value.Engine engine.Device) → P) → IsErrOf r (value.Engine engine.Device) → P
-raised_own r f h k d = k (ap Err (own r f (value.Engine engine.Device) h d))
-
-pub stayed_own : {T V P : Type 0} (r : Result V ValueFault) (f : ValueFault) → IsErrAnd r (λ y. y ≡ f) → (¬ IsErrOf {T = T} {E = ValueFault} (Err f) (value.Engine engine.Device) → P) → ¬ IsErrOf r (value.Engine engine.Device) → P
-stayed_own r f h k n = k (λ d. n (owned r f (value.Engine engine.Device) h cc))
-
--- of a call that went well
-pub went_own : {T P : Type 0} (v : T) → (¬ IsErrOf {T = T} {E = ValueFault} (Ok v) (value.Engine engine.Device) → P) → P
-went_own v k = k (λ d. cc)
-
 -- want of memory is no failing device
 pub memory_alone : {V : Type 0} (r : Result V ValueFault) → IsErrAnd r (λ y. y ≡ value.Engine engine.Memory) → ¬ IsErrOf r (value.Engine engine.Device)
 memory_alone r h d = let e = handed r engine.Memory h d in cc

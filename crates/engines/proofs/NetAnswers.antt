@@ -1,16 +1,13 @@
 -- From what is found for a net to what is written for it.
-use Rattle.std.proofs.Common.{◌≡◌, ℕ, ◌<◌, Bool, List, length, refl, sym, ◌∙◌, subst, Option, Result, Ok, Err, inl, inr, All}
+use Rattle.std.proofs.Common.{◌≡◌, ℕ, Bool, List, length, refl, sym, subst, Option, Result, Ok, Err, inl, inr}
 use Rattle.std.specs.Prelude.{MatchResult}
-use Rattle.std.specs.Io.KnownBytes.{Appends}
 use Rattle.fixed_worth.specs.Device.{ReceivedPrefix}
 use Rattle.ordered_group.specs.declared.groups.Group.{Group}
 use Rattle.closure_net.specs.Network.{NetView, FlowView}
 use Rattle.check_pit.specs.Checks.{IsSound}
-use Rattle.certificate_file.specs.ReadBack.{IsReadBack}
 use Rattle.certificate_file.specs.Written.{header_with, text_of}
 use Rattle.certificate_file.specs.declared.header.Price.{Price}
 use Rattle.engines.specs.declared.judgement.Verdict.{Verdict}
-use Rattle.engines.specs.declared.judgement.Verdict.TheVariants.{Done}
 use Rattle.mine_inputs.specs.declared.engine_fault.EngineFault.{EngineFault}
 use Rattle.mine_inputs.specs.declared.engine_fault.EngineFault.TheVariants as engine
 use Rattle.engines.specs.declared.method.Method.{Method}
@@ -21,21 +18,10 @@ use Rattle.engines.specs.Solving.{UnsolvedStands, IsNoOf, SolvesNet}
 
 -- ---- a certificate
 
-pub back_moved : (counts : Bool) (name : Group) (n m : ℕ) (ps qs : List (ℕ × ℕ)) (text : List ℕ) (price : Price) (pit : List ℕ) (flow : FlowView) → n ≡ m → ps ≡ qs → IsReadBack counts name n ps text price pit flow → IsReadBack counts name m qs text price pit flow
-back_moved counts name n m ps qs text price pit flow e f h =
-    let P : ℕ → Type 0 = λ k. IsReadBack counts name k ps text price pit flow in
-    let Q : List (ℕ × ℕ) → Type 0 = λ l. IsReadBack counts name m l text price pit flow in
-    subst Q f (subst P e h)
-
 -- what was to be written of a solution
 module _ (counts : Bool) (name : Group) (price : Price) (net : NetView) (blocks : ℕ) (pit : List ℕ) (flow : FlowView) (n : ℕ) (ps : List (ℕ × ℕ)) (s : IsSound net flow pit) (b : blocks ≡ length net.worths) (e : n ≡ length net.worths) (f : ps ≡ net.pairs) where
   abbrev text : List ℕ
   text = text_of (header_with blocks price name) ps pit flow
-
-  pub certificate_sent : (old new : Option (List ℕ)) → (blocks ≡ n → All (λ k. k < n) pit → IsReadBack counts name n ps text price pit flow) → Appends old new text → SendsCertificate counts name price net pit flow old new (Ok Done)
-  certificate_sent old new back sent =
-      let below : All (λ k. k < n) pit = subst (λ (k : ℕ). All (λ x. x < k) pit) (sym e) s.proves.of_net in
-      (refl, (text, back_moved counts name n (length net.worths) ps net.pairs text price pit flow e f (back (b ∙ sym e) below), sent))
 
   pub cut_short : (old new : Option (List ℕ)) → ReceivedPrefix old new text → SendsCertificate counts name price net pit flow old new (Err engine.Device)
   cut_short old new prefix = (refl, subst (λ (xs : List ℕ). ReceivedPrefix old new xs) (λ i. text_of (header_with (b i) price name) (f i) pit flow) prefix)

@@ -4,9 +4,9 @@
 //! Each fault's text is here a second time, beside its `Display`: the kit's `fmt::Write` says what was written only on `Ok`,
 //! and this line must not fail.
 
-ghost use Rattle.std.specs.Prelude.{◌≡◌, ◌+◌, ◌-◌, ◌^◌, ◌<◌, ◌≤◌, ◌++◌, ℕ, List, length, OnOk, OnErr};
+ghost use Rattle.std.specs.Prelude.{◌≡◌, ◌+◌, ◌-◌, ◌^◌, ◌<◌, ◌≤◌, ◌++◌, length, OnOk, OnErr};
 ghost use Rattle.std.specs.Io.KnownBytes.{Appends};
-ghost use Rattle.std.specs.Prelude.{decimal, codes};
+ghost use Rattle.std.specs.Prelude.{codes};
 ghost use Rattle.fixed_worth.specs.Device.{ReceivedPrefix};
 ghost use Rattle.blocks_file.specs.FaultText.{blocks_fault_text};
 ghost use Rattle.slope.specs.FaultText.{pattern_fault_text, slope_fault_text};

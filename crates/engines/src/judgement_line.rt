@@ -1,7 +1,7 @@
 //! Writes the line of a verdict: `ACCEPTED` with the pit's blocks and worth, or `REFUSED` with the fault.
 
-ghost use Rattle.std.specs.Prelude.{◌≡◌, ◌+◌, ◌-◌, ◌^◌, ◌<◌, ℕ, OnOk, IfOk, IfErr, IsErrOf, ◌↔◌, Some};
-ghost use Rattle.std.specs.Io.KnownBytes.{Appends, Keeps};
+ghost use Rattle.std.specs.Prelude.{◌≡◌, ◌+◌, ◌-◌, ◌^◌, ◌<◌, OnOk, IfOk, IfErr, IsErrOf, ◌↔◌};
+ghost use Rattle.std.specs.Io.KnownBytes.{Appends};
 ghost use Rattle.std.specs.String.{string_bytes};
 ghost use Rattle.engines.specs.OutputLines.{judgement_line, group_mark};
 ghost use Rattle.engines.specs.Checking.{LineFails};

@@ -1,6 +1,6 @@
 //! The engine of `solve`: the bytes of a mine in, a certificate of its best pit out.
 
-ghost use Rattle.std.specs.Prelude.{◌≡◌, ◌+◌, ◌-◌, ◌^◌, ◌<◌, ◌↔◌, ℕ, List, IsErrOf};
+ghost use Rattle.std.specs.Prelude.{◌≡◌, ◌+◌, ◌-◌, ◌^◌, ◌<◌, ◌↔◌, IsErrOf};
 ghost use Rattle.mine_inputs.specs.ReadMines.{AreRead};
 ghost use Rattle.engines.specs.Readings.{IsGroupNamed};
 ghost use Rattle.certificate_file.specs.ReadBack.{IsPrice};

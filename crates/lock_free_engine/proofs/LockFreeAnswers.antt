@@ -1,5 +1,5 @@
 -- From a run without a lock to what is written of it.
-use Rattle.std.proofs.Common.{◌≡◌, ℕ, List, refl, sym, ◌∙◌, subst, Option, Result, Ok, Err, inl, inr}
+use Rattle.std.proofs.Common.{ℕ, List, refl, sym, subst, Option, Result, Ok, Err, inl, inr}
 use Rattle.std.specs.Prelude.{MatchResult}
 use Rattle.closure_net.specs.Network.{NetView, FlowView, IsNet}
 use Rattle.word_runner.specs.Openings.{AreNeitherOneNorTwo}

@@ -3,7 +3,7 @@ use Rattle.std.proofs.Common.{◌≡◌, ℕ, ◌+◌, List, refl, arith, Option
 use Rattle.mine_inputs.specs.declared.mines.WorthInputs.{WorthInputs}
 use Rattle.mine_inputs.specs.declared.mines.WorthInputs.TheVariants.{Values, Prices}
 use Rattle.mine_inputs.specs.declared.mines.MineInputs.{MineInputs}
-use Rattle.mine_inputs.specs.MineInputs.{ForWorths, ForTexts, worths_failures, is_priced, NoWorthsFailed, NoneFailed, OneWorthsFailed, OneFailed}
+use Rattle.mine_inputs.specs.MineInputs.{ForWorths, ForTexts, worths_failures, is_priced, NoWorthsFailed, NoneFailed, OneFailed}
 use Rattle.mine_inputs.specs.Mines.{MineTexts, mine_texts, priced_texts, precedence_of}
 
 -- ---- texts
@@ -51,14 +51,6 @@ kind_kept (Values upit) (Values upit') failed h = refl
 kind_kept (Prices settings blocks) (Prices settings' blocks') failed h = refl
 kind_kept (Values upit) (Prices settings blocks) failed h = absurd h
 kind_kept (Prices settings blocks) (Values upit) failed h = absurd h
-
--- a device of what the blocks are worth failed, and that of the precedence is as it was
-pub worths_once : {D : Type 0} (old new : MineInputs D) (failed : D → ℕ) → OneWorthsFailed old.worths new.worths failed → failed new.prec ≡ failed old.prec → OneFailed old new failed 0 0
-worths_once old new failed h k = let one = h.one in record { kind = h.kind; one = omega (arith, one, k) }
-
--- that of the precedence failed, and no other
-pub prec_once : {D : Type 0} (old new : MineInputs D) (failed : D → ℕ) → NoWorthsFailed old.worths new.worths failed → failed new.prec ≡ failed old.prec + 1 → OneFailed old new failed 0 0
-prec_once old new failed h k = let kept = worths_kept old.worths new.worths failed h in record { kind = kind_kept old.worths new.worths failed h; one = omega (arith, kept, k) }
 
 -- one of the mine's failed, and none of those beside them
 pub mine_once : {D : Type 0} (old new : MineInputs D) (failed : D → ℕ) (others others' : ℕ) → OneFailed old new failed 0 0 → others' ≡ others → OneFailed old new failed others others'

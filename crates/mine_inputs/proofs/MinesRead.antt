@@ -1,5 +1,5 @@
 -- From what is read of the inputs of a mine to the mine of its texts.
-use Rattle.std.proofs.Common.{◌≡◌, ℕ, ◌<◌, ℤ, pos, ◌*ℤ◌, List, refl, sym, ap, ◌∙◌, subst, arith, Option, Some, None, IfSome}
+use Rattle.std.proofs.Common.{◌≡◌, ℕ, ℤ, pos, ◌*ℤ◌, List, refl, sym, ap, ◌∙◌, subst, arith, Option, Some, None, IfSome}
 use Rattle.std.proofs.lemmas.List.{length-map, get_or-map}
 use Rattle.std.proofs.lemmas.List.FromFn.{length-map-range_with_len, get_or-map-range_with_len}
 use Rattle.prec_file.specs.Rests.{RestsView, ArePairsOf}
@@ -15,7 +15,7 @@ use Rattle.mine_inputs.specs.declared.priced_inputs.PriceColumns.{PriceColumns}
 use Rattle.mine_inputs.specs.declared.worths.Worths.{Worths}
 use Rattle.mine_inputs.specs.declared.worths.Worths.TheVariants.{Values, Prices}
 use Rattle.mine_inputs.specs.FaultStands.{AreWorths, MineFails, PrecFails}
-use Rattle.mine_inputs.specs.Inputs.{ReadsUpit, UpitReadFails, ReadsSettingsText, SettingsReadFails, IsMissing, ReadsPrices, PricesReadFail, ReadsPrec, PrecReadFails, PricedMineFails}
+use Rattle.mine_inputs.specs.Inputs.{ReadsUpit, ReadsSettingsText, SettingsReadFails, IsMissing, ReadsPrices, PricesReadFail, ReadsPrec, PrecReadFails, PricedMineFails}
 use Rattle.mine_inputs.specs.Limits.{IsWithinLimit}
 use Rattle.mine_inputs.specs.MineInputs.{ForWorths, ForTexts}
 use Rattle.mine_inputs.specs.Mines.{MineTexts, mine_texts, priced_texts, precedence_of, price_wanted, WorthsRead}
@@ -27,24 +27,6 @@ use Rattle.mine_inputs.proofs.MineDevices.{always, under, under2, all_texts, for
 use Rattle.mine_inputs.proofs.PricedAnswers.{settings_answer, missing_answer, prices_unsaid, prices_answer, prices_said, priced}
 
 -- ---- values
-
-values_fail : (u p : List ℕ) (e : EngineFault) → UpitReadFails u e → MineFails (mine_texts u p) e
-values_fail u p (engine.Upit q) h = h
-values_fail u p engine.Memory h = h
-values_fail u p engine.Device h = h
-values_fail u p (engine.Prec q) h = absurd h
-values_fail u p (engine.Model q) h = absurd h
-values_fail u p (engine.Certificate q) h = absurd h
-values_fail u p (engine.Trace q) h = absurd h
-values_fail u p (engine.Blocks q) h = absurd h
-values_fail u p (engine.Slope q) h = absurd h
-values_fail u p (engine.Settings q) h = absurd h
-values_fail u p (engine.Prices q) h = absurd h
-values_fail u p engine.Thread h = absurd h
-values_fail u p engine.Stranger h = absurd h
-
-pub values_unread : (o : Option (List ℕ)) (p : List ℕ) (e : EngineFault) → IfSome o (λ u. UpitReadFails u e) → IfSome o (λ u. MineFails (mine_texts u p) e)
-values_unread o p e h = under o (λ u. UpitReadFails u e) (λ u. MineFails (mine_texts u p) e) h (λ u f. values_fail u p e f)
 
 values_known : (u p : List ℕ) (factor : ℕ) (values : upit.UpitView) → ReadsUpit u values → AreWorthsOf (mine_texts u p) factor (Values values)
 values_known u p factor values a =

@@ -1,5 +1,5 @@
 -- When the texts of a mine aren't read: the fault stands in them, and none before it does.
-use Rattle.std.specs.Prelude.{◌≡◌, ℕ, ◌<◌, ℤ, pos, ◌⊎◌, List, length, slice_index_or, Some, Ok, Err}
+use Rattle.std.specs.Prelude.{◌≡◌, ℕ, ◌<◌, ℤ, pos, List, length, slice_index_or, Some}
 use Rattle.upit_file.specs.Records as upit
 use Rattle.upit_file.specs.declared.upit_fault.UpitFault.{UpitFault}
 use Rattle.prec_file.specs.Records as prec

@@ -1,5 +1,5 @@
 -- What reading each input of an engine gives, and when it answers a fault.
-use Rattle.std.specs.Prelude.{◌≡◌, ◌⊎◌, ℕ, List, [], length, Some, None, Ok}
+use Rattle.std.specs.Prelude.{◌≡◌, ℕ, List, [], length, Some, None, Ok}
 use Rattle.prec_file.specs.Rests.{RestsView, ArePairsOf}
 use Rattle.prec_file.specs.Records as prec
 use Rattle.upit_file.specs.Records as upit

@@ -4,7 +4,7 @@
 ghost use Rattle.std.specs.Prelude.{◌≡◌, ◌+◌, ◌-◌, ◌^◌, ◌<◌, ℕ, List, IfOk, IfSome, MatchResult, IsErrOf};
 ghost use Rattle.certificate_file.specs.ReadBack.{IsPrice};
 ghost use Rattle.mine_inputs.specs.FaultStands.{MineFails};
-ghost use Rattle.mine_inputs.specs.MineInputs.{ForTexts, ForWorths, CanCount, WorthsCanCount, NoneFailed, NoWorthsFailed, OneFailed, OneWorthsFailed};
+ghost use Rattle.mine_inputs.specs.MineInputs.{ForTexts, CanCount, NoneFailed, OneFailed};
 ghost use Rattle.mine_inputs.specs.Mines.{priced_texts, price_wanted};
 ghost use Rattle.mine_inputs.specs.ReadMines.{AreRead, AreWorthsOf, IsMineRead};
 

@@ -4,7 +4,6 @@
 ghost use Rattle.std.specs.Prelude.{◌≡◌, ◌≤◌, ◌+◌, ◌-◌, ◌^◌, ◌<◌, ◌↔◌, ℕ, [], None, length, unwrap_or, IfOk, IfSome, MatchResult, IsErrOf};
 ghost use Rattle.settings_file.specs.Settings.{first_missing};
 ghost use Rattle.settings_file.specs.Values.{AreFactors};
-ghost use Rattle.shells.specs.Prices.{blocks_of};
 ghost use Rattle.mine_inputs.specs.Inputs.{IsMissing};
 ghost use Rattle.mine_inputs.specs.BlockTexts.{ReadsBlocks};
 ghost use Rattle.shell_engines.specs.Devices.{ForSeries, InputsCanCount, input_failures, NoInputFailed};

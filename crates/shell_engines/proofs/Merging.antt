@@ -1,9 +1,8 @@
 -- Lists of blocks that grow by one block, and what is held by them.
 use Rattle.std.proofs.lemmas.Bool.{cases_lt}
-use Rattle.std.proofs.Common.{◌≡◌, ℕ, suc, ◌+◌, ◌<◌, ◌≤◌, All, Bool, true, false, ◌==◌, ◌||◌, cond, ℤ, ◌+ℤ◌, List, [], ◌∷◌, ◌++◌, length, map, take, get_or, inl, inr, refl, sym, subst, ap, ◌∙◌, arith}
-use Rattle.std.proofs.lemmas.List.{take_more, map_more, map_push, get_or_default}
+use Rattle.std.proofs.Common.{◌≡◌, ℕ, suc, ◌+◌, ◌<◌, All, Bool, true, false, ◌==◌, ◌||◌, ℤ, ◌+ℤ◌, List, [], ◌∷◌, ◌++◌, length, take, get_or, inl, inr, refl, sym, subst, ap, ◌∙◌, arith}
+use Rattle.std.proofs.lemmas.List.{take_more, get_or_default}
 use Rattle.closure_net.specs.Network.{holds_of}
-use Rattle.prec_file.specs.Rests.{passing}
 use Rattle.ordered_group.specs.Sets.{worth_in}
 use Rattle.sub_mines.specs.Parts.{every_block}
 use Rattle.shell_engines.specs.Parting.{ArePut}
@@ -58,27 +57,6 @@ below_more P xs i h last j l =
       | inl low ↦ h j low
       | inr past ↦ let same : j ≡ i = omega (arith, l, past) in subst (λ n. P (get_or xs n 0)) (sym same) last
     ]
-
--- a number more of a list, mapped
-pub mapped_more : {T : Type 0} (f : ℕ → T) (xs : List ℕ) (i : ℕ) (found now : List T) → i < length xs → found ≡ map f (take i xs) → now ≡ found ++ f (get_or xs i 0) ∷ [] → now ≡ map f (take (i + 1) xs)
-mapped_more f xs i found now l is more = more ∙ ap (λ ys. ys ++ f (get_or xs i 0) ∷ []) is ∙ sym (map_more f xs i 0 l)
-
--- a number more that passes a test, or doesn't
-pub passes_more : (f : ℕ → ℕ) (test : ℕ → Bool) (i : ℕ) (found now : List ℕ) → test i ≡ true → found ≡ map f (passing test i) → now ≡ found ++ f i ∷ [] → now ≡ map f (passing test (i + 1))
-passes_more f test i found now t is more =
-    let on : i + 1 ≡ suc i = omega arith in
-    let taken : passing test (suc i) ≡ passing test i ++ i ∷ [] = ap (λ x. cond x (passing test i ++ i ∷ []) (passing test i)) t in
-    more ∙ ap (λ ys. ys ++ f i ∷ []) is ∙ sym (map_push f (passing test i) i) ∙ ap (map f) (sym taken) ∙ ap (λ n. map f (passing test n)) (sym on)
-
-pub fails_more : (f : ℕ → ℕ) (test : ℕ → Bool) (i : ℕ) (found : List ℕ) → test i ≡ false → found ≡ map f (passing test i) → found ≡ map f (passing test (i + 1))
-fails_more f test i found t is =
-    let on : i + 1 ≡ suc i = omega arith in
-    let skipped : passing test (suc i) ≡ passing test i = ap (λ x. cond x (passing test i ++ i ∷ []) (passing test i)) t in
-    is ∙ ap (map f) (sym skipped) ∙ ap (λ n. map f (passing test n)) (sym on)
-
--- one block more of all
-pub every_more : (b : ℕ) (kept now : List ℕ) → kept ≡ passing every_block b → now ≡ kept ++ b ∷ [] → now ≡ passing every_block (b + 1)
-every_more b kept now is more = let on : b + 1 ≡ suc b = omega arith in more ∙ ap (λ ys. ys ++ b ∷ []) is ∙ ap (passing every_block) (sym on)
 
 -- the worth of one block more
 pub worth_more : (v : ℕ → ℤ) (i : ℕ) (sum now : ℤ) → sum ≡ worth_in v every_block i → now ≡ sum +ℤ v i → now ≡ worth_in v every_block (i + 1)

@@ -56,9 +56,6 @@ kept_again set inner t n kept xs h k same within =
 pub own_list : (n : ℕ) (xs : List ℕ) → IsAscending xs → All (λ i. i < n) xs → IsKept (holds_of xs) n xs
 own_list n xs h low = record { ascending = h; below = low; are = λ b l. refl }
 
-off_true : (x : Bool) → x ≡ false → x ≡ true → ⊥
-off_true x e t = let bad : true ≡ false = sym t ∙ e in cc
-
 -- ---- tests of one block: high, low, and the places' own
 
 lower_test : (l t : Bool) → l ≡ false → ((l || t) && not l) ≡ t

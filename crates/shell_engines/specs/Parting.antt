@@ -1,5 +1,5 @@
 -- Parts of a mine between two pits, within which the best pits of some factors are looked for.
-use Rattle.std.specs.Prelude.{take, ◌≡◌, ℕ, ℤ, ◌<◌, ◌≤◌, ◌+◌, Bool, List, length, slice_index, All, IfSome}
+use Rattle.std.specs.Prelude.{take, ◌≡◌, ℕ, ℤ, ◌<◌, ◌≤◌, Bool, List, length, slice_index, All, IfSome}
 use Rattle.fixed_worth.specs.declared.limits.TheConstants.{MOST_BLOCKS}
 use Rattle.ordered_group.specs.Amount.{Amount}
 use Rattle.prec_file.specs.Rests.{IsRests, has_pair}

@@ -23,28 +23,28 @@ returns-in_err-predecessors-clause-read g c = λ factor.
     let p = err_from_is_err_and c.from_residual-in_err-predecessors.result c.from_residual-in_err-predecessors.ensures.1 in
     rw (p.1, p.2) (elim c.match-inputs.branch [
       | in-Values+in_ok-text-in-Values+in_ok-read_values-in-Values w ↦ prec_unread c.args.inputs.now g.D.Read.remaining factor c.match-inputs.worths c.len.result c.len.ensures.count (λ q.
-        subst (λ x. ForWorths c.args.inputs.now.worths g.D.Read.remaining factor q (λ texts. AreWorthsOf texts factor x)) (sym w.worths-is)
-        (subst (λ i. ForWorths i g.D.Read.remaining factor q (λ texts. AreWorthsOf texts factor (Values w.in_ok-read_values-in-Values.field-0))) (sym w.in-Values.is)
-        (values_read (g.D.Read.remaining w.in-Values.upit) q factor w.in_ok-read_values-in-Values.field-0 (search rules))))
-        e (subst (λ i. IfSome (g.D.Read.remaining i) (λ q. PrecReadFails c.len.result q e)) (ap (λ i. i.prec) w.inputs-is) c.in_err-predecessors.ensures.read)
+          subst (λ x. ForWorths c.args.inputs.now.worths g.D.Read.remaining factor q (λ texts. AreWorthsOf texts factor x)) (sym w.worths-is)
+          (subst (λ i. ForWorths i g.D.Read.remaining factor q (λ texts. AreWorthsOf texts factor (Values w.in_ok-read_values-in-Values.field-0))) (sym w.in-Values.is)
+          (values_read (g.D.Read.remaining w.in-Values.upit) q factor w.in_ok-read_values-in-Values.field-0 (search rules))))
+          e (subst (λ i. IfSome (g.D.Read.remaining i) (λ q. PrecReadFails c.len.result q e)) (ap (λ i. i.prec) w.inputs-is) c.in_err-predecessors.ensures.read)
       | in-Prices+in_ok-worths-in-Prices w ↦ prec_unread c.args.inputs.now g.D.Read.remaining factor c.match-inputs.worths c.len.result c.len.ensures.count (λ q.
-        subst (λ x. ForWorths c.args.inputs.now.worths g.D.Read.remaining factor q (λ texts. AreWorthsOf texts factor x)) (sym w.worths-is)
-        (subst (λ i. ForWorths i g.D.Read.remaining factor q (λ texts. AreWorthsOf texts factor w.in_ok-worths-in-Prices.worths)) (sym w.in-Prices.is)
-        (w.in_ok-worths-in-Prices.ensures.read factor q)))
-        e (subst (λ i. IfSome (g.D.Read.remaining i) (λ q. PrecReadFails c.len.result q e)) (ap (λ i. i.prec) w.inputs-is) c.in_err-predecessors.ensures.read)
+          subst (λ x. ForWorths c.args.inputs.now.worths g.D.Read.remaining factor q (λ texts. AreWorthsOf texts factor x)) (sym w.worths-is)
+          (subst (λ i. ForWorths i g.D.Read.remaining factor q (λ texts. AreWorthsOf texts factor w.in_ok-worths-in-Prices.worths)) (sym w.in-Prices.is)
+          (w.in_ok-worths-in-Prices.ensures.read factor q)))
+          e (subst (λ i. IfSome (g.D.Read.remaining i) (λ q. PrecReadFails c.len.result q e)) (ap (λ i. i.prec) w.inputs-is) c.in_err-predecessors.ensures.read)
     ])
 
 pub returns-clause-read : goal.returns-clause-read
 returns-clause-read g c = λ factor.
     elim c.match-inputs.branch [
       | in-Values+in_ok-text-in-Values+in_ok-read_values-in-Values w ↦ mine_read c.args.inputs.now g.D.Read.remaining factor c.match-inputs.worths c.len.result c.len.ensures.count (λ q.
-        subst (λ x. ForWorths c.args.inputs.now.worths g.D.Read.remaining factor q (λ texts. AreWorthsOf texts factor x)) (sym w.worths-is)
-        (subst (λ i. ForWorths i g.D.Read.remaining factor q (λ texts. AreWorthsOf texts factor (Values w.in_ok-read_values-in-Values.field-0))) (sym w.in-Values.is)
-        (values_read (g.D.Read.remaining w.in-Values.upit) q factor w.in_ok-read_values-in-Values.field-0 (search rules))))
-        c.in_ok-predecessors.predecessors (subst (λ i. IfSome (g.D.Read.remaining i) (λ q. ReadsPrec c.len.result q c.in_ok-predecessors.predecessors)) (ap (λ i. i.prec) w.inputs-is) c.in_ok-predecessors.ensures.read)
+          subst (λ x. ForWorths c.args.inputs.now.worths g.D.Read.remaining factor q (λ texts. AreWorthsOf texts factor x)) (sym w.worths-is)
+          (subst (λ i. ForWorths i g.D.Read.remaining factor q (λ texts. AreWorthsOf texts factor (Values w.in_ok-read_values-in-Values.field-0))) (sym w.in-Values.is)
+          (values_read (g.D.Read.remaining w.in-Values.upit) q factor w.in_ok-read_values-in-Values.field-0 (search rules))))
+          c.in_ok-predecessors.predecessors (subst (λ i. IfSome (g.D.Read.remaining i) (λ q. ReadsPrec c.len.result q c.in_ok-predecessors.predecessors)) (ap (λ i. i.prec) w.inputs-is) c.in_ok-predecessors.ensures.read)
       | in-Prices+in_ok-worths-in-Prices w ↦ mine_read c.args.inputs.now g.D.Read.remaining factor c.match-inputs.worths c.len.result c.len.ensures.count (λ q.
-        subst (λ x. ForWorths c.args.inputs.now.worths g.D.Read.remaining factor q (λ texts. AreWorthsOf texts factor x)) (sym w.worths-is)
-        (subst (λ i. ForWorths i g.D.Read.remaining factor q (λ texts. AreWorthsOf texts factor w.in_ok-worths-in-Prices.worths)) (sym w.in-Prices.is)
-        (w.in_ok-worths-in-Prices.ensures.read factor q)))
-        c.in_ok-predecessors.predecessors (subst (λ i. IfSome (g.D.Read.remaining i) (λ q. ReadsPrec c.len.result q c.in_ok-predecessors.predecessors)) (ap (λ i. i.prec) w.inputs-is) c.in_ok-predecessors.ensures.read)
+          subst (λ x. ForWorths c.args.inputs.now.worths g.D.Read.remaining factor q (λ texts. AreWorthsOf texts factor x)) (sym w.worths-is)
+          (subst (λ i. ForWorths i g.D.Read.remaining factor q (λ texts. AreWorthsOf texts factor w.in_ok-worths-in-Prices.worths)) (sym w.in-Prices.is)
+          (w.in_ok-worths-in-Prices.ensures.read factor q)))
+          c.in_ok-predecessors.predecessors (subst (λ i. IfSome (g.D.Read.remaining i) (λ q. ReadsPrec c.len.result q c.in_ok-predecessors.predecessors)) (ap (λ i. i.prec) w.inputs-is) c.in_ok-predecessors.ensures.read)
     ]

@@ -1,4 +1,4 @@
-use Rattle.std.proofs.Common.{◌≡◌, ◌∙◌, ℕ, List, length, get_or, Option, IfSome, ap, subst, arith}
+use Rattle.std.proofs.Common.{◌≡◌, ℕ, List, length, get_or, Option, IfSome, ap, subst, arith}
 use Rattle.std.proofs.lemmas.List.{get_or_read}
 use Rattle.ordered_group.specs.Block.{scaled_block}
 use Rattle.closure_net.specs.Network.{NetView}
