@@ -6,7 +6,7 @@ use std::alloc::Global;
 use std::fmt::Debug;
 use std::process::Abort;
 use std::test::Fail;
-use upit_file::{Upit, UpitFault, declared_blocks, laws, read_upit, write_upit};
+use upit_file::{Upit, UpitFault, declared_blocks, laws, read_upit, read_values, write_upit};
 
 // Fails the test where they differ. A call of it costs the proof less than the assertion in its place.
 fn equal<T: PartialEq + Debug + Copy>(rt: &impl Abort, got: T, wanted: T) {
@@ -46,6 +46,13 @@ fn tells_the_sample(upit: &Upit) -> bool {
 fn a_whole_text(rt: HostRuntime) -> Result<(), Fail> {
     equal(&rt, declared_blocks(SAMPLE), Ok(2));
     let upit = sample(rt.alloc())?;
+    assert!(rt; tells_the_sample(&upit));
+    Ok(())
+}
+
+#[test]
+fn as_many_blocks_as_a_text_declares(rt: HostRuntime) -> Result<(), Fail> {
+    let upit = read_values(rt.alloc(), SAMPLE, None).ok().ok_or("read")?;
     assert!(rt; tells_the_sample(&upit));
     Ok(())
 }
