@@ -1,4 +1,4 @@
-"""README, GUIDE and ENGINES, read by a program: every command is typed, and every number compared.
+"""README, GUIDE and SOLVERS, read by a program: every command is typed, and every number compared.
 
 - **Sessions.** In a code block a line that begins with `$`, with the next ones until its quotes are closed, is given to a
   shell, in a copy of examples/, and what is printed has to be what the page shows below it. ` .. ` stands for any text within a line, and `..` alone for any lines.
@@ -21,7 +21,7 @@ from pathlib import Path
 
 import page_facts
 
-PAGES = "README.md", "docs/GUIDE.md", "docs/ENGINES.md"
+PAGES = "README.md", "docs/GUIDE.md", "docs/SOLVERS.md"
 COMMANDS = "slopes", "solve", "check", "shells", "report", "replay", "value"
 STATUSES = (("REFUSED", 1), ("UNSETTLED", 1), ("HISTORYFULL", 1), ("OPEN ", 1), ("error:", 2), ("fault: device", 4), ("fault: memory", 4), ("fault:", 3))
 LOOKS_TYPED = re.compile(r"(pit|python3|pitplan|\./\S+|cd|grep|sed|cut|cat) ")
@@ -157,7 +157,7 @@ class Reader:
 def play(day, top):
     """Plays the three pages, each in a folder of its own."""
     readers = {page: Reader(day, top, page) for page in PAGES}
-    readers["docs/ENGINES.md"].place = readers["docs/ENGINES.md"].top / "examples" / "copper"
+    readers["docs/SOLVERS.md"].place = readers["docs/SOLVERS.md"].top / "examples" / "copper"
     for reader in readers.values():
         reader.plays()
     readme, guide, engines = (readers[page] for page in PAGES)

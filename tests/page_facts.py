@@ -1,4 +1,4 @@
-"""The sentences of README, GUIDE and ENGINES that have numbers, made anew: of the answers that a reader saw, of the files of
+"""The sentences of README, GUIDE and SOLVERS that have numbers, made anew: of the answers that a reader saw, of the files of
 examples/ and of bench/RESULTS.md. A reader has its folder `top`, the place where it types, and what it has `seen`.
 """
 import csv
