@@ -68,7 +68,7 @@ fn open_series<'a, R: Files + Eprint + AllocGlobal>(
 }
 
 // Makes the file of the table of blocks, where one is named, and the output.
-fn make_outputs<'a, R: Files + Print + Eprint>(
+fn make_outputs<'a, R: Files + Print + Eprint + AllocGlobal>(
     rt: &'a R,
     args: SeriesArgs<'a>,
 ) -> Result<
@@ -83,7 +83,7 @@ fn make_outputs<'a, R: Files + Print + Eprint>(
 }
 
 // Makes a file, if one is named.
-fn make_file_if_named<'a, R: Files + Eprint>(
+fn make_file_if_named<'a, R: Files + Eprint + AllocGlobal>(
     rt: &'a R,
     verbose: bool,
     name: Option<&'a str>,

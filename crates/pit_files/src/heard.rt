@@ -2,30 +2,80 @@
 
 use crate::pairs_bound::PairsBound;
 use crate::settings_reasons::KeptText;
+use std::alloc::Global;
+use std::sync::atomic::AtomicU64;
 
-/// What was read of an input, as far as it is told of.
-#[derive(Drop)]
-pub enum Heard<'a> {
-    /// Settings: why they are refused.
-    Settings(KeptText<'a>),
-    /// Blocks: how many pairs their slopes may give.
-    Blocks(PairsBound<'a>),
+// What is told of an input.
+#[derive(Clone, Copy)]
+enum Topic {
+    Nothing,
+    // why settings are refused
+    Settings,
+    // how many pairs the slopes of blocks may give
+    Blocks,
 }
 
-impl Heard<'_> {
-    /// Takes in further bytes.
-    pub fn hear(&mut self, bytes: &[u8]) {
-        match self {
-            Heard::Settings(text) => text.keep(bytes),
-            Heard::Blocks(bound) => bound.count(bytes),
+/// What was read of an input, as far as it is told of. It has the same parts whatever that is, so that there is one way to
+/// give it back: a command has several inputs, and gives each back wherever it ends early.
+#[derive(Drop)]
+pub struct Heard<'a> {
+    topic: Topic,
+    text: KeptText<'a>,
+    bound: PairsBound<'a>,
+}
+
+impl<'a> Heard<'a> {
+    /// Nothing is told.
+    pub fn nothing(alloc: Global) -> Heard<'a> {
+        Heard {
+            topic: Topic::Nothing,
+            text: KeptText::new(alloc, None),
+            bound: PairsBound::new(None),
         }
     }
 
-    /// Tells of the input with this name, at its end.
-    pub fn tell<R: Eprint + AllocGlobal>(&self, rt: &R, name: &str) {
-        match self {
-            Heard::Settings(text) => text.tell(rt, rt.alloc(), name),
-            Heard::Blocks(bound) => bound.tell(rt),
+    /// Of settings, if anything is told: why they are refused.
+    pub fn of_settings(alloc: Global, is_told: bool, offsets: Option<&'a AtomicU64>) -> Heard<'a> {
+        Heard {
+            topic: if is_told {
+                Topic::Settings
+            } else {
+                Topic::Nothing
+            },
+            text: KeptText::new(alloc, offsets),
+            bound: PairsBound::new(None),
         }
+    }
+
+    /// Of blocks, if anything is told: how many pairs their slopes may give.
+    pub fn of_blocks(alloc: Global, is_told: bool, offsets: &'a AtomicU64) -> Heard<'a> {
+        Heard {
+            topic: if is_told {
+                Topic::Blocks
+            } else {
+                Topic::Nothing
+            },
+            text: KeptText::new(alloc, None),
+            bound: PairsBound::new(Some(offsets)),
+        }
+    }
+
+    /// Takes in further bytes.
+    pub fn hear(&mut self, bytes: &[u8]) {
+        match self.topic {
+            Topic::Nothing => {}
+            Topic::Settings => self.text.keep(bytes),
+            Topic::Blocks => self.bound.count(bytes),
+        }
+    }
+
+    /// Tells of the input with this name, at its end, once.
+    pub fn tell<R: Eprint + AllocGlobal>(&mut self, rt: &R, name: &str) {
+        match self.topic {
+            Topic::Nothing => {}
+            Topic::Settings => self.text.tell(rt, rt.alloc(), name),
+            Topic::Blocks => self.bound.tell(rt),
+        }
+        self.topic = Topic::Nothing;
     }
 }

@@ -5,9 +5,7 @@ ghost use Rattle.std.specs.Prelude.{◌≡◌, IfOk};
 ghost use Rattle.mine_inputs.specs.MineInputs.{CanCount};
 
 use crate::heard::Heard;
-use crate::pairs_bound::PairsBound;
 use crate::replaced::{Replaced, open_replaced};
-use crate::settings_reasons::KeptText;
 use crate::told::{Told, tell, told_by};
 use command_line::ModelArgs;
 use engines::{EngineFault, MineInputs, WorthInputs};
@@ -28,16 +26,16 @@ pub fn open_mine<'a, R: Files + Eprint + AllocGlobal>(
 ) -> Result<MineInputs<Counted<Told<'a, R, R::File>>>, EngineFault>
     ensures { IfOk result (λ mine. CanCount mine (λ device. device.failures)) }
 {
-    let prec = open_heard(rt, verbose, prec, None)?;
+    let prec = open_heard(rt, verbose, prec, Heard::nothing(rt.alloc()))?;
     match model {
         ModelArgs::Values { upit } => {
-            let upit = open_heard(rt, verbose, upit, None)?;
+            let upit = open_heard(rt, verbose, upit, Heard::nothing(rt.alloc()))?;
             let worths = WorthInputs::Values { upit };
             Ok(MineInputs { worths, prec })
         }
         ModelArgs::Prices { settings, blocks } => {
             let settings = open_settings(rt, verbose, settings, None)?;
-            let blocks = open_heard(rt, verbose, blocks, None)?;
+            let blocks = open_heard(rt, verbose, blocks, Heard::nothing(rt.alloc()))?;
             let worths = WorthInputs::Prices { settings, blocks };
             Ok(MineInputs { worths, prec })
         }
@@ -48,14 +46,14 @@ pub fn open_mine<'a, R: Files + Eprint + AllocGlobal>(
 ///
 /// # Errors
 /// `Device` where it can't be opened.
-pub fn open_file<'a, R: Files + Eprint>(
+pub fn open_file<'a, R: Files + Eprint + AllocGlobal>(
     rt: &'a R,
     verbose: bool,
     name: &'a str,
 ) -> Result<Counted<Told<'a, R, R::File>>, EngineFault>
     ensures { IfOk result (λ counted. counted.failures ≡ 0) }
 {
-    open_heard(rt, verbose, name, None)
+    open_heard(rt, verbose, name, Heard::nothing(rt.alloc()))
 }
 
 /// Opens a file of settings, of whose fault it is told at their end. There, too, the number of offsets that they list is put
@@ -71,8 +69,8 @@ pub fn open_settings<'a, R: Files + Eprint + AllocGlobal>(
 ) -> Result<Counted<Told<'a, R, R::File>>, EngineFault>
     ensures { IfOk result (λ counted. counted.failures ≡ 0) }
 {
-    let text = KeptText::new(rt.alloc(), offsets);
-    open_heard(rt, verbose, name, Some(Heard::Settings(text)))
+    let heard = Heard::of_settings(rt.alloc(), verbose, offsets);
+    open_heard(rt, verbose, name, heard)
 }
 
 /// Opens a file of blocks, at whose end it is told how many pairs their slopes may give, by the number of offsets that is
@@ -80,7 +78,7 @@ pub fn open_settings<'a, R: Files + Eprint + AllocGlobal>(
 ///
 /// # Errors
 /// `Device` where it can't be opened.
-pub fn open_blocks<'a, R: Files + Eprint>(
+pub fn open_blocks<'a, R: Files + Eprint + AllocGlobal>(
     rt: &'a R,
     verbose: bool,
     name: &'a str,
@@ -88,8 +86,8 @@ pub fn open_blocks<'a, R: Files + Eprint>(
 ) -> Result<Counted<Told<'a, R, R::File>>, EngineFault>
     ensures { IfOk result (λ counted. counted.failures ≡ 0) }
 {
-    let bound = PairsBound::new(offsets);
-    open_heard(rt, verbose, name, Some(Heard::Blocks(bound)))
+    let heard = Heard::of_blocks(rt.alloc(), verbose, offsets);
+    open_heard(rt, verbose, name, heard)
 }
 
 // Opens a file to be read, of which there may be something to tell at its end.
@@ -97,7 +95,7 @@ fn open_heard<'a, R: Files + Eprint>(
     rt: &'a R,
     verbose: bool,
     name: &'a str,
-    heard: Option<Heard<'a>>,
+    heard: Heard<'a>,
 ) -> Result<Counted<Told<'a, R, R::File>>, EngineFault>
     ensures { IfOk result (λ counted. counted.failures ≡ 0) }
 {
@@ -115,7 +113,7 @@ fn open_heard<'a, R: Files + Eprint>(
 ///
 /// # Errors
 /// `Device` where it can't be made.
-pub fn make_file<'a, R: Files + Eprint>(
+pub fn make_file<'a, R: Files + Eprint + AllocGlobal>(
     rt: &'a R,
     verbose: bool,
     name: &'a str,
@@ -123,7 +121,13 @@ pub fn make_file<'a, R: Files + Eprint>(
     ensures { IfOk result (λ counted. counted.failures ≡ 0) }
 {
     match open_replaced(rt, name) {
-        Ok(device) => Ok(Counted::new(told_by(rt, verbose, name, device, None))),
+        Ok(device) => Ok(Counted::new(told_by(
+            rt,
+            verbose,
+            name,
+            device,
+            Heard::nothing(rt.alloc()),
+        ))),
         Err(error) => {
             tell(rt, verbose, "make", name, error);
             Err(EngineFault::Device)

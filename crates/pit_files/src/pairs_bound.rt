@@ -24,17 +24,18 @@ pub fn offsets_of(alloc: Global, choice: PatternChoice) -> u64
     }
 }
 
-/// The records of blocks, counted while they are read, beside the number of offsets, which is known once they are read.
+/// The records of blocks, counted while they are read, beside the number of offsets, if it is asked for, which is known once
+/// they are read.
 #[derive(Drop)]
 pub struct PairsBound<'a> {
-    offsets: &'a AtomicU64,
+    offsets: Option<&'a AtomicU64>,
     lines: u64,
     is_in_line: bool,
 }
 
 impl<'a> PairsBound<'a> {
     /// No record yet.
-    pub fn new(offsets: &'a AtomicU64) -> PairsBound<'a> {
+    pub fn new(offsets: Option<&'a AtomicU64>) -> PairsBound<'a> {
         PairsBound {
             offsets,
             lines: 0,
@@ -54,7 +55,10 @@ impl<'a> PairsBound<'a> {
 
     /// Tells how many pairs there may be, where that is more than may be written: each block has at most one for each offset.
     pub fn tell<R: Eprint>(&self, rt: &R) {
-        let offsets = self.offsets.load(Ordering::SeqCst);
+        let Some(offsets) = self.offsets else {
+            return;
+        };
+        let offsets = offsets.load(Ordering::SeqCst);
         let blocks = self.lines;
         let pairs = offsets.saturating_mul(blocks);
         if pairs > MOST_PAIRS as u64 {

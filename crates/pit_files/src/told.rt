@@ -19,19 +19,20 @@ pub struct Told<'a, R, D> {
     // whether something was read
     is_begun: bool,
     // what is told at the end of what is read
-    heard: Option<Heard<'a>>,
+    heard: Heard<'a>,
 }
 
 // What some programs put at the head of a text in UTF-8.
 const MARK: &[u8] = b"\xEF\xBB\xBF";
 
 /// Standard output of a command that may be given advice.
-pub fn output<'a, R: Print + Eprint>(
+pub fn output<'a, R: Print + Eprint + AllocGlobal>(
     rt: &'a R,
     verbose: bool,
     advice: Option<Advice>,
 ) -> Told<'a, R, Printer<'a, R>> {
-    let mut told = told_by(rt, verbose, "standard output", io::writer(rt), None);
+    let heard = Heard::nothing(rt.alloc());
+    let mut told = told_by(rt, verbose, "standard output", io::writer(rt), heard);
     told.advice = advice;
     told
 }
@@ -42,7 +43,7 @@ pub fn told_by<'a, R, D>(
     verbose: bool,
     name: &'a str,
     device: D,
-    heard: Option<Heard<'a>>,
+    heard: Heard<'a>,
 ) -> Told<'a, R, D> {
     Told {
         rt,
@@ -51,7 +52,7 @@ pub fn told_by<'a, R, D>(
         advice: None,
         device,
         is_begun: false,
-        heard: if verbose { heard } else { None },
+        heard,
     }
 }
 
@@ -79,11 +80,9 @@ impl<R: Eprint + AllocGlobal, D> Told<'_, R, D> {
     // Takes in what was read, and tells at its end what there is to tell.
     fn hear(&mut self, read: &[u8]) {
         if !read.is_empty() {
-            if let Some(heard) = &mut self.heard {
-                heard.hear(read);
-            }
-        } else if let Some(heard) = self.heard.take() {
-            heard.tell(self.rt, self.name);
+            self.heard.hear(read);
+        } else {
+            self.heard.tell(self.rt, self.name);
         }
     }
 }
