@@ -31,7 +31,6 @@ PATIENCE = 10  # the seconds in which processes that are told to end do so
 SILENT = 20  # a run that has said nothing for so many seconds is proving, and no longer taking what is kept
 PROCESSORS = 4  # on fewer one run keeps them as busy, by a simulation, and reads what is kept but once
 MOST_JOBS = 4  # the kit's own limit; a run of one crate gives its proof half of the processors, since its (empty) tests wait too
-PROGRAM_JOBS = "2"
 NEAR = 0.9  # a chain of crates that is so much of the longest goes first too
 
 
@@ -99,11 +98,11 @@ class Told:
 class Gate:
     """A run of the kit's gate over the copy."""
 
-    def __init__(self, told, words, around=None):
+    def __init__(self, told, words):
         self.told = told
         # in a group of its own, so that all its processes are ended together
-        self.process = subprocess.Popen(["rt", "ci", *words], cwd=COPY, env=around, stdin=subprocess.DEVNULL, stdout=subprocess.PIPE,
-                                        stderr=subprocess.STDOUT, start_new_session=True, preexec_fn=proving.as_a_child)
+        self.process = subprocess.Popen(["rt", "ci", *words], cwd=COPY, stdin=subprocess.DEVNULL, stdout=subprocess.PIPE, stderr=subprocess.STDOUT,
+                                        start_new_session=True, preexec_fn=proving.as_a_child)
 
     def lines(self):
         """The lines that the kit prints, and None for each second in which it prints none."""
@@ -200,14 +199,10 @@ class Build:
     def __init__(self, crates, log, words):
         self.told, self.words, self.at_work = Told(crates, log), words, []
 
-    def gate(self, is_first=False, around=None):
+    def gate(self, is_first=False):
         with proving.unbroken():  # so that no run is begun that isn't known here
-            self.at_work.append(Gate(self.told, self.words, around))
+            self.at_work.append(Gate(self.told, self.words))
         return self.at_work[-1].follow(is_first)
-
-    def program(self):
-        """Proves the program by two processes: each reads all libraries, which takes longer than its share of what is left to prove."""
-        return self.gate(around=dict(os.environ, RT_JOBS=PROGRAM_JOBS))
 
     def is_side_by_side(self):
         """Whether each library gets a run of its own: not where nothing kept may be taken, where somebody has set the number of processes, where
@@ -232,7 +227,7 @@ class Build:
             if is_proved is not None:
                 return is_proved
             self.stop()
-        return self.libraries() and self.program()
+        return self.libraries() and self.gate()
 
     def stop(self):
         """Ends what is at work."""
